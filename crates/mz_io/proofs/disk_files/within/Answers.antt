@@ -1,0 +1,19 @@
+use Rattle.std.proofs.Common.{◌≡◌, ◌<◌, ℕ, List, length, take, arith, Option, IfSome, Some, None}
+use Rattle.std.proofs.lemmas.Grind.{common_steps}
+use Rattle.std.proofs.lemmas.List.{length-take}
+use Rattle.std.specs.Option.{option_map}
+use Rattle.mz_io.proofs.disk_files.within.Goals as goal
+
+-- a front that is shorter than it may be is the whole
+whole_front : (whole front : List ℕ) (most : ℕ) → front ≡ take most whole → length front < most → front ≡ whole
+whole_front whole front most is short =
+    grind (arith, common_steps, length-take most whole)
+
+whole_known : (left : Option (List ℕ)) (front : List ℕ) (most : ℕ) → length front < most → IfSome (option_map (take most) left) (λ xs. front ≡ xs) → IfSome left (λ whole. front ≡ whole)
+whole_known None front most short h = h
+whole_known (Some whole) front most short h = whole_front whole front most h short
+
+pub returns-in-Ok-2-clause-bytes : goal.returns-in-Ok-2-clause-bytes
+returns-in-Ok-2-clause-bytes g c =
+    whole_known (g.F.Read.remaining c.args.file) c.read_to_end.new.buf.items c.saturating_add.result (omega arith)
+    (grind (arith, common_steps, c.in-Ok-2.ensures.bytes))

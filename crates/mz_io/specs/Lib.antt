@@ -1,0 +1,10 @@
+pub mod Counts
+pub mod Files
+pub mod Source
+pub mod Sink
+pub mod DiskFiles
+pub mod MemFiles
+pub mod MemSource
+pub mod MemSink
+pub mod StdSink
+pub mod StdSource

@@ -1,0 +1,48 @@
+-- What a sink tells of the bytes that it holds.
+use Rattle.std.specs.Prelude.{◌≡◌, ◌++◌, ℕ, List, Option, Some, None}
+use Rattle.mz_io.specs.declared.sink.Sent.{Sent}
+use Rattle.mz_io.specs.declared.sink.Sent.TheVariants.{All, Failed, Memory}
+use Rattle.mz_io.specs.Counts.{Rose, raised}
+
+-- the bytes held; None where nothing is told
+abbrev pub Held : Type 0
+Held = Option (List ℕ)
+
+-- how often a put failed, and how often it wanted memory
+pub record SinkCounts : Type 0 where
+  pub faults : ℕ
+  pub shortages : ℕ
+
+-- the bytes held are those before and the piece, where they are told
+abbrev pub Adds : Held → Held → List ℕ → Type 0
+Adds None new piece = new ≡ None
+Adds (Some old) new piece = new ≡ Some (old ++ piece)
+
+-- the bytes held are those before and a front of the piece, where they are told
+pub record AddsFront (old new : Held) (piece : List ℕ) : Type 0 where
+  pub front : List ℕ
+  pub back : List ℕ
+  pub whole : piece ≡ front ++ back
+  pub adds : Adds old new front
+
+-- what an answer says of the bytes held
+abbrev pub Puts : Held → Held → List ℕ → Sent → Type 0
+Puts old new piece All = Adds old new piece
+Puts old new piece Failed = AddsFront old new piece
+Puts old new piece Memory = new ≡ old
+
+-- the one count that an answer raises
+abbrev pub Counts : SinkCounts → SinkCounts → Sent → Type 0
+Counts old new All = new ≡ old
+Counts old new Failed = Rose old.faults new.faults × (new.shortages ≡ old.shortages)
+Counts old new Memory = Rose old.shortages new.shortages × (new.faults ≡ old.faults)
+
+-- no put failed, and none wanted memory
+abbrev pub no_counts : SinkCounts
+no_counts = record { faults = 0; shortages = 0 }
+
+-- the one count that an answer raises, by one
+abbrev pub counts_after : SinkCounts → Sent → SinkCounts
+counts_after old All = old
+counts_after old Failed = record old { faults = raised old.faults }
+counts_after old Memory = record old { shortages = raised old.shortages }

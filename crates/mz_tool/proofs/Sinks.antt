@@ -1,0 +1,49 @@
+-- One piece after another on a sink.
+use Rattle.std.proofs.Common.{◌≡◌, ℕ, ◌+◌, ◌<◌, List, [], ◌++◌, length, get_or, take, drop, refl, sym, ap, ◌∙◌, append_assoc, inl, inr, add-one, drop-cons}
+use Rattle.std.proofs.lemmas.List.{take-append-drop}
+use Rattle.std.proofs.lemmas.List.Concat.{flat_map-append}
+use Rattle.std.specs.Prelude.{Some, None, ◌⊎◌, codes}
+use Rattle.std.specs.List.{flat_map}
+use Rattle.mz_io.specs.Counts.{Rose}
+use Rattle.mz_io.specs.Sink.{Held, SinkCounts, Adds, AddsFront}
+use Rattle.mz_tool.specs.Status.{Notes}
+use Rattle.mz_tool.proofs.Lists.{append_nil}
+
+pub adds_nothing : (h : Held) → Adds h h []
+adds_nothing None = refl
+adds_nothing (Some old) = ap Some (sym (append_nil old))
+
+pub adds_more : (o m n : Held) (a b : List ℕ) → Adds o m a → Adds m n b → Adds o n (a ++ b)
+adds_more None m n a b first then = rw first at then
+adds_more (Some old) m n a b first then = (rw first at then) ∙ ap Some (append_assoc old a b)
+
+pub pieces_whole : {X A : Type 0} (f : X → List A) (xs : List X) (i : ℕ) (d : X) → i < length xs → flat_map f xs ≡ flat_map f (take i xs) ++ (f (get_or xs i d) ++ flat_map f (drop (i + 1) xs))
+pieces_whole f xs i d below =
+    ap (flat_map f) (sym (take-append-drop i xs)) ∙ flat_map-append f (take i xs) (drop i xs) ∙ ap (λ ys. flat_map f (take i xs) ++ ys) (rw (add-one, drop-cons xs i d below) refl)
+
+-- a piece that failed or wanted memory cuts what was to go out
+pub cut_short : (old mid new : Held) (before after : SinkCounts) (done piece rest line : List ℕ) → line ≡ done ++ (piece ++ rest) → Adds old mid done → AddsFront mid new piece → Rose before.faults after.faults ⊎ Rose before.shortages after.shortages → Notes old new before after line
+cut_short old mid new before after done piece rest line is adds front rose = record {
+  front = done ++ front.front;
+  back = front.back ++ rest;
+  whole = is ∙ ap (λ xs. done ++ (xs ++ rest)) front.whole ∙ ap (λ xs. done ++ xs) (append_assoc front.front front.back rest) ∙ sym (append_assoc done front.front (front.back ++ rest));
+  adds = adds_more old mid new done front.front adds front.adds;
+  cut = inr rose;
+}
+
+pub all_out : (old new : Held) (before after : SinkCounts) (line : List ℕ) → Adds old new line → Notes old new before after line
+all_out old new before after line adds = record { front = line; back = []; whole = sym (append_nil line); adds = adds; cut = inl refl }
+
+pub front_nothing : (h : Held) (piece : List ℕ) → AddsFront h h piece
+front_nothing h piece = record { front = []; back = piece; whole = refl; adds = adds_nothing h }
+
+-- the same where the piece wanted memory
+pub cut_before : (old mid new : Held) (before after : SinkCounts) (done piece rest line : List ℕ) → line ≡ done ++ (piece ++ rest) → Adds old mid done → new ≡ mid → Rose before.faults after.faults ⊎ Rose before.shortages after.shortages → Notes old new before after line
+cut_before old mid new before after done piece rest line is adds same rose =
+    cut_short old mid new before after done piece rest line is adds (rw same (front_nothing mid piece)) rose
+
+-- the pieces of a refusal's line, joined
+pub joined : (file line col kind gap number : List ℕ) →
+    file ++ codes ":" ++ line ++ codes ":" ++ col ++ codes ": " ++ kind ++ (gap ++ number) ++ codes "\n"
+    ≡ file ++ (codes ":" ++ (line ++ (codes ":" ++ (col ++ (codes ": " ++ (kind ++ (gap ++ (number ++ (codes "\n" ++ [])))))))))
+joined file line col kind gap number = simp append_assoc

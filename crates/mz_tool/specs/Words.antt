@@ -1,0 +1,9 @@
+-- The words of a command line.
+use Rattle.std.specs.Prelude.{ℕ, List, [], ◌∷◌, Option, Some, None, codes, nat_eq, if◌then◌else◌}
+use Rattle.std.specs.Str.{bytes_eq}
+use Rattle.mz_tool.specs.Pieces.{front_byte}
+
+-- the model's file in `compile MODEL`, where MODEL doesn't begin with `-`
+abbrev pub model_word : List (List ℕ) → Option (List ℕ)
+model_word (c ∷ m ∷ []) = if bytes_eq c (codes "compile") then (if nat_eq (front_byte m) 45 then None else Some m) else None
+model_word _ = None

@@ -1,0 +1,24 @@
+// Which bytes words are made of.
+
+ghost use Rattle.std.specs.Prelude.{◌≡◌};
+ghost use Rattle.mz_tool.specs.Names.{is_letter, is_digit, is_word_byte};
+
+/// An ASCII letter.
+pub fn is_letter(byte: u8) -> bool
+    ensures { result ≡ is_letter byte }
+{
+    byte.is_ascii_alphabetic()
+}
+
+pub fn is_digit(byte: u8) -> bool
+    ensures { result ≡ is_digit byte }
+{
+    byte.is_ascii_digit()
+}
+
+/// A letter, a digit or `_`.
+pub fn is_word_byte(byte: u8) -> bool
+    ensures { result ≡ is_word_byte byte }
+{
+    is_letter(byte) || is_digit(byte) || byte == b'_'
+}
