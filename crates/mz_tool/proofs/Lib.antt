@@ -27,3 +27,4 @@ pub mod Labels
 pub mod Lists
 pub mod Sets
 mod SpellingExamples
+mod MeaningExamples

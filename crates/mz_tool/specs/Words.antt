@@ -1,5 +1,5 @@
 -- The words of a command line.
-use Rattle.std.specs.Prelude.{ℕ, List, [], ◌∷◌, Option, Some, None, codes, nat_eq, if◌then◌else◌}
+use Rattle.std.specs.Prelude.{ℕ, List, [], ◌∷◌, Option, Some, None, codes, nat_eq, if◌then◌else◌, map, String, string_bytes}
 use Rattle.std.specs.Str.{bytes_eq}
 use Rattle.mz_tool.specs.Pieces.{front_byte}
 
@@ -7,3 +7,7 @@ use Rattle.mz_tool.specs.Pieces.{front_byte}
 abbrev pub model_word : List (List ℕ) → Option (List ℕ)
 model_word (c ∷ m ∷ []) = if bytes_eq c (codes "compile") then (if nat_eq (front_byte m) 45 then None else Some m) else None
 model_word _ = None
+
+-- the same of the words of the code
+abbrev pub named_file : {Z : Type 0} → List (String Z) → Option (List ℕ)
+named_file words = model_word (map string_bytes words)
