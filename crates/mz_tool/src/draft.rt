@@ -3,6 +3,7 @@
 ghost use Rattle.std.specs.Prelude.{◌≡◌, ◌≤ℤ◌, [], ◌∷◌, IfOk, Option, Some, None, string_bytes, true, map};
 ghost use Rattle.std.specs.List.{AllByRecursion};
 ghost use Rattle.std.specs.Option.{option_map};
+ghost use Rattle.mz_value.specs.Ranges.{IsInLimit};
 ghost use Rattle.mz_tool.specs.Names.{is_identifier};
 ghost use Rattle.mz_tool.specs.Views.{operand, item};
 ghost use Rattle.mz_tool.specs.FirstForm.{IsProper};
@@ -40,6 +41,8 @@ fn label(alloc: Global, name: &[u8]) -> Result<FzName, AllocError>
 /// An output variable with the declared domain.
 fn variable(alloc: Global, lo: i64, hi: i64, name: &[u8]) -> Result<FzVar, AllocError>
     requires range { lo ≤ℤ hi }
+    requires low { IsInLimit lo }
+    requires high { IsInLimit hi }
     requires name { is_identifier name.now ≡ true }
     ensures { IfOk result (λ v. variable v ≡ variable_of lo hi name.now) }
 {
@@ -123,6 +126,8 @@ impl<'a> Draft<'a> {
         name: &'a [u8],
     ) -> Result<bool, AllocError>
         requires range { lo ≤ℤ hi }
+        requires low { IsInLimit lo }
+        requires high { IsInLimit hi }
         requires name { is_identifier name.now ≡ true }
         ensures { IfOk result (Steps (add_variable (draft self.old) lo hi name.now) (draft self.new)) }
     {

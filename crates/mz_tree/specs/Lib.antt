@@ -1,0 +1,5 @@
+pub mod Tree
+pub mod Views
+pub mod Height
+pub mod Items
+pub mod Data

@@ -1,0 +1,14 @@
+pub mod Comparisons
+pub mod Walking
+pub mod Steps
+pub mod Members
+pub mod Determined
+pub mod Common
+pub mod Gaps
+pub mod Joined
+pub mod Search
+pub mod Sizes
+pub mod Sets
+pub mod Sorted
+pub mod Listed
+pub mod Showable
