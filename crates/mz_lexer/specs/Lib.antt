@@ -1,0 +1,8 @@
+pub mod Bytes
+pub mod Keywords
+pub mod Lexemes
+pub mod Lexes
+pub mod Numbers
+pub mod Symbols
+pub mod Texts
+pub mod Views

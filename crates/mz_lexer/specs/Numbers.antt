@@ -1,0 +1,29 @@
+-- Integer literals.
+use Rattle.std.specs.Prelude.{ℕ, ◌+◌, ◌*◌, ◌^◌, List, [], ◌∷◌, Bool, ◌&&◌, ◌||◌, nat_eq}
+use Rattle.std.specs.Char.{digit_value}
+use Rattle.mz_lexer.specs.Bytes.{front_byte, second_byte, third_byte, is_digit}
+
+-- the greatest number of a literal
+abbrev pub limit : ℕ
+limit = 2 ^ 61
+
+-- the number that digits spell in a base, behind digits that spell a number
+abbrev pub number_from : ℕ → ℕ → List ℕ → ℕ
+number_from base n [] = n
+number_from base n (d ∷ ds) = number_from base (n * base + digit_value d) ds
+
+-- the number that digits spell in a base
+abbrev pub number_of : ℕ → List ℕ → ℕ
+number_of base ds = number_from base 0 ds
+
+abbrev pub is_exponent_letter : ℕ → Bool
+is_exponent_letter b = nat_eq b 101 || nat_eq b 69
+
+abbrev pub is_sign : ℕ → Bool
+is_sign b = nat_eq b 43 || nat_eq b 45
+
+-- behind decimal digits: a fraction or an exponent stands in front
+abbrev pub goes_on : List ℕ → Bool
+goes_on bs =
+    (nat_eq (front_byte bs) 46 && is_digit (second_byte bs))
+    || (is_exponent_letter (front_byte bs) && (is_digit (second_byte bs) || (is_sign (second_byte bs) && is_digit (third_byte bs))))

@@ -1,0 +1,50 @@
+-- The pieces of texts.
+use Rattle.std.specs.Prelude.{ℕ, suc, List, [], ◌∷◌, Bool, true, false, ◌&&◌, ◌||◌, not, nat_eq, Option, Some, None, if◌then◌else◌}
+use Rattle.mz_lexer.specs.Bytes.{front_byte, second_byte}
+
+-- a byte of a text that stands for itself: no newline, no quote and no backslash
+abbrev pub is_plain : ℕ → Bool
+is_plain b = not (nat_eq b 10 || (nat_eq b 34 || nat_eq b 92))
+
+-- what may follow a backslash, but for the parenthesis: n, t, a quote and a backslash
+abbrev pub is_escape : ℕ → Bool
+is_escape b = nat_eq b 110 || (nat_eq b 116 || (nat_eq b 34 || nat_eq b 92))
+
+-- what an escape means, by the byte behind its backslash
+abbrev pub escape_value : ℕ → ℕ
+escape_value b = if nat_eq b 110 then 10 else if nat_eq b 116 then 9 else b
+
+-- whether plain bytes and escapes go on with the byte in front, and then whether the next one is behind a backslash; the flag says that this one is
+abbrev pub content_step : Bool → List ℕ → Option Bool
+content_step true bs = Some false
+content_step false bs =
+    if is_plain (front_byte bs) then Some false else
+    if nat_eq (front_byte bs) 92 && is_escape (second_byte bs) then Some true else None
+
+abbrev pub one_more : Option Bool → (Bool → ℕ) → ℕ
+one_more None rest = 0
+one_more (Some escaped) rest = suc (rest escaped)
+
+-- how many bytes of plain bytes and escapes stand in front; the flag says that the first byte is behind a backslash
+unfoldable pub content_from : Bool → List ℕ → ℕ
+content_from escaped [] = 0
+content_from escaped (b ∷ bs) = one_more (content_step escaped (b ∷ bs)) (λ next. content_from next bs)
+
+abbrev pub content_len : List ℕ → ℕ
+content_len bs = content_from false bs
+
+-- whether a backslash stands here that begins an escape
+abbrev pub begins_escape : Bool → ℕ → Bool
+begins_escape escaped b = nat_eq b 92 && not escaped
+
+-- what a byte means; the flag says that it is behind a backslash
+abbrev pub meant : Bool → ℕ → ℕ
+meant escaped b = if escaped then escape_value b else b
+
+-- what plain bytes and escapes mean; the flag says that the first byte is behind a backslash
+unfoldable pub meaning_from : Bool → List ℕ → List ℕ
+meaning_from escaped [] = []
+meaning_from escaped (b ∷ bs) = if begins_escape escaped b then meaning_from true bs else meant escaped b ∷ meaning_from false bs
+
+abbrev pub meaning : List ℕ → List ℕ
+meaning bs = meaning_from false bs

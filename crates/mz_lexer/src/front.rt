@@ -1,0 +1,143 @@
+// What stands in front of some bytes.
+
+ghost use Rattle.std.specs.Prelude.{ℕ, List, ◌≡◌, ◌+◌, ◌<◌, ◌≤◌, ◌^◌, length, true, IfOk, IfSome};
+ghost use Rattle.std.specs.List.{list_all};
+ghost use Rattle.mz_base.specs.Names.{Grows};
+ghost use Rattle.mz_lexer.specs.Bytes.{front_byte, second_byte, third_byte, is_letter, is_word_byte};
+ghost use Rattle.mz_lexer.specs.Lexemes.{word_front, symbol_or_fault, comment_len, comment_of, front_of};
+ghost use Rattle.mz_lexer.specs.Symbols.{symbol_at};
+ghost use Rattle.mz_lexer.specs.Views.{front, IsFrontNamed, Fits};
+
+use crate::byte::{
+    front_byte, is_blank, is_digit, is_left_out_byte, is_letter, line_len, second_byte, third_byte,
+    word_len,
+};
+use crate::comment::comment_len;
+use crate::keyword::{is_left_out, keyword_of};
+use crate::number::number_front;
+use crate::piece::piece_front;
+use crate::symbol::symbol_at;
+use crate::token::Tok;
+use mz_base::{Kind, Memory, Names};
+use std::alloc::Global;
+use std::str::from_utf8;
+
+/// What stands in front of some bytes. Lengths are in bytes.
+#[derive(Clone, Copy, Debug)]
+pub enum Front {
+    /// A blank or a comment, with its length.
+    Gap(usize),
+    /// A token with its length.
+    Token(Tok, usize),
+    /// A fault, and how many bytes stand before it.
+    Refusal(Kind, usize),
+}
+
+/// A word as a text.
+fn word_text(word: &[u8]) -> &str
+    requires { list_all is_word_byte word.now ≡ true }
+    ensures { result.now ≡ word.now }
+{
+    match from_utf8(word) {
+        Ok(text) => text,
+        Err(_) => unreachable!(),
+    }
+}
+
+/// The longest word in front of bytes that begin with a letter.
+#[tactic(auto, unfolding(crate::specs::Lexemes::word_front))]
+fn word_front(bytes: &[u8], names: &mut Names) -> Result<Front, Memory>
+    requires { is_letter (front_byte bytes.now) ≡ true }
+    ensures shown { IfOk result (λ f. front names.new f ≡ word_front bytes.now) }
+    ensures named { IfOk result (λ f. IsFrontNamed names.new f) }
+    ensures fits { IfOk result (λ f. Fits (length bytes.now) f) }
+    ensures grows { Grows names.old names.new }
+{
+    let len = word_len(bytes);
+    let word = &bytes[..len];
+    match keyword_of(word) {
+        Some(keyword) => {
+            if is_left_out(keyword) {
+                Ok(Front::Refusal(Kind::LeftOut, 0))
+            } else {
+                Ok(Front::Token(Tok::Word(keyword), len))
+            }
+        }
+        None => {
+            let name = names.intern(word_text(word))?;
+            Ok(Front::Token(Tok::Ident(name), len))
+        }
+    }
+}
+
+/// The longest symbol in front, or the fault that stands there.
+fn symbol_front(bytes: &[u8]) -> Front
+    requires { 0 < length bytes.now }
+    ensures shown { (names : List (List ℕ)) → front names result ≡ symbol_or_fault (front_byte bytes.now) (symbol_at (front_byte bytes.now) (second_byte bytes.now) (third_byte bytes.now)) }
+    ensures named { (names : List (List ℕ)) → IsFrontNamed names result }
+    ensures fits { Fits (length bytes.now) result }
+{
+    let first = front_byte(bytes);
+    match symbol_at(first, second_byte(bytes), third_byte(bytes)) {
+        Some((symbol, len)) => Front::Token(Tok::Sym(symbol), len),
+        None => {
+            if is_left_out_byte(first) {
+                Front::Refusal(Kind::LeftOut, 0)
+            } else {
+                Front::Refusal(Kind::Lexical, 0)
+            }
+        }
+    }
+}
+
+/// A comment between `/*` and `*/`, behind its first two bytes.
+fn comment_front(bytes: &[u8]) -> Front
+    ensures shown { (names : List (List ℕ)) → front names result ≡ comment_of (comment_len bytes.now) }
+    ensures named { (names : List (List ℕ)) → IsFrontNamed names result }
+    ensures fits { Fits (length bytes.now + 2) result }
+{
+    match comment_len(bytes) {
+        Some(len) => Front::Gap(len + 2),
+        None => Front::Refusal(Kind::Lexical, 0),
+    }
+}
+
+/// What stands in front of some bytes, where `later` says that a `)` begins a piece of a text.
+#[tactic(auto, unfolding(crate::specs::Lexemes::front_of))]
+pub fn front_of(
+    alloc: Global,
+    later: bool,
+    bytes: &[u8],
+    names: &mut Names,
+) -> Result<Front, Memory>
+    requires some { 0 < length bytes.now }
+    requires few { length bytes.now < 2 ^ 62 }
+    ensures shown { IfOk result (λ f. front names.new f ≡ front_of later bytes.now) }
+    ensures named { IfOk result (λ f. IsFrontNamed names.new f) }
+    ensures fits { IfOk result (λ f. Fits (length bytes.now) f) }
+    ensures grows { Grows names.old names.new }
+{
+    let first = front_byte(bytes);
+    if is_blank(first) {
+        return Ok(Front::Gap(1));
+    }
+    if is_letter(first) {
+        return word_front(bytes, names);
+    }
+    if is_digit(first) {
+        return Ok(number_front(bytes));
+    }
+    if first == b'"' {
+        return piece_front(alloc, false, &bytes[1..], names);
+    }
+    if later && first == b')' {
+        return piece_front(alloc, true, &bytes[1..], names);
+    }
+    if first == b'%' {
+        return Ok(Front::Gap(1 + line_len(&bytes[1..])));
+    }
+    if first == b'/' && second_byte(bytes) == b'*' {
+        return Ok(comment_front(&bytes[2..]));
+    }
+    Ok(symbol_front(bytes))
+}

@@ -1,0 +1,111 @@
+// The tokens of a file.
+
+ghost use Rattle.std.specs.Prelude.{◌≡◌, ◌+◌, ◌<◌, ◌≤◌, ◌^◌, length, map, take, drop, IfOk, IfErr, Ok, Err, All};
+ghost use Rattle.mz_base.specs.Names.{Grows};
+ghost use Rattle.mz_lexer.specs.Lexemes.{after, fault, fault_number};
+ghost use Rattle.mz_lexer.specs.Lexes.{Lexes, IsFirstFault, IsDetermined};
+ghost use Rattle.mz_lexer.specs.Views.{lex, HasName, IfRefused};
+
+use crate::front::{Front, front_of};
+use crate::opening::Opens;
+use crate::place::after;
+use crate::token::Token;
+use mz_base::{Fault, Kind, Names, Span, Stop};
+use std::alloc::Global;
+
+/// The number of a fault.
+fn fault_number(kind: Kind) -> i128
+    ensures { result ≡ fault_number kind }
+{
+    match kind {
+        Kind::Bounds => 2305843009213693953,
+        _ => 0,
+    }
+}
+
+/// The bytes from a place of a file on.
+#[derive(Drop)]
+struct Cursor<'a> {
+    rest: &'a [u8],
+    at: Span,
+    ghost few: { length rest.now ≤ 67108864 },
+    ghost line: { at.line + length rest.now ≤ 67108865 },
+    ghost col: { at.col + length rest.now ≤ 67108865 },
+    ghost byte: { at.byte + length rest.now ≤ 67108864 },
+}
+
+impl Cursor<'_> {
+    /// Passes the first bytes, so many.
+    fn pass(&mut self, len: usize)
+        requires { len ≤ length self.old.rest.now }
+        ensures rest { self.new.rest.now ≡ drop len self.old.rest.now }
+        ensures at { self.new.at ≡ after self.old.at (take len self.old.rest.now) }
+    {
+        self.at = after(self.at, &self.rest[..len]);
+        self.rest = &self.rest[len..];
+    }
+
+    /// The fault behind the first bytes, so many.
+    fn fault(&self, kind: Kind, len: usize) -> Fault
+        requires { len ≤ length self.now.rest.now }
+        ensures { result ≡ fault kind (after self.now.at (take len self.now.rest.now)) }
+    {
+        Fault {
+            kind,
+            span: after(self.at, &self.rest[..len]),
+            number: fault_number(kind),
+        }
+    }
+}
+
+/// The tokens of a file's bytes, in order.
+///
+/// `file` is the file's number in each place. Every name of a token is one of the table behind the
+/// call. The first fault is Lexical, LeftOut or Bounds. After a fault or want of memory the table
+/// may hold more names.
+pub fn tokens(alloc: Global, bytes: &[u8], file: u64, names: &mut Names) -> Result<Vec<Token>, Stop>
+    requires { length bytes.now ≤ 67108864 }
+    ensures read { IfOk result (λ v. Lexes file bytes.now (map (lex names.new) v.items)) }
+    ensures named { IfOk result (λ v. All (HasName names.new) v.items) }
+    ensures fault { IfErr result (λ s. IfRefused s (λ f. IsFirstFault file bytes.now f)) }
+    ensures grows { Grows names.old names.new }
+{
+    let at = Span {
+        file,
+        line: 1,
+        col: 1,
+        byte: 0,
+    };
+    let mut cursor = Cursor { rest: bytes, at };
+    let mut opens = Opens::new(alloc);
+    let mut tokens = Vec::new(alloc);
+    while !cursor.rest.is_empty() {
+        let later = opens.begins_piece();
+        match front_of(alloc, later, cursor.rest, names)? {
+            Front::Refusal(kind, len) => {
+                let fault = cursor.fault(kind, len);
+                return Err(Stop::Refused(fault));
+            }
+            Front::Gap(len) => {
+                cursor.pass(len);
+                continue;
+            }
+            Front::Token(tok, len) => {
+                opens.pass(&tok)?;
+                let token = Token {
+                    tok,
+                    span: cursor.at,
+                    len: len as u64,
+                };
+                tokens.push(token)?;
+                cursor.pass(len);
+            }
+        }
+    }
+    Ok(tokens)
+}
+
+/// The law that the bytes of a file are one list of tokens, or have one first fault, and never both.
+pub fn one_outcome()
+    ensures { IsDetermined }
+{}

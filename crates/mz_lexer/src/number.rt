@@ -1,0 +1,109 @@
+// Integer literals.
+
+ghost use Rattle.std.specs.Prelude.{ℕ, List, true, IsTrue, nat_eq, ◌&&◌, ◌≡◌, ◌≤◌, ◌<◌, ◌+◌, ◌*◌, nat_le, length, drop, [], IfSome, Some, None, if◌then◌else◌};
+ghost use Rattle.std.specs.Char.{digit_value};
+ghost use Rattle.std.specs.List.{prefix_len, take_while};
+ghost use Rattle.mz_lexer.specs.Bytes.{is_digit, is_hex_digit, is_octal_digit, front_byte, second_byte, third_byte};
+ghost use Rattle.mz_lexer.specs.Numbers.{limit, number_of, goes_on, is_exponent_letter, is_sign};
+ghost use Rattle.mz_lexer.specs.Lexemes.{literal, number_front};
+ghost use Rattle.mz_lexer.specs.Views.{front, IsFrontNamed, Fits};
+
+use crate::byte::{
+    digits_len, front_byte, hex_digits_len, is_digit, is_hex_digit, is_octal_digit,
+    octal_digits_len, second_byte, third_byte,
+};
+use crate::front::Front;
+use crate::token::Tok;
+use mz_base::Kind;
+
+/// The greatest number of a literal.
+const LIMIT: u64 = 1 << 61;
+
+/// The value of a digit or a letter, 36 for other bytes.
+fn digit_value(byte: u8) -> u64
+    ensures value { result ≡ digit_value byte }
+    ensures small { result ≤ 36 }
+{
+    match byte {
+        48..=57 => u64::from(byte) - 48,
+        65..=90 => u64::from(byte) - 55,
+        97..=122 => u64::from(byte) - 87,
+        _ => 36,
+    }
+}
+
+/// The number that digits spell in a base. None above the limit.
+fn number_of(base: u64, digits: &[u8]) -> Option<u64>
+    requires some { 0 < base }
+    requires small { base ≤ 16 }
+    ensures { result ≡ (if nat_le (number_of base digits.now) limit then Some (number_of base digits.now) else None) }
+{
+    let most = LIMIT / base;
+    let mut value = 0;
+    for digit in digits {
+        if value > most {
+            return None;
+        }
+        value = value * base + digit_value(*digit);
+    }
+    if value > LIMIT { None } else { Some(value) }
+}
+
+/// A literal of some digits, with its length.
+fn literal(base: u64, digits: &[u8], len: usize) -> Front
+    requires some { 0 < base }
+    requires small { base ≤ 16 }
+    ensures shown { (names : List (List ℕ)) → front names result ≡ literal base digits.now len }
+    ensures named { (names : List (List ℕ)) → IsFrontNamed names result }
+    ensures fits { (all : ℕ) → 0 < len → len ≤ all → Fits all result }
+{
+    match number_of(base, digits) {
+        Some(value) => Front::Token(Tok::Int(value as i64), len),
+        None => Front::Refusal(Kind::Bounds, 0),
+    }
+}
+
+/// Whether a fraction or an exponent stands behind decimal digits.
+fn goes_on(bytes: &[u8]) -> bool
+    ensures { result ≡ goes_on bytes.now }
+{
+    let first = front_byte(bytes);
+    let second = second_byte(bytes);
+    (first == b'.' && is_digit(second))
+        || ((first == b'e' || first == b'E')
+            && (is_digit(second)
+                || ((second == b'+' || second == b'-') && is_digit(third_byte(bytes)))))
+}
+
+/// Whether `0`, this letter and a digit of its base stand in front.
+fn is_prefixed(bytes: &[u8], letter: u8, third_is_digit: bool) -> bool
+    ensures value { result ≡ (nat_eq (front_byte bytes.now) 48 && (nat_eq (second_byte bytes.now) letter && third_is_digit)) }
+    ensures long { IsTrue result → 0 < letter → 2 ≤ length bytes.now }
+{
+    front_byte(bytes) == b'0' && (second_byte(bytes) == letter && third_is_digit)
+}
+
+/// The longest literal in front of bytes that begin with a digit.
+#[tactic(auto, unfolding(crate::specs::Lexemes::number_front))]
+pub fn number_front(bytes: &[u8]) -> Front
+    requires { is_digit (front_byte bytes.now) ≡ true }
+    ensures shown { (names : List (List ℕ)) → front names result ≡ number_front bytes.now }
+    ensures named { (names : List (List ℕ)) → IsFrontNamed names result }
+    ensures fits { Fits (length bytes.now) result }
+{
+    if is_prefixed(bytes, b'x', is_hex_digit(third_byte(bytes))) {
+        let digits = &bytes[2..];
+        let len = hex_digits_len(digits);
+        return literal(16, &digits[..len], 2 + len);
+    }
+    if is_prefixed(bytes, b'o', is_octal_digit(third_byte(bytes))) {
+        let digits = &bytes[2..];
+        let len = octal_digits_len(digits);
+        return literal(8, &digits[..len], 2 + len);
+    }
+    let len = digits_len(bytes);
+    if goes_on(&bytes[len..]) {
+        return Front::Refusal(Kind::LeftOut, 0);
+    }
+    literal(10, &bytes[..len], len)
+}
