@@ -12,12 +12,12 @@ use Rattle.mz_tool.specs.declared.status.Status.{Status}
 use Rattle.mz_tool.specs.declared.status.Status.TheVariants.{Done, Refused, Usage, ReadFault, WriteFault, Memory}
 use Rattle.mz_tool.specs.Names.{Name}
 use Rattle.mz_tool.specs.Model.{Item}
-use Rattle.mz_tool.specs.Headline.{IsModel, IsText, IsNotBuilt}
+use Rattle.mz_tool.specs.Headline.{IsModel, IsText, IsNotBuilt, file_limit}
 use Rattle.mz_tool.specs.Compiling.{CompilesText, IsWritten}
-use Rattle.mz_tool.specs.Status.{IfRefused, IsRefusedAt, IsRefusedAs, IsMissing, IsTooLong, CountsFiles, CountsOut, TellsText, IsDoneOrMemory, file_limit}
+use Rattle.mz_tool.specs.Status.{IfRefused, IsRefusedAt, IsRefusedAs, IsMissing, IsTooLong, CountsFiles, CountsOut, TellsText, IsDoneOrMemory}
 
-not_built : (texts : Texts) (name : Name) (text : List ℕ) (f : Fault) → IsText texts name text → f ≡ record { kind = NotBuilt; span = record { file = 0; line = 1; col = 1; byte = 0 }; number = pos 0 } → ((items : List Item) → IsModel text items → ⊥) → IsRefusedAt texts name f
-not_built texts name text f told is other = rw is (record { cause = record { text = text; told = told; other = other }; span = refl; number = refl })
+not_built : (texts : Texts) (name : Name) (text : List ℕ) (f : Fault) → IsText texts name text → length text ≤ file_limit → f ≡ record { kind = NotBuilt; span = record { file = 0; line = 1; col = 1; byte = 0 }; number = pos 0 } → ((items : List Item) → IsModel text items → ⊥) → IsRefusedAt texts name f
+not_built texts name text f told within is other = rw is (record { cause = record { text = text; told = told; within = within; other = other }; span = refl; number = refl })
 
 -- what is fetched is the file's text
 pub text_told : (texts : Texts) (name : Name) (limit : ℕ) (text : Vec ℕ Global) → Tells texts name limit (Bytes text) → IsText texts name text.items
@@ -25,13 +25,13 @@ text_told None name limit text told = tt
 text_told (Some texts) name limit text told = told
 
 -- a text that is refused refuses its file
-pub refused_text : (texts : Texts) (name : Name) (text : List ℕ) (old new : Held) (status : Status) → IsText texts name text → CompilesText text old new status → IfRefused status (IsRefusedAt texts name)
-refused_text texts name text old new Done told compiled = tt
-refused_text texts name text old new (Refused f) told compiled = not_built texts name text f told compiled.1 compiled.2
-refused_text texts name text old new Usage told compiled = tt
-refused_text texts name text old new ReadFault told compiled = tt
-refused_text texts name text old new WriteFault told compiled = tt
-refused_text texts name text old new Memory told compiled = tt
+pub refused_text : (texts : Texts) (name : Name) (text : List ℕ) (old new : Held) (status : Status) → IsText texts name text → length text ≤ file_limit → CompilesText text old new status → IfRefused status (IsRefusedAt texts name)
+refused_text texts name text old new Done told within compiled = tt
+refused_text texts name text old new (Refused f) told within compiled = not_built texts name text f told within compiled.1 compiled.2
+refused_text texts name text old new Usage told within compiled = tt
+refused_text texts name text old new ReadFault told within compiled = tt
+refused_text texts name text old new WriteFault told within compiled = tt
+refused_text texts name text old new Memory told within compiled = tt
 
 same_text : (x : Option (List ℕ)) (text other : List ℕ) → x ≡ Some text → x ≡ Some other → other ≡ text
 same_text x text other is is_too = cc

@@ -1,5 +1,5 @@
 -- What a compilation promises: the bytes written spell a program that has the model's solutions and no others.
-use Rattle.std.specs.Prelude.{◌≡◌, ℕ, List, [], length, Some, None}
+use Rattle.std.specs.Prelude.{◌≡◌, ◌≤◌, ℕ, List, [], length, Some, None}
 use Rattle.mz_io.specs.Files.{Texts}
 use Rattle.mz_io.specs.Sink.{Held, Adds, AddsFront}
 use Rattle.mz_tool.specs.declared.flat.FzGoal.TheVariants.{Satisfy}
@@ -39,6 +39,10 @@ pub record Compiled (text written : List ℕ) : Type 0 where
   pub goal : program.goal ≡ Satisfy
   pub solutions : KeepsSolutions items program
 
+-- the limit of a file, in bytes
+abbrev pub file_limit : ℕ
+file_limit = 67108864
+
 -- a file's text, where texts are told
 abbrev pub IsText : Texts → Name → List ℕ → Type 0
 IsText None name text = Unit {0}
@@ -49,6 +53,7 @@ pub record Writes (texts : Texts) (name : Name) (old new : Held) : Type 0 where
   pub text : List ℕ
   pub written : List ℕ
   pub told : IsText texts name text
+  pub within : length text ≤ file_limit
   pub compiled : Compiled text written
   pub adds : Adds old new written
 
@@ -57,6 +62,7 @@ pub record WritesFront (texts : Texts) (name : Name) (old new : Held) : Type 0 w
   pub text : List ℕ
   pub written : List ℕ
   pub told : IsText texts name text
+  pub within : length text ≤ file_limit
   pub compiled : Compiled text written
   pub adds : AddsFront old new written
 
@@ -64,4 +70,5 @@ pub record WritesFront (texts : Texts) (name : Name) (old new : Held) : Type 0 w
 pub record IsNotBuilt (texts : Texts) (name : Name) : Type 0 where
   pub text : List ℕ
   pub told : IsText texts name text
+  pub within : length text ≤ file_limit
   pub other : (items : List Item) → IsModel text items → ⊥

@@ -13,7 +13,7 @@ use Rattle.mz_io.specs.Sink.{Held, SinkCounts, Adds}
 use Rattle.mz_tool.specs.declared.status.Status.{Status}
 use Rattle.mz_tool.specs.declared.status.Status.TheVariants.{Done, Refused, Usage, ReadFault, WriteFault, Memory}
 use Rattle.mz_tool.specs.Names.{Name}
-use Rattle.mz_tool.specs.Headline.{IsModel, IsNotBuilt}
+use Rattle.mz_tool.specs.Headline.{IsModel, IsNotBuilt, file_limit}
 use Rattle.mz_tool.specs.Model.{Item}
 
 -- the number behind a kind, where the line shows one
@@ -50,10 +50,6 @@ IsNoted old new before after file status = Notes old new before after (line_of f
 -- the first byte of the model's file
 abbrev pub start : Span
 start = record { file = 0; line = 1; col = 1; byte = 0 }
-
--- the limit of a file, in bytes
-abbrev pub file_limit : ℕ
-file_limit = 67108864
 
 abbrev pub IsMissing : Texts → Name → Type 0
 IsMissing None name = Unit {0}
