@@ -1,5 +1,6 @@
 -- How high a tree is: how many expressions stand one inside the other.
-use Rattle.std.specs.Prelude.{ℕ, suc, max, List, [], ◌∷◌}
+use Rattle.std.specs.Prelude.{◌≡◌, ℕ, zero, suc, max, ◌+◌}
+use Rattle.std.proofs.Common.{refl}
 use Rattle.mz_tree.specs.Tree as pure
 use Rattle.mz_tree.specs.Tree.{Tree, Shape, Maybe, Trees, Links, Rows, Branches, Part, Parts, Generator, Gens, Let, Lets, Declaration, Written, Based, Dims, Bases}
 
@@ -90,3 +91,15 @@ unfoldable mutual
   pub bases_height : Bases → ℕ
   bases_height pure.no_bases = 0
   bases_height (pure.a_base b bs) = max (based_height b) (bases_height bs)
+
+-- How high an expression may be where room tokens more may be opened. With no room it is one form
+-- within the twelve levels of binary operators. With room, an atom may have as many accesses as there
+-- is room for; each makes one expression round the one before, and the innermost stands round an
+-- expression with less room by one.
+unfoldable pub most : ℕ → ℕ
+most zero = 13
+most (suc room) = most room + 13 + suc room
+
+pub most_in_a_file : most 120 ≡ 8833
+unfolding most
+most_in_a_file = refl

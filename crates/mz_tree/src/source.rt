@@ -8,15 +8,15 @@ use mz_base::{Name, Span};
 
 /// A file of the model: its name as it was fetched, its items in order, and the place of its end.
 ///
-/// At most 1573 expressions stand one inside the other. At most 120 tokens are open at once, and
-/// between an open token and the next one inside it stand at most the twelve levels of binary
-/// operators and one form; so do they within the last and outside of all.
+/// At most 8833 expressions stand one inside the other, which is `most 120`: at most 120 tokens are
+/// open at once. Round an expression in brackets stand one form, then at most one access for each
+/// token that may still be open, and the twelve levels of binary operators.
 #[derive(Debug, Drop)]
 pub struct SourceFile {
     pub name: Name,
     pub items: Vec<Item>,
     pub end: Span,
-    pub ghost bounded: { items_height items.items ≤ 1573 },
+    pub ghost bounded: { items_height items.items ≤ 8833 },
 }
 
 /// The model and its included files, in the order in which they were first named.

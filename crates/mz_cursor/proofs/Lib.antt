@@ -1,0 +1,6 @@
+pub mod Laws
+pub mod Viable
+pub mod Longer
+pub mod Answering
+pub mod Keeps
+pub mod Steps

@@ -1,0 +1,119 @@
+-- How a rule reads, by its outermost form: steps towards one equation for each part of a grammar.
+use Rattle.std.proofs.Common.{◌≡◌, ℕ, zero, suc, List, [], ◌∷◌, ◌++◌, map, length, ◌≤◌, ◌<◌, ◌+◌, refl, sym, ap, ◌∙◌, append_assoc, append-nil, true, false, Bool, Option, Result}
+use Rattle.std.proofs.lemmas.List.{map-append}
+use Rattle.std.specs.Prelude.{Ok, Err, Some, None, if◌then◌else◌}
+use Rattle.mz_base.specs.declared.fault.Span.{Span}
+use Rattle.mz_lexer.specs.declared.token.Token.{Token}
+use Rattle.mz_lexer.specs.declared.token.Tok.{Tok}
+use Rattle.mz_cursor.specs.Tokens.{tok_at, behind, place}
+use Rattle.mz_cursor.specs.Rules.{Rule, give, refuse, leave_out, look, pass, enter, leave, part, too_deep}
+use Rattle.mz_cursor.specs.Reading.{Read, Reader, Stuck, stuck, on, open_at, mapped, with_front, listed, step, ◌>>=◌}
+
+-- the room of a call that pushed
+pub open_more : {A : Type 0} (room r : ℕ) (ts : List Token) (f : ℕ → Read A) → room ≡ suc r → open_at room ts f ≡ f r
+open_more room r ts f e = ap (λ m. open_at m ts f) e
+
+pub open_none : {A : Type 0} (room : ℕ) (ts : List Token) (f : ℕ → Read A) → room ≡ 0 → open_at room ts f ≡ stuck too_deep ts
+open_none room ts f e = ap (λ m. open_at m ts f) e
+
+pub itself : {A : Type 0} (o : Read A) → (o >>= λ x. Ok (x.0, x.1)) ≡ o
+itself (Ok x) = refl
+itself (Err e) = refl
+
+-- a value that is made of a list that is read
+pub listed_mapped : {A B : Type 0} (f : List A → B) (separator : Reader Bool) (next : Reader (List A)) (x : A) (ts : List Token) →
+    (separator ts >>= λ b. if b.0 then mapped (λ xs. f (x ∷ xs)) (next b.1) else Ok (f (x ∷ []), b.1)) ≡ mapped f (listed separator next x ts)
+listed_mapped {A = A} {B = B} f separator next x ts = go (separator ts)
+  where
+    last : (o : Read (List A)) → mapped (λ xs. f (x ∷ xs)) o ≡ mapped f (with_front (x ∷ []) o)
+    last (Ok y) = refl
+    last (Err e) = refl
+
+    by_flag : (b : Bool) (us : List Token) → (if b then mapped (λ xs. f (x ∷ xs)) (next us) else Ok (f (x ∷ []), us)) ≡ mapped f (if b then with_front (x ∷ []) (next us) else Ok (x ∷ [], us))
+    by_flag true us = last (next us)
+    by_flag false us = refl
+
+    go : (o : Read Bool) → (o >>= λ b. if b.0 then mapped (λ xs. f (x ∷ xs)) (next b.1) else Ok (f (x ∷ []), b.1)) ≡ mapped f (o >>= λ b. if b.0 then with_front (x ∷ []) (next b.1) else Ok (x ∷ [], b.1))
+    go (Ok b) = by_flag b.0 b.1
+    go (Err e) = refl
+
+-- what was read first, in two pieces
+pub front_front : {A : Type 0} (xs ys : List A) (o : Read (List A)) → with_front xs (with_front ys o) ≡ with_front (xs ++ ys) o
+front_front xs ys (Ok x) = ap (λ l. Ok (l, x.1)) (sym (append_assoc xs ys x.0))
+front_front xs ys (Err e) = refl
+
+pub front_more : {A : Type 0} (xs : List A) (x : A) (o : Read (List A)) → with_front (xs ++ (x ∷ [])) o ≡ with_front xs (with_front (x ∷ []) o)
+front_more xs x o = sym (front_front xs (x ∷ []) o)
+
+pub front_push : {A X : Type 0} (f : X → A) (xs : List X) (x : X) (o : Read (List A)) → with_front (map f (xs ++ (x ∷ []))) o ≡ with_front (map f xs) (with_front (f x ∷ []) o)
+front_push f xs x o = ap (λ l. with_front l o) (map-append f xs (x ∷ [])) ∙ front_more (map f xs) (f x) o
+
+pub nothing_behind : {A : Type 0} (xs : List A) → xs ++ [] ≡ xs
+nothing_behind xs = append-nil xs
+
+pub no_front : {A : Type 0} (o : Read (List A)) → with_front [] o ≡ o
+no_front (Ok x) = refl
+no_front (Err e) = refl
+
+pub then_front : {A B : Type 0} (x : A) (o : Read (List A)) (f : List A → Reader B) → (o >>= λ y. f (x ∷ y.0) y.1) ≡ (with_front (x ∷ []) o >>= λ y. f y.0 y.1)
+then_front x (Ok y) f = refl
+then_front x (Err e) f = refl
+
+-- a list that is turned into another, element by element
+pub mapped_front : {A B : Type 0} (f : A → B) (x : A) (o : Read (List A)) → mapped (λ xs. map f xs) (with_front (x ∷ []) o) ≡ with_front (f x ∷ []) (mapped (λ xs. map f xs) o)
+mapped_front f x (Ok y) = refl
+mapped_front f x (Err e) = refl
+
+-- one reading after another, in two groups
+pub grouped : {A B C : Type 0} (o : Read A) (f : A × List Token → Read B) (g : B × List Token → Read C) → (o >>= λ x. f x >>= g) ≡ ((o >>= f) >>= g)
+grouped (Ok x) f g = refl
+grouped (Err e) f g = refl
+
+-- the same continuations
+pub same_then : {A B : Type 0} (o : Result A Stuck) (f g : A → Read B) → ((x : A) → f x ≡ g x) → (o >>= f) ≡ (o >>= g)
+same_then (Ok x) f g h = h x
+same_then (Err e) f g h = refl
+
+pub same_if : {A : Type 0} (b : Bool) {p q r s : A} → p ≡ r → q ≡ s → (if b then p else q) ≡ (if b then r else s)
+same_if true h g = h
+same_if false h g = g
+
+pub same_on : {A B : Type 0} (o : Option A) {p q : B} (f g : A → B) → p ≡ q → ((x : A) → f x ≡ g x) → on o p f ≡ on o q g
+same_on None f g h k = h
+same_on (Some x) f g h k = k x
+
+pub same_open : {A : Type 0} (room : ℕ) (ts : List Token) (f g : ℕ → Read A) → ((r : ℕ) → f r ≡ g r) → open_at room ts f ≡ open_at room ts g
+same_open zero ts f g h = refl
+same_open (suc r) ts f g h = h r
+
+module _ {Part : Type 0} {Value : Part → Type 0} (inner : (m : Part) → ℕ → Reader (Value m)) where
+  pub step_if : {n : Part} (b : Bool) (p q : Rule Value n) (room : ℕ) (ts : List Token) → step inner (if b then p else q) room ts ≡ (if b then step inner p room ts else step inner q room ts)
+  step_if true p q room ts = refl
+  step_if false p q room ts = refl
+
+  pub step_on : {n : Part} {A : Type 0} (o : Option A) (p : Rule Value n) (f : A → Rule Value n) (room : ℕ) (ts : List Token) → step inner (on o p f) room ts ≡ on o (step inner p room ts) (λ x. step inner (f x) room ts)
+  step_on None p f room ts = refl
+  step_on (Some x) p f room ts = refl
+
+  -- a test that only a token passes
+  pub pass_if : {n : Part} (test : Option Tok → Bool) → test None ≡ false → (f : Span → Rule Value n) (q : Rule Value n) (room : ℕ) (ts : List Token) → step inner (if test (tok_at ts) then pass f else q) room ts ≡ (if test (tok_at ts) then step inner (f (place ts)) room (behind ts) else step inner q room ts)
+  unfolding step
+  pass_if test e f q room [] = rw e refl
+  pass_if test e f q room (t ∷ ts) = step_if (test (Some t.tok)) (pass f) q room (t ∷ ts)
+
+  pub enter_if : {n : Part} (test : Option Tok → Bool) → test None ≡ false → (f : Span → Rule Value n) (q : Rule Value n) (room : ℕ) (ts : List Token) → step inner (if test (tok_at ts) then enter f else q) room ts ≡ (if test (tok_at ts) then open_at room ts (λ r. step inner (f (place ts)) r (behind ts)) else step inner q room ts)
+  unfolding step
+  enter_if test e f q room [] = rw e refl
+  enter_if test e f q zero (t ∷ ts) = step_if (test (Some t.tok)) (enter f) q zero (t ∷ ts)
+  enter_if test e f q (suc room) (t ∷ ts) = step_if (test (Some t.tok)) (enter f) q (suc room) (t ∷ ts)
+
+  pub pass_on : {n : Part} {A : Type 0} (find : Option Tok → Option A) → find None ≡ None → (q : Rule Value n) (f : A → Span → Rule Value n) (room : ℕ) (ts : List Token) → step inner (on (find (tok_at ts)) q (λ x. pass (f x))) room ts ≡ on (find (tok_at ts)) (step inner q room ts) (λ x. step inner (f x (place ts)) room (behind ts))
+  unfolding step
+  pass_on find e q f room [] = rw e refl
+  pass_on find e q f room (t ∷ ts) = step_on (find (Some t.tok)) q (λ x. pass (f x)) room (t ∷ ts)
+
+  pub enter_on : {n : Part} {A : Type 0} (find : Option Tok → Option A) → find None ≡ None → (q : Rule Value n) (f : A → Span → Rule Value n) (room : ℕ) (ts : List Token) → step inner (on (find (tok_at ts)) q (λ x. enter (f x))) room ts ≡ on (find (tok_at ts)) (step inner q room ts) (λ x. open_at room ts (λ r. step inner (f x (place ts)) r (behind ts)))
+  unfolding step
+  enter_on find e q f room [] = rw e refl
+  enter_on find e q f zero (t ∷ ts) = step_on (find (Some t.tok)) q (λ x. enter (f x)) zero (t ∷ ts)
+  enter_on find e q f (suc room) (t ∷ ts) = step_on (find (Some t.tok)) q (λ x. enter (f x)) (suc room) (t ∷ ts)

@@ -1,0 +1,329 @@
+-- Each front of tokens that a grammar hasn't refused begins some part, where the grammar's rules have a few properties.
+use Rattle.std.proofs.Common.{◌≡◌, ℕ, zero, suc, ◌+◌, List, [], ◌∷◌, ◌++◌, refl, sym, ap, ◌∙◌, subst, append_assoc, arith, true, false, Bool, Option, inl, inr, ◌⊎◌, append-nil}
+use Rattle.std.specs.Prelude.{Ok, Err, Some, None}
+use Rattle.mz_base.specs.declared.fault.Span.{Span}
+use Rattle.mz_lexer.specs.declared.token.Token.{Token}
+use Rattle.mz_lexer.specs.declared.token.Tok.{Tok}
+use Rattle.mz_cursor.specs.Tokens.{tok_at, follows}
+use Rattle.mz_cursor.specs.Rules.{Reason, syntax, left_out, too_deep, Rule, give, refuse, leave_out, look, pass, enter, leave, part, Runs, gives, looks, passes, enters, leaves, parts, Refuses, unfit, unwanted, no_token, no_opening, one_too_many, behind_look, behind_pass, behind_enter, behind_leave, within, beyond}
+use Rattle.mz_cursor.specs.Reading.{Read, ◌>>=◌, step, read_by}
+use Rattle.mz_cursor.proofs.Laws.{follow}
+
+-- the tokens that a reader has taken in besides: the one that is one too many
+abbrev pub allowed : Reason → List Token → List Token
+allowed too_deep (t ∷ rest) = t ∷ []
+allowed too_deep [] = []
+allowed syntax rest = []
+allowed left_out rest = []
+
+-- a token was taken, or is one too many
+abbrev pub Begun : List Token → Reason → List Token → Type 0
+Begun [] syntax rest = ⊥
+Begun [] left_out rest = ⊥
+Begun [] too_deep [] = ⊥
+Begun [] too_deep (t ∷ rest) = Unit {0}
+Begun (t ∷ us) why rest = Unit {0}
+
+abbrev pub HasToken : List Token → Type 0
+HasToken [] = ⊥
+HasToken (t ∷ us) = Unit {0}
+
+has_left : (us vs : List Token) → HasToken us → HasToken (us ++ vs)
+has_left [] vs h = absurd h
+has_left (t ∷ us) vs h = tt
+
+has_right : (us vs : List Token) → HasToken vs → HasToken (us ++ vs)
+has_right [] vs h = h
+has_right (t ∷ us) vs h = tt
+
+-- the token that follows stays the same, whatever stands behind
+same_front : (us : List Token) (why : Reason) (rest more : List Token) (next other : Option Tok) → tok_at rest ≡ next → Begun us why rest → follows us next ≡ follows ((us ++ allowed why rest) ++ more) other
+same_front [] syntax rest more next other e b = absurd b
+same_front [] left_out rest more next other e b = absurd b
+same_front [] too_deep [] more next other e b = absurd b
+same_front [] too_deep (t ∷ rest) more next other e b = sym e
+same_front (t ∷ us) why rest more next other e b = refl
+
+module _ {Part : Type 0} {Value : Part → Type 0} (rule : (n : Part) → Rule Value n) where
+  -- more room harms nothing
+  pub raise : {n : Part} {q : ℕ} {p : Rule Value n} {us : List Token} {x : Value n} {next : Option Tok} → Runs rule n q p us x next → Runs rule n (suc q) p us x next
+  raise gives = gives
+  raise (looks h) = looks (raise h)
+  raise (passes h) = passes (raise h)
+  raise (enters h) = enters (raise h)
+  raise (leaves h) = leaves (raise h)
+  raise (parts us vs h g) = parts us vs (raise h) (raise g)
+
+  raise_to : (k : ℕ) {n : Part} {q : ℕ} {p : Rule Value n} {us : List Token} {x : Value n} {next : Option Tok} → Runs rule n q p us x next → (r : ℕ) → q + k ≡ r → Runs rule n r p us x next
+  raise_to zero {n = n} {p = p} {us = us} {x = x} {next = next} h r e = subst (λ r. Runs rule n r p us x next) (omega (arith, e)) h
+  raise_to (suc k) {n = n} {q = q} {p = p} {us = us} {x = x} {next = next} h r e = subst (λ r. Runs rule n r p us x next) (omega (arith, e)) (raise (raise_to k h (q + k) refl))
+
+  -- a run in some room
+  abbrev pub Goes : {n : Part} → Rule Value n → List Token → Value n → Option Tok → Type 0
+  Goes {n = n} p us x next = (room : ℕ) × Runs rule n room p us x next
+
+  pub goes_in : {n m : Part} {f : Value m → Rule Value n} (us vs : List Token) {x : Value m} {y : Value n} {next : Option Tok} → Goes (rule m) us x (follows vs next) → Goes (f x) vs y next → Goes (part m f) (us ++ vs) y next
+  goes_in us vs h g = (h.0 + g.0, parts us vs (raise_to g.0 h.1 (h.0 + g.0) refl) (raise_to h.0 g.1 (h.0 + g.0) (omega arith)))
+
+  pub goes_out : {n : Part} {p : Rule Value n} {us : List Token} {x : Value n} {next : Option Tok} → Goes p us x next → Goes (leave p) us x next
+  goes_out h = (h.0, leaves (raise h.1))
+
+  -- what a reader took without being stuck, it may take
+  abbrev pub Taken : (n : Part) → ℕ → Rule Value n → List Token → Read (Value n) → Type 0
+  Taken n room p ts (Ok x) = (front : List Token) × (ts ≡ front ++ x.1) × Runs rule n room p front x.0 (tok_at x.1)
+  Taken n room p ts (Err e) = Unit {0}
+
+  take_look : {n : Part} (room : ℕ) (f : Option Tok → Rule Value n) (ts : List Token) (o : Read (Value n)) → Taken n room (f (tok_at ts)) ts o → Taken n room (look f) ts o
+  take_look {n = n} room f ts (Ok x) h = (h.0, h.1, looks (subst (λ o. Runs rule n room (f o) h.0 x.0 (tok_at x.1)) (ap tok_at h.1 ∙ follow h.0 x.1) h.2))
+  take_look room f ts (Err e) h = tt
+
+  take_pass : {n : Part} (room : ℕ) (f : Span → Rule Value n) (t : Token) (ts : List Token) (o : Read (Value n)) → Taken n room (f t.span) ts o → Taken n room (pass f) (t ∷ ts) o
+  take_pass room f t ts (Ok x) h = (t ∷ h.0, ap (λ l. t ∷ l) h.1, passes h.2)
+  take_pass room f t ts (Err e) h = tt
+
+  take_enter : {n : Part} (room : ℕ) (f : Span → Rule Value n) (t : Token) (ts : List Token) (o : Read (Value n)) → Taken n room (f t.span) ts o → Taken n (suc room) (enter f) (t ∷ ts) o
+  take_enter room f t ts (Ok x) h = (t ∷ h.0, ap (λ l. t ∷ l) h.1, enters h.2)
+  take_enter room f t ts (Err e) h = tt
+
+  take_leave : {n : Part} (room : ℕ) (p : Rule Value n) (ts : List Token) (o : Read (Value n)) → Taken n (suc room) p ts o → Taken n room (leave p) ts o
+  take_leave room p ts (Ok x) h = (h.0, h.1, leaves h.2)
+  take_leave room p ts (Err e) h = tt
+
+  take_beyond : {n m : Part} (room : ℕ) (f : Value m → Rule Value n) (ts : List Token) (x : Value m × List Token) → Taken m room (rule m) ts (Ok x) → (o : Read (Value n)) → Taken n room (f x.0) x.1 o → Taken n room (part m f) ts o
+  take_beyond {m = m} room f ts x h (Ok y) g = (h.0 ++ g.0, h.1 ∙ ap (λ l. h.0 ++ l) g.1 ∙ sym (append_assoc h.0 g.0 y.1), parts h.0 g.0 (subst (λ o. Runs rule m room (rule m) h.0 x.0 o) (ap tok_at g.1 ∙ follow g.0 y.1) h.2) g.2)
+  take_beyond room f ts x h (Err e) g = tt
+
+  take_part : (fuel : ℕ) {n m : Part} (room : ℕ) (f : Value m → Rule Value n) (ts : List Token) (o : Read (Value m)) → Taken m room (rule m) ts o
+      → ((x : Value m) (us : List Token) → Taken n room (f x) us (step (read_by rule fuel) (f x) room us))
+      → Taken n room (part m f) ts (o >>= λ x. step (read_by rule fuel) (f x.0) room x.1)
+  take_part fuel room f ts (Ok x) h rest = take_beyond room f ts x h _ (rest x.0 x.1)
+  take_part fuel room f ts (Err e) h rest = tt
+
+  take_step : (fuel : ℕ) → ((m : Part) (room : ℕ) (us : List Token) → Taken m room (rule m) us (read_by rule fuel m room us)) → {n : Part} (p : Rule Value n) (room : ℕ) (ts : List Token) → Taken n room p ts (step (read_by rule fuel) p room ts)
+  unfolding step
+  take_step fuel ih (give x) room ts = ([], refl, gives)
+  take_step fuel ih refuse room ts = tt
+  take_step fuel ih leave_out room ts = tt
+  take_step fuel ih (look f) room ts = take_look room f ts _ (take_step fuel ih (f (tok_at ts)) room ts)
+  take_step fuel ih (pass f) room [] = tt
+  take_step fuel ih (pass f) room (t ∷ ts) = take_pass room f t ts _ (take_step fuel ih (f t.span) room ts)
+  take_step fuel ih (enter f) room [] = tt
+  take_step fuel ih (enter f) zero (t ∷ ts) = tt
+  take_step fuel ih (enter f) (suc room) (t ∷ ts) = take_enter room f t ts _ (take_step fuel ih (f t.span) room ts)
+  take_step fuel ih (leave p) room ts = take_leave room p ts _ (take_step fuel ih p (suc room) ts)
+  take_step fuel ih (part m f) room ts = take_part fuel room f ts _ (ih m room ts) (λ x us. take_step fuel ih (f x) room us)
+
+  take : (fuel : ℕ) (m : Part) (room : ℕ) (us : List Token) → Taken m room (rule m) us (read_by rule fuel m room us)
+  unfolding read_by
+  take zero m room us = tt
+  take (suc fuel) m room us = take_step fuel (take fuel) (rule m) room us
+
+  -- a reading that took all; where it did not, a run says so
+  abbrev pub Finished : {A : Type 0} → Type 0 → Read A → Type 0
+  Finished run (Ok (x, [])) = Unit {0}
+  Finished run (Ok (x, (t ∷ rest))) = run
+  Finished run (Err e) = run
+
+  -- the rule may take just these tokens, and some value is given
+  abbrev pub MayTake : {n : Part} → Rule Value n → List Token → Type 0
+  MayTake {n = n} p more = (x : Value n) × Goes p more x None
+
+  -- the rule may take just these tokens: a reader with fuel for a small file finds it out
+  abbrev pub Done : {n : Part} → Rule Value n → List Token → Type 0
+  Done p more = Finished (MayTake p more) (step (read_by rule 60) p 9 more)
+
+  abbrev pub Completion : {n : Part} → Rule Value n → Type 0
+  Completion p = (more : List Token) × Done p more
+
+  finish : {n : Part} (p : Rule Value n) (ts : List Token) (o : Read (Value n)) → Taken n 9 p ts o → Finished (MayTake p ts) o → MayTake p ts
+  finish {n = n} p ts (Ok (x, [])) h d = (x, (9, subst (λ l. Runs rule n 9 p l x None) (sym (h.1 ∙ append-nil h.0)) h.2))
+  finish p ts (Ok (x, (t ∷ rest))) h d = d
+  finish p ts (Err e) h d = d
+
+  finished_by : {A : Type 0} {run : Type 0} → run → (o : Read A) → Finished run o
+  finished_by r (Ok (x, [])) = tt
+  finished_by r (Ok (x, (t ∷ rest))) = r
+  finished_by r (Err e) = r
+
+  -- a run finds it out too, where the number of tokens isn't known
+  pub done_by : {n : Part} (p : Rule Value n) (more : List Token) → MayTake p more → Done p more
+  done_by p more r = finished_by r (step (read_by rule 60) p 9 more)
+
+  -- what a reader takes of a small file
+  pub takes_step : {n : Part} (p : Rule Value n) (more rest : List Token) → Taken n 9 p (more ++ rest) (step (read_by rule 60) p 9 (more ++ rest))
+  takes_step p more rest = take_step 60 (take 60) p 9 (more ++ rest)
+
+  pub finished : {n : Part} (p : Rule Value n) (more : List Token) → Done p more → MayTake p more
+  finished p more d = finish p more _ (take_step 60 (take 60) p 9 more) d
+
+  -- What a grammar says of its parts: the tokens before which a part may end, wherever it may end before any;
+  -- whether it takes a token at least; what its values are fit for; and whether it can be brought to the aim, a token,
+  -- by some tokens more.
+  module _ (Calm : Part → Option Tok → Type 0) (taking : Part → Bool) (Apt : (n : Part) → Value n → Type 0) (far : Part → Bool) (aim : Token) where
+    -- it is so, or the grammar says so of a part
+    abbrev pub Or : Bool → Type 0 → Type 0
+    Or true A = Unit {0}
+    Or false A = A
+
+    -- the rule takes a token at least
+    abbrev pub Takes : {n : Part} → Rule Value n → Type 0
+    Takes (give x) = ⊥
+    Takes refuse = Unit {0}
+    Takes leave_out = Unit {0}
+    Takes (look f) = (o : Option Tok) → Takes (f o)
+    Takes (pass f) = Unit {0}
+    Takes (enter f) = Unit {0}
+    Takes (leave p) = Takes p
+    Takes (part m f) = Or (taking m) ((x : Value m) → Takes (f x))
+
+    -- a look never lets the part end, or else lets it end in the same way before each calm token
+    pub data Steady {n : Part} (f : Option Tok → Rule Value n) : Type 0 where
+      never : ((o : Option Tok) → Takes (f o)) → Steady f
+      before_calm : ((o other : Option Tok) → Calm n other → Takes (f o) ⊎ (f o ≡ f other)) → Steady f
+
+    -- What stands behind the part m in one of n: nothing; or tokens of which the first is calm for m; where there need be
+    -- none of n, those that are calm for n must be so for m. Or else tokens that m can be brought to.
+    pub data After (n m : Part) (f : Value m → Rule Value n) : Rule Value n → Type 0 where
+      last : {x : Value n} → ((o : Option Tok) → Calm n o → Calm m o) → After n m f (give x)
+      tokens : {p : Rule Value n} (more : List Token) → Done p more → Calm m (follows more None) → Takes p → After n m f p
+      maybe : {p : Rule Value n} (more : List Token) → Done p more → Calm m (follows more None) → ((o : Option Tok) → Calm n o → Calm m o) → After n m f p
+      brought : {p : Rule Value n} (more : List Token) → ((x : Value m) → Done (f x) more) → Takes p → far m ≡ true → Some aim.tok ≡ follows more None → After n m f p
+
+    -- what a rule must keep to: behind each token and each part there is a way on
+    abbrev pub Fine : {n : Part} → Rule Value n → Type 0
+    Fine {n = n} (give x) = Apt n x
+    Fine refuse = Unit {0}
+    Fine leave_out = Unit {0}
+    Fine (look f) = Steady f × ((o : Option Tok) → Fine (f o))
+    Fine (pass f) = (s : Span) → Completion (f s) × Fine (f s)
+    Fine (enter f) = (s : Span) → Completion (f s) × Fine (f s)
+    Fine (leave p) = Fine p
+    Fine {n = n} (part m f) = (x : Value m) → Apt m x → After n m f (f x) × Fine (f x)
+
+    module _ (takes : (n : Part) → taking n ≡ true → Takes (rule n)) (complete : (n : Part) → Completion (rule n)) (fine : (n : Part) → Fine (rule n)) where
+      -- a rule that takes a token takes one
+      part_takes : (b : Bool) (us vs : List Token) {A : Type 0} → (b ≡ true → HasToken us) → (A → HasToken vs) → Or b A → HasToken (us ++ vs)
+      part_takes true us vs h g t = has_left us vs (h refl)
+      part_takes false us vs h g t = has_right us vs (g t)
+
+      pub takes_a_token : {n : Part} {q : ℕ} {p : Rule Value n} {us : List Token} {x : Value n} {next : Option Tok} → Runs rule n q p us x next → Takes p → HasToken us
+      takes_a_token gives t = t
+      takes_a_token (looks {ts = ts} {next = next} h) t = takes_a_token h (t (follows ts next))
+      takes_a_token (passes h) t = tt
+      takes_a_token (enters h) t = tt
+      takes_a_token (leaves h) t = takes_a_token h t
+      takes_a_token (parts {m = m} us vs {x = x} h g) t = part_takes (taking m) us vs (λ e. takes_a_token h (takes m e)) (λ l. takes_a_token g (l x)) t
+
+      -- the values are fit
+      pub apt : {n : Part} {q : ℕ} {p : Rule Value n} {us : List Token} {x : Value n} {next : Option Tok} → Runs rule n q p us x next → Fine p → Apt n x
+      apt gives l = l
+      apt (looks {ts = ts} {next = next} h) l = apt h (l.1 (follows ts next))
+      apt (passes {t = t} h) l = apt h (l t.span).1
+      apt (enters {t = t} h) l = apt h (l t.span).1
+      apt (leaves h) l = apt h l
+      apt (parts {m = m} us vs {x = x} h g) l = apt g (l x (apt h (fine m))).1
+
+      -- what may end before a token may also end before any calm one
+      end_look : {n : Part} {q : ℕ} {f : Option Tok → Rule Value n} {x : Value n} (next other : Option Tok) → Calm n other → Steady f → Runs rule n q (f next) [] x other → Runs rule n q (look f) [] x other
+      end_look next other c (never t) h = absurd (takes_a_token h (t next))
+      end_look {n = n} {q = q} {f = f} {x = x} next other c (before_calm s) h =
+          elim (s next other c) [ inl t ↦ absurd (takes_a_token h t) | inr e ↦ looks (subst (λ p. Runs rule n q p [] x other) e h) ]
+
+      end_part : {n m : Part} {f : Value m → Rule Value n} {q : ℕ} {p : Rule Value n} {y : Value n} (next other : Option Tok) → Calm n other → After n m f p → Runs rule n q p [] y other → Calm m other
+      end_part next other c (last s) h = s other c
+      end_part next other c (tokens more d cm t) h = absurd (takes_a_token h t)
+      end_part next other c (maybe more d cm s) h = s other c
+      end_part next other c (brought more d t e' b) h = absurd (takes_a_token h t)
+
+      pub ends : {n : Part} {q : ℕ} {p : Rule Value n} {us : List Token} {x : Value n} {next : Option Tok} (other : Option Tok) → Runs rule n q p us x next → Calm n other → Fine p → Runs rule n q p us x other
+      ends other gives c l = gives
+      ends other (looks {ts = []} {next = next} h) c l = end_look next other c l.0 (ends other h c (l.1 next))
+      ends other (looks {ts = t ∷ ts} h) c l = looks (ends other h c (l.1 (Some t.tok)))
+      ends other (passes {t = t} h) c l = passes (ends other h c (l t.span).1)
+      ends other (enters {t = t} h) c l = enters (ends other h c (l t.span).1)
+      ends other (leaves h) c l = leaves (ends other h c l)
+      ends other (parts {m = m} us [] {x = x} {next = next} h g) c l =
+          let after = l x (apt h (fine m)) in
+          let g' = ends other g c after.1 in
+          parts us [] (ends other h (end_part next other c after.0 g') (fine m)) g'
+      ends other (parts {m = m} us (t ∷ vs) {x = x} h g) c l = parts us (t ∷ vs) h (ends other g c (l x (apt h (fine m))).1)
+
+      -- a part with these tokens, and with some more behind them, before the aim
+      abbrev pub Brought : (n : Part) → List Token → Type 0
+      Brought n us = (more : List Token) × (y : Value n) × Goes (rule n) (us ++ more) y (Some aim.tok)
+
+      module _ (bring : (n : Part) → far n ≡ true → (q : ℕ) (us : List Token) (x : Value n) (next : Option Tok) → Runs rule n q (rule n) us x next → Brought n us) where
+        -- some tokens more make it whole
+        abbrev Goal : {n : Part} → Rule Value n → List Token → Reason → List Token → Type 0
+        Goal {n = n} p us why rest = (more : List Token) × (y : Value n) × Goes p ((us ++ allowed why rest) ++ more) y None
+
+        by_completion : {n : Part} (p : Rule Value n) → Completion p → (more : List Token) × (y : Value n) × Goes p more y None
+        by_completion p c = let h = finished p c.0 c.1 in (c.0, h.0, h.1)
+
+        from : (us : List Token) (why : Reason) (rest : List Token) {n : Part} {p : Rule Value n} → Completion p → (Begun us why rest → Goal p us why rest) → Goal p us why rest
+        from [] syntax rest {p = p} c g = by_completion p c
+        from [] left_out rest {p = p} c g = by_completion p c
+        from [] too_deep [] {p = p} c g = by_completion p c
+        from [] too_deep (t ∷ rest) c g = g tt
+        from (t ∷ us) why rest c g = g tt
+
+        -- a way on behind a part
+        abbrev Onward : {n m : Part} → (Value m → Rule Value n) → List Token → Type 0
+        Onward {n = n} {m = m} f us = (more : List Token) × (y : Value n) × Goes (part m f) (us ++ more) y None
+
+        onward_by : {n m : Part} (f : Value m → Rule Value n) (us : List Token) (x : Value m) {p : Rule Value n} {next : Option Tok} → f x ≡ p → (more : List Token) → (y : Value n) × Goes p more y None → Calm m (follows more None) → Goes (rule m) us x next → Onward f us
+        onward_by {n = n} {m = m} f us x e more r c h =
+            (more, r.0, goes_in us more (h.0, ends (follows more None) h.1 c (fine m)) (r.1.0, subst (λ p. Runs rule n r.1.0 p more r.0 None) (sym e) r.1.1))
+
+        onward_brought : {n m : Part} (f : Value m → Rule Value n) (us more front : List Token) (y : Value m) → Goes (rule m) (us ++ front) y (follows more None) → (x : Value n) × Goes (f y) more x None → Onward f us
+        onward_brought f us more front y h r = (front ++ more, r.0, subst (λ us. Goes (part _ f) us r.0 None) (append_assoc us front more) (goes_in (us ++ front) more h r.1))
+
+        onward : {n m : Part} (f : Value m → Rule Value n) (us : List Token) (x : Value m) {p : Rule Value n} → f x ≡ p → After n m f p → Goes (rule m) us x None → Onward f us
+        onward {n = n} f us x e (last {x = y} s) h = ([], y, goes_in us [] h (0, subst (λ p. Runs rule n 0 p [] y None) (sym e) gives))
+        onward {n = n} {m = m} f us x {p = p} e (tokens more d c t) h = onward_by f us x e more (finished p more d) c h
+        onward {n = n} {m = m} f us x {p = p} e (maybe more d c s) h = onward_by f us x e more (finished p more d) c h
+        onward {n = n} {m = m} f us x e (brought more d t e' b) h = let r = bring m e' h.0 us x None h.1 in onward_brought f us more r.0 r.1 (r.2.0, subst (λ o. Runs rule m r.2.0 (rule m) (us ++ r.0) r.1 o) b r.2.1) (finished (f r.1) more (d r.1))
+
+        -- what stopped at once behind a part was not at its end
+        onward_refused : {n m : Part} (f : Value m → Rule Value n) (us : List Token) (x : Value m) {p : Rule Value n} {q room : ℕ} {vs : List Token} {why : Reason} {next ahead : Option Tok} → f x ≡ p → After n m f p → Runs rule m q (rule m) us x ahead → Refuses rule n room p vs why next → Onward f us
+        onward_refused f us x e (last s) h g = elim g [ ]
+        onward_refused f us x {p = p} {q = q} e (tokens more d c t) h g = onward_by f us x e more (finished p more d) c (q, h)
+        onward_refused f us x {p = p} {q = q} e (maybe more d c s) h g = onward_by f us x e more (finished p more d) c (q, h)
+        onward_refused {m = m} f us x {q = q} {ahead = ahead} e (brought more d t e' b) h g = let r = bring m e' q us x ahead h in onward_brought f us more r.0 r.1 (r.2.0, subst (λ o. Runs rule m r.2.0 (rule m) (us ++ r.0) r.1 o) b r.2.1) (finished (f r.1) more (d r.1))
+
+        beyond_from : {n m : Part} (f : Value m → Rule Value n) (us vs : List Token) (why : Reason) (rest : List Token) (x : Value m) {q : ℕ} {next : Option Tok} → tok_at rest ≡ next → After n m f (f x) → Runs rule m q (rule m) us x (follows vs next) → Refuses rule n q (f x) vs why next → (Begun vs why rest → Goal (f x) vs why rest) → (more : List Token) × (y : Value n) × Goes (part m f) (us ++ ((vs ++ allowed why rest) ++ more)) y None
+        beyond_from f us [] syntax rest x e a h g ih = onward_refused f us x refl a h g
+        beyond_from f us [] left_out rest x e a h g ih = onward_refused f us x refl a h g
+        beyond_from f us [] too_deep [] x e a h g ih = onward_refused f us x refl a h g
+        beyond_from {m = m} f us [] too_deep (t ∷ rest) x {q = q} e a h g ih = let r = ih tt in (r.0, r.1, goes_in us (t ∷ r.0) (q, subst (λ o. Runs rule m q (rule m) us x o) (sym e) h) r.2)
+        beyond_from f us (t ∷ vs) why rest x {q = q} e a h g ih = let r = ih tt in (r.0, r.1, goes_in us (t ∷ ((vs ++ allowed why rest) ++ r.0)) (q, h) r.2)
+
+        viable : {n : Part} {q : ℕ} {p : Rule Value n} {us : List Token} {why : Reason} {next : Option Tok} → Refuses rule n q p us why next → (rest : List Token) → tok_at rest ≡ next → Fine p → Begun us why rest → Goal p us why rest
+        viable unfit rest e l b = absurd b
+        viable unwanted rest e l b = absurd b
+        viable no_token rest e l b = absurd b
+        viable no_opening rest e l b = absurd b
+        viable one_too_many [] e l b = absurd b
+        viable (one_too_many {f = f}) (t ∷ rest) e l b = let r = by_completion (f t.span) (l t.span).0 in (r.0, r.1, (suc r.2.0, enters r.2.1))
+        viable (behind_look {n = n} {f = f} {ts = ts} {why = why} {next = next} h) rest e l b =
+            let r = viable h rest e (l.1 (follows ts next)) b in
+            (r.0, r.1, (r.2.0, looks (subst (λ o. Runs rule n r.2.0 (f o) ((ts ++ allowed why rest) ++ r.0) r.1 None) (same_front ts why rest r.0 next None e b) r.2.1)))
+        viable (behind_pass {t = t} {ts = ts} {why = why} h) rest e l b =
+            let r = from ts why rest (l t.span).0 (viable h rest e (l t.span).1) in
+            (r.0, r.1, (r.2.0, passes r.2.1))
+        viable (behind_enter {t = t} {ts = ts} {why = why} h) rest e l b =
+            let r = from ts why rest (l t.span).0 (viable h rest e (l t.span).1) in
+            (r.0, r.1, (suc r.2.0, enters r.2.1))
+        viable (behind_leave h) rest e l b = let r = viable h rest e l b in (r.0, r.1, goes_out r.2)
+        viable (within {m = m} {f = f} {ts = ts} {why = why} h) rest e l b =
+            let r = from ts why rest (complete m) (viable h rest e (fine m)) in
+            let g = onward f ((ts ++ allowed why rest) ++ r.0) r.1 refl (l r.1 (apt r.2.1 (fine m))).0 r.2 in
+            (r.0 ++ g.0, g.1, subst (λ us. Goes (part m f) us g.1 None) (append_assoc (ts ++ allowed why rest) r.0 g.0) g.2)
+        viable (beyond {m = m} {f = f} us vs {x = x} {why = why} h g) rest e l b =
+            let after = l x (apt h (fine m)) in
+            let r = beyond_from f us vs why rest x e after.0 h g (viable g rest e after.1) in
+            (r.0, r.1, subst (λ us. Goes (part m f) us r.1 None) (sym (append_assoc us (vs ++ allowed why rest) r.0) ∙ ap (λ us. us ++ r.0) (sym (append_assoc us vs (allowed why rest)))) r.2)
+
+        -- some part begins with the tokens before a fault, and with the one that is one too many
+        pub some_part : (n : Part) {q : ℕ} (us : List Token) (why : Reason) (rest : List Token) → Refuses rule n q (rule n) us why (tok_at rest) → (more : List Token) × (y : Value n) × Goes (rule n) ((us ++ allowed why rest) ++ more) y None
+        some_part n us why rest h = from us why rest (complete n) (viable h rest refl (fine n))

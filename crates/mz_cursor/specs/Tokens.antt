@@ -1,0 +1,35 @@
+-- What stands in front in a list of tokens.
+use Rattle.std.specs.Prelude.{ℕ, List, [], ◌∷◌, Option, Some, None}
+use Rattle.mz_base.specs.declared.fault.Span.{Span}
+use Rattle.mz_lexer.specs.declared.token.Token.{Token}
+use Rattle.mz_lexer.specs.declared.token.Tok.{Tok}
+
+-- the token in front
+abbrev pub front : List Token → Option Token
+front [] = None
+front (t ∷ ts) = Some t
+
+-- what the token in front is
+abbrev pub tok_at : List Token → Option Tok
+tok_at [] = None
+tok_at (t ∷ ts) = Some t.tok
+
+-- the tokens behind it
+abbrev pub behind : List Token → List Token
+behind [] = []
+behind (t ∷ ts) = ts
+
+-- where it stands
+abbrev pub place : List Token → Span
+place [] = record { file = 0; line = 0; col = 0; byte = 0 }
+place (t ∷ ts) = t.span
+
+-- where it stands, in a file that ends there
+abbrev pub place_or : Span → List Token → Span
+place_or end [] = end
+place_or end (t ∷ ts) = t.span
+
+-- the token that follows: of us, or else next
+abbrev pub follows : List Token → Option Tok → Option Tok
+follows [] next = next
+follows (t ∷ us) next = Some t.tok

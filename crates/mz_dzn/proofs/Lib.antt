@@ -1,0 +1,4 @@
+pub mod ArrayNames
+pub mod Places
+pub mod Lists
+pub mod Answer

@@ -1,0 +1,2 @@
+pub mod ArrayNames
+pub mod Steps

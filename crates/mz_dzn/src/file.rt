@@ -1,0 +1,199 @@
+// The items of a data file.
+
+ghost use Rattle.std.specs.Prelude.{◌≡◌, ◌≤◌, ◌<◌, [], length, map, OnOk, IfErr};
+ghost use Rattle.mz_lexer.specs.Views.{IfRefused};
+ghost use Rattle.mz_tree.specs.Data.{value, given};
+ghost use Rattle.mz_cursor.specs.Promise.{Gives, Answers};
+ghost use Rattle.mz_cursor.specs.Tokens.{place};
+ghost use Rattle.mz_grammar.specs.Data.{rule, reads, dimensions_of, file, item, datum, named, sized};
+ghost use Rattle.mz_base.specs.Names.{Grows};
+ghost use Rattle.mz_dzn.specs.ArrayNames.{meaning};
+ghost use Rattle.mz_dzn.specs.Steps.{array_by, table_by, brackets_by};
+
+use crate::array_names::{ArrayNames, array_names, meaning};
+use crate::list::{index_sets, plains, rows};
+use crate::make::{make_array, make_array_nd, make_ident, make_rows};
+use crate::step::{file_goes_on, symbol};
+use crate::value::{plain, range_from};
+use crate::word::ident_of;
+use mz_base::{Kind, Name, Names, Span, Stop};
+use mz_cursor::{Cursor, is_sym};
+use mz_lexer::{Symbol, Token};
+use mz_tree::{Data, DataItem, Datum};
+use std::alloc::Global;
+
+/// The elements of an array with index sets, in their brackets.
+#[tactic(auto, unfolding(crate::specs::Steps::brackets_by))]
+fn brackets(alloc: Global, cur: &mut Cursor<'_>) -> Result<Vec<Datum>, Stop>
+    ensures reads { Gives (λ v. map value v.items) cur.new.end cur.new.rest.now result (brackets_by cur.old.room cur.old.rest.now) }
+    ensures room { OnOk result (cur.new.room ≡ cur.old.room) }
+    ensures end { cur.new.end ≡ cur.old.end }
+    ensures shorter { OnOk result (length cur.new.rest.now < length cur.old.rest.now) }
+{
+    if !is_sym(Symbol::SLBrack, cur.tok()) {
+        return Err(cur.unfit());
+    }
+    cur.push()?;
+    cur.skip();
+    let elements = plains(alloc, cur)?;
+    cur.pop();
+    Ok(elements)
+}
+
+/// What stands behind the `(` of an array with so many index sets, up to and with the `)`.
+#[tactic(auto, using(crate::proofs::Places::sized_is), unfolding(crate::specs::Steps::sized_by))]
+fn sized(alloc: Global, cur: &mut Cursor<'_>, dimensions: u8) -> Result<Datum, Stop>
+    ensures reads { Gives value cur.new.end cur.new.rest.now result (reads (sized dimensions) cur.old.room cur.old.rest.now) }
+    ensures room { OnOk result (cur.new.room ≡ cur.old.room) }
+    ensures end { cur.new.end ≡ cur.old.end }
+    ensures shorter { OnOk result (length cur.new.rest.now ≤ length cur.old.rest.now) }
+{
+    let sets = index_sets(alloc, cur, dimensions)?;
+    let elements = brackets(alloc, cur)?;
+    symbol(cur, Symbol::SRParen)?;
+    Ok(make_array_nd(sets, elements))
+}
+
+/// What stands behind an identifier with which a value begins.
+#[tactic(auto, using(crate::proofs::Places::named_is), unfolding(crate::specs::Steps::named_by))]
+fn named(alloc: Global, cur: &mut Cursor<'_>, names: &ArrayNames, name: Name) -> Result<Datum, Stop>
+    ensures reads { Gives value cur.new.end cur.new.rest.now result (reads (named (meaning names.now) name) cur.old.room cur.old.rest.now) }
+    ensures room { OnOk result (cur.new.room ≡ cur.old.room) }
+    ensures end { cur.new.end ≡ cur.old.end }
+    ensures shorter { OnOk result (length cur.new.rest.now ≤ length cur.old.rest.now) }
+{
+    if !is_sym(Symbol::SLParen, cur.tok()) {
+        return range_from(alloc, cur, make_ident(name));
+    }
+    let Some(dimensions) = meaning(names, name) else {
+        return Err(cur.unfit());
+    };
+    cur.push()?;
+    cur.skip();
+    let array = sized(alloc, cur, dimensions)?;
+    cur.pop();
+    Ok(array)
+}
+
+/// An array in brackets, before its `[`.
+#[tactic(auto, unfolding(crate::specs::Steps::array_by))]
+fn array(alloc: Global, cur: &mut Cursor<'_>) -> Result<Datum, Stop>
+    requires { 0 < length cur.old.rest.now }
+    ensures reads { Gives (λ d. (place cur.old.rest.now, value d)) cur.new.end cur.new.rest.now result (array_by cur.old.room cur.old.rest.now) }
+    ensures room { OnOk result (cur.new.room ≡ cur.old.room) }
+    ensures end { cur.new.end ≡ cur.old.end }
+    ensures shorter { OnOk result (length cur.new.rest.now < length cur.old.rest.now) }
+{
+    cur.push()?;
+    cur.skip();
+    let elements = plains(alloc, cur)?;
+    cur.pop();
+    Ok(make_array(elements))
+}
+
+/// A table of rows, before its `[|`.
+#[tactic(auto, unfolding(crate::specs::Steps::table_by))]
+fn table(alloc: Global, cur: &mut Cursor<'_>) -> Result<Datum, Stop>
+    requires { 0 < length cur.old.rest.now }
+    ensures reads { Gives (λ d. (place cur.old.rest.now, value d)) cur.new.end cur.new.rest.now result (table_by cur.old.room cur.old.rest.now) }
+    ensures room { OnOk result (cur.new.room ≡ cur.old.room) }
+    ensures end { cur.new.end ≡ cur.old.end }
+    ensures shorter { OnOk result (length cur.new.rest.now < length cur.old.rest.now) }
+{
+    cur.push()?;
+    cur.skip();
+    let lines = rows(alloc, cur)?;
+    cur.pop();
+    Ok(make_rows(lines))
+}
+
+/// A value.
+#[tactic(auto, using(crate::proofs::Places::datum_is), unfolding(crate::specs::Steps::datum_by))]
+fn datum(alloc: Global, cur: &mut Cursor<'_>, names: &ArrayNames) -> Result<Datum, Stop>
+    ensures reads { Gives (λ d. (place cur.old.rest.now, value d)) cur.new.end cur.new.rest.now result (reads (datum (meaning names.now)) cur.old.room cur.old.rest.now) }
+    ensures room { OnOk result (cur.new.room ≡ cur.old.room) }
+    ensures end { cur.new.end ≡ cur.old.end }
+    ensures shorter { OnOk result (length cur.new.rest.now < length cur.old.rest.now) }
+{
+    if is_sym(Symbol::SLBrack, cur.tok()) {
+        return array(alloc, cur);
+    }
+    if is_sym(Symbol::SLRows, cur.tok()) {
+        return table(alloc, cur);
+    }
+    let Some(name) = ident_of(cur.tok()) else {
+        return plain(alloc, cur);
+    };
+    cur.skip();
+    named(alloc, cur, names, name)
+}
+
+/// A name and its value.
+#[tactic(auto, using(crate::proofs::Places::item_is), unfolding(crate::specs::Steps::item_by))]
+fn item(alloc: Global, cur: &mut Cursor<'_>, names: &ArrayNames) -> Result<DataItem, Stop>
+    ensures reads { Gives given cur.new.end cur.new.rest.now result (reads (item (meaning names.now)) cur.old.room cur.old.rest.now) }
+    ensures room { OnOk result (cur.new.room ≡ cur.old.room) }
+    ensures end { cur.new.end ≡ cur.old.end }
+    ensures shorter { OnOk result (length cur.new.rest.now < length cur.old.rest.now) }
+{
+    let Some(name) = ident_of(cur.tok()) else {
+        return Err(cur.unfit());
+    };
+    let span = cur.pass();
+    symbol(cur, Symbol::SEq)?;
+    let at = cur.place();
+    let datum = datum(alloc, cur, names)?;
+    Ok(DataItem {
+        name,
+        span,
+        at,
+        datum,
+    })
+}
+
+/// All items, up to the end of the file.
+fn file(alloc: Global, cur: &mut Cursor<'_>, names: &ArrayNames) -> Result<Vec<DataItem>, Stop>
+    ensures reads { Gives (λ v. map given v.items) cur.new.end cur.new.rest.now result (reads (file (meaning names.now)) cur.old.room cur.old.rest.now) }
+    ensures whole { OnOk result (cur.new.rest.now ≡ []) }
+    ensures room { OnOk result (cur.new.room ≡ cur.old.room) }
+    ensures end { cur.new.end ≡ cur.old.end }
+{
+    let mut all = Vec::new(alloc);
+    while cur.tok().is_some() {
+        let item = item(alloc, cur, names)?;
+        let more = file_goes_on(cur)?;
+        all.push(item)?;
+        if !more {
+            return Ok(all);
+        }
+    }
+    Ok(all)
+}
+
+/// The items of a data file's tokens, in order.
+///
+/// `end` is the place of the file's end, and `names` the table of the tokens' names: the texts `array1d` to `array6d`
+/// begin an array with index sets where a `(` follows. After the call, whatever it answers, the table may hold these six
+/// texts more, and each name that it had keeps its text.
+///
+/// In an item `span` is the name's place and `at` that of the value's first token: the tokens' own places, with lines
+/// and columns from 1 and bytes from 0. A list may be as long as memory allows, since each is read in a loop.
+///
+/// The one refusal is Syntax, at the first token with which no data file goes on, or at `end` where the file may not
+/// end there. No data file has enough open brackets for TooDeep, and none is LeftOut. After a refusal or want of memory
+/// nothing is given.
+pub fn data_items(
+    alloc: Global,
+    tokens: &[Token],
+    end: Span,
+    names: &mut Names,
+) -> Result<Data, Stop>
+    ensures answers { Answers rule (file (dimensions_of names.new)) (λ d. map given d.items.items) 120 end tokens.now [] result }
+    ensures grows { Grows names.old names.new }
+    ensures syntax { IfErr result (λ s. IfRefused s (λ f. f.kind ≡ Kind.Syntax)) }
+{
+    let array_names = array_names(names)?;
+    let mut cur = Cursor::new(tokens, end);
+    let items = file(alloc, &mut cur, &array_names)?;
+    Ok(Data { items })
+}

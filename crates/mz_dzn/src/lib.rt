@@ -1,0 +1,15 @@
+// The data of data files, read from their tokens.
+#![tactic(auto)]
+
+mod array_names;
+mod file;
+mod list;
+mod make;
+mod step;
+mod value;
+mod word;
+
+pub use file::data_items;
+
+#[cfg(test)]
+mod tests;

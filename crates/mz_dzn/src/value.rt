@@ -1,0 +1,124 @@
+// Values that no list but a set's stands in.
+
+ghost use Rattle.std.specs.Prelude.{◌≡◌, ◌≤◌, ◌<◌, length, map, OnOk};
+ghost use Rattle.mz_tree.specs.Data.{value};
+ghost use Rattle.mz_cursor.specs.Promise.{Gives};
+ghost use Rattle.mz_cursor.specs.Tokens.{place};
+ghost use Rattle.mz_dzn.specs.Steps.{braces_by};
+ghost use Rattle.mz_grammar.specs.Data.{reads, plain, range, set, bounds, ones, one};
+
+use crate::list::ones;
+use crate::make::{make_absent, make_int, make_range, make_set};
+use crate::word::{is_name, literal_of, negated_of};
+use mz_base::Stop;
+use mz_cursor::{Cursor, is_sym};
+use mz_lexer::Symbol;
+use mz_tree::Datum;
+use std::alloc::Global;
+
+/// A truth value, a number or an identifier.
+#[tactic(auto, using(crate::proofs::Places::one_is), unfolding(crate::specs::Steps::one_by))]
+pub fn one(cur: &mut Cursor<'_>) -> Result<Datum, Stop>
+    ensures reads { Gives (λ d. (place cur.old.rest.now, value d)) cur.new.end cur.new.rest.now result (reads one cur.old.room cur.old.rest.now) }
+    ensures room { cur.new.room ≡ cur.old.room }
+    ensures end { cur.new.end ≡ cur.old.end }
+    ensures shorter { OnOk result (length cur.new.rest.now < length cur.old.rest.now) }
+{
+    if is_sym(Symbol::SMinus, cur.tok()) {
+        cur.skip();
+        let Some(z) = negated_of(cur.tok()) else {
+            return Err(cur.unfit());
+        };
+        cur.skip();
+        return Ok(make_int(z));
+    }
+    let Some(literal) = literal_of(cur.tok()) else {
+        return Err(cur.unfit());
+    };
+    cur.skip();
+    Ok(literal)
+}
+
+/// What may stand behind a value that is one token: the upper end of a range.
+#[tactic(auto, using(crate::proofs::Places::range_is), unfolding(crate::specs::Steps::range_by))]
+pub fn range_from(alloc: Global, cur: &mut Cursor<'_>, from: Datum) -> Result<Datum, Stop>
+    ensures reads { Gives value cur.new.end cur.new.rest.now result (reads (range (value from)) cur.old.room cur.old.rest.now) }
+    ensures room { cur.new.room ≡ cur.old.room }
+    ensures end { cur.new.end ≡ cur.old.end }
+    ensures shorter { OnOk result (length cur.new.rest.now ≤ length cur.old.rest.now) }
+{
+    if !is_sym(Symbol::SDots, cur.tok()) {
+        return Ok(from);
+    }
+    cur.skip();
+    let to = one(cur)?;
+    Ok(make_range(alloc, from, to)?)
+}
+
+/// What stands behind the first value of a set: the upper end of a range, which only an identifier can do without.
+#[tactic(auto, using(crate::proofs::Places::bounds_is), unfolding(crate::specs::Steps::bounds_by))]
+fn bounds_from(alloc: Global, cur: &mut Cursor<'_>, from: Datum) -> Result<Datum, Stop>
+    ensures reads { Gives value cur.new.end cur.new.rest.now result (reads (bounds (value from)) cur.old.room cur.old.rest.now) }
+    ensures room { cur.new.room ≡ cur.old.room }
+    ensures end { cur.new.end ≡ cur.old.end }
+    ensures shorter { OnOk result (length cur.new.rest.now ≤ length cur.old.rest.now) }
+{
+    if is_sym(Symbol::SDots, cur.tok()) {
+        cur.skip();
+        let to = one(cur)?;
+        return Ok(make_range(alloc, from, to)?);
+    }
+    if is_name(&from) {
+        return Ok(from);
+    }
+    Err(cur.unfit())
+}
+
+/// A set in braces, before its `{`.
+fn braces(alloc: Global, cur: &mut Cursor<'_>) -> Result<Datum, Stop>
+    requires { 0 < length cur.old.rest.now }
+    ensures reads { Gives value cur.new.end cur.new.rest.now result (braces_by cur.old.room cur.old.rest.now) }
+    ensures room { OnOk result (cur.new.room ≡ cur.old.room) }
+    ensures end { cur.new.end ≡ cur.old.end }
+    ensures shorter { OnOk result (length cur.new.rest.now < length cur.old.rest.now) }
+{
+    cur.push()?;
+    cur.skip();
+    let elements = ones(alloc, cur)?;
+    cur.pop();
+    Ok(make_set(elements))
+}
+
+/// A set: in braces, a range or an identifier.
+#[tactic(auto, using(crate::proofs::Places::set_is), unfolding(crate::specs::Steps::set_by))]
+pub fn index_set(alloc: Global, cur: &mut Cursor<'_>) -> Result<Datum, Stop>
+    ensures reads { Gives value cur.new.end cur.new.rest.now result (reads set cur.old.room cur.old.rest.now) }
+    ensures room { OnOk result (cur.new.room ≡ cur.old.room) }
+    ensures end { cur.new.end ≡ cur.old.end }
+    ensures shorter { OnOk result (length cur.new.rest.now < length cur.old.rest.now) }
+{
+    if is_sym(Symbol::SLBrace, cur.tok()) {
+        return braces(alloc, cur);
+    }
+    let from = one(cur)?;
+    bounds_from(alloc, cur, from)
+}
+
+/// A value that is no array.
+#[tactic(auto, using(crate::proofs::Places::plain_is), unfolding(crate::specs::Steps::plain_by))]
+pub fn plain(alloc: Global, cur: &mut Cursor<'_>) -> Result<Datum, Stop>
+    ensures reads { Gives (λ d. (place cur.old.rest.now, value d)) cur.new.end cur.new.rest.now result (reads plain cur.old.room cur.old.rest.now) }
+    ensures room { OnOk result (cur.new.room ≡ cur.old.room) }
+    ensures end { cur.new.end ≡ cur.old.end }
+    ensures shorter { OnOk result (length cur.new.rest.now < length cur.old.rest.now) }
+{
+    if is_sym(Symbol::SLBrace, cur.tok()) {
+        return braces(alloc, cur);
+    }
+    if is_sym(Symbol::SAbsent, cur.tok()) {
+        cur.skip();
+        return Ok(make_absent());
+    }
+    let from = one(cur)?;
+    range_from(alloc, cur, from)
+}

@@ -1,0 +1,189 @@
+-- The rules of calls keep to what makes each front of tokens viable: the arguments that are read are expressions, or generators.
+use Rattle.std.proofs.Common.{◌≡◌, List, [], ◌∷◌, ◌++◌, refl, true, false, Bool, Option, inl, inr, ◌⊎◌}
+use Rattle.std.specs.Prelude.{Some, None, if◌then◌else◌, ◌&&◌}
+use Rattle.mz_base.specs.declared.fault.Span.{Span}
+use Rattle.mz_lexer.specs.declared.token.Tok.{Tok}
+use Rattle.mz_lexer.specs.declared.token.Keyword.TheVariants.{KIn, KWhere}
+use Rattle.mz_lexer.specs.declared.token.Symbol.TheVariants.{SLParen, SRParen}
+use Rattle.mz_cursor.specs.Rules.{give, refuse, look, pass, leave, part}
+use Rattle.mz_cursor.specs.Look.{is_sym, is_word, symbol_number, keyword_number}
+use Rattle.mz_cursor.specs.Reading.{on, step, read_by}
+use Rattle.mz_cursor.proofs.Viable.{never, last, tokens, maybe}
+use Rattle.mz_tree.specs.Tree.{Name, Tree}
+use Rattle.mz_grammar.specs.declared.list.Turn.{Turn}
+use Rattle.mz_grammar.specs.declared.list.Turn.TheVariants.{Clear, Waiting, Never}
+use Rattle.mz_grammar.specs.declared.list.Closing.TheVariants.{Paren}
+use Rattle.mz_grammar.specs.Parts
+use Rattle.mz_grammar.specs.Parts.{Place, Value, Reading, tree_of}
+use Rattle.mz_tree.specs.Tree.{Generator, generator, Maybe, node, call, trees as tree_list}
+use Rattle.mz_grammar.specs.Parts.{Argument, name, member, other, given, guarded, strict}
+use Rattle.mz_grammar.specs.Arguments.{turn_by, waits, takes_where, trees_of, generators_of, generators_behind}
+use Rattle.std.specs.Option.{option_map}
+use Rattle.std.specs.Prelude.{map}
+use Rattle.mz_grammar.specs.Model.{Ruled, rule, behind, generator_call, called, named_rule, guarded_rest, arguments_rule}
+use Rattle.mz_grammar.proofs.Calm.{Found, Fit, Takes, Fine, Completion, Done, sign, a_number, tested, found, takes_tested, takes_found, steady_tested, fine_symbol, takes_behind, fine_behind, quiet_closing}
+
+-- What the arguments are fit for
+
+found_map : {A B : Type 0} (f : A → B) (o : Option A) → Found o → Found (option_map f o)
+found_map f None h = h
+found_map f (Some a) h = tt
+
+-- generators behind a generator
+strict_found : (gs : List Generator) → Found (generators_behind [] (map strict gs))
+strict_found [] = tt
+strict_found (generator ms e c ∷ gs) = found_map _ (generators_behind [] (map strict gs)) (strict_found gs)
+
+strict_behind : (ns : List (Name × Span)) (n : Name × Span) (ms : List (Name × Span)) (e : Tree) (w : Maybe) (xs : List Argument) → Found (generators_behind [] xs) → Found (generators_behind (ns ++ (n ∷ [])) (strict (generator ms e w) ∷ xs))
+strict_behind [] n ms e w xs h = found_map _ (generators_behind [] xs) h
+strict_behind (m ∷ ns) n ms e w xs h = found_map _ (generators_behind [] xs) h
+
+member_behind : (ns : List (Name × Span)) (n : Name × Span) (x : Name) (s : Span) (e : Tree) (xs : List Argument) → Found (generators_behind [] xs) → Found (generators_behind (ns ++ (n ∷ [])) (given (member x s e) ∷ xs))
+member_behind [] n x s e xs h = found_map _ (generators_behind [] xs) h
+member_behind (m ∷ ns) n x s e xs h = found_map _ (generators_behind [] xs) h
+
+guarded_behind : (ns : List (Name × Span)) (n : Name × Span) (x : Name) (s : Span) (e w : Tree) (xs : List Argument) → Found (generators_behind [] xs) → Found (generators_behind (ns ++ (n ∷ [])) (guarded (member x s e) w ∷ xs))
+guarded_behind [] n x s e w xs h = found_map _ (generators_behind [] xs) h
+guarded_behind (m ∷ ns) n x s e w xs h = found_map _ (generators_behind [] xs) h
+
+name_behind : (ns : List (Name × Span)) (n : Name × Span) (x : Name) (s : Span) (xs : List Argument) → Found (generators_behind ((ns ++ (n ∷ [])) ++ ((x, s) ∷ [])) xs) → Found (generators_behind (ns ++ (n ∷ [])) (given (name x s) ∷ xs))
+name_behind [] n x s xs h = h
+name_behind (m ∷ ns) n x s xs h = h
+
+-- one argument more
+fit_given : (t : Turn) (x : Reading) (xs : List Argument) → Fit (turn_by t x) xs → Fit t (given x ∷ xs)
+fit_given Never x xs h = found_map _ (trees_of xs) h
+fit_given Clear (name n s) xs (inl h) = inl (found_map _ (trees_of xs) h)
+fit_given Clear (name n s) xs (inr h) = inr (h [] (n, s))
+fit_given Clear (member n s e) xs (inl h) = inl (found_map _ (trees_of xs) h)
+fit_given Clear (member n s e) xs (inr h) = inr (found_map _ (generators_behind [] xs) h)
+fit_given Clear (other s e) xs h = inl (found_map _ (trees_of xs) h)
+fit_given Waiting (name n s) xs (inl h) = inl (found_map _ (trees_of xs) h)
+fit_given Waiting (name n s) xs (inr h) = inr (λ ns m. name_behind ns m n s xs (h (ns ++ (m ∷ [])) (n, s)))
+fit_given Waiting (member n s e) xs (inl h) = inl (found_map _ (trees_of xs) h)
+fit_given Waiting (member n s e) xs (inr h) = inr (λ ns m. member_behind ns m n s e xs h)
+fit_given Waiting (other s e) xs h = inl (found_map _ (trees_of xs) h)
+
+fit_one : (t : Turn) (x : Reading) → Fit t (given x ∷ [])
+fit_one Never x = tt
+fit_one Clear x = inl tt
+fit_one Waiting x = inl tt
+
+fit_guarded : (t : Turn) (x : Reading) (w : Tree) (gs : List Generator) → takes_where t x ≡ true → Fit t (guarded x w ∷ map strict gs)
+fit_guarded Never x w gs e = absurd (cc)
+fit_guarded Clear (name n s) w gs e = absurd (cc)
+fit_guarded Clear (member n s v) w gs e = inr (found_map _ (generators_behind [] (map strict gs)) (strict_found gs))
+fit_guarded Clear (other s v) w gs e = absurd (cc)
+fit_guarded Waiting (name n s) w gs e = absurd (cc)
+fit_guarded Waiting (member n s v) w gs e = inr (λ ns m. guarded_behind ns m n s v w (map strict gs) (strict_found gs))
+fit_guarded Waiting (other s v) w gs e = absurd (cc)
+
+fit_strict : (t : Turn) (ms : List (Name × Span)) (e : Tree) (w : Maybe) (gs : List Generator) → waits t ≡ true → Fit t (strict (generator ms e w) ∷ map strict gs)
+fit_strict Never ms e w gs h = absurd (cc)
+fit_strict Clear ms e w gs h = absurd (cc)
+fit_strict Waiting ms e w gs h = inr (λ ns m. strict_behind ns m ms e w (map strict gs) (strict_found gs))
+
+-- Arguments
+
+pub takes_arguments : (t : Turn) → Takes (arguments_rule t)
+takes_arguments t = λ o. takes_tested (is_sym SRParen o) _ _ tt (takes_tested (waits t && is_word KIn o) _ _ tt tt)
+
+-- a test that may not hold
+tested_so : {n : Place} (b c : Bool) (p q : Ruled n) → (b ≡ true → Fine p) → Fine q → Fine (if b && c then p else q)
+tested_so true true p q h g = h refl
+tested_so true false p q h g = g
+tested_so false c p q h g = g
+
+fine_guarded_rest : (t : Turn) (x : Argument) → ((gs : List Generator) → Fit t (x ∷ map strict gs)) → Fine (guarded_rest {t = t} x)
+unfolding step read_by rule symbol_number keyword_number
+fine_guarded_rest t x h = fine_behind Paren _ _ (sign SRParen ∷ [], tt) (λ gs a. (last (λ o h. h), h gs)) (h [])
+
+-- a `where`, or what else stands behind an argument
+abbrev rest_of_arguments : (t : Turn) (x : Reading) → Bool → Option Tok → Ruled (Parts.arguments t)
+rest_of_arguments t x may o = if may && is_word KWhere o
+    then pass (λ s. part Parts.expr λ w. guarded_rest (guarded x w))
+    else behind Paren (part (Parts.arguments (turn_by t x)) λ xs. give (given x ∷ xs)) (give (given x ∷ []))
+
+done_rest : (t : Turn) (x : Reading) (may : Bool) → Done {n = Parts.arguments t} (look (rest_of_arguments t x may)) (sign SRParen ∷ [])
+unfolding step read_by rule symbol_number keyword_number
+done_rest t x true = tt
+done_rest t x false = tt
+
+takes_rest : (t : Turn) (x : Reading) (may : Bool) → Takes {n = Parts.arguments t} (look (rest_of_arguments t x may))
+takes_rest t x may = λ o. takes_tested (may && is_word KWhere o) _ _ tt (takes_behind Paren _ _)
+
+pub fine_arguments : (t : Turn) → Fine (arguments_rule t)
+unfolding step read_by rule symbol_number keyword_number
+fine_arguments t = (
+  never (takes_arguments t),
+  λ o. tested (is_sym SRParen o) _ _ (λ s. (([], tt), fit_none t))
+      (tested_so (waits t) (is_word KIn o) _ _
+      (λ e s. (
+        (a_number ∷ sign SRParen ∷ [], tt),
+        λ x a. (
+          tokens (sign SRParen ∷ []) tt (quiet_closing Paren) (λ w. takes_behind Paren _ _),
+          λ w b.
+              (tokens (sign SRParen ∷ []) tt (quiet_closing Paren) (takes_behind Paren _ _), fine_guarded_rest t _ (λ gs. fit_strict t [] (tree_of x) w gs e)),
+        ),
+      ))
+      (λ x a. (
+        tokens (sign SRParen ∷ []) (done_rest t x (takes_where t x)) (quiet_closing Paren) (takes_rest t x (takes_where t x)),
+        (
+          never (takes_rest t x (takes_where t x)),
+          λ o. tested_so (takes_where t x) (is_word KWhere o) _ _
+              (λ e s. (
+                (a_number ∷ sign SRParen ∷ [], tt),
+                λ w b.
+                    (tokens (sign SRParen ∷ []) tt (quiet_closing Paren) (takes_behind Paren _ _), fine_guarded_rest t _ (λ gs. fit_guarded t x w gs e)),
+              ))
+              (fine_behind Paren _ _ (sign SRParen ∷ [], tt) (λ xs b. (last (λ o h. h), fit_given t x xs b)) (fit_one t x)),
+        ),
+      ))),
+)
+  where
+    fit_none : (t : Turn) → Fit t []
+    fit_none Never = tt
+    fit_none Clear = inl tt
+    fit_none Waiting = inl tt
+
+-- Calls
+
+fine_generator_call : (n : Name) (s : Span) (gs : List Generator) → Fine (generator_call n s gs)
+unfolding step read_by rule symbol_number keyword_number
+fine_generator_call n s gs = λ p. (
+  (a_number ∷ sign SRParen ∷ [], tt),
+  λ e a.
+      (tokens (sign SRParen ∷ []) tt (quiet_closing Paren) (λ o. takes_tested (is_sym SRParen o) _ _ tt tt), fine_symbol SRParen _ (λ c. (([], tt), tt))),
+)
+
+fine_called : (n : Name) (s : Span) (xs : List Argument) → Fine (called n s xs)
+fine_called n s xs = (
+  steady_tested (is_sym SLParen) _ _ (takes_found (generators_of xs) _ _ tt (λ gs. tt)) (λ o h. h.0),
+  λ o. tested (is_sym SLParen o) _ _ (found (generators_of xs) _ _ tt (λ gs. fine_generator_call n s gs)) (found (trees_of xs) _ _ tt (λ es. tt)),
+)
+
+-- a call ends behind its arguments, or goes on where they are generators
+abbrev by_arguments : (n : Name) (s : Span) → Option (List Tree) → Option (List Generator) → Option Tok → Ruled (Parts.named n s)
+by_arguments n s trees gens o = if is_sym SLParen o
+    then on gens refuse (λ gs. generator_call n s gs)
+    else on trees refuse (λ es. give (other s (node s (call n (tree_list es)))))
+
+call_completion : (n : Name) (s : Span) (trees : Option (List Tree)) (gens : Option (List Generator)) → Found trees ⊎ Found gens → Completion {n = Parts.named n s} (leave (look (by_arguments n s trees gens)))
+unfolding step read_by rule symbol_number keyword_number
+call_completion n s (Some es) gens h = ([], tt)
+call_completion n s None (Some gs) h = (sign SLParen ∷ a_number ∷ sign SRParen ∷ [], tt)
+call_completion n s None None (inl h) = absurd h
+call_completion n s None None (inr h) = absurd h
+
+found_either : (xs : List Argument) → Fit Clear xs → Found (trees_of xs) ⊎ Found (generators_of xs)
+found_either [] h = inl tt
+found_either (a ∷ xs) h = h
+
+pub fine_named : (n : Name) (s : Span) → Fine (named_rule n s)
+unfolding step read_by rule symbol_number keyword_number
+fine_named n s = (
+  steady_tested (is_sym SLParen) _ _ tt (λ o h. h.0),
+  λ o. tested (is_sym SLParen o) _ _
+      (λ p. ((sign SRParen ∷ [], tt), λ xs a. let c = call_completion n s (trees_of xs) (generators_of xs) (found_either xs a) in (maybe c.0 c.1 tt (λ o h. tt), fine_called n s xs)))
+      tt,
+)

@@ -1,0 +1,398 @@
+-- Each front of tokens that the grammar of models hasn't refused begins some part of that kind.
+use Rattle.std.proofs.Common.{◌≡◌, ℕ, List, [], ◌∷◌, refl, true, false, Bool, Option}
+use Rattle.std.specs.Prelude.{Some, None, if◌then◌else◌}
+use Rattle.mz_base.specs.declared.fault.Span.{Span}
+use Rattle.mz_lexer.specs.declared.token.Token.{Token}
+use Rattle.mz_lexer.specs.declared.token.Tok.{Tok}
+use Rattle.mz_lexer.specs.declared.token.Tok.TheVariants.{Word, Sym, Ident, Int, Text, TextHead, TextMid, TextTail}
+use Rattle.mz_lexer.specs.declared.token.Keyword.{Keyword}
+use Rattle.mz_lexer.specs.declared.token.Keyword.TheVariants.{KConstraint, KEndif, KFalse, KIf, KIn, KInt, KLet, KSatisfy, KThen, KTrue}
+use Rattle.mz_lexer.specs.declared.token.Symbol.{Symbol}
+use Rattle.mz_lexer.specs.declared.token.Symbol.TheVariants.{SLParen, SRParen, SLBrack, SRBrack, SLBrace, SRBrace, SLRows, SRRows, SComma, SColon, SColons, SEq, SAbsent}
+use Rattle.mz_cursor.specs.Rules.{give, pass, part}
+use Rattle.mz_cursor.specs.Look.{is_sym, is_word, symbol_number, keyword_number}
+use Rattle.mz_cursor.specs.Reading.{on, step, read_by}
+use Rattle.mz_cursor.proofs.Longer as longer
+use Rattle.mz_cursor.proofs.Longer.{firm, by, firmly, near, farther}
+use Rattle.mz_cursor.proofs.Answering as answering
+use Rattle.mz_cursor.specs.Promise.{Gives, Answers}
+use Rattle.mz_base.specs.declared.stop.Stop.{Stop}
+use Rattle.std.specs.Prelude.{Result}
+use Rattle.mz_tree.specs.declared.expr.BinOp.{BinOp}
+use Rattle.mz_grammar.specs.declared.level.Level.{Level}
+use Rattle.mz_grammar.specs.declared.level.Level.TheVariants as level_is
+use Rattle.mz_grammar.specs.Operators.{prefix_of, binary_of, is_single, tighter_level}
+use Rattle.mz_grammar.specs.Parts
+use Rattle.mz_grammar.specs.Parts.{Place, Value, Reading, tree_of, chained}
+use Rattle.mz_grammar.specs.Model.{Ruled, rule, operand_rule, operators_rule, unit_rule, atom_rule, annotations_rule, head_symbol, head_word, head_token}
+use Rattle.mz_grammar.specs.Reading.{rank, width, reads}
+use Rattle.mz_grammar.proofs.Falls.{low, falls}
+use Rattle.mz_grammar.proofs.Calm.{Calm, taking, Apt, far, aim, Takes, Fine, Completion, made, sign, keyword, a_number, an_identifier, closing, takes_tested, quiet_end, plain_end, plain_equals}
+use Rattle.mz_grammar.proofs.Expressions.{takes_operand, fine_operand, done_operand, fine_level, done_level, fine_expr, fine_operators, takes_unit, fine_unit, fine_atom, fine_accesses, takes_indices, fine_indices, takes_more_indices, fine_more_indices, fine_annotations, fine_marks, takes_head, fine_head, fine_text_rest}
+use Rattle.mz_grammar.proofs.Lists.{takes_elements, done_elements, fine_elements, takes_generators, done_generators, fine_generators, takes_generator, fine_generator, fine_more_names, fine_filter, takes_array_body, fine_array_body, takes_set_body, fine_set_body, takes_rows_body, fine_rows_body, takes_more_rows, fine_more_rows, fine_row, fine_cells, takes_branches, fine_branch, fine_branches, takes_let_items, fine_let_items, takes_let_item, fine_let_item}
+use Rattle.mz_grammar.proofs.Calls.{takes_arguments, fine_arguments, fine_named}
+use Rattle.mz_grammar.proofs.Declarations.{fine_declaration, takes_declared, fine_declared, fine_value, takes_type, fine_type, takes_index_types, done_index_types, fine_index_types, takes_element, fine_element, takes_unmarked, fine_unmarked, takes_base, fine_base, fine_params, takes_param_list, fine_param_list, fine_param}
+use Rattle.mz_grammar.proofs.Items.{takes_item, fine_item, takes_goal, fine_goal, fine_cases, takes_case_names, fine_case_names, fine_file, fine_more_items}
+
+-- Tables over the parts
+
+takes : (n : Place) → taking n ≡ true → Takes (rule n)
+unfolding rule
+takes Parts.file e = absurd (cc)
+takes Parts.more_items e = absurd (cc)
+takes Parts.item e = takes_item
+takes Parts.goal e = takes_goal
+takes Parts.cases e = absurd (cc)
+takes Parts.case_names e = takes_case_names
+takes Parts.params e = absurd (cc)
+takes Parts.param_list e = takes_param_list
+takes Parts.param e = tt
+takes Parts.declaration e = tt
+takes (Parts.declared t) e = takes_declared t
+takes Parts.value e = absurd (cc)
+takes Parts.type e = takes_type
+takes Parts.element e = takes_element
+takes Parts.unmarked e = takes_unmarked
+takes Parts.base e = takes_base
+takes (Parts.index_types n) e = takes_index_types n
+takes Parts.expr e = tt
+takes (Parts.level l) e = tt
+takes (Parts.operand l) e = takes_operand l
+takes (Parts.operators l) e = absurd (cc)
+takes Parts.unit e = takes_unit
+takes Parts.atom e = tt
+takes (Parts.accesses x) e = absurd (cc)
+takes Parts.indices e = takes_indices
+takes Parts.more_indices e = takes_more_indices
+takes Parts.annotations e = absurd (cc)
+takes Parts.marks e = absurd (cc)
+takes Parts.head e = takes_head
+takes (Parts.named n s) e = absurd (cc)
+takes (Parts.arguments t) e = takes_arguments t
+takes Parts.text_rest e = tt
+takes (Parts.elements c) e = takes_elements c
+takes Parts.array_body e = takes_array_body
+takes Parts.set_body e = takes_set_body
+takes Parts.rows_body e = takes_rows_body
+takes Parts.more_rows e = takes_more_rows
+takes Parts.row e = tt
+takes Parts.cells e = absurd (cc)
+takes Parts.generator e = takes_generator
+takes Parts.more_names e = absurd (cc)
+takes Parts.filter e = absurd (cc)
+takes (Parts.generators c) e = takes_generators c
+takes Parts.branch e = tt
+takes Parts.branches e = takes_branches
+takes Parts.let_items e = takes_let_items
+takes Parts.let_item e = takes_let_item
+
+-- a short one of each
+complete : (n : Place) → Completion (rule n)
+unfolding step read_by rule symbol_number keyword_number
+complete Parts.file = ([], tt)
+complete Parts.more_items = ([], tt)
+complete Parts.item = (keyword KConstraint ∷ a_number ∷ [], tt)
+complete Parts.goal = (keyword KSatisfy ∷ [], tt)
+complete Parts.cases = ([], tt)
+complete Parts.case_names = (sign SRBrace ∷ [], tt)
+complete Parts.params = ([], tt)
+complete Parts.param_list = (sign SRParen ∷ [], tt)
+complete Parts.param = (keyword KInt ∷ sign SColon ∷ an_identifier ∷ [], tt)
+complete Parts.declaration = (keyword KInt ∷ sign SColon ∷ an_identifier ∷ [], tt)
+complete (Parts.declared t) = (sign SColon ∷ an_identifier ∷ [], tt)
+complete Parts.value = ([], tt)
+complete Parts.type = (keyword KInt ∷ [], tt)
+complete Parts.element = (keyword KInt ∷ [], tt)
+complete Parts.unmarked = (keyword KInt ∷ [], tt)
+complete Parts.base = (keyword KInt ∷ [], tt)
+complete (Parts.index_types n) = (sign SRBrack ∷ [], done_index_types n)
+complete Parts.expr = (a_number ∷ [], tt)
+complete (Parts.level l) = (a_number ∷ [], done_level l)
+complete (Parts.operand l) = (a_number ∷ [], done_operand l)
+complete (Parts.operators l) = ([], tt)
+complete Parts.unit = (a_number ∷ [], tt)
+complete Parts.atom = (a_number ∷ [], tt)
+complete (Parts.accesses x) = ([], tt)
+complete Parts.indices = (a_number ∷ sign SRBrack ∷ [], tt)
+complete Parts.more_indices = (sign SRBrack ∷ [], tt)
+complete Parts.annotations = ([], tt)
+complete Parts.marks = ([], tt)
+complete Parts.head = (a_number ∷ [], tt)
+complete (Parts.named n s) = ([], tt)
+complete (Parts.arguments t) = (sign SRParen ∷ [], tt)
+complete Parts.text_rest = (a_number ∷ made (TextTail 0) ∷ [], tt)
+complete (Parts.elements c) = (closing c ∷ [], done_elements c)
+complete Parts.array_body = (sign SRBrack ∷ [], tt)
+complete Parts.set_body = (sign SRBrace ∷ [], tt)
+complete Parts.rows_body = (sign SRRows ∷ [], tt)
+complete Parts.more_rows = (sign SRRows ∷ [], tt)
+complete Parts.row = (a_number ∷ [], tt)
+complete Parts.cells = ([], tt)
+complete Parts.generator = (an_identifier ∷ keyword KIn ∷ a_number ∷ [], tt)
+complete Parts.more_names = ([], tt)
+complete Parts.filter = ([], tt)
+complete (Parts.generators c) = (closing c ∷ [], done_generators c)
+complete Parts.branch = (a_number ∷ keyword KThen ∷ a_number ∷ [], tt)
+complete Parts.branches = (keyword KEndif ∷ [], tt)
+complete Parts.let_items = (sign SRBrace ∷ [], tt)
+complete Parts.let_item = (keyword KConstraint ∷ a_number ∷ [], tt)
+
+fine : (n : Place) → Fine (rule n)
+unfolding rule
+fine Parts.file = fine_file
+fine Parts.more_items = fine_more_items
+fine Parts.item = fine_item
+fine Parts.goal = fine_goal
+fine Parts.cases = fine_cases
+fine Parts.case_names = fine_case_names
+fine Parts.params = fine_params
+fine Parts.param_list = fine_param_list
+fine Parts.param = fine_param
+fine Parts.declaration = fine_declaration
+fine (Parts.declared t) = fine_declared t
+fine Parts.value = fine_value
+fine Parts.type = fine_type
+fine Parts.element = fine_element
+fine Parts.unmarked = fine_unmarked
+fine Parts.base = fine_base
+fine (Parts.index_types n) = fine_index_types n
+fine Parts.expr = fine_expr
+fine (Parts.level l) = fine_level l
+fine (Parts.operand l) = fine_operand l
+fine (Parts.operators l) = fine_operators l
+fine Parts.unit = fine_unit
+fine Parts.atom = fine_atom
+fine (Parts.accesses x) = fine_accesses x
+fine Parts.indices = fine_indices
+fine Parts.more_indices = fine_more_indices
+fine Parts.annotations = fine_annotations
+fine Parts.marks = fine_marks
+fine Parts.head = fine_head
+fine (Parts.named n s) = fine_named n s
+fine (Parts.arguments t) = fine_arguments t
+fine Parts.text_rest = fine_text_rest
+fine (Parts.elements c) = fine_elements c
+fine Parts.array_body = fine_array_body
+fine Parts.set_body = fine_set_body
+fine Parts.rows_body = fine_rows_body
+fine Parts.more_rows = fine_more_rows
+fine Parts.row = fine_row
+fine Parts.cells = fine_cells
+fine Parts.generator = fine_generator
+fine Parts.more_names = fine_more_names
+fine Parts.filter = fine_filter
+fine (Parts.generators c) = fine_generators c
+fine Parts.branch = fine_branch
+fine Parts.branches = fine_branches
+fine Parts.let_items = fine_let_items
+fine Parts.let_item = fine_let_item
+
+-- What may end with the expression of a `let` is brought to an `=`: an `= 0` goes on each such expression that may take one.
+
+abbrev Long : {n : Place} → Ruled n → Type 0
+Long p = longer.Long rule aim Calm taking Apt far takes complete fine p
+
+abbrev Reach : (m : Place) {n : Place} → (Value m → Ruled n) → Ruled n → Type 0
+Reach m f p = longer.Reach rule aim Calm taking Apt far takes complete fine m f p
+
+long_tested : {n : Place} (b : Bool) (p q : Ruled n) → Long p → Long q → Long (if b then p else q)
+long_tested true p q h g = h
+long_tested false p q h g = g
+
+long_found : {A : Type 0} {n : Place} (o : Option A) (p : Ruled n) (f : A → Ruled n) → Long p → ((x : A) → Long (f x)) → Long (on o p f)
+long_found None p f h g = h
+long_found (Some x) p f h g = g x
+
+-- `= 0` at the level of comparisons
+abbrev equals_zero : List Token
+equals_zero = sign SEq ∷ a_number ∷ []
+
+long_operand : (l : Level) → Long (operand_rule l)
+unfolding step read_by rule symbol_number keyword_number
+long_operand l = long_found (tighter_level l) _ _ (λ x. (farther [] refl (λ y. tt) refl, tt)) (λ k x. (farther [] refl (λ y. tt) refl, tt))
+
+-- behind an operand come the operators of its level
+abbrev operators_behind : (l : Level) → Reading → Ruled (Parts.level l)
+operators_behind l x = part (Parts.operators l) λ ls. give (chained x ls)
+
+reach_operators : (l : Level) (x : Reading) → Reach (Parts.operand l) (operators_behind l) (operators_behind l x)
+unfolding step read_by rule symbol_number keyword_number
+reach_operators level_is.Iff x = farther [] refl (λ y. tt) refl
+reach_operators level_is.Imp x = farther [] refl (λ y. tt) refl
+reach_operators level_is.Or x = farther [] refl (λ y. tt) refl
+reach_operators level_is.And x = farther [] refl (λ y. tt) refl
+reach_operators level_is.Compare x = farther equals_zero refl (λ y. tt) refl
+reach_operators level_is.Member x = farther [] refl (λ y. tt) refl
+reach_operators level_is.Union x = farther [] refl (λ y. tt) refl
+reach_operators level_is.Range x = farther [] refl (λ y. tt) refl
+reach_operators level_is.Sum x = farther [] refl (λ y. tt) refl
+reach_operators level_is.Product x = farther [] refl (λ y. tt) refl
+reach_operators level_is.Power x = farther [] refl (λ y. tt) refl
+reach_operators level_is.Concat x = farther [] refl (λ y. tt) refl
+
+long_level : (l : Level) → Long (rule (Parts.level l))
+unfolding step read_by rule symbol_number keyword_number
+long_level l = λ x. (reach_operators l x, λ ls. (farther [] refl (λ m. tt) refl, tt))
+
+-- and behind an operator and its operand, more of them
+abbrev chain_behind : (l : Level) → BinOp → Bool → Reading → Ruled (Parts.operators l)
+chain_behind l op single x = if single then give ((op, tree_of x) ∷ []) else part (Parts.operators l) λ ls. give ((op, tree_of x) ∷ ls)
+
+reach_chain : (l : Level) (op : BinOp) (x : Reading) → Reach (Parts.operand l) (chain_behind l op (is_single l)) (chain_behind l op (is_single l) x)
+unfolding step read_by rule symbol_number keyword_number
+reach_chain level_is.Iff op x = farther [] refl (λ y. tt) refl
+reach_chain level_is.Imp op x = farther [] refl (λ y. tt) refl
+reach_chain level_is.Or op x = farther [] refl (λ y. tt) refl
+reach_chain level_is.And op x = farther [] refl (λ y. tt) refl
+reach_chain level_is.Compare op x = farther [] refl (λ y. tt) refl
+reach_chain level_is.Member op x = farther [] refl (λ y. tt) refl
+reach_chain level_is.Union op x = farther [] refl (λ y. tt) refl
+reach_chain level_is.Range op x = farther [] refl (λ y. tt) refl
+reach_chain level_is.Sum op x = farther [] refl (λ y. tt) refl
+reach_chain level_is.Product op x = farther [] refl (λ y. tt) refl
+reach_chain level_is.Power op x = farther [] refl (λ y. tt) refl
+reach_chain level_is.Concat op x = farther [] refl (λ y. tt) refl
+
+long_chain : (l : Level) (op : BinOp) (single : Bool) (x : Reading) → Long (chain_behind l op single x)
+unfolding step read_by rule symbol_number keyword_number
+long_chain l op true x = tt
+long_chain l op false x = λ ls. (farther [] refl (λ m. tt) refl, tt)
+
+abbrev operators_from : (l : Level) → Option Tok → Ruled (Parts.operators l)
+operators_from l o = on (binary_of l o) (give []) (λ op. pass (λ s. part (Parts.operand l) λ x. chain_behind l op (is_single l) x))
+
+seen_operators : (l : Level) → longer.Seen rule aim Calm taking Apt far takes complete fine (operators_from l)
+unfolding step read_by rule symbol_number keyword_number
+seen_operators level_is.Iff = by [] tt
+seen_operators level_is.Imp = by [] tt
+seen_operators level_is.Or = by [] tt
+seen_operators level_is.And = by [] tt
+seen_operators level_is.Compare = by equals_zero tt
+seen_operators level_is.Member = by [] tt
+seen_operators level_is.Union = by [] tt
+seen_operators level_is.Range = by [] tt
+seen_operators level_is.Sum = by [] tt
+seen_operators level_is.Product = by [] tt
+seen_operators level_is.Power = by [] tt
+seen_operators level_is.Concat = by [] tt
+
+long_operators : (l : Level) → Long (operators_rule l)
+unfolding step read_by rule symbol_number keyword_number
+long_operators l = (seen_operators l, λ o. long_found (binary_of l o) _ _ tt (λ op s x. (reach_chain l op x, long_chain l op (is_single l) x)))
+
+long_unit : Long unit_rule
+unfolding step read_by rule symbol_number keyword_number
+long_unit = (firm takes_unit, λ o. long_found (prefix_of o) _ _ (λ x. (farther [] refl (λ y. tt) refl, tt)) (λ op s x. (farther [] refl (λ y. tt) refl, tt)))
+
+long_atom : Long atom_rule
+unfolding step read_by rule symbol_number keyword_number
+long_atom = λ h. (farther [] refl (λ y. tt) refl, λ x. (near plain_equals tt, λ m. (farther [] refl (λ y. tt) refl, tt)))
+
+long_annotations : Long annotations_rule
+unfolding step read_by rule symbol_number keyword_number
+long_annotations = (
+  by [] tt,
+  λ o. long_tested (is_sym SColons o) _ _ (λ s h. (farther [] refl (λ y. tt) refl, λ x. (near plain_equals tt, λ m. (farther [] refl (λ y. tt) refl, tt)))) tt,
+)
+
+long_head_symbol : (s : Symbol) → Long (head_symbol s)
+unfolding step read_by rule symbol_number keyword_number
+long_head_symbol SAbsent = λ s. tt
+long_head_symbol SLParen = λ s e. (
+  firmly (λ o. takes_tested (is_sym SRParen o) _ _ tt (takes_tested (is_sym SComma o) _ _ tt tt)),
+  (
+    firm (λ o. takes_tested (is_sym SRParen o) _ _ tt (takes_tested (is_sym SComma o) _ _ tt tt)),
+    λ o. long_tested (is_sym SRParen o) _ _ (λ c. tt) (long_tested (is_sym SComma o) _ _ tt tt),
+  ),
+)
+long_head_symbol SLBrack = λ s f. (near tt tt, tt)
+long_head_symbol SLRows = λ s f. (near tt tt, tt)
+long_head_symbol SLBrace = λ s f. (near tt tt, tt)
+long_head_symbol _ = tt
+
+long_head_word : (k : Keyword) → Long (head_word k)
+unfolding step read_by rule symbol_number keyword_number
+long_head_word KTrue = λ s. tt
+long_head_word KFalse = λ s. tt
+long_head_word KIf = λ s b. (firmly tt, λ bs. (near tt tt, tt))
+long_head_word KLet = λ s. (
+  firm (λ o. takes_tested (is_sym SLBrace o) _ _ tt tt),
+  λ o. long_tested (is_sym SLBrace o) _ _
+      (λ b ls. (
+        firmly (λ o. takes_tested (is_word KIn o) _ _ tt tt),
+        (firm (λ o. takes_tested (is_word KIn o) _ _ tt tt), λ o. long_tested (is_word KIn o) _ _ (λ i e. (farther [] refl (λ y. tt) refl, tt)) tt),
+      ))
+      tt,
+)
+long_head_word _ = tt
+
+long_head : (o : Option Tok) → Long (head_token o)
+unfolding step read_by rule symbol_number keyword_number
+long_head None = tt
+long_head (Some (Int z)) = λ s. tt
+long_head (Some (Text n)) = λ s. tt
+long_head (Some (TextHead n)) = λ s ps. (near tt tt, tt)
+long_head (Some (TextMid n)) = tt
+long_head (Some (TextTail n)) = tt
+long_head (Some (Ident n)) = λ s x. (near plain_equals tt, tt)
+long_head (Some (Word k)) = long_head_word k
+long_head (Some (Sym s)) = long_head_symbol s
+
+longs : (n : Place) → far n ≡ true → Long (rule n)
+unfolding step read_by rule symbol_number keyword_number
+longs Parts.annotations e = long_annotations
+longs Parts.head e = (firm takes_head, long_head)
+longs Parts.atom e = long_atom
+longs Parts.unit e = long_unit
+longs (Parts.operand l) e = long_operand l
+longs (Parts.operators l) e = long_operators l
+longs (Parts.level l) e = long_level l
+longs Parts.expr e = λ x. (farther [] refl (λ y. tt) refl, tt)
+longs _ e = absurd (cc)
+
+-- The parts that may stand at the end of the tokens: all but a row and its cells, which may end with a comma before the token
+-- that ends the row.
+abbrev pub may_be_last : Place → Bool
+may_be_last Parts.row = false
+may_be_last Parts.cells = false
+may_be_last _ = true
+
+pub calm_end : (n : Place) → may_be_last n ≡ true → Calm n None
+calm_end Parts.file e = refl
+calm_end Parts.more_items e = refl
+calm_end Parts.item e = quiet_end
+calm_end Parts.goal e = quiet_end
+calm_end Parts.cases e = quiet_end
+calm_end Parts.params e = plain_end
+calm_end Parts.param e = quiet_end
+calm_end Parts.declaration e = quiet_end
+calm_end (Parts.declared t) e = quiet_end
+calm_end Parts.value e = quiet_end
+calm_end Parts.type e = quiet_end
+calm_end Parts.element e = quiet_end
+calm_end Parts.unmarked e = quiet_end
+calm_end Parts.base e = quiet_end
+calm_end Parts.expr e = quiet_end
+calm_end (Parts.level l) e = quiet_end
+calm_end (Parts.operand l) e = quiet_end
+calm_end (Parts.operators l) e = quiet_end
+calm_end Parts.unit e = quiet_end
+calm_end Parts.atom e = quiet_end
+calm_end (Parts.accesses x) e = plain_end
+calm_end Parts.annotations e = quiet_end
+calm_end Parts.marks e = quiet_end
+calm_end Parts.head e = quiet_end
+calm_end (Parts.named n s) e = plain_end
+calm_end Parts.row e = absurd (cc)
+calm_end Parts.cells e = absurd (cc)
+calm_end Parts.generator e = quiet_end
+calm_end Parts.more_names e = (refl, refl)
+calm_end Parts.filter e = quiet_end
+calm_end Parts.branch e = quiet_end
+calm_end Parts.let_item e = quiet_end
+calm_end _ e = tt
+
+-- What a reader of models answers is what its callers are promised, for a part that may stand at the end.
+pub answers : {X : Type 0} (n : Place) (view : X → Value n) (room : ℕ) (end : Span) (old new : List Token) (result : Result X Stop) → may_be_last n ≡ true → Gives view end new result (reads n room old) → Answers rule n view room end old new result
+answers n view room end old new result may g =
+    answering.answers rule rank width low falls Calm taking Apt far aim takes complete fine (longer.bring rule aim Calm taking Apt far takes complete fine longs) n view room end old new result (calm_end n may) g

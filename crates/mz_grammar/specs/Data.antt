@@ -1,0 +1,242 @@
+-- The grammar of data files: its parts, what each is read to, and one rule for each part, with its EBNF before it.
+use Rattle.std.specs.Prelude.{ℕ, zero, suc, ℤ, pos, neg_ℤ, Bool, true, false, List, [], ◌∷◌, Option, Some, None, if◌then◌else◌, codes}
+use Rattle.std.specs.Str.{bytes_eq}
+use Rattle.mz_base.specs.Names.{text_of}
+use Rattle.mz_base.specs.declared.fault.Span.{Span}
+use Rattle.mz_lexer.specs.declared.token.Tok.{Tok}
+use Rattle.mz_lexer.specs.declared.token.Tok.TheVariants.{Word, Ident, Int}
+use Rattle.mz_lexer.specs.declared.token.Keyword.TheVariants.{KTrue, KFalse}
+use Rattle.mz_lexer.specs.declared.token.Symbol.{Symbol}
+use Rattle.mz_lexer.specs.declared.token.Symbol.TheVariants.{SLParen, SRParen, SLBrack, SRBrack, SLBrace, SRBrace, SLRows, SRRows, SBar, SComma, SSemi, SDots, SEq, SMinus, SAbsent}
+use Rattle.mz_tree.specs.Tree.{Name}
+use Rattle.mz_tree.specs.Data as pure
+use Rattle.mz_tree.specs.Data.{Given, values, lines}
+use Rattle.mz_cursor.specs.Look.{is_sym}
+use Rattle.mz_cursor.specs.Rules.{Rule, give, refuse, look, pass, enter, leave, part}
+use Rattle.mz_cursor.specs.Reading.{on, Reader, read}
+use Rattle.mz_grammar.specs.Tests.{ident_of, ends_row}
+
+-- the number of dimensions that a text names, if it names an array with index sets
+abbrev pub dimensions_in : List ℕ → Option ℕ
+dimensions_in text =
+    if bytes_eq text (codes "array1d") then Some 1 else
+    (if bytes_eq text (codes "array2d") then Some 2 else
+    (if bytes_eq text (codes "array3d") then Some 3 else
+    (if bytes_eq text (codes "array4d") then Some 4 else
+    (if bytes_eq text (codes "array5d") then Some 5 else
+    (if bytes_eq text (codes "array6d") then Some 6 else None)))))
+
+-- the number of dimensions that a name of a table means
+unfoldable pub dimensions_of : List (List ℕ) → Name → Option ℕ
+dimensions_of names n = dimensions_in (text_of names n)
+
+-- what the names of a file's identifiers mean so
+abbrev pub Dimensions : Type 0
+Dimensions = Name → Option ℕ
+
+-- the parts of a data file
+pub data Place : Type 0 where
+  file : Dimensions → Place
+  item : Dimensions → Place
+  datum : Dimensions → Place
+  named : Dimensions → Name → Place
+  sized : ℕ → Place
+  index_sets : ℕ → Place
+  plains : Place
+  rows : Place
+  row : Place
+  plain : Place
+  range : pure.Value → Place
+  set : Place
+  bounds : pure.Value → Place
+  ones : Place
+  one : Place
+
+-- a value, and the place of its first token
+abbrev pub Placed : Type 0
+Placed = Span × pure.Value
+
+abbrev pub Value : Place → Type 0
+Value (file d) = List Given
+Value (item d) = Given
+Value (datum d) = Placed
+Value (named d n) = pure.Value
+Value (sized d) = pure.Value
+Value (index_sets d) = List pure.Value
+Value plains = List pure.Value
+Value rows = List (List pure.Value)
+Value row = List pure.Value
+Value plain = Placed
+Value (range v) = pure.Value
+Value set = pure.Value
+Value (bounds v) = pure.Value
+Value ones = List pure.Value
+Value one = Placed
+
+abbrev pub Ruled : Place → Type 0
+Ruled n = Rule Value n
+
+-- a symbol, and no other token
+abbrev pub symbol : {n : Place} → Symbol → Ruled n → Ruled n
+symbol s p = look (λ o. if is_sym s o then pass (λ at. p) else refuse)
+
+abbrev pub opening : {n : Place} → Symbol → Ruled n → Ruled n
+opening s p = look (λ o. if is_sym s o then enter (λ at. p) else refuse)
+
+-- what stands behind an element of a list: the separator, and then perhaps more, or the closing symbol
+abbrev pub behind_element : {n : Place} → Symbol → Symbol → Ruled n → Ruled n → Ruled n
+behind_element separator closing more done = look (λ o. if is_sym separator o
+    then pass (λ at. more)
+    else (if is_sym closing o then pass (λ at. done) else refuse))
+
+-- Values
+
+-- a value that is one token
+abbrev pub literal_of : Option Tok → Option pure.Value
+-- "true"
+literal_of (Some (Word KTrue)) = Some (pure.bool true)
+-- "false"
+literal_of (Some (Word KFalse)) = Some (pure.bool false)
+-- INT
+literal_of (Some (Int z)) = Some (pure.int z)
+-- IDENT
+literal_of (Some (Ident n)) = Some (pure.ident n)
+literal_of _ = None
+
+-- the number that a "-" makes of an INT; an INT is never negative itself
+abbrev pub negated_of : Option Tok → Option ℤ
+negated_of (Some (Int (pos n))) = Some (neg_ℤ (pos n))
+negated_of _ = None
+
+-- one = "true" | "false" | [ "-" ] INT | IDENT
+abbrev pub one_rule : Ruled one
+one_rule = look (λ o. if is_sym SMinus o
+    then pass (λ s. look (λ o. on (negated_of o) refuse (λ z. pass (λ t. give (s, pure.int z)))))
+    else on (literal_of o) refuse (λ v. pass (λ s. give (s, v))))
+
+-- what may stand behind a one, where it may be a value itself: [ ".." one ]
+abbrev pub range_rule : (v : pure.Value) → Ruled (range v)
+range_rule v = look (λ o. if is_sym SDots o then pass (λ d. part one λ w. give (pure.range v w.1)) else give v)
+
+-- "{" [ one { "," one } ] "}", behind the "{"
+abbrev pub ones_rule : Ruled ones
+ones_rule = look (λ o. if is_sym SRBrace o
+    then pass (λ c. give [])
+    else part one λ v. behind_element SComma SRBrace (part ones λ vs. give (v.1 ∷ vs)) (give (v.1 ∷ [])))
+
+-- set = "{" [ one { "," one } ] "}" | one ".." one | IDENT
+abbrev pub set_rule : Ruled set
+set_rule = look (λ o. if is_sym SLBrace o
+    then enter (λ s. part ones λ vs. leave (give (pure.set (values vs))))
+    else part one λ v. part (bounds v.1) λ w. give w)
+
+-- what stands behind the first one of a set; behind an IDENT nothing need
+abbrev pub is_name : pure.Value → Bool
+is_name (pure.ident n) = true
+is_name _ = false
+
+abbrev pub bounds_rule : (v : pure.Value) → Ruled (bounds v)
+bounds_rule v = look (λ o. if is_sym SDots o
+    then pass (λ d. part one λ w. give (pure.range v w.1))
+    else (if is_name v then give v else refuse))
+
+-- plain = one | set | "<>"
+abbrev pub plain_rule : Ruled plain
+plain_rule = look (λ o. if is_sym SLBrace o
+    then enter (λ s. part ones λ vs. leave (give (s, pure.set (values vs))))
+    else (if is_sym SAbsent o
+    then pass (λ s. give (s, pure.absent))
+    else part one λ v. part (range v.1) λ w. give (v.0, w)))
+
+-- Lists
+
+-- "[" [ plain { "," plain } ] "]", behind the "["
+abbrev pub plains_rule : Ruled plains
+plains_rule = look (λ o. if is_sym SRBrack o
+    then pass (λ c. give [])
+    else part plain λ v. behind_element SComma SRBrack (part plains λ vs. give (v.1 ∷ vs)) (give (v.1 ∷ [])))
+
+-- drow = plain { "," plain }, where a "," may stand at the end
+abbrev pub row_rule : Ruled row
+row_rule = part plain λ v. look (λ o. if is_sym SComma o
+    then pass (λ c. look (λ o. if ends_row o then give (v.1 ∷ []) else part row λ vs. give (v.1 ∷ vs)))
+    else give (v.1 ∷ []))
+
+-- "[|" [ drow { "|" drow } [ "|" ] ] "|]", behind the "[|"
+abbrev pub rows_rule : Ruled rows
+rows_rule = look (λ o. if is_sym SRRows o
+    then pass (λ c. give [])
+    else part row λ l. behind_element SBar SRRows (part rows λ ls. give (l ∷ ls)) (give (l ∷ [])))
+
+-- set "," { set "," } [ "," ], with so many sets
+abbrev pub index_sets_rule : (d : ℕ) → Ruled (index_sets d)
+index_sets_rule zero = look (λ o. if is_sym SComma o then pass (λ c. give []) else give [])
+index_sets_rule (suc d) = part set λ v. symbol SComma (part (index_sets d) λ vs. give (v ∷ vs))
+
+-- ARRAYND "(" set { "," set } "," "[" [ plain { "," plain } ] "]" ")", behind the "("
+abbrev pub sized_rule : (d : ℕ) → Ruled (sized d)
+sized_rule d = part (index_sets d) λ ss. opening SLBrack (part plains λ vs. leave (symbol SRParen (give (pure.array_nd (values ss) (values vs)))))
+
+-- what stands behind a value's identifier: the "(" of an ARRAYND, or nothing, or the ".." of a range
+abbrev pub named_rule : (dimensions : Dimensions) (n : Name) → Ruled (named dimensions n)
+named_rule dimensions n = look (λ o. if is_sym SLParen o
+    then on (dimensions n) refuse (λ d. enter (λ p. part (sized d) λ v. leave (give v)))
+    else part (range (pure.ident n)) λ v. give v)
+
+-- datum = plain | "[" .. "]" | "[|" .. "|]" | ARRAYND "(" .. ")"
+abbrev pub datum_rule : (dimensions : Dimensions) → Ruled (datum dimensions)
+datum_rule dimensions = look (λ o. if is_sym SLBrack o
+    then enter (λ s. part plains λ vs. leave (give (s, pure.array (values vs))))
+    else (if is_sym SLRows o
+    then enter (λ s. part rows λ ls. leave (give (s, pure.rows (lines ls))))
+    else on (ident_of o)
+    (part plain λ v. give v)
+    (λ n. pass (λ s. part (named dimensions n) λ v. give (s, v)))))
+
+-- IDENT "=" datum
+abbrev pub item_rule : (dimensions : Dimensions) → Ruled (item dimensions)
+item_rule dimensions = look (λ o. on (ident_of o) refuse (λ n. pass (λ s. symbol SEq (part (datum dimensions) λ v. give (record { name = n; span = s; at = v.0; value = v.1 })))))
+
+-- data = [ IDENT "=" datum { ";" IDENT "=" datum } [ ";" ] ]
+abbrev pub file_rule : (dimensions : Dimensions) → Ruled (file dimensions)
+file_rule dimensions = look (λ o. on o (give []) (λ t. part (item dimensions) λ i.
+    look (λ o. on o (give (i ∷ [])) (λ u. symbol SSemi (part (file dimensions) λ is. give (i ∷ is))))))
+
+unfoldable pub rule : (n : Place) → Ruled n
+rule (file d) = file_rule d
+rule (item d) = item_rule d
+rule (datum d) = datum_rule d
+rule (named d n) = named_rule d n
+rule (sized n) = sized_rule n
+rule (index_sets n) = index_sets_rule n
+rule plains = plains_rule
+rule rows = rows_rule
+rule row = row_rule
+rule plain = plain_rule
+rule (range v) = range_rule v
+rule set = set_rule
+rule (bounds v) = bounds_rule v
+rule ones = ones_rule
+rule one = one_rule
+
+-- The rank of a part is above the ranks of those with which it may begin.
+unfoldable pub rank : Place → ℕ
+rank (file d) = 1
+rank (datum d) = 2
+rank (named d n) = 1
+rank (sized d) = 3
+rank (index_sets d) = 2
+rank plains = 2
+rank rows = 3
+rank row = 2
+rank plain = 1
+rank set = 1
+rank ones = 1
+rank _ = 0
+
+abbrev pub width : ℕ
+width = 4
+
+-- what the grammar reads at the front of a list of tokens
+unfoldable pub reads : (n : Place) → ℕ → Reader (Value n)
+reads n room ts = read rule rank width n room ts

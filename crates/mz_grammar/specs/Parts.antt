@@ -1,0 +1,143 @@
+-- The parts of a model's file, and what each is read to.
+use Rattle.std.specs.Prelude.{ℕ, Bool, List, [], ◌∷◌, Option, Some, None}
+use Rattle.mz_base.specs.declared.fault.Span.{Span}
+use Rattle.mz_tree.specs.declared.expr.BinOp.{BinOp}
+use Rattle.mz_tree.specs.declared.expr.BinOp.TheVariants as op
+use Rattle.mz_tree.specs.Tree.{Name, Tree, Maybe, Generator, Let, Declaration, Written, Based, Part, Shape, node, ident, chain, links}
+use Rattle.mz_tree.specs.Items.{GoalTree, ItemTree}
+use Rattle.mz_grammar.specs.declared.level.Level.{Level}
+use Rattle.mz_grammar.specs.declared.list.Closing.{Closing}
+use Rattle.mz_grammar.specs.declared.list.Turn.{Turn}
+
+-- What an expression was read as. A name alone and a name in a set may become generators of a call.
+-- The place is that of the first token, a parenthesis too.
+pub data Reading : Type 0 where
+  name : Name → Span → Reading
+  member : Name → Span → Tree → Reading
+  other : Span → Tree → Reading
+
+abbrev pub at_of : Reading → Span
+at_of (name n s) = s
+at_of (member n s e) = s
+at_of (other s e) = s
+
+abbrev pub tree_of : Reading → Tree
+tree_of (name n s) = node s (ident n)
+tree_of (member n s e) = node s (chain (node s (ident n)) (links ((op.Member, e) ∷ [])))
+tree_of (other s e) = e
+
+-- a name with one operator behind it
+abbrev pub related : Name → Span → BinOp → Tree → Reading
+related n s op.Member e = member n s e
+related n s o e = other s (node s (chain (node s (ident n)) (links ((o, e) ∷ []))))
+
+-- an operand with the operators of one level behind it
+abbrev pub chained : Reading → List (BinOp × Tree) → Reading
+chained x [] = x
+chained (name n s) (l ∷ []) = related n s l.0 l.1
+chained x (l ∷ ls) = other (at_of x) (node (at_of x) (chain (tree_of x) (links (l ∷ ls))))
+
+-- an argument of a call: an expression, one that a `where` makes a generator, or a generator behind such a one
+pub data Argument : Type 0 where
+  given : Reading → Argument
+  guarded : Reading → Tree → Argument
+  strict : Generator → Argument
+
+-- the parts of a file
+pub data Place : Type 0 where
+  file : Place
+  more_items : Place
+  item : Place
+  goal : Place
+  cases : Place
+  case_names : Place
+  params : Place
+  param_list : Place
+  param : Place
+  declaration : Place
+  declared : Written → Place
+  value : Place
+  type : Place
+  element : Place
+  unmarked : Place
+  base : Place
+  index_types : ℕ → Place
+  expr : Place
+  level : Level → Place
+  operand : Level → Place
+  operators : Level → Place
+  unit : Place
+  atom : Place
+  accesses : Reading → Place
+  indices : Place
+  more_indices : Place
+  annotations : Place
+  marks : Place
+  head : Place
+  named : Name → Span → Place
+  arguments : Turn → Place
+  text_rest : Place
+  elements : Closing → Place
+  array_body : Place
+  set_body : Place
+  rows_body : Place
+  more_rows : Place
+  row : Place
+  cells : Place
+  generator : Place
+  more_names : Place
+  filter : Place
+  generators : Closing → Place
+  branch : Place
+  branches : Place
+  let_items : Place
+  let_item : Place
+
+abbrev pub Value : Place → Type 0
+Value file = List ItemTree
+Value more_items = List ItemTree
+Value item = ItemTree
+Value goal = GoalTree
+Value cases = Option (List (Name × Span))
+Value case_names = List (Name × Span)
+Value params = List Declaration
+Value param_list = List Declaration
+Value param = Declaration
+Value declaration = Declaration
+Value (declared t) = Declaration
+Value value = Maybe
+Value type = Written
+Value element = Written
+Value unmarked = Written
+Value base = Span × Based
+Value (index_types n) = List Based
+Value expr = Tree
+Value (level l) = Reading
+Value (operand l) = Reading
+Value (operators l) = List (BinOp × Tree)
+Value unit = Reading
+Value atom = Reading
+Value (accesses x) = Reading
+Value indices = List Tree
+Value more_indices = List Tree
+Value annotations = Bool
+Value marks = Unit {0}
+Value head = Reading
+Value (named n s) = Reading
+Value (arguments t) = List Argument
+Value text_rest = List Part
+Value (elements c) = List Tree
+Value array_body = Shape
+Value set_body = Shape
+Value rows_body = List (List Tree)
+Value more_rows = List (List Tree)
+Value row = List Tree
+Value cells = List Tree
+Value generator = Generator
+Value more_names = List (Name × Span)
+Value filter = Maybe
+Value (generators c) = List Generator
+Value branch = Tree × Tree
+Value branches = List (Tree × Tree) × Maybe
+Value let_items = List Let
+Value let_item = Let

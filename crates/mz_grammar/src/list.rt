@@ -1,0 +1,25 @@
+// What a list between brackets is, and what it may still become.
+
+/// What closes a list, and which list it is.
+#[derive(Clone, Copy, Debug, PartialEq, Eq)]
+pub enum Closing {
+    /// `)`
+    Paren,
+    /// `]` of an access, of index types or of a comprehension
+    Bracket,
+    /// `]` of an array literal, where `:` behind an element is left out of the language
+    Elements,
+    /// `}`
+    Brace,
+}
+
+/// Whether the arguments read so far may be generators.
+#[derive(Clone, Copy, Debug, PartialEq, Eq)]
+pub enum Turn {
+    /// They may, and none or a whole generator was read last.
+    Clear,
+    /// They may, and the names read last wait for their `in`.
+    Waiting,
+    /// They may not.
+    Never,
+}
