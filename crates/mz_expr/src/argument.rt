@@ -1,0 +1,195 @@
+// The arguments of a call, and the generators that they may be.
+
+ghost use Rattle.std.specs.Prelude.{◌≡◌, IfOk, map, List, [], ◌∷◌, ◌++◌, Option, Some, None, Result, Ok, Err};
+ghost use Rattle.std.specs.Option.{option_map};
+ghost use Rattle.mz_tree.specs.Tree as pure;
+ghost use Rattle.mz_tree.specs.Tree.{maybe};
+ghost use Rattle.mz_tree.specs.Views.{tree, generator};
+ghost use Rattle.mz_grammar.specs.Parts.{given, guarded};
+ghost use Rattle.mz_grammar.specs.Arguments.{turn_by, waits, takes_where, given_of, trees_of, role_of, bound, generators_of, generators_behind};
+ghost use Rattle.mz_expr.specs.Views.{reading, argument, role};
+
+use crate::make::make_generator;
+use crate::reading::Reading;
+use mz_base::{Name, Span};
+use mz_grammar::Turn;
+use mz_tree::{Expr, Gen};
+use std::alloc::{AllocError, Global};
+
+/// An argument: an expression, one that a `where` makes a generator, or a generator behind such a one.
+#[derive(Drop)]
+pub enum Argument {
+    Given(Reading),
+    Guarded(Reading, Expr),
+    Strict(Gen),
+}
+
+/// How it stands behind one more argument.
+pub fn turn_by(turn: Turn, x: &Reading) -> Turn
+    ensures { result ≡ turn_by turn (reading x.now) }
+{
+    match turn {
+        Turn::Never => Turn::Never,
+        Turn::Clear => turn_to(x),
+        Turn::Waiting => turn_to(x),
+    }
+}
+
+fn turn_to(x: &Reading) -> Turn
+    ensures { result ≡ turn_by Turn.Clear (reading x.now) }
+{
+    match x {
+        Reading::Name(_, _) => Turn::Waiting,
+        Reading::Member(_, _, _) => Turn::Clear,
+        Reading::Other(_, _) => Turn::Never,
+    }
+}
+
+/// Whether an `in` may follow a comma.
+pub fn waits(turn: Turn) -> bool
+    ensures { result ≡ waits turn }
+{
+    matches!(turn, Turn::Waiting)
+}
+
+/// Whether a `where` may follow this argument.
+pub fn takes_where(turn: Turn, x: &Reading) -> bool
+    ensures { result ≡ takes_where turn (reading x.now) }
+{
+    match turn {
+        Turn::Never => false,
+        Turn::Clear => is_member(x),
+        Turn::Waiting => is_member(x),
+    }
+}
+
+fn is_member(x: &Reading) -> bool
+    ensures { result ≡ takes_where Turn.Clear (reading x.now) }
+{
+    match x {
+        Reading::Name(_, _) => false,
+        Reading::Member(_, _, _) => true,
+        Reading::Other(_, _) => false,
+    }
+}
+
+fn given_of(arg: Argument) -> Option<Reading>
+    ensures { option_map reading result ≡ given_of (argument arg) }
+{
+    match arg {
+        Argument::Given(x) => Some(x),
+        Argument::Guarded(_, _) => None,
+        Argument::Strict(_) => None,
+    }
+}
+
+/// The arguments as expressions, if all are.
+pub fn exprs_of(alloc: Global, args: Vec<Argument>) -> Result<Option<Vec<Expr>>, AllocError>
+    ensures { IfOk result (λ es. option_map (λ v. map tree v.items) es ≡ trees_of (map argument args.items)) }
+{
+    let mut all = Vec::with_capacity(alloc, args.len())?;
+    let mut fit = true;
+    for arg in args {
+        match given_of(arg) {
+            Some(x) => all.push(x.into_expr(alloc)?)?,
+            None => fit = false,
+        }
+    }
+    if fit { Ok(Some(all)) } else { Ok(None) }
+}
+
+/// What an argument is to the generators of a call.
+#[derive(Drop)]
+enum Role {
+    /// A name that waits for its `in`.
+    Waiting(Name, Span),
+    /// The names that stand with a set, the set, and what its `where` says.
+    Bound(Vec<(Name, Span)>, Expr, Option<Expr>),
+    Unfit,
+}
+
+fn role_of(alloc: Global, arg: Argument) -> Result<Role, AllocError>
+    ensures { IfOk result (λ r. role r ≡ role_of (argument arg)) }
+{
+    match arg {
+        Argument::Given(x) => given_role(alloc, x),
+        Argument::Guarded(x, cond) => guarded_role(alloc, x, cond),
+        Argument::Strict(g) => Ok(Role::Bound(g.names, g.set, g.cond)),
+    }
+}
+
+fn given_role(alloc: Global, x: Reading) -> Result<Role, AllocError>
+    ensures { IfOk result (λ r. role r ≡ role_of (given (reading x))) }
+{
+    match x {
+        Reading::Name(n, at) => Ok(Role::Waiting(n, at)),
+        Reading::Member(n, at, set) => bound(alloc, n, at, set, None),
+        Reading::Other(_, _) => Ok(Role::Unfit),
+    }
+}
+
+fn guarded_role(alloc: Global, x: Reading, cond: Expr) -> Result<Role, AllocError>
+    ensures { IfOk result (λ r. role r ≡ role_of (guarded (reading x) (tree cond))) }
+{
+    match x {
+        Reading::Name(_, _) => Ok(Role::Unfit),
+        Reading::Member(n, at, set) => bound(alloc, n, at, set, Some(cond)),
+        Reading::Other(_, _) => Ok(Role::Unfit),
+    }
+}
+
+fn bound(
+    alloc: Global,
+    name: Name,
+    at: Span,
+    set: Expr,
+    cond: Option<Expr>,
+) -> Result<Role, AllocError>
+    ensures { IfOk result (λ r. role r ≡ bound ((name, at) ∷ []) (tree set) (maybe (option_map tree cond))) }
+{
+    let mut names = Vec::with_capacity(alloc, 1)?;
+    names.push((name, at))?;
+    Ok(Role::Bound(names, set, cond))
+}
+
+/// The arguments as generators, if all are and there is one at least.
+pub fn generators_of(alloc: Global, args: Vec<Argument>) -> Result<Option<Vec<Gen>>, AllocError>
+    ensures { IfOk result (λ gs. option_map (λ v. map generator v.items) gs ≡ generators_of (map argument args.items)) }
+{
+    if args.is_empty() {
+        return Ok(None);
+    }
+    let mut all = Vec::new(alloc);
+    let mut names = Vec::new(alloc);
+    let mut fit = true;
+    for arg in args {
+        match role_of(alloc, arg)? {
+            Role::Waiting(name, at) => names.push((name, at))?,
+            Role::Bound(more, set, cond) => {
+                let names_of = joined(names, more)?;
+                all.push(make_generator(names_of, set, cond))?;
+                names = Vec::new(alloc);
+            }
+            Role::Unfit => fit = false,
+        }
+    }
+    if fit && names.is_empty() {
+        Ok(Some(all))
+    } else {
+        Ok(None)
+    }
+}
+
+/// Names, and more names behind them.
+fn joined(
+    names: Vec<(Name, Span)>,
+    more: Vec<(Name, Span)>,
+) -> Result<Vec<(Name, Span)>, AllocError>
+    ensures { IfOk result (λ all. all.items ≡ names.items ++ more.items) }
+{
+    let mut all = names;
+    for name in more {
+        all.push(name)?;
+    }
+    Ok(all)
+}

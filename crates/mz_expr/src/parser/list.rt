@@ -1,0 +1,256 @@
+// Arrays, sets, rows and the pieces of texts.
+
+ghost use Rattle.std.specs.Prelude.{◌≡◌, ℕ, suc, ◌≤◌, ◌<◌, ◌+◌, length, OnOk, map, List, [], ◌∷◌, ◌++◌, Some, None, if◌then◌else◌};
+ghost use Rattle.std.specs.Option.{option_map};
+ghost use Rattle.mz_tree.specs.Tree as pure;
+ghost use Rattle.mz_tree.specs.Views.{tree, tree_row, link, branch, part, generator, let_of, declaration, written, based};
+ghost use Rattle.std.specs.Prelude.{Ok};
+ghost use Rattle.mz_cursor.specs.Rules.{syntax};
+ghost use Rattle.mz_cursor.specs.Tokens.{tok_at, behind};
+ghost use Rattle.mz_grammar.specs.Tests.{tail_of};
+ghost use Rattle.mz_cursor.specs.Promise.{Gives};
+ghost use Rattle.mz_cursor.specs.Reading.{mapped, with_front, listed, on, stuck};
+ghost use Rattle.mz_grammar.specs.Model.{rule};
+ghost use Rattle.mz_grammar.specs.Parts as parts;
+ghost use Rattle.mz_grammar.specs.Reading.{reads, head_at, head_word_at, head_symbol_at, parenthesised_at, let_at, called_at, guarded_at, waited_at, generators_at, with_branches, separator_at, let_separator_at, dimensions_at};
+ghost use Rattle.mz_expr.specs.Views.{reading, argument};
+
+use crate::make::{plain, shown};
+use crate::parser::comprehension::generators;
+use crate::parser::expression::expr;
+use crate::step::{closes, ends_row, middle_of, separator, tail_of};
+use mz_base::{Span, Stop};
+use mz_cursor::{Cursor, is_sym};
+use mz_grammar::Closing;
+use mz_lexer::Symbol;
+use mz_tree::{Expr, TextPart, make_array, make_array_comp, make_set, make_set_comp};
+use std::alloc::Global;
+
+/// The rest of a text behind pieces that were read: expressions and pieces up to its last one.
+#[cycle(parser)]
+#[tactic(auto, using(mz_grammar::proofs::ListEquations::text_rest_reads, mz_cursor::proofs::Steps::front_push, std::proofs::lemmas::List::map_push, mz_cursor::proofs::Steps::nothing_behind, mz_cursor::proofs::Steps::front_front))]
+pub fn text_rest(
+    alloc: Global,
+    cur: &mut Cursor<'_>,
+    before: Vec<TextPart>,
+) -> Result<Vec<TextPart>, Stop>
+    ensures reads { Gives (λ v. map part v.items) cur.new.end cur.new.rest.now result (with_front (map part before.items) (reads parts.text_rest cur.old.room cur.old.rest.now)) }
+    ensures room { OnOk result (cur.new.room ≡ cur.old.room) }
+    ensures end { cur.new.end ≡ cur.old.end }
+    ensures shorter { OnOk result (length cur.new.rest.now < length cur.old.rest.now) }
+{
+    let mut all = before;
+    loop {
+        let e = expr(alloc, cur)?;
+        all.push(shown(e))?;
+        match middle_of(cur) {
+            None => return last_piece(cur, all),
+            Some(piece) => {
+                cur.skip();
+                all.push(plain(piece))?;
+            }
+        }
+    }
+}
+
+/// The last piece of a text, behind those that were read.
+#[tactic(auto, using(std::proofs::lemmas::List::map_push))]
+fn last_piece(cur: &mut Cursor<'_>, before: Vec<TextPart>) -> Result<Vec<TextPart>, Stop>
+    ensures reads { Gives (λ v. map part v.items) cur.new.end cur.new.rest.now result (on (tail_of (tok_at cur.old.rest.now)) (stuck syntax cur.old.rest.now) (λ n. Ok (map part before.items ++ (pure.plain n ∷ []), behind cur.old.rest.now))) }
+    ensures room { cur.new.room ≡ cur.old.room }
+    ensures end { cur.new.end ≡ cur.old.end }
+    ensures shorter { OnOk result (length cur.new.rest.now < length cur.old.rest.now) }
+{
+    match tail_of(cur) {
+        None => Err(cur.unfit()),
+        Some(piece) => {
+            cur.skip();
+            let mut all = before;
+            all.push(TextPart::Plain(piece))?;
+            Ok(all)
+        }
+    }
+}
+
+/// Elements up to the closing token, behind those that were read.
+#[cycle(parser)]
+#[tactic(auto, using(mz_grammar::proofs::Equations::elements_reads, mz_cursor::proofs::Steps::front_push, std::proofs::lemmas::List::map_push, mz_cursor::proofs::Steps::nothing_behind))]
+fn elements(
+    alloc: Global,
+    cur: &mut Cursor<'_>,
+    c: Closing,
+    before: Vec<Expr>,
+) -> Result<Vec<Expr>, Stop>
+    ensures reads { Gives (λ v. map tree v.items) cur.new.end cur.new.rest.now result (with_front (map tree before.items) (reads (parts.elements c) cur.old.room cur.old.rest.now)) }
+    ensures room { OnOk result (cur.new.room ≡ cur.old.room) }
+    ensures end { cur.new.end ≡ cur.old.end }
+    ensures shorter { OnOk result (length cur.new.rest.now < length cur.old.rest.now) }
+{
+    let mut all = before;
+    while !closes(c, cur.tok()) {
+        let e = expr(alloc, cur)?;
+        all.push(e)?;
+        if !separator(cur, c)? {
+            return Ok(all);
+        }
+    }
+    cur.skip();
+    Ok(all)
+}
+
+/// An element that was read, and those behind it up to the closing token.
+#[cycle(parser)]
+#[tactic(auto, using(mz_cursor::proofs::Steps::front_push, std::proofs::lemmas::List::map_push, mz_cursor::proofs::Steps::nothing_behind))]
+fn elements_behind(
+    alloc: Global,
+    cur: &mut Cursor<'_>,
+    c: Closing,
+    e: Expr,
+) -> Result<Vec<Expr>, Stop>
+    ensures reads { Gives (λ v. map tree v.items) cur.new.end cur.new.rest.now result (listed (separator_at c) (reads (parts.elements c) cur.old.room) (tree e) cur.old.rest.now) }
+    ensures room { OnOk result (cur.new.room ≡ cur.old.room) }
+    ensures end { cur.new.end ≡ cur.old.end }
+    ensures shorter { OnOk result (length cur.new.rest.now < length cur.old.rest.now) }
+{
+    let mut all = Vec::new(alloc);
+    all.push(e)?;
+    if separator(cur, c)? {
+        elements(alloc, cur, c, all)
+    } else {
+        Ok(all)
+    }
+}
+
+/// What stands in the brackets of an array, and the closing one.
+#[cycle(parser)]
+#[tactic(auto, using(mz_grammar::proofs::ListEquations::array_body_reads))]
+pub fn array_body(alloc: Global, cur: &mut Cursor<'_>, at: Span) -> Result<Expr, Stop>
+    ensures reads { Gives tree cur.new.end cur.new.rest.now result (mapped (λ f. pure.node at f) (reads parts.array_body cur.old.room cur.old.rest.now)) }
+    ensures room { OnOk result (cur.new.room ≡ cur.old.room) }
+    ensures end { cur.new.end ≡ cur.old.end }
+    ensures shorter { OnOk result (length cur.new.rest.now < length cur.old.rest.now) }
+{
+    if is_sym(Symbol::SRBrack, cur.tok()) {
+        cur.skip();
+        return Ok(make_array(at, Vec::new(alloc)));
+    }
+    let e = expr(alloc, cur)?;
+    if is_sym(Symbol::SBar, cur.tok()) {
+        cur.skip();
+        let all = generators(alloc, cur, Closing::Bracket)?;
+        return Ok(make_array_comp(alloc, at, e, all)?);
+    }
+    let all = elements_behind(alloc, cur, Closing::Elements, e)?;
+    Ok(make_array(at, all))
+}
+
+/// What stands in the braces of a set, and the closing one.
+#[cycle(parser)]
+#[tactic(auto, using(mz_grammar::proofs::ListEquations::set_body_reads))]
+pub fn set_body(alloc: Global, cur: &mut Cursor<'_>, at: Span) -> Result<Expr, Stop>
+    ensures reads { Gives tree cur.new.end cur.new.rest.now result (mapped (λ f. pure.node at f) (reads parts.set_body cur.old.room cur.old.rest.now)) }
+    ensures room { OnOk result (cur.new.room ≡ cur.old.room) }
+    ensures end { cur.new.end ≡ cur.old.end }
+    ensures shorter { OnOk result (length cur.new.rest.now < length cur.old.rest.now) }
+{
+    if is_sym(Symbol::SRBrace, cur.tok()) {
+        cur.skip();
+        return Ok(make_set(at, Vec::new(alloc)));
+    }
+    let e = expr(alloc, cur)?;
+    if is_sym(Symbol::SBar, cur.tok()) {
+        cur.skip();
+        let all = generators(alloc, cur, Closing::Brace)?;
+        return Ok(make_set_comp(alloc, at, e, all)?);
+    }
+    let all = elements_behind(alloc, cur, Closing::Brace, e)?;
+    Ok(make_set(at, all))
+}
+
+/// What stands between `[|` and `|]`, and the latter.
+#[cycle(parser)]
+#[tactic(auto, using(mz_grammar::proofs::ListEquations::rows_body_reads, mz_cursor::proofs::Steps::front_push, std::proofs::lemmas::List::map_push, mz_cursor::proofs::Steps::nothing_behind))]
+pub fn rows_body(alloc: Global, cur: &mut Cursor<'_>) -> Result<Vec<Vec<Expr>>, Stop>
+    ensures reads { Gives (λ v. map tree_row v.items) cur.new.end cur.new.rest.now result (reads parts.rows_body cur.old.room cur.old.rest.now) }
+    ensures room { OnOk result (cur.new.room ≡ cur.old.room) }
+    ensures end { cur.new.end ≡ cur.old.end }
+    ensures shorter { OnOk result (length cur.new.rest.now < length cur.old.rest.now) }
+{
+    let mut all = Vec::new(alloc);
+    if is_sym(Symbol::SRRows, cur.tok()) {
+        cur.skip();
+        return Ok(all);
+    }
+    if is_sym(Symbol::SBar, cur.tok()) {
+        return Err(cur.left_out());
+    }
+    let line = row(alloc, cur)?;
+    all.push(line)?;
+    more_rows(alloc, cur, all)
+}
+
+/// Rows, each behind a `|`, up to the `|]`, behind those that were read.
+#[cycle(parser)]
+#[tactic(auto, using(mz_grammar::proofs::ListEquations::more_rows_reads, mz_cursor::proofs::Steps::front_push, std::proofs::lemmas::List::map_push, mz_cursor::proofs::Steps::nothing_behind))]
+fn more_rows(
+    alloc: Global,
+    cur: &mut Cursor<'_>,
+    before: Vec<Vec<Expr>>,
+) -> Result<Vec<Vec<Expr>>, Stop>
+    ensures reads { Gives (λ v. map tree_row v.items) cur.new.end cur.new.rest.now result (with_front (map tree_row before.items) (reads parts.more_rows cur.old.room cur.old.rest.now)) }
+    ensures room { OnOk result (cur.new.room ≡ cur.old.room) }
+    ensures end { cur.new.end ≡ cur.old.end }
+    ensures shorter { OnOk result (length cur.new.rest.now < length cur.old.rest.now) }
+{
+    let mut all = before;
+    while !is_sym(Symbol::SRRows, cur.tok()) {
+        if !is_sym(Symbol::SBar, cur.tok()) {
+            return Err(cur.unfit());
+        }
+        cur.skip();
+        if is_sym(Symbol::SRRows, cur.tok()) {
+            cur.skip();
+            return Ok(all);
+        }
+        let line = row(alloc, cur)?;
+        all.push(line)?;
+    }
+    cur.skip();
+    Ok(all)
+}
+
+/// A row.
+#[cycle(parser)]
+#[tactic(auto, using(mz_grammar::proofs::ListEquations::row_reads, mz_cursor::proofs::Steps::front_push, std::proofs::lemmas::List::map_push, mz_cursor::proofs::Steps::nothing_behind))]
+fn row(alloc: Global, cur: &mut Cursor<'_>) -> Result<Vec<Expr>, Stop>
+    ensures reads { Gives (λ v. map tree v.items) cur.new.end cur.new.rest.now result (reads parts.row cur.old.room cur.old.rest.now) }
+    ensures room { OnOk result (cur.new.room ≡ cur.old.room) }
+    ensures end { cur.new.end ≡ cur.old.end }
+    ensures shorter { OnOk result (length cur.new.rest.now < length cur.old.rest.now) }
+{
+    let mut all = Vec::new(alloc);
+    let e = expr(alloc, cur)?;
+    all.push(e)?;
+    cells(alloc, cur, all)
+}
+
+/// The elements of a row, each behind a comma, behind those that were read.
+#[cycle(parser)]
+#[tactic(auto, using(mz_grammar::proofs::ListEquations::cells_reads, mz_cursor::proofs::Steps::front_push, std::proofs::lemmas::List::map_push, mz_cursor::proofs::Steps::nothing_behind))]
+fn cells(alloc: Global, cur: &mut Cursor<'_>, before: Vec<Expr>) -> Result<Vec<Expr>, Stop>
+    ensures reads { Gives (λ v. map tree v.items) cur.new.end cur.new.rest.now result (with_front (map tree before.items) (reads parts.cells cur.old.room cur.old.rest.now)) }
+    ensures room { OnOk result (cur.new.room ≡ cur.old.room) }
+    ensures end { cur.new.end ≡ cur.old.end }
+    ensures shorter { OnOk result (length cur.new.rest.now ≤ length cur.old.rest.now) }
+{
+    let mut all = before;
+    while is_sym(Symbol::SComma, cur.tok()) {
+        cur.skip();
+        if ends_row(cur) {
+            return Ok(all);
+        }
+        let e = expr(alloc, cur)?;
+        all.push(e)?;
+    }
+    Ok(all)
+}

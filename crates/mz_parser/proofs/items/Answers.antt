@@ -1,0 +1,10 @@
+-- What the callers of `items` are promised, from what the descent gives.
+use Rattle.std.proofs.Common.{◌∙◌}
+use Rattle.mz_parser.proofs.Whole.{whole, bounded}
+use Rattle.mz_parser.proofs.items.Goals as goal
+
+pub returns-clause-reads : goal.returns-clause-reads
+returns-clause-reads c = whole _ _ _ _ _ _ _ (c.all_items.ensures.end ∙ c.new-cur.ensures.1) c.new-cur.ensures.0 c.new-cur.ensures.2 c.all_items.ensures.whole c.all_items.ensures.reads
+
+pub returns-clause-bounded : goal.returns-clause-bounded
+returns-clause-bounded c = bounded _ _ _ (returns-clause-reads c)

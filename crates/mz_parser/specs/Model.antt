@@ -1,0 +1,34 @@
+-- What reading a model's file answers.
+use Rattle.std.specs.Prelude.{◌≡◌, List, map, Vec, Result, Ok, Err, if◌then◌else◌}
+use Rattle.mz_base.specs.declared.fault.Span.{Span}
+use Rattle.mz_base.specs.declared.fault.Fault.{Fault}
+use Rattle.mz_base.specs.declared.stop.Stop.{Stop}
+use Rattle.mz_base.specs.declared.stop.Stop.TheVariants.{Refused, Memory}
+use Rattle.mz_lexer.specs.declared.token.Token.{Token}
+use Rattle.mz_lexer.specs.declared.token.Symbol.TheVariants.{SSemi}
+use Rattle.mz_tree.specs.declared.item.Item.{Item}
+use Rattle.mz_tree.specs.Items.{ItemTree, item}
+use Rattle.mz_cursor.specs.Tokens.{tok_at, behind}
+use Rattle.mz_cursor.specs.Look.{is_sym}
+use Rattle.mz_cursor.specs.Rules.{syntax}
+use Rattle.mz_cursor.specs.Reading.{Reader, stuck, on}
+use Rattle.mz_cursor.specs.Promise.{IsWithin, IsFault, reason_of, fault_of}
+use Rattle.mz_grammar.specs.Parts.{file}
+use Rattle.mz_grammar.specs.Model.{rule}
+
+-- these are the items of a file with these tokens, at most 120 of which are open at once
+abbrev pub IsModel : List Token → List ItemTree → Type 0
+IsModel tokens items = IsWithin rule file 120 tokens items
+
+-- the first token with which no file begins, and why
+abbrev pub IsRefused : Span → List Token → Fault → Type 0
+IsRefused end tokens f = (f ≡ fault_of (reason_of f.kind) f.span) × IsFault rule file 120 (reason_of f.kind) end tokens f.span
+
+abbrev pub IsRead : {Z : Type 0} → Span → List Token → Result (Vec Item Z) Stop → Type 0
+IsRead end tokens (Ok items) = IsModel tokens (map item items.items)
+IsRead end tokens (Err (Refused f)) = IsRefused end tokens f
+IsRead end tokens (Err Memory) = Unit {0}
+
+-- behind an item: its semicolon, or the end of the file
+abbrev pub semicolon_at : Reader Unit
+semicolon_at ts = on (tok_at ts) (Ok (tt, ts)) (λ t. if is_sym SSemi (tok_at ts) then Ok (tt, behind ts) else stuck syntax ts)

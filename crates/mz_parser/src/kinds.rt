@@ -1,0 +1,318 @@
+// One item, by its kind.
+
+ghost use Rattle.std.specs.Prelude.{◌≡◌, ◌≤◌, ◌<◌, length, OnOk, Some, true, false};
+ghost use Rattle.mz_tree.specs.Items.{item, goal};
+ghost use Rattle.mz_tree.specs.Tree as pure;
+ghost use Rattle.mz_tree.specs.Views.{written, based};
+ghost use Rattle.mz_cursor.specs.Promise.{Gives};
+ghost use Rattle.mz_cursor.specs.Reading.{on};
+ghost use Rattle.mz_cursor.specs.Tokens.{behind, place};
+ghost use Rattle.mz_expr.specs.Views.{reading};
+ghost use Rattle.mz_grammar.specs.Parts as parts;
+ghost use Rattle.mz_grammar.specs.Tests.{item_of, an_include, a_constraint, a_solve, an_output, a_predicate, a_test, a_function, an_annotation, an_enum};
+ghost use Rattle.mz_grammar.specs.Reading.{reads, declared_by, by_expression_at, function_at, item_at, other_item_at};
+
+use crate::enums::cases;
+use crate::parameters::params;
+use crate::token::{begins_type, text_of};
+use mz_base::{Name, Span, Stop};
+use mz_cursor::{Cursor, is_sym, is_word};
+use mz_expr::Reading;
+use mz_expr::parser::{annotations, declaration, declared, expr, level, marks, type_text};
+use mz_expr::step::ident;
+use mz_grammar::Level;
+use mz_lexer::{Keyword, Symbol, Tok};
+use mz_tree::{Function, Goal, Item, TypeBase, TypeText};
+use std::alloc::Global;
+
+/// An item.
+#[tactic(auto, using(mz_grammar::proofs::ItemEquations::item_reads))]
+pub fn item(alloc: Global, cur: &mut Cursor<'_>) -> Result<Item, Stop>
+    ensures reads { Gives item cur.new.end cur.new.rest.now result (reads parts.item cur.old.room cur.old.rest.now) }
+    ensures room { OnOk result (cur.new.room ≡ cur.old.room) }
+    ensures end { cur.new.end ≡ cur.old.end }
+    ensures shorter { OnOk result (length cur.new.rest.now < length cur.old.rest.now) }
+{
+    match cur.tok() {
+        None => other_item(alloc, cur),
+        Some(tok) => token_item(alloc, cur, tok),
+    }
+}
+
+/// An item that begins with this token.
+fn token_item(alloc: Global, cur: &mut Cursor<'_>, tok: Tok) -> Result<Item, Stop>
+    requires some { 0 < length cur.old.rest.now }
+    ensures reads { Gives item cur.new.end cur.new.rest.now result (on (item_of (Some tok)) (other_item_at cur.old.room cur.old.rest.now) (λ k. item_at k (place cur.old.rest.now) cur.old.room (behind cur.old.rest.now))) }
+    ensures room { OnOk result (cur.new.room ≡ cur.old.room) }
+    ensures end { cur.new.end ≡ cur.old.end }
+    ensures shorter { OnOk result (length cur.new.rest.now < length cur.old.rest.now) }
+{
+    match tok {
+        Tok::Word(k) => word_item(alloc, cur, k),
+        _ => other_item(alloc, cur),
+    }
+}
+
+/// An item that begins with this keyword.
+fn word_item(alloc: Global, cur: &mut Cursor<'_>, k: Keyword) -> Result<Item, Stop>
+    requires some { 0 < length cur.old.rest.now }
+    ensures reads { Gives item cur.new.end cur.new.rest.now result (on (item_of (Some (Tok.Word k))) (other_item_at cur.old.room cur.old.rest.now) (λ k. item_at k (place cur.old.rest.now) cur.old.room (behind cur.old.rest.now))) }
+    ensures room { OnOk result (cur.new.room ≡ cur.old.room) }
+    ensures end { cur.new.end ≡ cur.old.end }
+    ensures shorter { OnOk result (length cur.new.rest.now < length cur.old.rest.now) }
+{
+    match k {
+        Keyword::KInclude => include(cur),
+        Keyword::KConstraint => constraint(alloc, cur),
+        Keyword::KSolve => solve(alloc, cur),
+        Keyword::KOutput => output(alloc, cur),
+        Keyword::KPredicate => predicate(alloc, cur),
+        Keyword::KTest => test(alloc, cur),
+        Keyword::KFunction => function(alloc, cur),
+        Keyword::KAnnotation => annotation(alloc, cur),
+        Keyword::KEnum => enumeration(alloc, cur),
+        _ => other_item(alloc, cur),
+    }
+}
+
+/// An include item.
+fn include(cur: &mut Cursor<'_>) -> Result<Item, Stop>
+    requires some { 0 < length cur.old.rest.now }
+    ensures reads { Gives item cur.new.end cur.new.rest.now result (item_at an_include (place cur.old.rest.now) cur.old.room (behind cur.old.rest.now)) }
+    ensures room { OnOk result (cur.new.room ≡ cur.old.room) }
+    ensures end { cur.new.end ≡ cur.old.end }
+    ensures shorter { OnOk result (length cur.new.rest.now < length cur.old.rest.now) }
+{
+    cur.skip();
+    match text_of(cur) {
+        None => Err(cur.unfit()),
+        Some(name) => Ok(Item::Include(name, cur.pass())),
+    }
+}
+
+/// A constraint item. Its marks are dropped.
+fn constraint(alloc: Global, cur: &mut Cursor<'_>) -> Result<Item, Stop>
+    requires some { 0 < length cur.old.rest.now }
+    ensures reads { Gives item cur.new.end cur.new.rest.now result (item_at a_constraint (place cur.old.rest.now) cur.old.room (behind cur.old.rest.now)) }
+    ensures room { OnOk result (cur.new.room ≡ cur.old.room) }
+    ensures end { cur.new.end ≡ cur.old.end }
+    ensures shorter { OnOk result (length cur.new.rest.now < length cur.old.rest.now) }
+{
+    cur.skip();
+    marks(alloc, cur)?;
+    let e = expr(alloc, cur)?;
+    Ok(Item::Constraint(e))
+}
+
+/// A solve item, with the place of its keyword. Its marks are dropped.
+fn solve(alloc: Global, cur: &mut Cursor<'_>) -> Result<Item, Stop>
+    requires some { 0 < length cur.old.rest.now }
+    ensures reads { Gives item cur.new.end cur.new.rest.now result (item_at a_solve (place cur.old.rest.now) cur.old.room (behind cur.old.rest.now)) }
+    ensures room { OnOk result (cur.new.room ≡ cur.old.room) }
+    ensures end { cur.new.end ≡ cur.old.end }
+    ensures shorter { OnOk result (length cur.new.rest.now < length cur.old.rest.now) }
+{
+    let at = cur.pass();
+    marks(alloc, cur)?;
+    let asked = goal(alloc, cur)?;
+    Ok(Item::Solve(at, asked))
+}
+
+/// What a solve item asks for.
+#[tactic(auto, using(mz_grammar::proofs::ItemEquations::goal_reads))]
+fn goal(alloc: Global, cur: &mut Cursor<'_>) -> Result<Goal, Stop>
+    ensures reads { Gives goal cur.new.end cur.new.rest.now result (reads parts.goal cur.old.room cur.old.rest.now) }
+    ensures room { OnOk result (cur.new.room ≡ cur.old.room) }
+    ensures end { cur.new.end ≡ cur.old.end }
+    ensures shorter { OnOk result (length cur.new.rest.now < length cur.old.rest.now) }
+{
+    if is_word(Keyword::KSatisfy, cur.tok()) {
+        cur.skip();
+        return Ok(Goal::Satisfy);
+    }
+    if is_word(Keyword::KMinimize, cur.tok()) {
+        cur.skip();
+        let e = expr(alloc, cur)?;
+        return Ok(Goal::Minimize(e));
+    }
+    if is_word(Keyword::KMaximize, cur.tok()) {
+        cur.skip();
+        let e = expr(alloc, cur)?;
+        return Ok(Goal::Maximize(e));
+    }
+    Err(cur.unfit())
+}
+
+/// An output item. Its marks are dropped.
+fn output(alloc: Global, cur: &mut Cursor<'_>) -> Result<Item, Stop>
+    requires some { 0 < length cur.old.rest.now }
+    ensures reads { Gives item cur.new.end cur.new.rest.now result (item_at an_output (place cur.old.rest.now) cur.old.room (behind cur.old.rest.now)) }
+    ensures room { OnOk result (cur.new.room ≡ cur.old.room) }
+    ensures end { cur.new.end ≡ cur.old.end }
+    ensures shorter { OnOk result (length cur.new.rest.now < length cur.old.rest.now) }
+{
+    cur.skip();
+    marks(alloc, cur)?;
+    let e = expr(alloc, cur)?;
+    Ok(Item::Output(e))
+}
+
+/// A predicate: a function that gives a `var bool`, with the place of its keyword as that type's.
+fn predicate(alloc: Global, cur: &mut Cursor<'_>) -> Result<Item, Stop>
+    requires some { 0 < length cur.old.rest.now }
+    ensures reads { Gives item cur.new.end cur.new.rest.now result (item_at a_predicate (place cur.old.rest.now) cur.old.room (behind cur.old.rest.now)) }
+    ensures room { OnOk result (cur.new.room ≡ cur.old.room) }
+    ensures end { cur.new.end ≡ cur.old.end }
+    ensures shorter { OnOk result (length cur.new.rest.now < length cur.old.rest.now) }
+{
+    let at = cur.pass();
+    function_body(alloc, cur, plain(at, true, TypeBase::Bool))
+}
+
+/// A test: a function that gives a `bool`, with the place of its keyword as that type's.
+fn test(alloc: Global, cur: &mut Cursor<'_>) -> Result<Item, Stop>
+    requires some { 0 < length cur.old.rest.now }
+    ensures reads { Gives item cur.new.end cur.new.rest.now result (item_at a_test (place cur.old.rest.now) cur.old.room (behind cur.old.rest.now)) }
+    ensures room { OnOk result (cur.new.room ≡ cur.old.room) }
+    ensures end { cur.new.end ≡ cur.old.end }
+    ensures shorter { OnOk result (length cur.new.rest.now < length cur.old.rest.now) }
+{
+    let at = cur.pass();
+    function_body(alloc, cur, plain(at, false, TypeBase::Bool))
+}
+
+/// A type that is no array, no set and not optional.
+fn plain(span: Span, var: bool, base: TypeBase) -> TypeText
+    ensures { written result ≡ pure.written span pure.no_array var false false (based base) }
+{
+    TypeText {
+        span,
+        dims: None,
+        var,
+        opt: false,
+        set: false,
+        base,
+    }
+}
+
+/// A function item.
+fn function(alloc: Global, cur: &mut Cursor<'_>) -> Result<Item, Stop>
+    requires some { 0 < length cur.old.rest.now }
+    ensures reads { Gives item cur.new.end cur.new.rest.now result (item_at a_function (place cur.old.rest.now) cur.old.room (behind cur.old.rest.now)) }
+    ensures room { OnOk result (cur.new.room ≡ cur.old.room) }
+    ensures end { cur.new.end ≡ cur.old.end }
+    ensures shorter { OnOk result (length cur.new.rest.now < length cur.old.rest.now) }
+{
+    cur.skip();
+    let result_type = type_text(alloc, cur)?;
+    cur.symbol(Symbol::SColon)?;
+    function_body(alloc, cur, result_type)
+}
+
+/// A function, behind the type of what it gives. Its annotations are dropped.
+fn function_body(alloc: Global, cur: &mut Cursor<'_>, gives: TypeText) -> Result<Item, Stop>
+    ensures reads { Gives item cur.new.end cur.new.rest.now result (function_at (written gives) cur.old.room cur.old.rest.now) }
+    ensures room { OnOk result (cur.new.room ≡ cur.old.room) }
+    ensures end { cur.new.end ≡ cur.old.end }
+    ensures shorter { OnOk result (length cur.new.rest.now < length cur.old.rest.now) }
+{
+    let (name, span) = ident(cur)?;
+    let params = params(alloc, cur)?;
+    annotations(alloc, cur)?;
+    cur.symbol(Symbol::SEq)?;
+    let body = expr(alloc, cur)?;
+    Ok(Item::Function(Function {
+        name,
+        span,
+        result: gives,
+        params,
+        body,
+    }))
+}
+
+/// An annotation item. Its parameters are dropped.
+fn annotation(alloc: Global, cur: &mut Cursor<'_>) -> Result<Item, Stop>
+    requires some { 0 < length cur.old.rest.now }
+    ensures reads { Gives item cur.new.end cur.new.rest.now result (item_at an_annotation (place cur.old.rest.now) cur.old.room (behind cur.old.rest.now)) }
+    ensures room { OnOk result (cur.new.room ≡ cur.old.room) }
+    ensures end { cur.new.end ≡ cur.old.end }
+    ensures shorter { OnOk result (length cur.new.rest.now < length cur.old.rest.now) }
+{
+    cur.skip();
+    let (name, _) = ident(cur)?;
+    params(alloc, cur)?;
+    Ok(Item::Annotation(name))
+}
+
+/// An enum item. Its annotations are dropped.
+fn enumeration(alloc: Global, cur: &mut Cursor<'_>) -> Result<Item, Stop>
+    requires some { 0 < length cur.old.rest.now }
+    ensures reads { Gives item cur.new.end cur.new.rest.now result (item_at an_enum (place cur.old.rest.now) cur.old.room (behind cur.old.rest.now)) }
+    ensures room { OnOk result (cur.new.room ≡ cur.old.room) }
+    ensures end { cur.new.end ≡ cur.old.end }
+    ensures shorter { OnOk result (length cur.new.rest.now < length cur.old.rest.now) }
+{
+    cur.skip();
+    let (name, at) = ident(cur)?;
+    annotations(alloc, cur)?;
+    let all = cases(alloc, cur)?;
+    Ok(Item::Enum(name, at, all))
+}
+
+/// An item that no keyword of its own begins: a declaration or an assignment.
+fn other_item(alloc: Global, cur: &mut Cursor<'_>) -> Result<Item, Stop>
+    ensures reads { Gives item cur.new.end cur.new.rest.now result (other_item_at cur.old.room cur.old.rest.now) }
+    ensures room { OnOk result (cur.new.room ≡ cur.old.room) }
+    ensures end { cur.new.end ≡ cur.old.end }
+    ensures shorter { OnOk result (length cur.new.rest.now < length cur.old.rest.now) }
+{
+    if begins_type(cur) {
+        let d = declaration(alloc, cur)?;
+        return Ok(Item::Decl(d));
+    }
+    let x = level(alloc, cur, Level::Union)?;
+    by_expression(alloc, cur, x)
+}
+
+/// An item, behind the expression with which it begins.
+fn by_expression(alloc: Global, cur: &mut Cursor<'_>, x: Reading) -> Result<Item, Stop>
+    ensures reads { Gives item cur.new.end cur.new.rest.now result (by_expression_at (reading x) cur.old.room cur.old.rest.now) }
+    ensures room { OnOk result (cur.new.room ≡ cur.old.room) }
+    ensures end { cur.new.end ≡ cur.old.end }
+    ensures shorter { OnOk result (length cur.new.rest.now < length cur.old.rest.now) }
+{
+    match x {
+        Reading::Name(name, at) => by_name(alloc, cur, name, at),
+        Reading::Member(name, at, set) => of_type(alloc, cur, Reading::Member(name, at, set)),
+        Reading::Other(at, e) => of_type(alloc, cur, Reading::Other(at, e)),
+    }
+}
+
+/// An item, behind the name with which it begins: an assignment, or a declaration whose type the name is.
+fn by_name(alloc: Global, cur: &mut Cursor<'_>, name: Name, at: Span) -> Result<Item, Stop>
+    ensures reads { Gives item cur.new.end cur.new.rest.now result (by_expression_at (parts.name name at) cur.old.room cur.old.rest.now) }
+    ensures room { OnOk result (cur.new.room ≡ cur.old.room) }
+    ensures end { cur.new.end ≡ cur.old.end }
+    ensures shorter { OnOk result (length cur.new.rest.now < length cur.old.rest.now) }
+{
+    if is_sym(Symbol::SEq, cur.tok()) {
+        cur.skip();
+        let e = expr(alloc, cur)?;
+        return Ok(Item::Assign(name, at, e));
+    }
+    of_type(alloc, cur, Reading::Name(name, at))
+}
+
+/// A declaration, behind the expression that is its type.
+fn of_type(alloc: Global, cur: &mut Cursor<'_>, x: Reading) -> Result<Item, Stop>
+    ensures reads { Gives item cur.new.end cur.new.rest.now result (declared_by (reading x) cur.old.room cur.old.rest.now) }
+    ensures room { OnOk result (cur.new.room ≡ cur.old.room) }
+    ensures end { cur.new.end ≡ cur.old.end }
+    ensures shorter { OnOk result (length cur.new.rest.now < length cur.old.rest.now) }
+{
+    let at = x.at();
+    let e = x.into_expr(alloc)?;
+    let base = TypeBase::Of(Box::new(alloc, e)?);
+    let d = declared(alloc, cur, plain(at, false, base))?;
+    Ok(Item::Decl(d))
+}

@@ -1,0 +1,37 @@
+// The items of a model's file.
+#![tactic(auto)]
+
+ghost use Rattle.std.specs.Prelude.{◌≤◌, IfOk};
+ghost use Rattle.mz_tree.specs.Items.{items_height};
+ghost use Rattle.mz_parser.specs.Model.{IsRead};
+
+mod enums;
+mod file;
+mod kinds;
+mod parameters;
+mod token;
+
+use crate::file::all_items;
+use mz_base::{Span, Stop};
+use mz_cursor::Cursor;
+use mz_lexer::Token;
+use mz_tree::Item;
+use std::alloc::Global;
+
+/// The items of a whole file, in their order. `end` is the place of the file's end.
+///
+/// Refused with Syntax, LeftOut or TooDeep, at the first token with which no file begins, or at `end` where the file isn't
+/// complete there. LeftOut where the token begins a form that is left out of the language, TooDeep where it would be one more
+/// open at once than 120. Memory where memory runs out.
+pub fn items(alloc: Global, tokens: &[Token], end: Span) -> Result<Vec<Item>, Stop>
+    ensures reads { IsRead end tokens.now result }
+    ensures bounded { IfOk result (λ items. items_height items.items ≤ 8833) }
+{
+    let mut cur = Cursor::new(tokens, end);
+    all_items(alloc, &mut cur)
+}
+
+#[cfg(test)]
+mod printer;
+#[cfg(test)]
+mod tests;
