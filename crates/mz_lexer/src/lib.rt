@@ -15,6 +15,7 @@ mod symbol;
 mod token;
 
 pub use lexer::{one_outcome, tokens};
+pub use place::after;
 pub use token::{Keyword, Symbol, Tok, Token};
 
 #[cfg(test)]
