@@ -1,22 +1,20 @@
 -- Mentions by names of a table, and by texts.
-use Rattle.std.proofs.Common.{◌≡◌, ◌<◌, ℕ, List, [], ◌∷◌, ◌++◌, length, map, Bool, true, false, cond, refl, sym, ap, subst, ◌∙◌, nat_eq, arith, fold, take, get_or, append-nil, ◌+◌}
-use Rattle.std.specs.Prelude.{All, if◌then◌else◌, ◌||◌}
+use Rattle.std.proofs.Common.{◌≡◌, ◌<◌, ℕ, List, [], ◌∷◌, ◌++◌, length, map, Bool, true, false, cond, refl, sym, ap, subst, ◌∙◌, nat_eq, arith, fold, take, get_or, ◌+◌}
+use Rattle.std.specs.Prelude.{All, ◌||◌}
 use Rattle.std.specs.List.{list_any, flat_map}
 use Rattle.std.specs.Str.{bytes_eq}
 use Rattle.std.proofs.lemmas.List.{map-append, take_more}
 use Rattle.std.proofs.lemmas.List.Sums.{fold-append}
-use Rattle.std.proofs.lemmas.Grind.{flat_map-append}
 use Rattle.std.proofs.lemmas.List.Elements.{All-push, All-weaker, All-head, All-tail}
 use Rattle.std.proofs.lemmas.Slice.Eq.{bytes_eq-Decides}
 use Rattle.std.proofs.lemmas.Bool.Decides.{nat_tests}
 use Rattle.mz_base.specs.Names.{text_of, AreDistinct, Grows}
 use Rattle.mz_include.specs.declared.queue.Mention.{Mention as CodeMention}
 use Rattle.mz_tree.specs.declared.item.Item.{Item}
-use Rattle.mz_tree.specs.Items.{ItemTree, include, declare, assign, constraint, solve, output, function, enum, annotation, item as tree_of}
-use Rattle.mz_include.specs.Joining.{joined}
-use Rattle.mz_include.specs.Library.{is_library}
-use Rattle.mz_include.specs.Naming.{Mention, with_mention, included_by}
-use Rattle.mz_include.specs.Views.{mention, IsKnown, with_name, IsItemKnown}
+use Rattle.mz_tree.specs.Items.{ItemTree, item as tree_of}
+use Rattle.mz_include.specs.Naming.{Mention, with_mention}
+use Rattle.mz_include.specs.Views.{mention, IsKnown, with_name}
+use Rattle.mz_include.proofs.Later.{flat_map_push}
 
 -- where the table has grown from old to new
 module _ (old new : List (List ℕ)) (grows : Grows old new) where
@@ -87,28 +85,6 @@ noted old new q later m path grows distinct known below owner named put =
 pub known_put : (old new : List (List ℕ)) (q later : List CodeMention) (m : CodeMention) → Grows old new → All (IsKnown old) q → m.name < length new → m.owner < length old → later ≡ with_name q m → All (IsKnown new) later
 known_put old new q later m grows known below owner put =
     subst (All (IsKnown new)) (sym put) (known_with new q m (all_known_later old new grows q known) (record { name = below; owner = (grows m.owner owner).0 }))
-
--- what an item includes, when the table has grown
-pub included_later : (old new : List (List ℕ)) (owner : List ℕ) (i : ItemTree) → Grows old new → IsItemKnown old i → included_by new owner i ≡ included_by old owner i
-included_later old new owner (include n s) grows known =
-    ap (λ (t : List ℕ). if is_library t then [] else (let v : Mention = record { name = joined owner t; span = s; owner = owner } in v) ∷ []) (grows n known).1
-included_later old new owner (declare d) grows known = refl
-included_later old new owner (assign n s e) grows known = refl
-included_later old new owner (constraint e) grows known = refl
-included_later old new owner (solve s g) grows known = refl
-included_later old new owner (output e) grows known = refl
-included_later old new owner (function f) grows known = refl
-included_later old new owner (enum n s cs) grows known = refl
-included_later old new owner (annotation n) grows known = refl
-
-pub each_included_later : (old new : List (List ℕ)) (owner : List ℕ) (is : List ItemTree) → Grows old new → All (IsItemKnown old) is → flat_map (included_by new owner) is ≡ flat_map (included_by old owner) is
-each_included_later old new owner [] grows known = refl
-each_included_later old new owner (i ∷ is) grows known =
-    ap (λ ms. ms ++ flat_map (included_by new owner) is) (included_later old new owner i grows (All-head (IsItemKnown old) i is known))
-    ∙ ap (λ ms. included_by old owner i ++ ms) (each_included_later old new owner is grows (All-tail (IsItemKnown old) i is known))
-
-pub flat_map_push : {X A : Type 0} (f : X → List A) (xs : List X) (x : X) → flat_map f (xs ++ x ∷ []) ≡ flat_map f xs ++ f x
-flat_map_push f xs x = flat_map-append f xs (x ∷ []) ∙ ap (λ ys. flat_map f xs ++ ys) (append-nil (f x))
 
 -- one item more
 pub noted_items : (start : List Mention) (f : ItemTree → List Mention) (items : List Item) (k : ℕ) (i : Item) (before after : List Mention) → k < length items → i ≡ get_or items k i

@@ -1,7 +1,9 @@
 pub mod Joining
 pub mod Library
+pub mod Trees
 pub mod Naming
 pub mod Sources
+pub mod Promise
 pub mod Parsing
 pub mod Views
 pub mod Ends

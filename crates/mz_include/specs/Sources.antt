@@ -1,10 +1,10 @@
 -- A model with its included files, and the first file that fails.
-use Rattle.std.specs.Prelude.{◌≡◌, ◌≤◌, ◌<◌, ℕ, List, [], ◌∷◌, ◌++◌, length, Some, None}
+use Rattle.std.specs.Prelude.{◌≡◌, ◌≤◌, ◌<◌, ℕ, List, [], ◌∷◌, ◌++◌, length, slice_get, Some, None}
 use Rattle.mz_base.specs.declared.fault.Fault.{Fault}
 use Rattle.mz_base.specs.declared.kind.Kind.TheVariants.{MissingFile, TooLong}
 use Rattle.mz_io.specs.Files.{Texts}
 use Rattle.mz_lexer.specs.Lexemes.{fault}
-use Rattle.mz_include.specs.Naming.{Mention, File, next}
+use Rattle.mz_include.specs.Naming.{Mention, File, named, next}
 use Rattle.mz_include.specs.Parsing.{IsParsed, IsUnparsed}
 
 -- the limit of a file, in bytes
@@ -60,3 +60,11 @@ pub record IsFirstFailure (names : List (List ℕ)) (texts : Texts) (first : Lis
   pub read : AreRead names texts first files
   pub turn : next names first files ≡ Some mention
   pub fails : Fails names texts (length files) mention f owner
+
+-- the file of this number, among those that are named, has this name
+abbrev pub HasNumber : List Mention → ℕ → List ℕ → Type 0
+HasNumber mentions number name = (m : Mention) × (slice_get mentions number ≡ Some m) × (m.name ≡ name)
+
+-- the number in the fault's place is that of the file with the owner's name
+abbrev pub IsInItsFile : (names : List (List ℕ)) (texts : Texts) (first : List ℕ) (f : Fault) (owner : List ℕ) → IsFirstFailure names texts first f owner → Type 0
+IsInItsFile names texts first f owner h = HasNumber (named names first h.files) f.span.file owner

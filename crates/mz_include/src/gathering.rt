@@ -5,7 +5,7 @@ ghost use Rattle.mz_base.specs.Names.{Grows, text_of};
 ghost use Rattle.mz_include.specs.Naming.{the_model};
 ghost use Rattle.mz_include.specs.Sources.{IsSources, IsFirstFailure};
 ghost use Rattle.mz_include.specs.Ends.{IfRefused, OnReadFault, CountsFiles};
-ghost use Rattle.mz_include.specs.Views.{file, mention, IsNamed, IsKnown};
+ghost use Rattle.mz_include.specs.Views.{file, mention, IsKnown, AreKnown};
 ghost use Rattle.mz_io.specs.Counts.{Rose};
 
 use crate::end::GatherEnd;
@@ -54,9 +54,10 @@ pub fn gather<F: Files>(
     files: &mut F,
     names: &mut Names,
 ) -> Result<Sources, GatherEnd>
-    // Ok: the model with its included files.
+    // Ok: the model with its included files. Every name in them is of the table, and every place
+    // in a file has the file's number.
     ensures sources { IfOk result (λ s. IsSources names.new (F.texts files.old) first.now (map (file names.new) s.files.items)) }
-    ensures named { IfOk result (λ s. All (IsNamed names.new) s.files.items) }
+    ensures known { IfOk result (λ s. AreKnown names.new s.files.items) }
 
     // Each other answer has its cause; want of memory alone is free.
     ensures refused { IfRefused result (λ f n. IsFirstFailure names.new (F.texts files.old) first.now f (text_of names.new n)) }

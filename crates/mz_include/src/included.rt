@@ -5,7 +5,8 @@ ghost use Rattle.std.specs.List.{flat_map};
 ghost use Rattle.mz_base.specs.Names.{Grows, text_of};
 ghost use Rattle.mz_tree.specs.Items.{include, item as tree_of};
 ghost use Rattle.mz_include.specs.Naming.{with_mention, included_by};
-ghost use Rattle.mz_include.specs.Views.{mention, IsKnown, IsItemKnown};
+ghost use Rattle.mz_include.specs.Trees.{IsItemKnown};
+ghost use Rattle.mz_include.specs.Views.{mention, IsKnown};
 
 use crate::joining::joined;
 use crate::library::is_library;

@@ -5,6 +5,7 @@ mod end;
 mod gathering;
 mod included;
 mod joining;
+mod law;
 mod library;
 mod queue;
 mod read;
@@ -13,3 +14,4 @@ mod tests;
 
 pub use end::GatherEnd;
 pub use gathering::gather;
+pub use law::{fault_in_its_file, kept_by_names, one_failure, one_model, sources_or_failure};

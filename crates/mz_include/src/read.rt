@@ -1,14 +1,13 @@
 // One file, read.
 
-ghost use Rattle.std.specs.Prelude.{◌≡◌, ◌<◌, ◌≤◌, length, IfOk, IfErr, All, pos};
+ghost use Rattle.std.specs.Prelude.{◌≡◌, ◌<◌, ◌≤◌, length, IfOk, IfErr, pos};
 ghost use Rattle.mz_base.specs.Names.{Grows, text_of};
 ghost use Rattle.mz_lexer.specs.Views.{IfRefused as IfStopped};
 ghost use Rattle.mz_lexer.specs.Lexemes.{start_of};
-ghost use Rattle.mz_tree.specs.Items.{item as tree_of};
 ghost use Rattle.mz_include.specs.Sources.{IsReading, Fails};
 ghost use Rattle.mz_include.specs.Parsing.{IsParsed, IsUnparsed};
 ghost use Rattle.mz_include.specs.Ends.{IfRefused, CountsFiles};
-ghost use Rattle.mz_include.specs.Views.{mention, file, IsKnown, IsItemKnown};
+ghost use Rattle.mz_include.specs.Views.{mention, file, IsKnown, IsFileOf};
 
 use crate::end::GatherEnd;
 use crate::queue::Mention;
@@ -46,7 +45,7 @@ fn parse(
     requires name { name < length names.old }
     ensures parsed { IfOk result (λ f. IsParsed names.new turn text.now (file names.new f)) }
     ensures name { IfOk result (λ f. f.name ≡ name) }
-    ensures included { IfOk result (λ f. All (λ i. IsItemKnown names.new (tree_of i)) f.items.items) }
+    ensures known { IfOk result (λ f. IsFileOf names.new turn f) }
     ensures refused { IfErr result (λ s. IfStopped s (λ f. IsUnparsed names.new turn text.now f)) }
     ensures grows { Grows names.old names.new }
 {
@@ -79,7 +78,7 @@ pub fn read_file<F: Files>(
     requires { IsKnown names.old named }
     ensures read { IfOk result (λ f. IsReading names.new (F.texts files.old) turn (mention names.old named) (file names.new f)) }
     ensures name { IfOk result (λ f. f.name ≡ named.name) }
-    ensures included { IfOk result (λ f. All (λ i. IsItemKnown names.new (tree_of i)) f.items.items) }
+    ensures known { IfOk result (λ f. IsFileOf names.new turn f) }
     ensures refused { IfRefused result (λ f n. Fails names.new (F.texts files.old) turn (mention names.old named) f (text_of names.new n)) }
     ensures owner { IfRefused result (λ _ n. n < length names.new) }
     ensures counted { CountsFiles (F.counts files.old) (F.counts files.new) result }

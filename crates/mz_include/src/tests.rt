@@ -2,7 +2,6 @@
 
 ghost use Rattle.std.specs.Prelude.{◌<◌, length, All, Err};
 ghost use Rattle.mz_include.specs.Ends.{IfRefused};
-ghost use Rattle.mz_include.specs.Views.{IsNamed};
 
 use crate::end::GatherEnd;
 use crate::gathering::gather;
@@ -29,7 +28,7 @@ fn files_of(alloc: Global, texts: &[Text<'_>], failing: &[u64]) -> Result<MemFil
 
 /// The files, a line each, with how many items each has.
 fn lines_of(alloc: Global, files: &[SourceFile], names: &Names) -> Result<String, AllocError>
-    requires { All (IsNamed names.now) files.now }
+    requires { All (λ f. f.name < length names.now) files.now }
 {
     let mut lines = String::new(alloc);
     for file in files {
@@ -57,6 +56,7 @@ fn line_of(alloc: Global, end: GatherEnd, names: &Names) -> Result<String, Alloc
 }
 
 /// What gathering the files of `m.mzn` answers, where the fetches of these numbers fail.
+#[tactic(auto, using(crate::proofs::KnownFiles::each_named))]
 fn outcome(alloc: Global, texts: &[Text<'_>], failing: &[u64]) -> Result<String, AllocError> {
     let mut files = files_of(alloc, texts, failing)?;
     let mut names = Names::new(alloc);

@@ -1,17 +1,16 @@
 -- One piece after another on a sink.
 use Rattle.std.proofs.Common.{◌≡◌, ℕ, ◌+◌, ◌<◌, List, [], ◌++◌, length, get_or, take, drop, refl, sym, ap, ◌∙◌, append_assoc, inl, inr, add-one, drop-cons}
-use Rattle.std.proofs.lemmas.List.{take-append-drop}
+use Rattle.std.proofs.lemmas.List.{append-nil, take-append-drop}
 use Rattle.std.proofs.lemmas.List.Concat.{flat_map-append}
 use Rattle.std.specs.Prelude.{Some, None, ◌⊎◌, codes}
 use Rattle.std.specs.List.{flat_map}
 use Rattle.mz_io.specs.Counts.{Rose}
 use Rattle.mz_io.specs.Sink.{Held, SinkCounts, Adds, AddsFront}
 use Rattle.mz_tool.specs.Status.{Notes}
-use Rattle.mz_tool.proofs.Lists.{append_nil}
 
 pub adds_nothing : (h : Held) → Adds h h []
 adds_nothing None = refl
-adds_nothing (Some old) = ap Some (sym (append_nil old))
+adds_nothing (Some old) = ap Some (sym (append-nil old))
 
 pub adds_more : (o m n : Held) (a b : List ℕ) → Adds o m a → Adds m n b → Adds o n (a ++ b)
 adds_more None m n a b first then = rw first at then
@@ -32,7 +31,7 @@ cut_short old mid new before after done piece rest line is adds front rose = rec
 }
 
 pub all_out : (old new : Held) (before after : SinkCounts) (line : List ℕ) → Adds old new line → Notes old new before after line
-all_out old new before after line adds = record { front = line; back = []; whole = sym (append_nil line); adds = adds; cut = inl refl }
+all_out old new before after line adds = record { front = line; back = []; whole = sym (append-nil line); adds = adds; cut = inl refl }
 
 pub front_nothing : (h : Held) (piece : List ℕ) → AddsFront h h piece
 front_nothing h piece = record { front = []; back = piece; whole = refl; adds = adds_nothing h }

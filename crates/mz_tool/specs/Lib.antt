@@ -1,16 +1,4 @@
-pub mod Names
-pub mod Pieces
-pub mod Model
-pub mod Views
-pub mod FirstForm
-pub mod Flat
-pub mod Spelling
-pub mod Emission
-pub mod Drafting
-pub mod DraftViews
-pub mod Headline
 pub mod Words
+pub mod Headline
 pub mod Status
-pub mod Reading
-pub mod Writing
 pub mod Compiling

@@ -1,20 +1,25 @@
 -- What a run answers, and the line that it writes of it.
-use Rattle.std.specs.Prelude.{◌≡◌, ◌≤◌, ◌<◌, ◌⊎◌, length, ℕ, ℤ, pos, List, [], ◌++◌, Option, Some, None, codes, decimal, if◌then◌else◌}
+use Rattle.std.specs.Prelude.{◌≡◌, ◌≤◌, ◌⊎◌, ℕ, ℤ, pos, List, [], ◌++◌, Option, Some, None, Ok, codes, decimal, if◌then◌else◌}
 use Rattle.std.specs.Fmt.{signed_decimal}
 use Rattle.std.specs.Borrow.{Bor}
 use Rattle.mz_base.specs.declared.fault.Fault.{Fault}
 use Rattle.mz_base.specs.declared.fault.Span.{Span}
 use Rattle.mz_base.specs.declared.kind.Kind.{Kind}
-use Rattle.mz_base.specs.declared.kind.Kind.TheVariants.{MissingFile, TooLong, NotBuilt}
+use Rattle.mz_base.specs.declared.kind.Kind.TheVariants.{NotBuilt}
 use Rattle.mz_base.specs.Kind.{name_of, shows_number}
+use Rattle.mz_base.specs.Names.{AreDistinct, Grows}
 use Rattle.mz_io.specs.Counts.{Rose}
 use Rattle.mz_io.specs.Files.{Texts, FileCounts}
 use Rattle.mz_io.specs.Sink.{Held, SinkCounts, Adds}
+use Rattle.mz_include.specs.Naming.{File}
+use Rattle.mz_include.specs.Sources.{IsSources, IsFirstFailure}
+use Rattle.mz_include.specs.Ends.{CountsRefusal}
+use Rattle.fz_program.specs.Names.{Name}
+use Rattle.mz_first.specs.Model.{Item}
+use Rattle.mz_first.specs.Reading.{formed}
+use Rattle.mz_first.specs.Promise.{IsNotBuilt}
 use Rattle.mz_tool.specs.declared.status.Status.{Status}
 use Rattle.mz_tool.specs.declared.status.Status.TheVariants.{Done, Refused, Usage, ReadFault, WriteFault, Memory}
-use Rattle.mz_tool.specs.Names.{Name}
-use Rattle.mz_tool.specs.Headline.{IsModel, IsNotBuilt, file_limit}
-use Rattle.mz_tool.specs.Model.{Item}
 
 -- the number behind a kind, where the line shows one
 abbrev pub number_text : Kind → ℤ → List ℕ
@@ -42,29 +47,32 @@ pub record Notes (old new : Held) (before after : SinkCounts) (line : List ℕ) 
   pub adds : Adds old new front
   pub cut : (back ≡ []) ⊎ (Rose before.faults after.faults ⊎ Rose before.shortages after.shortages)
 
+-- what a run leaves in its notes, where a refusal names this file
+abbrev pub IsLineNoted : Held → Held → SinkCounts → SinkCounts → Name → Status → Type 0
+IsLineNoted old new before after file Done = (new ≡ old) × (after ≡ before)
+IsLineNoted old new before after file status = Notes old new before after (line_of file status)
+
+-- what isn't built yet, at a place
+abbrev pub not_built_at : Span → Fault
+not_built_at place = record { kind = NotBuilt; span = place; number = pos 0 }
+
+-- Why the model of this name is refused, and the name of the file of the fault's place: a file fails, or the model
+-- isn't of the form that is built.
+pub data IsRefusal (table : List Name) (texts : Texts) (name : Name) : Fault → Name → Type 0 where
+  a_file_fails : {f : Fault} {file : Name} → IsFirstFailure table texts name f file → IsRefusal table texts name f file
+  not_built : (files : List File) {place : Span} {file : Name} → IsSources table texts name files → IsNotBuilt table files (place, file) → IsRefusal table texts name (not_built_at place) file
+
+-- the file that an answer's line names
+abbrev pub IsOwner : Texts → Option Name → Status → Name → Type 0
+IsOwner texts None (Refused f) file = ⊥
+IsOwner texts (Some name) (Refused f) file = (table : List Name) × IsRefusal table texts name f file
+IsOwner texts word status file = Unit {0}
+
 -- what a run leaves in its notes
-abbrev pub IsNoted : Held → Held → SinkCounts → SinkCounts → Name → Status → Type 0
-IsNoted old new before after file Done = (new ≡ old) × (after ≡ before)
-IsNoted old new before after file status = Notes old new before after (line_of file status)
-
--- the first byte of the model's file
-abbrev pub start : Span
-start = record { file = 0; line = 1; col = 1; byte = 0 }
-
-abbrev pub IsMissing : Texts → Name → Type 0
-IsMissing None name = Unit {0}
-IsMissing (Some texts) name = texts name ≡ None
-
-abbrev pub IsTooLong : Texts → Name → Type 0
-IsTooLong None name = Unit {0}
-IsTooLong (Some texts) name = (text : List ℕ) × (texts name ≡ Some text) × (file_limit < length text)
-
--- why the file of this name is refused
-abbrev pub IsRefusedAs : Texts → Name → Kind → Type 0
-IsRefusedAs texts name MissingFile = IsMissing texts name
-IsRefusedAs texts name TooLong = IsTooLong texts name
-IsRefusedAs texts name NotBuilt = IsNotBuilt texts name
-IsRefusedAs texts name _ = ⊥
+pub record IsNoted (texts : Texts) (word : Option Name) (status : Status) (old new : Held) (before after : SinkCounts) : Type 0 where
+  pub file : Name
+  pub owner : IsOwner texts word status file
+  pub line : IsLineNoted old new before after file status
 
 -- where it answers so, this holds
 abbrev pub OnDone : Status → Type 0 → Type 0
@@ -94,18 +102,7 @@ IsDoneOrMemory Done = Unit {0}
 IsDoneOrMemory Memory = Unit {0}
 IsDoneOrMemory _ = ⊥
 
--- the file of this name is refused, at its first byte
-pub record IsRefusedAt (texts : Texts) (name : Name) (f : Fault) : Type 0 where
-  pub cause : IsRefusedAs texts name f.kind
-  pub span : f.span ≡ start
-  pub number : f.number ≡ pos 0
-
 -- the one count of the files that an answer raises
-abbrev pub CountsRefusal : Kind → FileCounts → FileCounts → Type 0
-CountsRefusal MissingFile old new = Rose old.misses new.misses × (new.faults ≡ old.faults) × (new.overruns ≡ old.overruns)
-CountsRefusal TooLong old new = Rose old.overruns new.overruns × (new.faults ≡ old.faults) × (new.misses ≡ old.misses)
-CountsRefusal _ old new = new ≡ old
-
 abbrev pub CountsFiles : FileCounts → FileCounts → Status → Type 0
 CountsFiles old new (Refused f) = CountsRefusal f.kind old new
 CountsFiles old new ReadFault = Rose old.faults new.faults × (new.misses ≡ old.misses) × (new.overruns ≡ old.overruns)
@@ -117,15 +114,22 @@ CountsOut old new WriteFault = Rose old.faults new.faults × (new.shortages ≡ 
 CountsOut old new Memory = (new.faults ≡ old.faults) × (old.shortages ≤ new.shortages)
 CountsOut old new _ = new ≡ old
 
-abbrev pub TellsText : Texts → Name → List ℕ → Type 0
-TellsText None name text = ⊥
-TellsText (Some texts) name text = texts name ≡ Some text
+-- the told texts are a model, by this table
+pub record IsToldModel (table : List Name) (texts : Texts) (name : Name) : Type 0 where
+  pub told : List ℕ → Option (List ℕ)
+  pub is_told : texts ≡ Some told
+  pub distinct : AreDistinct table
+  pub files : List File
+  pub items : List Item
+  pub sources : IsSources table texts name files
+  pub model : formed table files ≡ Ok items
 
--- a told file within the limit that is a model is compiled, unless a count of faults rose or memory ran out
+-- A told model is compiled, unless a count of faults rose or memory ran out. Which name has which number is nothing to
+-- the model: this is said of every table that goes on from one of the run's.
 abbrev pub IsComplete : Texts → Option Name → FileCounts → FileCounts → SinkCounts → SinkCounts → Status → Type 0
 IsComplete texts word old new before after status =
-    (name : Name) (text : List ℕ) (items : List Item) → word ≡ Some name → TellsText texts name text → length text ≤ file_limit → IsModel text items
-    → (Rose old.faults new.faults → ⊥) → (Rose before.faults after.faults → ⊥) → IsDoneOrMemory status
+    (name : Name) → word ≡ Some name → (Rose old.faults new.faults → ⊥) → (Rose before.faults after.faults → ⊥)
+    → (known : List Name) × AreDistinct known × ((table : List Name) → Grows known table → IsToldModel table texts name → IsDoneOrMemory status)
 
 -- what a reference to bytes points to
 abbrev pub now : Bor (List ℕ) → List ℕ

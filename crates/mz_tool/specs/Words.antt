@@ -1,7 +1,11 @@
 -- The words of a command line.
 use Rattle.std.specs.Prelude.{ℕ, List, [], ◌∷◌, Option, Some, None, codes, nat_eq, if◌then◌else◌, map, String, string_bytes}
 use Rattle.std.specs.Str.{bytes_eq}
-use Rattle.mz_tool.specs.Pieces.{front_byte}
+
+-- the byte in front, 0 where there is none
+abbrev pub front_byte : List ℕ → ℕ
+front_byte [] = 0
+front_byte (b ∷ bs) = b
 
 -- the model's file in `compile MODEL`, where MODEL doesn't begin with `-`
 abbrev pub model_word : List (List ℕ) → Option (List ℕ)

@@ -1,81 +1,108 @@
-// One file, compiled.
+// A model with its included files, compiled.
 
-ghost use Rattle.std.specs.Prelude.{◌≡◌, IfOk, IfSome, IfNone, pos};
-ghost use Rattle.mz_tool.specs.Compiling.{Translates, IsTranslated, CompilesText, IsWritten};
-ghost use Rattle.mz_tool.specs.Status.{CountsFiles, CountsOut, start, IsRefusedAt, IfRefused};
+ghost use Rattle.std.specs.Prelude.{◌≡◌, ◌<◌, map, length};
+ghost use Rattle.mz_include.specs.Views.{file, AreKnown};
+ghost use Rattle.mz_tool.specs.Compiling.{status_of, IsWritable, Puts, Leaves, unread, Ends, IsNamedEnd};
+ghost use Rattle.mz_tool.specs.Status.{CountsFiles, CountsOut};
 
-use crate::draft::emit;
-use crate::flat::FzProgram;
-use crate::read::items;
 use crate::status::Status;
-use crate::writer::{Wrote, write};
-use mz_base::{Fault, Kind, Span};
-use mz_io::{Fetched, Files, Sink};
-use std::alloc::{AllocError, Global};
+use fz_text::{Wrote, write};
+use mz_base::{Fault, Kind, Name, Names};
+use mz_first::{Built, build};
+use mz_include::{GatherEnd, gather};
+use mz_io::{Files, Sink};
+use mz_tree::Sources;
+use std::alloc::Global;
 
-/// The most bytes that a file may have.
-pub const FILE_LIMIT: u64 = 67_108_864;
-
-/// A refusal at the file's first byte.
-fn refused(kind: Kind) -> Status
-    ensures { result ≡ Status.Refused (record { kind = kind; span = start; number = pos 0 }) }
-{
-    Status::Refused(Fault {
-        kind,
-        span: Span {
-            file: 0,
-            line: 1,
-            col: 1,
-            byte: 0,
-        },
-        number: 0,
-    })
+/// How a compilation ended. A refusal has the name of the file of its place.
+#[derive(Clone, Copy, Debug)]
+pub enum End {
+    Done,
+    Refused(Fault, Name),
+    ReadFault,
+    WriteFault,
+    Memory,
 }
 
-/// The program of a text; None where the text isn't of the first form.
-fn translate(alloc: Global, text: &[u8]) -> Result<Option<FzProgram>, AllocError>
-    ensures { IfOk result (IsTranslated text.now) }
-{
-    match items(alloc, text)? {
-        Some(found) => emit(alloc, found.as_slice()),
-        None => Ok(None),
+impl End {
+    /// The answer, without the file.
+    pub fn status(&self) -> Status
+        ensures { result ≡ status_of self.now }
+    {
+        match self {
+            End::Done => Status::Done,
+            End::Refused(fault, _) => Status::Refused(*fault),
+            End::ReadFault => Status::ReadFault,
+            End::WriteFault => Status::WriteFault,
+            End::Memory => Status::Memory,
+        }
     }
 }
 
-/// Compiles a text.
-fn compile_text<S: Sink>(alloc: Global, text: &[u8], out: &mut S) -> Status
-    ensures compiled { CompilesText text.now (S.held out.old) (S.held out.new) result }
-    ensures counted { CountsOut (S.counts out.old) (S.counts out.new) result }
+/// Writes the program of a model's files, or refuses them.
+fn write_built<S: Sink>(alloc: Global, built: &Built, out: &mut S) -> End
+    requires { IsWritable built.now }
+    ensures left { Puts built.now (S.held out.old) (S.held out.new) result }
+    ensures counted { CountsOut (S.counts out.old) (S.counts out.new) (status_of result) }
 {
-    match translate(alloc, text) {
-        Ok(Some(program)) => match write(alloc, &program, out) {
-            Wrote::All => Status::Done,
-            Wrote::Failed => Status::WriteFault,
-            Wrote::Memory => Status::Memory,
+    match built {
+        Built::Program(program) => match write(alloc, program, out) {
+            Wrote::All => End::Done,
+            Wrote::Failed => End::WriteFault,
+            Wrote::Memory => End::Memory,
         },
-        Ok(None) => refused(Kind::NotBuilt),
-        Err(_) => Status::Memory,
+        Built::NotBuilt(span, file) => {
+            let fault = Fault {
+                kind: Kind::NotBuilt,
+                span: *span,
+                number: 0,
+            };
+            End::Refused(fault, *file)
+        }
     }
 }
 
-/// Compiles the file of this name.
-pub fn compile_file<F: Files, S: Sink>(
+/// Compiles the files of a model, by the table of their names.
+fn compile_files<S: Sink>(alloc: Global, sources: &Sources, names: &Names, out: &mut S) -> End
+    requires some { 0 < length sources.now.files.items }
+    requires known { AreKnown names.now sources.now.files.items }
+    ensures left { Leaves names.now (map (file names.now) sources.now.files.items) (S.held out.old) (S.held out.new) result }
+    ensures named { IsNamedEnd names.now result }
+    ensures counted { CountsOut (S.counts out.old) (S.counts out.new) (status_of result) }
+{
+    match build(alloc, sources, names) {
+        Ok(built) => write_built(alloc, &built, out),
+        Err(_) => End::Memory,
+    }
+}
+
+/// How a compilation ended whose files weren't all read.
+fn not_gathered(end: &GatherEnd) -> End
+    ensures { result ≡ unread end.now }
+{
+    match end {
+        GatherEnd::Refused(fault, file) => End::Refused(*fault, *file),
+        GatherEnd::ReadFault => End::ReadFault,
+        GatherEnd::Memory => End::Memory,
+    }
+}
+
+/// Compiles the model of this name with its included files.
+pub fn compile<F: Files, S: Sink>(
     alloc: Global,
     name: &str,
     files: &mut F,
+    names: &mut Names,
     out: &mut S,
-) -> Status
-    ensures written { IsWritten (F.texts files.old) name.now (S.held out.old) (S.held out.new) result }
-    ensures refused { IfRefused result (IsRefusedAt (F.texts files.old) name.now) }
-    ensures files { CountsFiles (F.counts files.old) (F.counts files.new) result }
-    ensures output { CountsOut (S.counts out.old) (S.counts out.new) result }
+) -> End
+    ensures ended { Ends names.new (F.texts files.old) name.now (S.held out.old) (S.held out.new) result }
+    ensures named { IsNamedEnd names.new result }
+    ensures files { CountsFiles (F.counts files.old) (F.counts files.new) (status_of result) }
+    ensures output { CountsOut (S.counts out.old) (S.counts out.new) (status_of result) }
     ensures texts { F.texts files.new ≡ F.texts files.old }
 {
-    match files.fetch(alloc, name, FILE_LIMIT) {
-        Fetched::Bytes(text) => compile_text(alloc, text.as_slice(), out),
-        Fetched::Missing => refused(Kind::MissingFile),
-        Fetched::TooLong => refused(Kind::TooLong),
-        Fetched::Failed => Status::ReadFault,
-        Fetched::Memory => Status::Memory,
+    match gather(alloc, name, files, names) {
+        Ok(sources) => compile_files(alloc, &sources, names, out),
+        Err(end) => not_gathered(&end),
     }
 }

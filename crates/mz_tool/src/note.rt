@@ -2,7 +2,7 @@
 
 ghost use Rattle.std.specs.Prelude.{◌≡◌, ◌++◌, List, ℕ, codes};
 ghost use Rattle.std.specs.List.{flat_map};
-ghost use Rattle.mz_tool.specs.Status.{IsNoted, Notes, refusal_line, now};
+ghost use Rattle.mz_tool.specs.Status.{IsLineNoted, Notes, refusal_line, now};
 
 use crate::status::Status;
 use itoa::Buffer;
@@ -61,7 +61,7 @@ fn put_refusal<E: Sink>(notes: &mut E, file: &str, fault: Fault)
 
 /// Puts the line of an answer, which names this file; none after Done.
 pub fn note<E: Sink>(notes: &mut E, file: &str, status: Status)
-    ensures { IsNoted (E.held notes.old) (E.held notes.new) (E.counts notes.old) (E.counts notes.new) file.now status }
+    ensures { IsLineNoted (E.held notes.old) (E.held notes.new) (E.counts notes.old) (E.counts notes.new) file.now status }
 {
     match status {
         Status::Done => {}

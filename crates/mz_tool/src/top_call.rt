@@ -1,15 +1,17 @@
 // The top call.
 
-ghost use Rattle.std.specs.Prelude.{◌≡◌, ◌↔◌, [], None, Some, IsSomeAnd};
-ghost use Rattle.std.specs.Option.{option_copied, unwrap_or};
+ghost use Rattle.std.specs.Prelude.{◌≡◌, ◌↔◌, List, ℕ, None, IsSomeAnd};
+ghost use Rattle.std.specs.Option.{option_copied};
 ghost use Rattle.mz_io.specs.Counts.{Rose};
 ghost use Rattle.mz_tool.specs.Words.{named_file};
 ghost use Rattle.mz_tool.specs.Headline.{Writes, WritesFront};
-ghost use Rattle.mz_tool.specs.Status.{OnDone, IfRefused, OnReadFault, OnWriteFault, OnNothingWritten, IsRefusedAt, CountsFiles, CountsOut, IsComplete, IsNoted};
+ghost use Rattle.mz_tool.specs.Compiling.{file_of, IsNamedEnd};
+ghost use Rattle.mz_tool.specs.Status.{OnDone, IfRefused, OnReadFault, OnWriteFault, OnNothingWritten, IsRefusal, CountsFiles, CountsOut, IsComplete, IsNoted};
 
-use crate::compile::compile_file;
+use crate::compile::{End, compile};
 use crate::note::note;
 use crate::status::Status;
+use mz_base::Names;
 use mz_io::{Files, Sink, Source};
 use std::alloc::Global;
 
@@ -30,18 +32,35 @@ fn model_of(words: &Vec<String>) -> Option<&str>
     }
 }
 
+/// The name of the file that the line of a refusal names.
+fn file_of<'a>(end: &End, names: &'a Names) -> &'a str
+    requires { IsNamedEnd names.now end.now }
+    ensures { result.now ≡ file_of names.now end.now }
+{
+    match end {
+        End::Refused(_, file) => names.text(*file),
+        _ => "",
+    }
+}
+
 /// Runs the words after the program's name, and says how it went.
 ///
-/// The one command is `compile MODEL`, where MODEL doesn't begin with `-`: the file MODEL is
-/// fetched, read as a model, and its FlatZinc written to `out` with one put. What is refused has
-/// the place of the file's first byte (file 0, line 1, column 1, byte 0): `MissingFile` where
-/// there is no such file, `TooLong` where it has more than 67,108,864 bytes, `NotBuilt` where it
-/// is no model of the form that is read. Nothing is taken from `input`.
+/// The one command is `compile MODEL`, where MODEL doesn't begin with `-`: the file MODEL and the
+/// files that it includes are read, each once, and the model's FlatZinc is written to `out` with
+/// one put. Nothing is taken from `input`.
+///
+/// What is refused has the place of the first fault, in the order of the files, where each is
+/// fetched, lexed whole and parsed before the next one. `MissingFile` and `TooLong` (more than
+/// 67,108,864 bytes) stand where the file was first named, for MODEL at line 1, column 1;
+/// `Lexical`, `LeftOut`, `Bounds`, `Syntax` and `TooDeep` in the file itself. `NotBuilt` comes
+/// behind all of these, at the first item that isn't of the form that is built, or at the end of
+/// MODEL where only the solve item is missing (`mz_first::build` has the form).
 ///
 /// After `Done` `notes` holds what it held, after any other answer besides that one line that
-/// says why. A put on `notes` that goes wrong cuts the line short and changes no answer. After
-/// `WriteFault` `out` holds besides what it held a front of the FlatZinc, after `Usage`,
-/// `Refused`, `ReadFault` and `Memory` what it held.
+/// says why; the line of a refusal names the file of its place as it was fetched. A put on
+/// `notes` that goes wrong cuts the line short and changes no answer. After `WriteFault` `out`
+/// holds besides what it held a front of the FlatZinc, after `Usage`, `Refused`, `ReadFault` and
+/// `Memory` what it held.
 pub fn run<F: Files, I: Source, S: Sink, E: Sink>(
     alloc: Global,
     words: &Vec<String>,
@@ -51,13 +70,13 @@ pub fn run<F: Files, I: Source, S: Sink, E: Sink>(
     notes: &mut E,
 ) -> Status
     // Done: the bytes written spell a program with the model's solutions and no others.
-    ensures headline { OnDone result (IsSomeAnd (named_file words.now.items) (λ name.
-        Writes (F.texts files.old) name (S.held out.old) (S.held out.new))) }
+    ensures headline { OnDone result (IsSomeAnd (named_file words.now.items) (λ name. (table : List (List ℕ)) ×
+        Writes table (F.texts files.old) name (S.held out.old) (S.held out.new))) }
 
     // Each other answer has its cause; want of memory alone is free.
     ensures usage { (result ≡ Status.Usage) ↔ (named_file words.now.items ≡ None) }
-    ensures refused { IfRefused result (λ fault. IsSomeAnd (named_file words.now.items) (λ name.
-        IsRefusedAt (F.texts files.old) name fault)) }
+    ensures refused { IfRefused result (λ fault. IsSomeAnd (named_file words.now.items) (λ name. (table : List (List ℕ)) × (file : List ℕ) ×
+        IsRefusal table (F.texts files.old) name fault file)) }
     ensures read_fault { OnReadFault result (Rose (F.counts files.old).faults (F.counts files.new).faults) }
     ensures write_fault { OnWriteFault result (Rose (S.counts out.old).faults (S.counts out.new).faults) }
     ensures counted { CountsFiles (F.counts files.old) (F.counts files.new) result }
@@ -68,19 +87,21 @@ pub fn run<F: Files, I: Source, S: Sink, E: Sink>(
         (F.counts files.old) (F.counts files.new) (S.counts out.old) (S.counts out.new) result }
 
     // What an answer other than Done leaves, and what is noted.
-    ensures cut_short { OnWriteFault result (IsSomeAnd (named_file words.now.items) (λ name.
-        WritesFront (F.texts files.old) name (S.held out.old) (S.held out.new))) }
+    ensures cut_short { OnWriteFault result (IsSomeAnd (named_file words.now.items) (λ name. (table : List (List ℕ)) ×
+        WritesFront table (F.texts files.old) name (S.held out.old) (S.held out.new))) }
     ensures untouched { OnNothingWritten result (S.held out.new ≡ S.held out.old) }
     ensures texts { F.texts files.new ≡ F.texts files.old }
     ensures input { input.new ≡ input.old }
-    ensures notes { IsNoted (E.held notes.old) (E.held notes.new) (E.counts notes.old) (E.counts notes.new)
-        (unwrap_or (named_file words.now.items) []) result }
+    ensures notes { IsNoted (F.texts files.old) (named_file words.now.items) result
+        (E.held notes.old) (E.held notes.new) (E.counts notes.old) (E.counts notes.new) }
 {
     let Some(name) = model_of(words) else {
         note(notes, "", Status::Usage);
         return Status::Usage;
     };
-    let status = compile_file(alloc, name, files, out);
-    note(notes, name, status);
+    let mut names = Names::new(alloc);
+    let end = compile(alloc, name, files, &mut names, out);
+    let status = end.status();
+    note(notes, file_of(&end, &names), status);
     status
 }

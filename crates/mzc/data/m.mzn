@@ -1,4 +1,4 @@
-var 1..3: x;
-var 1..3: y;
-constraint x < y;
+% A day's roster: who works which shift.
+include "shifts.mzn";
+include "rules.mzn";
 solve satisfy;

@@ -4,8 +4,9 @@ use Rattle.mz_base.proofs.Tables.{grows_on}
 use Rattle.std.proofs.lemmas.List.Elements.{All-get_or}
 use Rattle.mz_tree.specs.Items.{item as tree_of}
 use Rattle.mz_include.specs.Naming.{included_by, with_mention}
-use Rattle.mz_include.specs.Views.{IsItemKnown}
-use Rattle.mz_include.proofs.Noting.{included_later, noted_items}
+use Rattle.mz_include.specs.Trees.{IsItemKnown}
+use Rattle.mz_include.proofs.Later.{included_later}
+use Rattle.mz_include.proofs.Noting.{noted_items}
 use Rattle.mz_include.proofs.included.note_included.Goals as goal
 
 pub loop-item-preserved : goal.loop-item-preserved

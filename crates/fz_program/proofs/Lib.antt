@@ -1,0 +1,3 @@
+pub mod TestAnswers
+pub mod Each
+pub mod Labels

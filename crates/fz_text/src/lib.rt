@@ -1,0 +1,7 @@
+// FlatZinc programs as text, and how one is written to a sink.
+#![tactic(auto)]
+
+mod spell;
+mod writer;
+
+pub use writer::{Wrote, write};

@@ -1,0 +1,274 @@
+// The parts of a FlatZinc program's text. Each function appends its part to `out`; after an `Err`
+// some front of it may stand there.
+
+ghost use Rattle.std.specs.Prelude.{◌≡◌, ◌++◌, ◌≤ℤ◌, ◌∷◌, List, codes, map, Some, OnOk};
+ghost use Rattle.std.specs.Fmt.{signed_decimal};
+ghost use Rattle.std.specs.List.{flat_map};
+ghost use Rattle.mz_value.specs.Ranges.{AreCanonical};
+ghost use Rattle.fz_program.specs.Flat.{Variable, labels_of, ranges_of, row, variable};
+ghost use Rattle.fz_text.specs.Spelling.{
+  argument,
+  arguments,
+  braces,
+  definition,
+  elements,
+  goal_line,
+  interval,
+  label_at,
+  mark,
+  more_arguments,
+  numbers,
+  row_line,
+  row_name,
+  set,
+  variable_line,
+};
+
+use fz_program::{Arg, Domain, FzGoal, FzRow, FzVar, RowName};
+use itoa::Buffer;
+use mz_value::RangeSet;
+use std::alloc::AllocError;
+
+// A line for each variable.
+pub(crate) fn push_variables(vars: &[FzVar], out: &mut Vec<u8>) -> Result<(), AllocError>
+    ensures { OnOk result (out.new.items
+        ≡ out.old.items ++ flat_map variable_line (map variable vars.now)) }
+{
+    for v in vars {
+        push_variable(v, out)?;
+    }
+    Ok(())
+}
+
+// A line for each row.
+pub(crate) fn push_rows(vars: &[FzVar], rows: &[FzRow], out: &mut Vec<u8>) -> Result<(), AllocError>
+    ensures { OnOk result (out.new.items
+        ≡ out.old.items ++ flat_map (row_line (labels_of (map variable vars.now))) (map row rows.now)) }
+{
+    for r in rows {
+        push_row(vars, r, out)?;
+    }
+    Ok(())
+}
+
+// The solve item's line.
+pub(crate) fn push_goal(goal: FzGoal, out: &mut Vec<u8>) -> Result<(), AllocError>
+    ensures { OnOk result (out.new.items ≡ out.old.items ++ goal_line goal) }
+{
+    match goal {
+        FzGoal::Satisfy => push_text(b"solve satisfy;\n", out),
+    }
+}
+
+fn push_variable(v: &FzVar, out: &mut Vec<u8>) -> Result<(), AllocError>
+    ensures { OnOk result (out.new.items ≡ out.old.items ++ variable_line (variable v.now)) }
+{
+    push_text(b"var ", out)?;
+    push_domain(&v.domain, out)?;
+    push_text(b": ", out)?;
+    push_text(v.label.text.as_bytes(), out)?;
+    push_mark(v.output, b"output_var", out)?;
+    push_mark(v.introduced, b"var_is_introduced", out)?;
+    push_mark(v.defined, b"is_defined_var", out)?;
+    push_text(b";\n", out)
+}
+
+fn push_row(vars: &[FzVar], r: &FzRow, out: &mut Vec<u8>) -> Result<(), AllocError>
+    ensures { OnOk result (out.new.items
+        ≡ out.old.items ++ row_line (labels_of (map variable vars.now)) (row r.now)) }
+{
+    push_text(b"constraint ", out)?;
+    push_text(name_of(r.name), out)?;
+    push_text(b"(", out)?;
+    push_arguments(vars, &r.args, out)?;
+    push_text(b")", out)?;
+    push_definition(vars, r.defines, out)?;
+    push_text(b";\n", out)
+}
+
+fn push_domain(domain: &Domain, out: &mut Vec<u8>) -> Result<(), AllocError>
+    ensures { OnOk result (out.new.items ≡ out.old.items ++ set (ranges_of domain.now)) }
+{
+    match domain {
+        Domain::Ints(s) => push_set(s, out),
+    }
+}
+
+fn push_set(s: &RangeSet, out: &mut Vec<u8>) -> Result<(), AllocError>
+    ensures { OnOk result (out.new.items ≡ out.old.items ++ set s.now) }
+{
+    match s.ranges() {
+        [] => push_text(b"1..0", out),
+        [first, rest @ ..] => push_ranges(*first, rest, out),
+    }
+}
+
+pub(crate) fn push_ranges(
+    first: (i64, i64),
+    rest: &[(i64, i64)],
+    out: &mut Vec<u8>,
+) -> Result<(), AllocError>
+    requires { AreCanonical (first ∷ rest.now) }
+    ensures { OnOk result (out.new.items ≡ out.old.items ++ set (first ∷ rest.now)) }
+{
+    if rest.is_empty() {
+        push_interval(first, out)
+    } else {
+        push_braces(first, rest, out)
+    }
+}
+
+fn push_interval(range: (i64, i64), out: &mut Vec<u8>) -> Result<(), AllocError>
+    ensures { OnOk result (out.new.items ≡ out.old.items ++ interval range) }
+{
+    push_number(range.0, out)?;
+    push_text(b"..", out)?;
+    push_number(range.1, out)
+}
+
+// The elements of several ranges, in braces.
+fn push_braces(first: (i64, i64), rest: &[(i64, i64)], out: &mut Vec<u8>) -> Result<(), AllocError>
+    requires { AreCanonical (first ∷ rest.now) }
+    ensures { OnOk result (out.new.items ≡ out.old.items ++ braces (first ∷ rest.now)) }
+{
+    push_text(b"{", out)?;
+    push_elements(first, rest, out)?;
+    push_text(b"}", out)
+}
+
+fn push_elements(
+    first: (i64, i64),
+    rest: &[(i64, i64)],
+    out: &mut Vec<u8>,
+) -> Result<(), AllocError>
+    requires { AreCanonical (first ∷ rest.now) }
+    ensures { OnOk result (out.new.items
+        ≡ out.old.items ++ numbers (flat_map elements (first ∷ rest.now))) }
+{
+    push_numbers(first, out)?;
+    for r in rest {
+        push_text(b",", out)?;
+        push_numbers(*r, out)?;
+    }
+    Ok(())
+}
+
+// The integers of a range, with commas between them.
+fn push_numbers(range: (i64, i64), out: &mut Vec<u8>) -> Result<(), AllocError>
+    requires { range.0 ≤ℤ range.1 }
+    ensures { OnOk result (out.new.items ≡ out.old.items ++ numbers (elements range)) }
+{
+    let mut n = range.0;
+    push_number(n, out)?;
+    while n < range.1 {
+        n += 1;
+        push_text(b",", out)?;
+        push_number(n, out)?;
+    }
+    Ok(())
+}
+
+fn push_number(n: i64, out: &mut Vec<u8>) -> Result<(), AllocError>
+    ensures { OnOk result (out.new.items ≡ out.old.items ++ signed_decimal n) }
+{
+    let mut buffer = Buffer::new();
+    push_text(buffer.format(n).as_bytes(), out)
+}
+
+// A mark, where the variable has it.
+fn push_mark(has: bool, text: &[u8], out: &mut Vec<u8>) -> Result<(), AllocError>
+    ensures { OnOk result (out.new.items ≡ out.old.items ++ mark has text.now) }
+{
+    if !has {
+        return Ok(());
+    }
+    push_text(b" :: ", out)?;
+    out.extend_from_slice(text)
+}
+
+fn name_of(name: RowName) -> &'static [u8]
+    ensures { result.now ≡ row_name name }
+{
+    match name {
+        RowName::IntEq => b"int_eq",
+        RowName::IntNe => b"int_ne",
+        RowName::IntLe => b"int_le",
+        RowName::IntLt => b"int_lt",
+    }
+}
+
+fn push_arguments(vars: &[FzVar], args: &[Arg], out: &mut Vec<u8>) -> Result<(), AllocError>
+    ensures { OnOk result (out.new.items
+        ≡ out.old.items ++ arguments (labels_of (map variable vars.now)) args.now) }
+{
+    match args {
+        [] => Ok(()),
+        [first, rest @ ..] => {
+            push_argument(vars, *first, out)?;
+            push_more_arguments(vars, rest, out)
+        }
+    }
+}
+
+// Arguments, with a comma before each.
+fn push_more_arguments(vars: &[FzVar], args: &[Arg], out: &mut Vec<u8>) -> Result<(), AllocError>
+    ensures { OnOk result (out.new.items
+        ≡ out.old.items ++ more_arguments (labels_of (map variable vars.now)) args.now) }
+{
+    for a in args {
+        push_text(b",", out)?;
+        push_argument(vars, *a, out)?;
+    }
+    Ok(())
+}
+
+fn push_argument(vars: &[FzVar], arg: Arg, out: &mut Vec<u8>) -> Result<(), AllocError>
+    ensures { OnOk result (out.new.items
+        ≡ out.old.items ++ argument (labels_of (map variable vars.now)) arg) }
+{
+    match arg {
+        Arg::Int(n) => push_number(n, out),
+        Arg::Var(k) => push_label(vars, k, out),
+    }
+}
+
+// The name of the variable at place `k`, nothing where there is none.
+fn push_label(vars: &[FzVar], k: u64, out: &mut Vec<u8>) -> Result<(), AllocError>
+    ensures { OnOk result (out.new.items
+        ≡ out.old.items ++ label_at (labels_of (map variable vars.now)) k) }
+{
+    match vars.get(k as usize) {
+        Some(v) => push_text(v.label.text.as_bytes(), out),
+        None => Ok(()),
+    }
+}
+
+// The mark of the variable that a row defines, where it defines one.
+fn push_definition(
+    vars: &[FzVar],
+    defines: Option<u64>,
+    out: &mut Vec<u8>,
+) -> Result<(), AllocError>
+    ensures { OnOk result (out.new.items
+        ≡ out.old.items ++ definition (labels_of (map variable vars.now)) defines) }
+{
+    match defines {
+        None => Ok(()),
+        Some(k) => push_defined(vars, k, out),
+    }
+}
+
+fn push_defined(vars: &[FzVar], k: u64, out: &mut Vec<u8>) -> Result<(), AllocError>
+    ensures { OnOk result (out.new.items
+        ≡ out.old.items ++ definition (labels_of (map variable vars.now)) (Some k)) }
+{
+    push_text(b" :: defines_var(", out)?;
+    push_label(vars, k, out)?;
+    push_text(b")", out)
+}
+
+fn push_text(text: &[u8], out: &mut Vec<u8>) -> Result<(), AllocError>
+    ensures { OnOk result (out.new.items ≡ out.old.items ++ text.now) }
+{
+    out.extend_from_slice(text)
+}

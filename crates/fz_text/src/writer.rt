@@ -1,0 +1,56 @@
+// How a FlatZinc program is written to a sink.
+
+ghost use Rattle.std.specs.Prelude.{IfOk, ◌≡◌};
+ghost use Rattle.fz_program.specs.Flat.{WellFormed, program};
+ghost use Rattle.fz_text.specs.Spelling.{spelling};
+ghost use Rattle.fz_text.specs.Writing.{Writes, WriteCounts};
+
+#[cfg(test)]
+mod tests;
+
+use crate::spell::{push_goal, push_rows, push_variables};
+use fz_program::FzProgram;
+use mz_io::{Sent, Sink};
+use std::alloc::{AllocError, Global};
+
+/// What writing a program answers.
+#[derive(Clone, Copy, Debug, PartialEq, Eq)]
+pub enum Wrote {
+    /// The whole text went out.
+    All,
+    /// A front of the text may have gone out, and no more can.
+    Failed,
+    /// Want of memory; no byte went out.
+    Memory,
+}
+
+/// Writes the program's one spelling with one put: a line for each variable, each constraint and the
+/// solve item, in the order of the program, as the FlatZinc chapter of the MiniZinc Handbook has them.
+/// `well_formed` of `fz_program` tests what is required.
+///
+/// After `Failed` the sink holds what it held and a front of the text, after `Memory` what it held.
+pub fn write<S: Sink>(alloc: Global, p: &FzProgram, out: &mut S) -> Wrote
+    requires { WellFormed (program p.now) }
+    ensures told { Writes (S.held out.old) (S.held out.new) (spelling (program p.now)) result }
+    ensures counted { WriteCounts (S.counts out.old) (S.counts out.new) result }
+{
+    match text(alloc, p) {
+        Ok(bytes) => match out.put(bytes.as_slice()) {
+            Sent::All => Wrote::All,
+            Sent::Failed => Wrote::Failed,
+            Sent::Memory => Wrote::Memory,
+        },
+        Err(_) => Wrote::Memory,
+    }
+}
+
+// The program's one spelling.
+fn text(alloc: Global, p: &FzProgram) -> Result<Vec<u8>, AllocError>
+    ensures { IfOk result (λ t. t.items ≡ spelling (program p.now)) }
+{
+    let mut out = Vec::new(alloc);
+    push_variables(&p.vars, &mut out)?;
+    push_rows(&p.vars, &p.rows, &mut out)?;
+    push_goal(p.goal, &mut out)?;
+    Ok(out)
+}

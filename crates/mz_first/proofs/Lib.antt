@@ -1,0 +1,14 @@
+pub mod Mapped
+pub mod Loops
+pub mod Kept
+pub mod Places
+pub mod Walks
+pub mod Links
+pub mod KnownParts
+pub mod Options
+pub mod ProperItems
+pub mod Reached
+pub mod Solutions
+pub mod Builds
+pub mod LaterItems
+pub mod Later

@@ -1,0 +1,29 @@
+-- What each item of a model keeps.
+use Rattle.std.specs.Prelude.{◌≡◌, ℤ, pos, neg_ℤ, ◌^◌, ◌≤ℤ◌, List, true}
+use Rattle.std.specs.List.{Contains}
+use Rattle.fz_program.specs.Names.{Name, is_identifier}
+use Rattle.mz_first.specs.Model.{Operand, number, name, Item, variable, constraint, satisfy}
+
+-- the numbers that a model may write
+abbrev pub IsWithin : ℤ → Type 0
+IsWithin n = (neg_ℤ (pos (2 ^ 61)) ≤ℤ n) × (n ≤ℤ pos (2 ^ 61))
+
+abbrev pub IsProperOperand : Operand → Type 0
+IsProperOperand (number n) = IsWithin n
+IsProperOperand (name x) = Unit {0}
+
+-- numbers within the limit, a range that isn't empty, and an identifier
+abbrev pub IsProper : Item → Type 0
+IsProper (variable lo hi x) = (is_identifier x ≡ true) × (neg_ℤ (pos (2 ^ 61)) ≤ℤ lo) × (lo ≤ℤ hi) × (hi ≤ℤ pos (2 ^ 61))
+IsProper (constraint p op q) = IsProperOperand p × IsProperOperand q
+IsProper satisfy = Unit {0}
+
+-- a used name is one of these
+abbrev pub IsDeclaredIn : List Name → Operand → Type 0
+IsDeclaredIn known (number n) = Unit {0}
+IsDeclaredIn known (name x) = Contains known x
+
+abbrev pub AreDeclaredIn : List Name → Item → Type 0
+AreDeclaredIn known (variable lo hi x) = Unit {0}
+AreDeclaredIn known (constraint p op q) = IsDeclaredIn known p × IsDeclaredIn known q
+AreDeclaredIn known satisfy = Unit {0}

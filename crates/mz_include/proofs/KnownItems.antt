@@ -1,0 +1,55 @@
+-- The names in the items of a text are of the table that its tokens' names are of, and the places are in its file.
+use Rattle.std.proofs.Common.{◌≡◌, ◌<◌, ℕ, List, [], ◌∷◌, length, map, refl}
+use Rattle.std.specs.Prelude.{Some, All}
+use Rattle.std.proofs.lemmas.List.Elements.{All-head, All-tail, All-weaker}
+use Rattle.mz_base.specs.declared.fault.Span.{Span}
+use Rattle.mz_lexer.specs.declared.token.Token.{Token}
+use Rattle.mz_lexer.specs.declared.token.Tok.{Tok}
+use Rattle.mz_lexer.specs.declared.token.Tok.TheVariants as tok
+use Rattle.mz_lexer.specs.Views.{lex, IsNamed, HasName}
+use Rattle.mz_tree.specs.Tree.{Name}
+use Rattle.mz_tree.specs.Items.{ItemTree, include, declare, assign, constraint, solve, output, function, enum, annotation}
+use Rattle.mz_parser.specs.Model.{IsModel}
+use Rattle.mz_include.specs.Trees.{IsItemOf, IsItemKnown}
+use Rattle.mz_include.specs.Parsing.{AreTokens}
+use Rattle.mz_include.proofs.Places.{EachIn, lexed_in}
+use Rattle.mz_include.proofs.PartTrees.{Fine}
+use Rattle.mz_include.proofs.ItemTrees.{AllFine, file_is_of}
+
+module _ (names : List (List ℕ)) (turn : ℕ) where
+  abbrev Named : Name → Type 0
+  Named n = n < length names
+
+  abbrev Placed : Span → Type 0
+  Placed s = s.file ≡ turn
+
+  fine_tok : (t : Tok) → IsNamed names t → Fine Named Placed (Some t)
+  fine_tok (tok.Word k) h = tt
+  fine_tok (tok.Sym s) h = tt
+  fine_tok (tok.Ident n) h = h
+  fine_tok (tok.Int z) h = tt
+  fine_tok (tok.Text n) h = h
+  fine_tok (tok.TextHead n) h = h
+  fine_tok (tok.TextMid n) h = h
+  fine_tok (tok.TextTail n) h = h
+
+  all_fine : (tokens : List Token) → All (HasName names) tokens → EachIn turn (map (lex names) tokens) → AllFine Named Placed tokens
+  all_fine [] all at = tt
+  all_fine (t ∷ ts) all at = (fine_tok t.tok (All-head (HasName names) t ts all), at.0, all_fine ts (All-tail (HasName names) t ts all) at.1)
+
+  pub items_of : (text : List ℕ) (tokens : List Token) (items : List ItemTree) → AreTokens names turn text tokens → IsModel tokens items → All (IsItemOf names turn) items
+  items_of text tokens items lexed model = file_is_of Named Placed model (all_fine tokens lexed.known (lexed_in turn lexed.lexes refl))
+
+  pub item_known : (i : ItemTree) → IsItemOf names turn i → IsItemKnown names i
+  item_known (include n s) h = h.0
+  item_known (declare d) h = tt
+  item_known (assign n s e) h = tt
+  item_known (constraint e) h = tt
+  item_known (solve s g) h = tt
+  item_known (output e) h = tt
+  item_known (function f) h = tt
+  item_known (enum n s cs) h = tt
+  item_known (annotation n) h = tt
+
+  pub items_known : (text : List ℕ) (tokens : List Token) (items : List ItemTree) → AreTokens names turn text tokens → IsModel tokens items → All (IsItemKnown names) items
+  items_known text tokens items lexed model = All-weaker (IsItemOf names turn) (IsItemKnown names) item_known items (items_of text tokens items lexed model)

@@ -1,8 +1,0 @@
-use Rattle.std.proofs.Common.{◌≡◌, ◌++◌, take, map}
-use Rattle.mz_tool.specs.Flat.{labels_of, variable}
-use Rattle.mz_tool.specs.Spelling.{more_arguments}
-use Rattle.mz_tool.proofs.spell.push_more_arguments.Given as goal
-
-abbrev pub invariant-loop-a : goal.invariant-loop-a
-invariant-loop-a l =
-    l.out.items ≡ l.initial.out.items ++ more_arguments (labels_of (map variable l.vars)) (take l.a-index l.args)

@@ -1,7 +1,0 @@
-use Rattle.mz_tool.specs.Flat.{variable}
-use Rattle.mz_tool.specs.Spelling.{variable_line}
-use Rattle.mz_tool.proofs.Appends.{pieces_all}
-use Rattle.mz_tool.proofs.spell.push_variables.Goals as goal
-
-pub returns : goal.returns
-returns c = pieces_all variable variable_line c.args.vars.now c.loop-v.v-index c.args.out.now.items c.loop-v.out.items c.loop-v-test.false c.loop-v.invariant
