@@ -1,5 +1,5 @@
 -- Steps of the loops that read in a row.
-use Rattle.std.proofs.Common.{◌≡◌, ℕ, zero, suc, ◌+◌, List, [], ◌∷◌, ◌++◌, map, refl, sym, ap, ◌∙◌, append_assoc, true, false, Bool, Option, Result}
+use Rattle.std.proofs.Common.{◌≡◌, ℕ, List, [], ◌∷◌, ◌++◌, map, refl, sym, ap, ◌∙◌, append_assoc, true, false, Bool, Option, Result}
 use Rattle.std.proofs.lemmas.List.{map-append}
 use Rattle.std.specs.Prelude.{Ok, Err, Some, None}
 use Rattle.mz_lexer.specs.declared.token.Token.{Token}
@@ -22,9 +22,8 @@ use Rattle.mz_grammar.specs.Tests.{middle_of, tail_of}
 use Rattle.mz_grammar.proofs.Equations.{operators_reads}
 use Rattle.mz_grammar.proofs.ListEquations.{branches_reads, text_rest_reads}
 use Rattle.mz_grammar.specs.declared.level.Level.{Level}
-use Rattle.mz_grammar.specs.declared.level.Level.TheVariants as level_is
-use Rattle.mz_grammar.specs.Operators.{tighter_level, binary_of, is_single}
-use Rattle.mz_grammar.specs.Reading.{reads, with_branches, operand_rank}
+use Rattle.mz_grammar.specs.Operators.{binary_of, is_single}
+use Rattle.mz_grammar.specs.Reading.{reads, with_branches}
 use Rattle.mz_expr.specs.Views.{annotated}
 
 pub annotated_step : (b : Bool) (o : Read Bool) → annotated true o ≡ annotated b (mapped (λ x. true) o)
@@ -78,25 +77,3 @@ pub text_more : (done : List Part) (e : Tree) (n room behind_expr after : ℕ) (
 text_more done e n room behind_expr after rest mid next all so_far sub is skipped same_room same_after =
     rw (same_after, same_room, skipped, append_assoc) (sym (front_front done (pure.shown e ∷ (pure.plain n ∷ [])) (reads parts.text_rest room (behind mid)))
     ∙ ap (λ o. with_front done o) (sym (text_rest_reads room rest ∙ rw (sub, is) refl)) ∙ so_far)
-
-same_level : (k m : Level) → Some k ≡ Some m → k ≡ m
-same_level k m e = cc
-
-lower : (k m : Level) (n : ℕ) → operand_rank k + 2 ≡ n → Some k ≡ Some m → operand_rank m + 2 ≡ n
-lower k m n h e = ap (λ l. operand_rank l + 2) (sym (same_level k m e)) ∙ h
-
--- The rank of a tighter level is lower.
-pub tighter_rank : (l k : Level) → tighter_level l ≡ Some k → operand_rank k + 2 ≡ operand_rank l
-unfolding operand_rank
-tighter_rank level_is.Iff k e = lower level_is.Imp k 25 refl e
-tighter_rank level_is.Imp k e = lower level_is.Or k 23 refl e
-tighter_rank level_is.Or k e = lower level_is.And k 21 refl e
-tighter_rank level_is.And k e = lower level_is.Compare k 19 refl e
-tighter_rank level_is.Compare k e = lower level_is.Member k 17 refl e
-tighter_rank level_is.Member k e = lower level_is.Union k 15 refl e
-tighter_rank level_is.Union k e = lower level_is.Range k 13 refl e
-tighter_rank level_is.Range k e = lower level_is.Sum k 11 refl e
-tighter_rank level_is.Sum k e = lower level_is.Product k 9 refl e
-tighter_rank level_is.Product k e = lower level_is.Power k 7 refl e
-tighter_rank level_is.Power k e = lower level_is.Concat k 5 refl e
-tighter_rank level_is.Concat k e = cc

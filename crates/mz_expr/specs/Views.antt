@@ -1,10 +1,12 @@
 -- What the code's readings and arguments stand for.
-use Rattle.std.specs.Prelude.{List, [], ◌∷◌, map, Bool, true, false}
+use Rattle.std.specs.Prelude.{List, [], ◌∷◌, Bool, true, false, Option}
 use Rattle.std.specs.Option.{option_map}
-use Rattle.mz_tree.specs.Tree.{Tree, maybe}
+use Rattle.mz_tree.specs.Tree.{Tree, Maybe, maybe}
 use Rattle.mz_tree.specs.declared.expr.BinOp.{BinOp}
 use Rattle.mz_tree.specs.declared.expr.BinOp.TheVariants as op
 use Rattle.mz_grammar.specs.Arguments as pure_role
+use Rattle.mz_tree.specs.declared.expr.Expr.{Expr}
+use Rattle.mz_expr.specs.declared.held.Held.{Held}
 use Rattle.mz_expr.specs.declared.argument.Role.{Role}
 use Rattle.mz_expr.specs.declared.argument.Role.TheVariants as role_of
 use Rattle.mz_tree.specs.Views.{tree, generator}
@@ -17,17 +19,21 @@ use Rattle.mz_expr.specs.declared.argument.Argument.TheVariants as argument_of
 
 abbrev pub reading : Reading → pure.Reading
 reading (of_code.Name n s) = pure.name n s
-reading (of_code.Member n s e) = pure.member n s (tree e)
-reading (of_code.Other s e) = pure.other s (tree e)
+reading (of_code.Member n s e) = pure.member n s (tree e.value)
+reading (of_code.Other s e) = pure.other s (tree e.value)
 
 abbrev pub argument : Argument → pure.Argument
 argument (argument_of.Given x) = pure.given (reading x)
-argument (argument_of.Guarded x c) = pure.guarded (reading x) (tree c)
-argument (argument_of.Strict g) = pure.strict (generator g)
+argument (argument_of.Guarded x c) = pure.guarded (reading x) (tree c.value)
+argument (argument_of.Strict g) = pure.strict (generator g.value)
+
+-- a condition, if there is one
+abbrev pub condition : Option (Held Expr) → Maybe
+condition c = maybe (option_map (λ h. tree h.value) c)
 
 abbrev pub role : Role → pure_role.Role
 role (role_of.Waiting n s) = pure_role.waiting n s
-role (role_of.Bound ns e c) = pure_role.bound ns.items (tree e) (maybe (option_map tree c))
+role (role_of.Bound ns e c) = pure_role.bound ns.items (tree e.value) (condition c)
 role role_of.Unfit = pure_role.unfit
 
 -- one `in` with its operand

@@ -1,14 +1,14 @@
 // The arguments of a call, and the generators that they may be.
 
-ghost use Rattle.std.specs.Prelude.{◌≡◌, IfOk, map, List, [], ◌∷◌, ◌++◌, Option, Some, None, Result, Ok, Err};
+ghost use Rattle.std.specs.Prelude.{◌≡◌, IfOk, map, [], ◌∷◌, ◌++◌};
 ghost use Rattle.std.specs.Option.{option_map};
-ghost use Rattle.mz_tree.specs.Tree as pure;
 ghost use Rattle.mz_tree.specs.Tree.{maybe};
 ghost use Rattle.mz_tree.specs.Views.{tree, generator};
-ghost use Rattle.mz_grammar.specs.Parts.{given, guarded};
-ghost use Rattle.mz_grammar.specs.Arguments.{turn_by, waits, takes_where, given_of, trees_of, role_of, bound, generators_of, generators_behind};
-ghost use Rattle.mz_expr.specs.Views.{reading, argument, role};
+ghost use Rattle.mz_grammar.specs.Parts.{given, guarded, strict};
+ghost use Rattle.mz_grammar.specs.Arguments.{turn_by, waits, takes_where, given_of, trees_of, role_of, bound, generators_of};
+ghost use Rattle.mz_expr.specs.Views.{reading, argument, role, condition};
 
+use crate::held::Held;
 use crate::make::make_generator;
 use crate::reading::Reading;
 use mz_base::{Name, Span};
@@ -20,8 +20,22 @@ use std::alloc::{AllocError, Global};
 #[derive(Drop)]
 pub enum Argument {
     Given(Reading),
-    Guarded(Reading, Expr),
-    Strict(Gen),
+    Guarded(Reading, Held<Expr>),
+    Strict(Held<Gen>),
+}
+
+/// An expression that a `where` makes a generator.
+pub fn guarded_argument(x: Reading, cond: Expr) -> Argument
+    ensures { argument result ≡ guarded (reading x) (tree cond) }
+{
+    Argument::Guarded(x, Held::new(cond))
+}
+
+/// A generator.
+pub fn strict_argument(g: Gen) -> Argument
+    ensures { argument result ≡ strict (generator g) }
+{
+    Argument::Strict(Held::new(g))
 }
 
 /// How it stands behind one more argument.
@@ -104,7 +118,7 @@ enum Role {
     /// A name that waits for its `in`.
     Waiting(Name, Span),
     /// The names that stand with a set, the set, and what its `where` says.
-    Bound(Vec<(Name, Span)>, Expr, Option<Expr>),
+    Bound(Vec<(Name, Span)>, Held<Expr>, Option<Held<Expr>>),
     Unfit,
 }
 
@@ -114,7 +128,7 @@ fn role_of(alloc: Global, arg: Argument) -> Result<Role, AllocError>
     match arg {
         Argument::Given(x) => given_role(alloc, x),
         Argument::Guarded(x, cond) => guarded_role(alloc, x, cond),
-        Argument::Strict(g) => Ok(Role::Bound(g.names, g.set, g.cond)),
+        Argument::Strict(g) => Ok(strict_role(g.take())),
     }
 }
 
@@ -128,8 +142,8 @@ fn given_role(alloc: Global, x: Reading) -> Result<Role, AllocError>
     }
 }
 
-fn guarded_role(alloc: Global, x: Reading, cond: Expr) -> Result<Role, AllocError>
-    ensures { IfOk result (λ r. role r ≡ role_of (guarded (reading x) (tree cond))) }
+fn guarded_role(alloc: Global, x: Reading, cond: Held<Expr>) -> Result<Role, AllocError>
+    ensures { IfOk result (λ r. role r ≡ role_of (guarded (reading x) (tree cond.value))) }
 {
     match x {
         Reading::Name(_, _) => Ok(Role::Unfit),
@@ -138,14 +152,39 @@ fn guarded_role(alloc: Global, x: Reading, cond: Expr) -> Result<Role, AllocErro
     }
 }
 
+fn strict_role(g: Gen) -> Role
+    ensures { role result ≡ role_of (strict (generator g)) }
+{
+    Role::Bound(g.names, Held::new(g.set), holding(g.cond))
+}
+
+fn holding(cond: Option<Expr>) -> Option<Held<Expr>>
+    ensures { condition result ≡ maybe (option_map tree cond) }
+{
+    match cond {
+        None => None,
+        Some(e) => Some(Held::new(e)),
+    }
+}
+
+/// A condition, if there is one.
+pub fn taken(cond: Option<Held<Expr>>) -> Option<Expr>
+    ensures { maybe (option_map tree result) ≡ condition cond }
+{
+    match cond {
+        None => None,
+        Some(e) => Some(e.take()),
+    }
+}
+
 fn bound(
     alloc: Global,
     name: Name,
     at: Span,
-    set: Expr,
-    cond: Option<Expr>,
+    set: Held<Expr>,
+    cond: Option<Held<Expr>>,
 ) -> Result<Role, AllocError>
-    ensures { IfOk result (λ r. role r ≡ bound ((name, at) ∷ []) (tree set) (maybe (option_map tree cond))) }
+    ensures { IfOk result (λ r. role r ≡ bound ((name, at) ∷ []) (tree set.value) (condition cond)) }
 {
     let mut names = Vec::with_capacity(alloc, 1)?;
     names.push((name, at))?;
@@ -167,7 +206,7 @@ pub fn generators_of(alloc: Global, args: Vec<Argument>) -> Result<Option<Vec<Ge
             Role::Waiting(name, at) => names.push((name, at))?,
             Role::Bound(more, set, cond) => {
                 let names_of = joined(names, more)?;
-                all.push(make_generator(names_of, set, cond))?;
+                all.push(make_generator(names_of, set.take(), taken(cond)))?;
                 names = Vec::new(alloc);
             }
             Role::Unfit => fit = false,

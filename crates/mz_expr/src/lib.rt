@@ -3,6 +3,7 @@
 
 mod argument;
 mod front;
+mod held;
 mod make;
 mod operator;
 pub mod parser;

@@ -2,6 +2,7 @@
 
 ghost use Rattle.std.specs.Prelude.{◌≡◌, Some};
 ghost use Rattle.mz_grammar.specs.Operators.{prefix_of, operator_of, level_number, binary_of, is_single, tighter_level};
+ghost use Rattle.mz_expr.specs.Climb.{next_level};
 
 use mz_grammar::Level;
 use mz_lexer::{Keyword, Symbol, Tok};
@@ -74,10 +75,27 @@ fn operator_of_word(k: Keyword) -> Option<(Level, BinOp)>
     }
 }
 
-fn level_number(l: Level) -> u8
+/// The number of a level: 0 is the loosest, 11 the tightest.
+pub fn level_number(l: Level) -> u8
     ensures { result ≡ level_number l }
 {
     l as u8
+}
+
+/// The level of the operator that the token is, where that is `l` or tighter, with a number below `done`.
+pub fn next_level(l: Level, done: u8, tok: Option<Tok>) -> Option<Level>
+    ensures { result ≡ next_level l done tok }
+{
+    match operator_of(tok) {
+        None => None,
+        Some((level, _)) => {
+            if level_number(l) <= level_number(level) && level_number(level) < done {
+                Some(level)
+            } else {
+                None
+            }
+        }
+    }
 }
 
 /// The operator of this level that the token is.

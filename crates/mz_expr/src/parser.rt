@@ -4,11 +4,11 @@ mod branching;
 mod call;
 mod comprehension;
 mod declarations;
+mod descent;
 mod expression;
 mod heads;
 mod list;
+mod outermost;
 mod types;
 
-pub use declarations::{declaration, declared};
-pub use expression::{annotations, expr, level, marks};
-pub use types::type_text;
+pub use outermost::{annotations, declaration, declared, expr, level, marks, type_text};

@@ -5,10 +5,11 @@ ghost use Rattle.mz_tree.specs.Views.{tree, link};
 ghost use Rattle.mz_tree.specs.Tree as pure;
 ghost use Rattle.mz_tree.specs.Tree.{node, chain};
 ghost use Rattle.mz_grammar.specs.Parts as pure_parts;
-ghost use Rattle.mz_grammar.specs.Parts.{other, at_of, tree_of, chained};
+ghost use Rattle.mz_grammar.specs.Parts.{at_of, tree_of, chained};
 ghost use Rattle.mz_grammar.specs.Model.{accessed, unless_annotated};
 ghost use Rattle.mz_expr.specs.Views.{reading, is_one_member};
 
+use crate::held::Held;
 use mz_base::{Name, Span};
 use mz_tree::{BinOp, Expr, make_access, make_chain, make_ident};
 use std::alloc::{AllocError, Global};
@@ -19,9 +20,16 @@ pub enum Reading {
     /// An identifier.
     Name(Name, Span),
     /// An identifier, `in` and what stands behind it.
-    Member(Name, Span, Expr),
+    Member(Name, Span, Held<Expr>),
     /// Any other expression.
-    Other(Span, Expr),
+    Other(Span, Held<Expr>),
+}
+
+/// An expression that is no name, with the place of its first token.
+pub fn other(at: Span, e: Expr) -> Reading
+    ensures { reading result ≡ pure_parts.other at (tree e) }
+{
+    Reading::Other(at, Held::new(e))
 }
 
 impl Reading {
@@ -44,10 +52,10 @@ impl Reading {
             Reading::Name(name, at) => Ok(make_ident(at, name)),
             Reading::Member(name, at, set) => {
                 let mut links = Vec::with_capacity(alloc, 1)?;
-                links.push((BinOp::Member, set))?;
+                links.push((BinOp::Member, set.take()))?;
                 make_chain(alloc, at, make_ident(at, name), links)
             }
-            Reading::Other(_, e) => Ok(e),
+            Reading::Other(_, e) => Ok(e.take()),
         }
     }
 }
@@ -72,11 +80,11 @@ pub fn chained(
 
 /// An expression with operators behind it.
 fn linked(alloc: Global, first: Reading, links: Vec<(BinOp, Expr)>) -> Result<Reading, AllocError>
-    ensures { IfOk result (λ x. reading x ≡ other (at_of (reading first)) (node (at_of (reading first)) (chain (tree_of (reading first)) (pure.links (map link links.items))))) }
+    ensures { IfOk result (λ x. reading x ≡ pure_parts.other (at_of (reading first)) (node (at_of (reading first)) (chain (tree_of (reading first)) (pure.links (map link links.items))))) }
 {
     let at = first.at();
     let operand = first.into_expr(alloc)?;
-    Ok(Reading::Other(at, make_chain(alloc, at, operand, links)?))
+    Ok(other(at, make_chain(alloc, at, operand, links)?))
 }
 
 /// A name with operators behind it.
@@ -95,7 +103,7 @@ fn related(
     let mut links = links;
     match links.pop() {
         None => Ok(Reading::Name(name, at)),
-        Some((_, set)) => Ok(Reading::Member(name, at, set)),
+        Some((_, set)) => Ok(Reading::Member(name, at, Held::new(set))),
     }
 }
 
@@ -115,7 +123,7 @@ pub fn accessed(alloc: Global, x: Reading, indices: Vec<Expr>) -> Result<Reading
 {
     let at = x.at();
     let of = x.into_expr(alloc)?;
-    Ok(Reading::Other(at, make_access(alloc, at, of, indices)?))
+    Ok(other(at, make_access(alloc, at, of, indices)?))
 }
 
 /// An annotation keeps a name from being a generator's.
@@ -126,5 +134,5 @@ pub fn unless_annotated(alloc: Global, annotated: bool, x: Reading) -> Result<Re
         return Ok(x);
     }
     let at = x.at();
-    Ok(Reading::Other(at, x.into_expr(alloc)?))
+    Ok(other(at, x.into_expr(alloc)?))
 }

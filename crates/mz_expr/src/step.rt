@@ -1,6 +1,6 @@
 // Single tokens and separators.
 
-ghost use Rattle.std.specs.Prelude.{◌≡◌, ◌<◌, ◌≤◌, OnOk, length, Some};
+ghost use Rattle.std.specs.Prelude.{◌≡◌, ◌<◌, OnOk, length, Some};
 ghost use Rattle.mz_cursor.specs.Tokens.{tok_at};
 ghost use Rattle.mz_cursor.specs.Promise.{Gives};
 ghost use Rattle.mz_grammar.specs.Tests.{closes, is_left_out, ident_of, middle_of, tail_of, ends_row, begins_expression, begins_base};

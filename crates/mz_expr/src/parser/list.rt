@@ -1,23 +1,21 @@
 // Arrays, sets, rows and the pieces of texts.
 
-ghost use Rattle.std.specs.Prelude.{◌≡◌, ℕ, suc, ◌≤◌, ◌<◌, ◌+◌, length, OnOk, map, List, [], ◌∷◌, ◌++◌, Some, None, if◌then◌else◌};
-ghost use Rattle.std.specs.Option.{option_map};
+ghost use Rattle.std.specs.Prelude.{◌≡◌, ◌≤◌, ◌<◌, length, OnOk, map, [], ◌∷◌, ◌++◌, Ok};
 ghost use Rattle.mz_tree.specs.Tree as pure;
-ghost use Rattle.mz_tree.specs.Views.{tree, tree_row, link, branch, part, generator, let_of, declaration, written, based};
-ghost use Rattle.std.specs.Prelude.{Ok};
+ghost use Rattle.mz_tree.specs.Views.{tree, tree_row, part};
 ghost use Rattle.mz_cursor.specs.Rules.{syntax};
 ghost use Rattle.mz_cursor.specs.Tokens.{tok_at, behind};
 ghost use Rattle.mz_grammar.specs.Tests.{tail_of};
 ghost use Rattle.mz_cursor.specs.Promise.{Gives};
 ghost use Rattle.mz_cursor.specs.Reading.{mapped, with_front, listed, on, stuck};
-ghost use Rattle.mz_grammar.specs.Model.{rule};
 ghost use Rattle.mz_grammar.specs.Parts as parts;
-ghost use Rattle.mz_grammar.specs.Reading.{reads, head_at, head_word_at, head_symbol_at, parenthesised_at, let_at, called_at, guarded_at, waited_at, generators_at, with_branches, separator_at, let_separator_at, dimensions_at};
-ghost use Rattle.mz_expr.specs.Views.{reading, argument};
+ghost use Rattle.mz_grammar.specs.Reading.{reads, separator_at};
+ghost use Rattle.mz_expr.specs.Descent.{Descends};
 
+use crate::held::Held;
 use crate::make::{plain, shown};
-use crate::parser::comprehension::generators;
-use crate::parser::expression::expr;
+use crate::parser::descent::{Descent, Entry};
+use crate::reading::Reading;
 use crate::step::{closes, ends_row, middle_of, separator, tail_of};
 use mz_base::{Span, Stop};
 use mz_cursor::{Cursor, is_sym};
@@ -26,30 +24,219 @@ use mz_lexer::Symbol;
 use mz_tree::{Expr, TextPart, make_array, make_array_comp, make_set, make_set_comp};
 use std::alloc::Global;
 
-/// The rest of a text behind pieces that were read: expressions and pieces up to its last one.
-#[cycle(parser)]
-#[tactic(auto, using(mz_grammar::proofs::ListEquations::text_rest_reads, mz_cursor::proofs::Steps::front_push, std::proofs::lemmas::List::map_push, mz_cursor::proofs::Steps::nothing_behind, mz_cursor::proofs::Steps::front_front))]
-pub fn text_rest(
-    alloc: Global,
-    cur: &mut Cursor<'_>,
-    before: Vec<TextPart>,
-) -> Result<Vec<TextPart>, Stop>
-    ensures reads { Gives (λ v. map part v.items) cur.new.end cur.new.rest.now result (with_front (map part before.items) (reads parts.text_rest cur.old.room cur.old.rest.now)) }
-    ensures room { OnOk result (cur.new.room ≡ cur.old.room) }
-    ensures end { cur.new.end ≡ cur.old.end }
-    ensures shorter { OnOk result (length cur.new.rest.now < length cur.old.rest.now) }
-{
-    let mut all = before;
-    loop {
-        let e = expr(alloc, cur)?;
-        all.push(shown(e))?;
-        match middle_of(cur) {
-            None => return last_piece(cur, all),
-            Some(piece) => {
-                cur.skip();
-                all.push(plain(piece))?;
+impl<F: Fn(Global, &mut Cursor<'_>, Entry) -> Result<Reading, Stop>> Descent<F> {
+    /// The rest of a text behind pieces that were read: expressions and pieces up to its last one.
+    #[tactic(auto, using(mz_grammar::proofs::ListEquations::text_rest_reads, mz_cursor::proofs::Steps::front_push, std::proofs::lemmas::List::map_push, mz_cursor::proofs::Steps::nothing_behind, mz_cursor::proofs::Steps::front_front))]
+    pub fn text_rest(
+        &self,
+        cur: &mut Cursor<'_>,
+        before: Vec<TextPart>,
+    ) -> Result<Vec<TextPart>, Stop>
+        requires calls { Descends self.now.room self.now.entry (F.pre self.now.reader) (F.post self.now.reader) }
+        requires below { cur.old.room < self.now.room }
+        ensures reads { Gives (λ v. map part v.items) cur.new.end cur.new.rest.now result (with_front (map part before.items) (reads parts.text_rest cur.old.room cur.old.rest.now)) }
+        ensures room { OnOk result (cur.new.room ≡ cur.old.room) }
+        ensures end { cur.new.end ≡ cur.old.end }
+        ensures shorter { OnOk result (length cur.new.rest.now < length cur.old.rest.now) }
+    {
+        let mut all = before;
+        loop {
+            let e = self.expr(cur)?;
+            all.push(shown(e))?;
+            match middle_of(cur) {
+                None => return last_piece(cur, all),
+                Some(piece) => {
+                    cur.skip();
+                    all.push(plain(piece))?;
+                }
             }
         }
+    }
+
+    /// Elements up to the closing token, behind those that were read.
+    #[tactic(auto, using(mz_grammar::proofs::Equations::elements_reads, mz_cursor::proofs::Steps::front_push, std::proofs::lemmas::List::map_push, mz_cursor::proofs::Steps::nothing_behind))]
+    fn elements(
+        &self,
+        cur: &mut Cursor<'_>,
+        c: Closing,
+        before: Vec<Expr>,
+    ) -> Result<Vec<Expr>, Stop>
+        requires calls { Descends self.now.room self.now.entry (F.pre self.now.reader) (F.post self.now.reader) }
+        requires below { cur.old.room < self.now.room }
+        ensures reads { Gives (λ v. map tree v.items) cur.new.end cur.new.rest.now result (with_front (map tree before.items) (reads (parts.elements c) cur.old.room cur.old.rest.now)) }
+        ensures room { OnOk result (cur.new.room ≡ cur.old.room) }
+        ensures end { cur.new.end ≡ cur.old.end }
+        ensures shorter { OnOk result (length cur.new.rest.now < length cur.old.rest.now) }
+    {
+        let mut all = before;
+        while !closes(c, cur.tok()) {
+            let e = self.expr(cur)?;
+            all.push(e)?;
+            if !separator(cur, c)? {
+                return Ok(all);
+            }
+        }
+        cur.skip();
+        Ok(all)
+    }
+
+    /// An element that was read, and those behind it up to the closing token.
+    #[tactic(auto, using(mz_cursor::proofs::Steps::front_push, std::proofs::lemmas::List::map_push, mz_cursor::proofs::Steps::nothing_behind))]
+    fn elements_behind(&self, cur: &mut Cursor<'_>, c: Closing, e: Expr) -> Result<Vec<Expr>, Stop>
+        requires calls { Descends self.now.room self.now.entry (F.pre self.now.reader) (F.post self.now.reader) }
+        requires below { cur.old.room < self.now.room }
+        ensures reads { Gives (λ v. map tree v.items) cur.new.end cur.new.rest.now result (listed (separator_at c) (reads (parts.elements c) cur.old.room) (tree e) cur.old.rest.now) }
+        ensures room { OnOk result (cur.new.room ≡ cur.old.room) }
+        ensures end { cur.new.end ≡ cur.old.end }
+        ensures shorter { OnOk result (length cur.new.rest.now < length cur.old.rest.now) }
+    {
+        let mut all = Vec::new(self.alloc);
+        all.push(e)?;
+        if separator(cur, c)? {
+            self.elements(cur, c, all)
+        } else {
+            Ok(all)
+        }
+    }
+
+    /// What stands in the brackets of an array, and the closing one.
+    #[tactic(auto, using(mz_grammar::proofs::ListEquations::array_body_reads))]
+    pub fn array_body(&self, cur: &mut Cursor<'_>, at: Span) -> Result<Expr, Stop>
+        requires calls { Descends self.now.room self.now.entry (F.pre self.now.reader) (F.post self.now.reader) }
+        requires below { cur.old.room < self.now.room }
+        ensures reads { Gives tree cur.new.end cur.new.rest.now result (mapped (λ f. pure.node at f) (reads parts.array_body cur.old.room cur.old.rest.now)) }
+        ensures room { OnOk result (cur.new.room ≡ cur.old.room) }
+        ensures end { cur.new.end ≡ cur.old.end }
+        ensures shorter { OnOk result (length cur.new.rest.now < length cur.old.rest.now) }
+    {
+        if is_sym(Symbol::SRBrack, cur.tok()) {
+            cur.skip();
+            return Ok(make_array(at, Vec::new(self.alloc)));
+        }
+        let e = Held::new(self.expr(cur)?);
+        if is_sym(Symbol::SBar, cur.tok()) {
+            cur.skip();
+            let all = self.generators(cur, Closing::Bracket)?;
+            return Ok(make_array_comp(self.alloc, at, e.take(), all)?);
+        }
+        let all = self.elements_behind(cur, Closing::Elements, e.take())?;
+        Ok(make_array(at, all))
+    }
+
+    /// What stands in the braces of a set, and the closing one.
+    #[tactic(auto, using(mz_grammar::proofs::ListEquations::set_body_reads))]
+    pub fn set_body(&self, cur: &mut Cursor<'_>, at: Span) -> Result<Expr, Stop>
+        requires calls { Descends self.now.room self.now.entry (F.pre self.now.reader) (F.post self.now.reader) }
+        requires below { cur.old.room < self.now.room }
+        ensures reads { Gives tree cur.new.end cur.new.rest.now result (mapped (λ f. pure.node at f) (reads parts.set_body cur.old.room cur.old.rest.now)) }
+        ensures room { OnOk result (cur.new.room ≡ cur.old.room) }
+        ensures end { cur.new.end ≡ cur.old.end }
+        ensures shorter { OnOk result (length cur.new.rest.now < length cur.old.rest.now) }
+    {
+        if is_sym(Symbol::SRBrace, cur.tok()) {
+            cur.skip();
+            return Ok(make_set(at, Vec::new(self.alloc)));
+        }
+        let e = Held::new(self.expr(cur)?);
+        if is_sym(Symbol::SBar, cur.tok()) {
+            cur.skip();
+            let all = self.generators(cur, Closing::Brace)?;
+            return Ok(make_set_comp(self.alloc, at, e.take(), all)?);
+        }
+        let all = self.elements_behind(cur, Closing::Brace, e.take())?;
+        Ok(make_set(at, all))
+    }
+
+    /// What stands between `[|` and `|]`, and the latter.
+    #[tactic(auto, using(mz_grammar::proofs::ListEquations::rows_body_reads, mz_cursor::proofs::Steps::front_push, std::proofs::lemmas::List::map_push, mz_cursor::proofs::Steps::nothing_behind))]
+    pub fn rows_body(&self, cur: &mut Cursor<'_>) -> Result<Vec<Vec<Expr>>, Stop>
+        requires calls { Descends self.now.room self.now.entry (F.pre self.now.reader) (F.post self.now.reader) }
+        requires below { cur.old.room < self.now.room }
+        ensures reads { Gives (λ v. map tree_row v.items) cur.new.end cur.new.rest.now result (reads parts.rows_body cur.old.room cur.old.rest.now) }
+        ensures room { OnOk result (cur.new.room ≡ cur.old.room) }
+        ensures end { cur.new.end ≡ cur.old.end }
+        ensures shorter { OnOk result (length cur.new.rest.now < length cur.old.rest.now) }
+    {
+        let mut all = Vec::new(self.alloc);
+        if is_sym(Symbol::SRRows, cur.tok()) {
+            cur.skip();
+            return Ok(all);
+        }
+        if is_sym(Symbol::SBar, cur.tok()) {
+            return Err(cur.left_out());
+        }
+        let line = self.row(cur)?;
+        all.push(line)?;
+        self.more_rows(cur, all)
+    }
+
+    /// Rows, each behind a `|`, up to the `|]`, behind those that were read.
+    #[tactic(auto, using(mz_grammar::proofs::ListEquations::more_rows_reads, mz_cursor::proofs::Steps::front_push, std::proofs::lemmas::List::map_push, mz_cursor::proofs::Steps::nothing_behind))]
+    fn more_rows(
+        &self,
+        cur: &mut Cursor<'_>,
+        before: Vec<Vec<Expr>>,
+    ) -> Result<Vec<Vec<Expr>>, Stop>
+        requires calls { Descends self.now.room self.now.entry (F.pre self.now.reader) (F.post self.now.reader) }
+        requires below { cur.old.room < self.now.room }
+        ensures reads { Gives (λ v. map tree_row v.items) cur.new.end cur.new.rest.now result (with_front (map tree_row before.items) (reads parts.more_rows cur.old.room cur.old.rest.now)) }
+        ensures room { OnOk result (cur.new.room ≡ cur.old.room) }
+        ensures end { cur.new.end ≡ cur.old.end }
+        ensures shorter { OnOk result (length cur.new.rest.now < length cur.old.rest.now) }
+    {
+        let mut all = before;
+        while !is_sym(Symbol::SRRows, cur.tok()) {
+            if !is_sym(Symbol::SBar, cur.tok()) {
+                return Err(cur.unfit());
+            }
+            cur.skip();
+            if is_sym(Symbol::SRRows, cur.tok()) {
+                cur.skip();
+                return Ok(all);
+            }
+            let line = self.row(cur)?;
+            all.push(line)?;
+        }
+        cur.skip();
+        Ok(all)
+    }
+
+    /// A row.
+    #[tactic(auto, using(mz_grammar::proofs::ListEquations::row_reads, mz_cursor::proofs::Steps::front_push, std::proofs::lemmas::List::map_push, mz_cursor::proofs::Steps::nothing_behind))]
+    fn row(&self, cur: &mut Cursor<'_>) -> Result<Vec<Expr>, Stop>
+        requires calls { Descends self.now.room self.now.entry (F.pre self.now.reader) (F.post self.now.reader) }
+        requires below { cur.old.room < self.now.room }
+        ensures reads { Gives (λ v. map tree v.items) cur.new.end cur.new.rest.now result (reads parts.row cur.old.room cur.old.rest.now) }
+        ensures room { OnOk result (cur.new.room ≡ cur.old.room) }
+        ensures end { cur.new.end ≡ cur.old.end }
+        ensures shorter { OnOk result (length cur.new.rest.now < length cur.old.rest.now) }
+    {
+        let mut all = Vec::new(self.alloc);
+        let e = self.expr(cur)?;
+        all.push(e)?;
+        self.cells(cur, all)
+    }
+
+    /// The elements of a row, each behind a comma, behind those that were read.
+    #[tactic(auto, using(mz_grammar::proofs::ListEquations::cells_reads, mz_cursor::proofs::Steps::front_push, std::proofs::lemmas::List::map_push, mz_cursor::proofs::Steps::nothing_behind))]
+    fn cells(&self, cur: &mut Cursor<'_>, before: Vec<Expr>) -> Result<Vec<Expr>, Stop>
+        requires calls { Descends self.now.room self.now.entry (F.pre self.now.reader) (F.post self.now.reader) }
+        requires below { cur.old.room < self.now.room }
+        ensures reads { Gives (λ v. map tree v.items) cur.new.end cur.new.rest.now result (with_front (map tree before.items) (reads parts.cells cur.old.room cur.old.rest.now)) }
+        ensures room { OnOk result (cur.new.room ≡ cur.old.room) }
+        ensures end { cur.new.end ≡ cur.old.end }
+        ensures shorter { OnOk result (length cur.new.rest.now ≤ length cur.old.rest.now) }
+    {
+        let mut all = before;
+        while is_sym(Symbol::SComma, cur.tok()) {
+            cur.skip();
+            if ends_row(cur) {
+                return Ok(all);
+            }
+            let e = self.expr(cur)?;
+            all.push(e)?;
+        }
+        Ok(all)
     }
 }
 
@@ -70,187 +257,4 @@ fn last_piece(cur: &mut Cursor<'_>, before: Vec<TextPart>) -> Result<Vec<TextPar
             Ok(all)
         }
     }
-}
-
-/// Elements up to the closing token, behind those that were read.
-#[cycle(parser)]
-#[tactic(auto, using(mz_grammar::proofs::Equations::elements_reads, mz_cursor::proofs::Steps::front_push, std::proofs::lemmas::List::map_push, mz_cursor::proofs::Steps::nothing_behind))]
-fn elements(
-    alloc: Global,
-    cur: &mut Cursor<'_>,
-    c: Closing,
-    before: Vec<Expr>,
-) -> Result<Vec<Expr>, Stop>
-    ensures reads { Gives (λ v. map tree v.items) cur.new.end cur.new.rest.now result (with_front (map tree before.items) (reads (parts.elements c) cur.old.room cur.old.rest.now)) }
-    ensures room { OnOk result (cur.new.room ≡ cur.old.room) }
-    ensures end { cur.new.end ≡ cur.old.end }
-    ensures shorter { OnOk result (length cur.new.rest.now < length cur.old.rest.now) }
-{
-    let mut all = before;
-    while !closes(c, cur.tok()) {
-        let e = expr(alloc, cur)?;
-        all.push(e)?;
-        if !separator(cur, c)? {
-            return Ok(all);
-        }
-    }
-    cur.skip();
-    Ok(all)
-}
-
-/// An element that was read, and those behind it up to the closing token.
-#[cycle(parser)]
-#[tactic(auto, using(mz_cursor::proofs::Steps::front_push, std::proofs::lemmas::List::map_push, mz_cursor::proofs::Steps::nothing_behind))]
-fn elements_behind(
-    alloc: Global,
-    cur: &mut Cursor<'_>,
-    c: Closing,
-    e: Expr,
-) -> Result<Vec<Expr>, Stop>
-    ensures reads { Gives (λ v. map tree v.items) cur.new.end cur.new.rest.now result (listed (separator_at c) (reads (parts.elements c) cur.old.room) (tree e) cur.old.rest.now) }
-    ensures room { OnOk result (cur.new.room ≡ cur.old.room) }
-    ensures end { cur.new.end ≡ cur.old.end }
-    ensures shorter { OnOk result (length cur.new.rest.now < length cur.old.rest.now) }
-{
-    let mut all = Vec::new(alloc);
-    all.push(e)?;
-    if separator(cur, c)? {
-        elements(alloc, cur, c, all)
-    } else {
-        Ok(all)
-    }
-}
-
-/// What stands in the brackets of an array, and the closing one.
-#[cycle(parser)]
-#[tactic(auto, using(mz_grammar::proofs::ListEquations::array_body_reads))]
-pub fn array_body(alloc: Global, cur: &mut Cursor<'_>, at: Span) -> Result<Expr, Stop>
-    ensures reads { Gives tree cur.new.end cur.new.rest.now result (mapped (λ f. pure.node at f) (reads parts.array_body cur.old.room cur.old.rest.now)) }
-    ensures room { OnOk result (cur.new.room ≡ cur.old.room) }
-    ensures end { cur.new.end ≡ cur.old.end }
-    ensures shorter { OnOk result (length cur.new.rest.now < length cur.old.rest.now) }
-{
-    if is_sym(Symbol::SRBrack, cur.tok()) {
-        cur.skip();
-        return Ok(make_array(at, Vec::new(alloc)));
-    }
-    let e = expr(alloc, cur)?;
-    if is_sym(Symbol::SBar, cur.tok()) {
-        cur.skip();
-        let all = generators(alloc, cur, Closing::Bracket)?;
-        return Ok(make_array_comp(alloc, at, e, all)?);
-    }
-    let all = elements_behind(alloc, cur, Closing::Elements, e)?;
-    Ok(make_array(at, all))
-}
-
-/// What stands in the braces of a set, and the closing one.
-#[cycle(parser)]
-#[tactic(auto, using(mz_grammar::proofs::ListEquations::set_body_reads))]
-pub fn set_body(alloc: Global, cur: &mut Cursor<'_>, at: Span) -> Result<Expr, Stop>
-    ensures reads { Gives tree cur.new.end cur.new.rest.now result (mapped (λ f. pure.node at f) (reads parts.set_body cur.old.room cur.old.rest.now)) }
-    ensures room { OnOk result (cur.new.room ≡ cur.old.room) }
-    ensures end { cur.new.end ≡ cur.old.end }
-    ensures shorter { OnOk result (length cur.new.rest.now < length cur.old.rest.now) }
-{
-    if is_sym(Symbol::SRBrace, cur.tok()) {
-        cur.skip();
-        return Ok(make_set(at, Vec::new(alloc)));
-    }
-    let e = expr(alloc, cur)?;
-    if is_sym(Symbol::SBar, cur.tok()) {
-        cur.skip();
-        let all = generators(alloc, cur, Closing::Brace)?;
-        return Ok(make_set_comp(alloc, at, e, all)?);
-    }
-    let all = elements_behind(alloc, cur, Closing::Brace, e)?;
-    Ok(make_set(at, all))
-}
-
-/// What stands between `[|` and `|]`, and the latter.
-#[cycle(parser)]
-#[tactic(auto, using(mz_grammar::proofs::ListEquations::rows_body_reads, mz_cursor::proofs::Steps::front_push, std::proofs::lemmas::List::map_push, mz_cursor::proofs::Steps::nothing_behind))]
-pub fn rows_body(alloc: Global, cur: &mut Cursor<'_>) -> Result<Vec<Vec<Expr>>, Stop>
-    ensures reads { Gives (λ v. map tree_row v.items) cur.new.end cur.new.rest.now result (reads parts.rows_body cur.old.room cur.old.rest.now) }
-    ensures room { OnOk result (cur.new.room ≡ cur.old.room) }
-    ensures end { cur.new.end ≡ cur.old.end }
-    ensures shorter { OnOk result (length cur.new.rest.now < length cur.old.rest.now) }
-{
-    let mut all = Vec::new(alloc);
-    if is_sym(Symbol::SRRows, cur.tok()) {
-        cur.skip();
-        return Ok(all);
-    }
-    if is_sym(Symbol::SBar, cur.tok()) {
-        return Err(cur.left_out());
-    }
-    let line = row(alloc, cur)?;
-    all.push(line)?;
-    more_rows(alloc, cur, all)
-}
-
-/// Rows, each behind a `|`, up to the `|]`, behind those that were read.
-#[cycle(parser)]
-#[tactic(auto, using(mz_grammar::proofs::ListEquations::more_rows_reads, mz_cursor::proofs::Steps::front_push, std::proofs::lemmas::List::map_push, mz_cursor::proofs::Steps::nothing_behind))]
-fn more_rows(
-    alloc: Global,
-    cur: &mut Cursor<'_>,
-    before: Vec<Vec<Expr>>,
-) -> Result<Vec<Vec<Expr>>, Stop>
-    ensures reads { Gives (λ v. map tree_row v.items) cur.new.end cur.new.rest.now result (with_front (map tree_row before.items) (reads parts.more_rows cur.old.room cur.old.rest.now)) }
-    ensures room { OnOk result (cur.new.room ≡ cur.old.room) }
-    ensures end { cur.new.end ≡ cur.old.end }
-    ensures shorter { OnOk result (length cur.new.rest.now < length cur.old.rest.now) }
-{
-    let mut all = before;
-    while !is_sym(Symbol::SRRows, cur.tok()) {
-        if !is_sym(Symbol::SBar, cur.tok()) {
-            return Err(cur.unfit());
-        }
-        cur.skip();
-        if is_sym(Symbol::SRRows, cur.tok()) {
-            cur.skip();
-            return Ok(all);
-        }
-        let line = row(alloc, cur)?;
-        all.push(line)?;
-    }
-    cur.skip();
-    Ok(all)
-}
-
-/// A row.
-#[cycle(parser)]
-#[tactic(auto, using(mz_grammar::proofs::ListEquations::row_reads, mz_cursor::proofs::Steps::front_push, std::proofs::lemmas::List::map_push, mz_cursor::proofs::Steps::nothing_behind))]
-fn row(alloc: Global, cur: &mut Cursor<'_>) -> Result<Vec<Expr>, Stop>
-    ensures reads { Gives (λ v. map tree v.items) cur.new.end cur.new.rest.now result (reads parts.row cur.old.room cur.old.rest.now) }
-    ensures room { OnOk result (cur.new.room ≡ cur.old.room) }
-    ensures end { cur.new.end ≡ cur.old.end }
-    ensures shorter { OnOk result (length cur.new.rest.now < length cur.old.rest.now) }
-{
-    let mut all = Vec::new(alloc);
-    let e = expr(alloc, cur)?;
-    all.push(e)?;
-    cells(alloc, cur, all)
-}
-
-/// The elements of a row, each behind a comma, behind those that were read.
-#[cycle(parser)]
-#[tactic(auto, using(mz_grammar::proofs::ListEquations::cells_reads, mz_cursor::proofs::Steps::front_push, std::proofs::lemmas::List::map_push, mz_cursor::proofs::Steps::nothing_behind))]
-fn cells(alloc: Global, cur: &mut Cursor<'_>, before: Vec<Expr>) -> Result<Vec<Expr>, Stop>
-    ensures reads { Gives (λ v. map tree v.items) cur.new.end cur.new.rest.now result (with_front (map tree before.items) (reads parts.cells cur.old.room cur.old.rest.now)) }
-    ensures room { OnOk result (cur.new.room ≡ cur.old.room) }
-    ensures end { cur.new.end ≡ cur.old.end }
-    ensures shorter { OnOk result (length cur.new.rest.now ≤ length cur.old.rest.now) }
-{
-    let mut all = before;
-    while is_sym(Symbol::SComma, cur.tok()) {
-        cur.skip();
-        if ends_row(cur) {
-            return Ok(all);
-        }
-        let e = expr(alloc, cur)?;
-        all.push(e)?;
-    }
-    Ok(all)
 }

@@ -20,8 +20,8 @@ pub loop-arg-preserved-in-Bound : goal.loop-arg-preserved-in-Bound
 loop-arg-preserved-in-Bound c =
     taken_of-bound c.loop-arg.yielded c.in-Some.arg c.loop-arg.fit c.loop-arg.all.items c.push-in-Bound.new.self.items
     c.loop-arg.names.items c.in_ok-names_of-in-Bound.names_of.items c.new-names-in-Bound.result.items
-    c.in_ok-name.field-0 c.in-Bound.more.items c.in-Bound.set c.in-Bound.cond c.make_generator.result
-    c.in_ok-name.ensures (ap role c.in-Bound.is) c.in_ok-names_of-in-Bound.ensures c.make_generator.ensures
+    c.in_ok-name.field-0 c.in-Bound.more.items c.in-Bound.set c.in-Bound.cond c.take.result c.taken.result c.make_generator.result
+    c.in_ok-name.ensures (ap role c.in-Bound.is) c.in_ok-names_of-in-Bound.ensures c.take.ensures c.taken.ensures c.make_generator.ensures
     c.in_ok-push-in-Bound.ensures.items c.new-names-in-Bound.ensures.items c.loop-arg.invariant
 
 pub loop-arg-preserved : goal.loop-arg-preserved

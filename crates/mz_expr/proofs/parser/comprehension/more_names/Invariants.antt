@@ -1,4 +1,4 @@
-use Rattle.std.proofs.Common.{◌≡◌, ℕ, ◌≤◌, length}
+use Rattle.std.proofs.Common.{◌≡◌, ◌≤◌, length}
 use Rattle.mz_cursor.specs.Reading.{with_front}
 use Rattle.mz_grammar.specs.Parts as parts
 use Rattle.mz_grammar.specs.Reading.{reads}

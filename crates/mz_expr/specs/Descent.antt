@@ -1,0 +1,49 @@
+-- Where the descent begins, and how far down a call may still go.
+use Rattle.std.specs.Prelude.{◌≡◌, ℕ, ◌+◌, ◌*◌, ◌<◌, length, Result, OnOk}
+use Rattle.std.specs.declared.alloc.Global.{Global}
+use denote.Ref.{MutBor}
+use Rattle.mz_base.specs.declared.stop.Stop.{Stop}
+use Rattle.mz_cursor.specs.declared.cursor.Cursor.{Cursor}
+use Rattle.mz_cursor.specs.Promise.{Gives}
+use Rattle.mz_cursor.specs.Reading.{Reader, on}
+use Rattle.mz_grammar.specs.declared.level.Level.{Level}
+use Rattle.mz_grammar.specs.Operators.{tighter_level}
+use Rattle.mz_grammar.specs.Parts as parts
+use Rattle.mz_grammar.specs.Reading.{reads, operand_rank}
+use Rattle.mz_expr.specs.declared.parser.descent.Entry.{Entry}
+use Rattle.mz_expr.specs.declared.parser.descent.Entry.TheVariants as entry_is
+use Rattle.mz_expr.specs.declared.reading.Reading.{Reading}
+use Rattle.mz_expr.specs.Views.{reading}
+
+-- what is read from an entry on
+abbrev pub entry_at : Entry → ℕ → Reader parts.Reading
+entry_at (entry_is.Level l) room ts = reads (parts.level l) room ts
+entry_at entry_is.Unit room ts = reads parts.unit room ts
+entry_at entry_is.Head room ts = reads parts.head room ts
+
+-- where an operand of this level begins
+abbrev pub tighter : Level → Entry
+tighter l = on (tighter_level l) entry_is.Unit entry_is.Level
+
+-- At one room, calls go down from level to level, to units and to heads.
+abbrev pub height : Entry → ℕ
+height (entry_is.Level l) = operand_rank l
+height entry_is.Unit = 1
+height entry_is.Head = 0
+
+-- how far down calls may go, where so many tokens more may be opened: each that is opened counts more than all levels
+abbrev pub extent : ℕ → Entry → ℕ
+extent room e = 32 * room + height e
+
+-- what stands there was read at the front of old
+pub record HasRead (e : Entry) (old new : Cursor) (result : Result Reading Stop) : Type 0 where
+  pub reads : Gives reading new.end new.rest.now result (entry_at e old.room old.rest.now)
+  pub room : OnOk result (new.room ≡ old.room)
+  pub end : new.end ≡ old.end
+  pub shorter : OnOk result (length new.rest.now < length old.rest.now)
+
+-- A call that goes further down than this room and entry may be made, and reads what stands there.
+pub record Descends (room : ℕ) (entry : Entry) (pre : Global → MutBor Cursor → Entry → Type 0)
+    (post : Global → MutBor Cursor → Entry → Result Reading Stop → MutBor Cursor → Type 0) : Type 0 where
+  pub callable : (alloc : Global) (old : MutBor Cursor) (e : Entry) → extent old.now.room e < extent room entry → pre alloc old e
+  pub reads : (alloc : Global) (old new : MutBor Cursor) (e : Entry) (result : Result Reading Stop) → post alloc old e result new → HasRead e old.now new.now result

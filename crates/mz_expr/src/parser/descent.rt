@@ -1,0 +1,109 @@
+// The descent: each part of the grammar is read by a method, and what leads back to the start is passed to them as a value.
+//
+// So each method is proved by itself, and `descend` alone calls itself.
+
+ghost use Rattle.std.specs.Prelude.{◌≡◌, ◌≤◌, ◌<◌, length, OnOk};
+ghost use Rattle.mz_cursor.specs.Promise.{Gives};
+ghost use Rattle.mz_grammar.specs.Parts as parts;
+ghost use Rattle.mz_grammar.specs.Reading.{reads};
+ghost use Rattle.mz_expr.specs.Views.{reading};
+ghost use Rattle.mz_expr.specs.Descent.{Descends, extent, entry_at, tighter};
+
+use crate::operator::tighter_level;
+use crate::reading::Reading;
+use mz_base::Stop;
+use mz_cursor::Cursor;
+use mz_grammar::Level;
+use std::alloc::Global;
+
+/// Where the descent begins.
+#[derive(Clone, Copy)]
+pub enum Entry {
+    /// An expression of this level or a tighter one.
+    Level(Level),
+    /// An atom, or a prefix operator and what it applies to.
+    Unit,
+    /// What an atom or an annotation begins with.
+    Head,
+}
+
+/// Reads parts of the grammar. Its reader is called only where less is to be read: with fewer tokens that may still be
+/// opened than `room`, or with as many and further down than `entry`.
+#[derive(Clone, Copy)]
+pub struct Descent<F> {
+    pub alloc: Global,
+    pub room: u32,
+    pub entry: Entry,
+    pub reader: F,
+}
+
+/// What stands on either side of an operator of this level.
+fn tighter(l: Level) -> Entry
+    ensures { result ≡ tighter l }
+{
+    match tighter_level(l) {
+        None => Entry::Unit,
+        Some(k) => Entry::Level(k),
+    }
+}
+
+impl<F: Fn(Global, &mut Cursor<'_>, Entry) -> Result<Reading, Stop>> Descent<F> {
+    /// What is read behind a token that was opened.
+    #[tactic(auto, using(crate::proofs::Descents::below_room))]
+    pub fn inside(&self, cur: &mut Cursor<'_>, entry: Entry) -> Result<Reading, Stop>
+        requires calls { Descends self.now.room self.now.entry (F.pre self.now.reader) (F.post self.now.reader) }
+        requires below { cur.old.room < self.now.room }
+        ensures reads { Gives reading cur.new.end cur.new.rest.now result (entry_at entry cur.old.room cur.old.rest.now) }
+        ensures room { OnOk result (cur.new.room ≡ cur.old.room) }
+        ensures end { cur.new.end ≡ cur.old.end }
+        ensures shorter { OnOk result (length cur.new.rest.now < length cur.old.rest.now) }
+    {
+        (self.reader)(self.alloc, cur, entry)
+    }
+
+    /// The head of an annotation.
+    #[tactic(auto, using(crate::proofs::Descents::below_unit))]
+    pub fn apart(&self, cur: &mut Cursor<'_>) -> Result<Reading, Stop>
+        requires calls { Descends self.now.room self.now.entry (F.pre self.now.reader) (F.post self.now.reader) }
+        requires below { extent cur.old.room Entry.Unit ≤ extent self.now.room self.now.entry }
+        ensures reads { Gives reading cur.new.end cur.new.rest.now result (reads parts.head cur.old.room cur.old.rest.now) }
+        ensures room { OnOk result (cur.new.room ≡ cur.old.room) }
+        ensures end { cur.new.end ≡ cur.old.end }
+        ensures shorter { OnOk result (length cur.new.rest.now < length cur.old.rest.now) }
+    {
+        (self.reader)(self.alloc, cur, Entry::Head)
+    }
+
+    /// What stands on either side of an operator of this level.
+    #[tactic(auto, using(crate::proofs::Descents::operand_entry, crate::proofs::Descents::below_level))]
+    pub fn operand(&self, cur: &mut Cursor<'_>, l: Level) -> Result<Reading, Stop>
+        requires calls { Descends self.now.room self.now.entry (F.pre self.now.reader) (F.post self.now.reader) }
+        requires below { extent cur.old.room (Entry.Level l) ≤ extent self.now.room self.now.entry }
+        ensures reads { Gives reading cur.new.end cur.new.rest.now result (reads (parts.operand l) cur.old.room cur.old.rest.now) }
+        ensures room { OnOk result (cur.new.room ≡ cur.old.room) }
+        ensures end { cur.new.end ≡ cur.old.end }
+        ensures shorter { OnOk result (length cur.new.rest.now < length cur.old.rest.now) }
+    {
+        (self.reader)(self.alloc, cur, tighter(l))
+    }
+}
+
+/// What the descent reads from this entry on.
+pub fn descend(alloc: Global, cur: &mut Cursor<'_>, entry: Entry) -> Result<Reading, Stop>
+    ensures reads { Gives reading cur.new.end cur.new.rest.now result (entry_at entry cur.old.room cur.old.rest.now) }
+    ensures room { OnOk result (cur.new.room ≡ cur.old.room) }
+    ensures end { cur.new.end ≡ cur.old.end }
+    ensures shorter { OnOk result (length cur.new.rest.now < length cur.old.rest.now) }
+{
+    let descent = Descent {
+        alloc,
+        room: cur.room,
+        entry,
+        reader: descend,
+    };
+    match entry {
+        Entry::Level(l) => descent.level(cur, l),
+        Entry::Unit => descent.unit(cur),
+        Entry::Head => descent.head(cur),
+    }
+}
