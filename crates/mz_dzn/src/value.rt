@@ -1,11 +1,11 @@
 // Values that no list but a set's stands in.
 
-ghost use Rattle.std.specs.Prelude.{◌≡◌, ◌≤◌, ◌<◌, length, map, OnOk};
+ghost use Rattle.std.specs.Prelude.{◌≡◌, ◌≤◌, ◌<◌, length, OnOk};
 ghost use Rattle.mz_tree.specs.Data.{value};
 ghost use Rattle.mz_cursor.specs.Promise.{Gives};
 ghost use Rattle.mz_cursor.specs.Tokens.{place};
 ghost use Rattle.mz_dzn.specs.Steps.{braces_by};
-ghost use Rattle.mz_grammar.specs.Data.{reads, plain, range, set, bounds, ones, one};
+ghost use Rattle.mz_grammar.specs.Data.{reads, plain, range, set, bounds, one};
 
 use crate::list::ones;
 use crate::make::{make_absent, make_int, make_range, make_set};

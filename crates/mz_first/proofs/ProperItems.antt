@@ -8,7 +8,7 @@ use Rattle.mz_tree.specs.declared.expr.BinOp.{BinOp}
 use Rattle.mz_tree.specs.declared.expr.BinOp.TheVariants as op
 use Rattle.mz_tree.specs.declared.expr.UnOp.TheVariants as prefix
 use Rattle.mz_tree.specs.Tree as tree
-use Rattle.mz_tree.specs.Tree.{Tree, Shape, Links, Declaration, Written, Based, node, chain}
+use Rattle.mz_tree.specs.Tree.{Shape, Declaration, Written, Based, node, chain}
 use Rattle.mz_tree.specs.Items as items
 use Rattle.mz_tree.specs.Items.{ItemTree, GoalTree}
 use Rattle.fz_program.specs.Names.{Name, is_identifier, is_reserved}

@@ -7,7 +7,7 @@ use Rattle.std.proofs.lemmas.Option.{same_Some}
 use Rattle.std.proofs.lemmas.List.Elements.{Contains-push_cases}
 use Rattle.mz_base.specs.declared.fault.Span.{Span}
 use Rattle.mz_tree.specs.Tree as tree
-use Rattle.mz_tree.specs.Tree.{Shape, Declaration, node, chain}
+use Rattle.mz_tree.specs.Tree.{Declaration, node}
 use Rattle.mz_tree.specs.Items as items
 use Rattle.mz_tree.specs.Items.{ItemTree, GoalTree}
 use Rattle.mz_include.specs.Naming.{File}

@@ -1,9 +1,8 @@
 // The program of a model's items.
 
-ghost use Rattle.std.specs.Prelude.{◌≡◌, ◌≤ℤ◌, [], ◌∷◌, ◌++◌, map, IfOk, OnOk, None, string_bytes, true};
+ghost use Rattle.std.specs.Prelude.{◌≡◌, ◌≤ℤ◌, [], ◌∷◌, ◌++◌, map, IfOk, OnOk, None};
 ghost use Rattle.std.specs.List.{AllByRecursion};
 ghost use Rattle.mz_value.specs.Ranges.{IsInLimit};
-ghost use Rattle.fz_program.specs.Names.{is_identifier};
 ghost use Rattle.fz_program.specs.Flat.{row, variable, program};
 ghost use Rattle.mz_first.specs.Emission.{names, variables_of, variables, argument, rows_of, rows, row as row_of, variable as variable_of, program_of};
 ghost use Rattle.mz_first.specs.Proper.{IsProper, IsDeclaredIn, AreDeclaredIn};

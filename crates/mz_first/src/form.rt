@@ -6,7 +6,7 @@ ghost use Rattle.mz_tree.specs.Tree.{links};
 ghost use Rattle.mz_tree.specs.Views.{shape, based, written, declaration, link};
 ghost use Rattle.mz_tree.specs.Items.{goal as goal_tree, item as tree_of};
 ghost use Rattle.fz_program.specs.Names.{is_reserved};
-ghost use Rattle.mz_first.specs.Form.{within, magnitude_in, number_in, operand_in, comparison_of, only, constraint_of, compared, constraint_in, range_from, range_in, range_of, domain_of, is_free, variable_of, declared_of, place_of, goal_of, at, given};
+ghost use Rattle.mz_first.specs.Form.{within, magnitude_in, number_in, operand_in, comparison_of, only, constraint_of, compared, constraint_in, range_from, range_in, range_of, domain_of, is_free, variable_of, declared_of, goal_of, at, given};
 ghost use Rattle.mz_first.specs.Proper.{IsWithin};
 ghost use Rattle.mz_first.specs.Known.{IsShapeKnown, IsDeclarationKnown, IsItemKnown};
 ghost use Rattle.mz_first.specs.Views.{operand, item as item_of, given as given_of, pair};

@@ -1,6 +1,6 @@
 // Names, each once, in the order in which they were first declared.
 
-ghost use Rattle.std.specs.Prelude.{◌≡◌, [], IfOk, not, position, length};
+ghost use Rattle.std.specs.Prelude.{◌≡◌, [], IfOk, not, position};
 ghost use Rattle.std.specs.List.{list_any};
 ghost use Rattle.std.specs.Str.{bytes_eq};
 ghost use Rattle.mz_first.specs.Form.{with_name};

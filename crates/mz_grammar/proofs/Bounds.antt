@@ -8,7 +8,7 @@ use Rattle.mz_lexer.specs.declared.token.Symbol.TheVariants.{SComma}
 use Rattle.mz_tree.specs.declared.expr.BinOp.{BinOp}
 use Rattle.mz_tree.specs.declared.expr.BinOp.TheVariants as op
 use Rattle.mz_tree.specs.declared.item.Item.{Item}
-use Rattle.mz_tree.specs.Tree.{Name, Tree, Shape, Maybe, Generator, Let, Declaration, Written, Based, Part, node, ident, chain, links, trees, rows_of, branches as branch_list, parts, gens, lets, bases}
+use Rattle.mz_tree.specs.Tree.{Name, Tree, Generator, links, trees, rows_of, branches as branch_list, parts, gens, lets, bases}
 use Rattle.mz_tree.specs.Tree as pure
 use Rattle.mz_tree.specs.Height.{height, shape_height, maybe_height, trees_height, links_height, rows_height, branches_height, parts_height, generator_height, gens_height, let_height, lets_height, declaration_height, written_height, based_height, bases_height, most}
 use Rattle.mz_tree.specs.Items.{ItemTree, item as tree_of_item, goal_height, declarations_height, item_height, items_height}
@@ -20,7 +20,7 @@ use Rattle.mz_grammar.specs.declared.level.Level.{Level}
 use Rattle.mz_grammar.specs.declared.level.Level.TheVariants as level_is
 use Rattle.mz_grammar.specs.declared.list.Closing.{Closing}
 use Rattle.mz_grammar.specs.Parts
-use Rattle.mz_grammar.specs.Parts.{Place, Value, Reading, name, member, other, at_of, tree_of, related, chained, Argument, given, guarded, strict}
+use Rattle.mz_grammar.specs.Parts.{Place, Value, Reading, name, member, other, tree_of, related, chained, Argument, given, guarded, strict}
 use Rattle.mz_grammar.specs.Arguments.{trees_of, generators_behind, generators_of}
 use Rattle.mz_grammar.specs.Tests.{closes, is_left_out}
 use Rattle.mz_grammar.specs.Model.{Ruled, behind}

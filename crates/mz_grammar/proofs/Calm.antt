@@ -13,7 +13,7 @@ use Rattle.mz_cursor.specs.Rules.{give}
 use Rattle.mz_cursor.specs.Look.{is_sym, is_word, symbol_number, keyword_number}
 use Rattle.mz_cursor.specs.Reading.{on, step}
 use Rattle.mz_cursor.proofs.Viable as ways
-use Rattle.mz_cursor.proofs.Viable.{never, before_calm, last, tokens, maybe}
+use Rattle.mz_cursor.proofs.Viable.{never, before_calm, tokens}
 use Rattle.mz_tree.specs.Tree.{Name}
 use Rattle.mz_grammar.specs.declared.level.Level.{Level}
 use Rattle.mz_grammar.specs.declared.list.Turn.{Turn}

@@ -14,7 +14,7 @@ use Rattle.mz_cursor.specs.Look.{is_sym, symbol_number}
 use Rattle.mz_cursor.specs.Reading.{step, read_by}
 use Rattle.mz_cursor.proofs.Answering
 use Rattle.mz_cursor.proofs.Viable as ways
-use Rattle.mz_cursor.proofs.Viable.{never, last, tokens, maybe, done_by, goes_in, goes_out, MayTake, Goes, finished}
+use Rattle.mz_cursor.proofs.Viable.{never, last, tokens, maybe, done_by, goes_in, MayTake, Goes, finished}
 use Rattle.mz_grammar.specs.Tests.{ident_of, ends_row}
 use Rattle.mz_grammar.specs.Data.{Place, Value, rule, rank, width, reads, symbol, opening, file, item, datum, named, sized, index_sets, plains, rows, row, plain, range, set, bounds, ones, one, literal_of, negated_of, is_name}
 use Rattle.mz_grammar.proofs.DataFalls.{low, falls}

@@ -8,9 +8,7 @@ use Rattle.mz_cursor.specs.Reading.{step, read_by}
 use Rattle.mz_cursor.proofs.Viable.{never, last, tokens, maybe}
 use Rattle.mz_grammar.specs.declared.list.Closing.TheVariants.{Paren, Bracket}
 use Rattle.mz_grammar.specs.Parts
-use Rattle.mz_grammar.specs.Parts.{Place, Value, Reading, tree_of}
 use Rattle.mz_tree.specs.Tree.{Written, Based}
-use Rattle.mz_grammar.specs.Parts.{name, member, other}
 use Rattle.mz_grammar.specs.Tests.{begins_base}
 use Rattle.mz_grammar.specs.Model.{rule, declaration_rule, declared_rule, value_rule, type_rule, index_types_rule, element_rule, unmarked_rule, base_rule, params_rule, param_list_rule, param_rule}
 use Rattle.mz_grammar.proofs.Calm.{Takes, Fine, Done, sign, keyword, a_number, an_identifier, tested, takes_tested, steady_tested, fine_symbol, fine_opening, fine_word, fine_identifier, fine_behind, after_element, quiet_end, quiet_closing, quiet_colon}

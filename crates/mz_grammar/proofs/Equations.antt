@@ -1,33 +1,32 @@
 -- How each part of a model is read, by its rule: expressions.
-use Rattle.std.proofs.Common.{◌≡◌, ℕ, zero, suc, List, [], ◌∷◌, ◌++◌, map, refl, sym, ap, ◌∙◌, true, false, Bool, Option, Result}
-use Rattle.std.specs.Prelude.{Ok, Err, Some, None, if◌then◌else◌, ◌&&◌, ◌||◌}
+use Rattle.std.proofs.Common.{◌≡◌, ℕ, zero, suc, List, [], ◌∷◌, map, refl, ◌∙◌, true, false, Bool, Option}
+use Rattle.std.specs.Prelude.{Ok, Err, Some, None, if◌then◌else◌, ◌&&◌}
 use Rattle.mz_base.specs.declared.fault.Span.{Span}
 use Rattle.mz_lexer.specs.declared.token.Token.{Token}
 use Rattle.mz_lexer.specs.declared.token.Tok.{Tok}
 use Rattle.mz_lexer.specs.declared.token.Tok.TheVariants.{Word, Sym, Ident, Int, Text, TextHead, TextMid, TextTail}
 use Rattle.mz_lexer.specs.declared.token.Keyword.{Keyword}
-use Rattle.mz_lexer.specs.declared.token.Keyword.TheVariants.{KIn, KWhere, KThen, KElse, KElseif, KEndif, KTrue, KFalse, KIf, KLet}
+use Rattle.mz_lexer.specs.declared.token.Keyword.TheVariants.{KIn, KWhere, KIf, KLet}
 use Rattle.mz_lexer.specs.declared.token.Symbol.{Symbol}
-use Rattle.mz_lexer.specs.declared.token.Symbol.TheVariants.{SLParen, SRParen, SLBrack, SRBrack, SLBrace, SRBrace, SLRows, SRRows, SBar, SComma, SColons, SDots, SAbsent}
-use Rattle.mz_tree.specs.declared.expr.BinOp.{BinOp}
-use Rattle.mz_tree.specs.Tree.{Name, Tree, Generator, Part, Shape, Maybe, node, interp, choice, parts, branches as branch_list, unary, call, access, array, set, array_comp, set_comp, just, nothing, plain, shown, generator, trees, gens}
+use Rattle.mz_lexer.specs.declared.token.Symbol.TheVariants.{SLParen, SRParen, SLBrack, SRBrack, SLBrace, SLRows, SComma, SColons, SDots}
+use Rattle.mz_tree.specs.Tree.{Name, Tree, Maybe, node, interp, choice, parts, branches as branch_list, unary, call, plain, generator, trees}
 use Rattle.mz_cursor.specs.Tokens.{tok_at, behind, place}
 use Rattle.mz_cursor.specs.Look.{is_sym, is_word}
-use Rattle.mz_cursor.specs.Rules.{Rule, give, refuse, leave_out, look, pass, enter, leave, part, syntax, left_out}
-use Rattle.mz_cursor.specs.Reading.{Read, Reader, stuck, on, open_at, symbol_at, word_at, mapped, with_front, listed, step, ◌>>=◌}
+use Rattle.mz_cursor.specs.Rules.{give, refuse, leave_out, pass, leave, part, syntax, left_out}
+use Rattle.mz_cursor.specs.Reading.{Read, stuck, on, open_at, symbol_at, word_at, mapped, with_front, listed, step, ◌>>=◌}
 use Rattle.mz_cursor.proofs.Laws
 use Rattle.mz_cursor.proofs.Steps.{itself, grouped, then_front, same_then, same_if, same_on, same_open, step_if, step_on, pass_if, enter_if, pass_on, enter_on}
 use Rattle.mz_grammar.specs.declared.level.Level.{Level}
 use Rattle.mz_grammar.specs.declared.level.Level.TheVariants as level_is
 use Rattle.mz_grammar.specs.declared.list.Closing.{Closing}
-use Rattle.mz_grammar.specs.declared.list.Closing.TheVariants.{Paren, Bracket, Elements, Brace}
+use Rattle.mz_grammar.specs.declared.list.Closing.TheVariants.{Paren, Bracket}
 use Rattle.mz_grammar.specs.declared.list.Turn.{Turn}
 use Rattle.mz_grammar.specs.declared.list.Turn.TheVariants.{Clear}
 use Rattle.mz_grammar.specs.Operators.{prefix_of, binary_of, is_single, tighter_level}
 use Rattle.mz_grammar.specs.Parts
-use Rattle.mz_grammar.specs.Parts.{Place, Value, Reading, tree_of, chained, Argument, given, guarded, strict}
+use Rattle.mz_grammar.specs.Parts.{Place, Reading, tree_of, chained, Argument, given, guarded, strict}
 use Rattle.mz_grammar.specs.Arguments.{turn_by, waits, takes_where, trees_of, generators_of}
-use Rattle.mz_grammar.specs.Tests.{closes, is_left_out, ident_of, middle_of, tail_of, ends_row}
+use Rattle.mz_grammar.specs.Tests.{closes, is_left_out, ident_of}
 use Rattle.mz_grammar.specs.Model.{Ruled, rule, behind as behind_element, symbol, word, identifier, accessed, unless_annotated, called, generator_call, guarded_rest, head_token, head_symbol, head_word}
 use Rattle.mz_grammar.specs.Reading.{rank, width, reads, ident_at, separator_at, with_branches, generators_at, guarded_at, waited_at, called_at, parenthesised_at, let_at, head_at, head_symbol_at, head_word_at}
 use Rattle.mz_grammar.proofs.Falls.{low, falls}

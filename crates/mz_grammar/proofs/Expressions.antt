@@ -18,7 +18,7 @@ use Rattle.mz_grammar.specs.declared.level.Level.TheVariants as level_is
 use Rattle.mz_grammar.specs.declared.list.Closing.TheVariants.{Paren, Bracket}
 use Rattle.mz_grammar.specs.Operators.{prefix_of, binary_of, is_single, tighter_level}
 use Rattle.mz_grammar.specs.Parts
-use Rattle.mz_grammar.specs.Parts.{Place, Value, Reading, tree_of}
+use Rattle.mz_grammar.specs.Parts.{Reading, tree_of}
 use Rattle.mz_grammar.specs.Tests.{middle_of, tail_of}
 use Rattle.mz_grammar.specs.Model.{Ruled, rule, operand_rule, operators_rule, unit_rule, atom_rule, accesses_rule, indices_rule, more_indices_rule, annotations_rule, marks_rule, head_symbol, head_word, head_token, head_rule, text_rest_rule}
 use Rattle.mz_grammar.proofs.Calm.{Takes, Fine, After, Done, made, sign, keyword, a_number, tested, found, takes_tested, takes_found, steady_tested, steady_found, fine_opening, fine_word, fine_behind, after_element, quiet_end, plain_end, quiet_closing, quiet_endif, quiet_tail, no_operator}

@@ -1,5 +1,5 @@
 -- No part of a model begins with itself.
-use Rattle.std.proofs.Common.{◌≡◌, ℕ, zero, suc, List, [], ◌∷◌, ◌≤◌, ◌<◌, ◌+◌, arith, true, false, Bool, Option}
+use Rattle.std.proofs.Common.{ℕ, zero, suc, [], ◌<◌, arith, true, false, Bool, Option}
 use Rattle.std.specs.Prelude.{Some, None, if◌then◌else◌, ◌&&◌, ◌||◌}
 use Rattle.mz_base.specs.declared.fault.Span.{Span}
 use Rattle.mz_lexer.specs.declared.token.Tok.{Tok}
@@ -10,22 +10,19 @@ use Rattle.mz_lexer.specs.declared.token.Symbol.{Symbol}
 use Rattle.mz_lexer.specs.declared.token.Symbol.TheVariants as symbol_is
 use Rattle.mz_lexer.specs.declared.token.Symbol.TheVariants.{SLParen, SRParen, SLBrack, SRBrack, SRBrace, SRRows, SBar, SComma, SSemi, SColon, SColons, SDots, SEq}
 use Rattle.mz_tree.specs.declared.expr.BinOp.{BinOp}
-use Rattle.mz_tree.specs.Items.{declare}
-use Rattle.mz_cursor.specs.Rules.{Rule, give, refuse, leave_out, look, pass, enter, leave, part}
+use Rattle.mz_cursor.specs.Rules.{give, refuse, leave_out, pass, enter}
 use Rattle.mz_cursor.specs.Reading.{Falls, on}
 use Rattle.mz_cursor.specs.Look.{is_sym, is_word}
 use Rattle.mz_grammar.specs.declared.level.Level.{Level}
 use Rattle.mz_grammar.specs.declared.level.Level.TheVariants as level_is
-use Rattle.mz_grammar.specs.declared.list.Turn.{Turn}
-use Rattle.mz_grammar.specs.declared.list.Turn.TheVariants as turn_is
 use Rattle.mz_grammar.specs.declared.list.Closing.{Closing}
 use Rattle.mz_grammar.specs.declared.list.Closing.TheVariants.{Paren, Bracket, Elements, Brace}
-use Rattle.mz_grammar.specs.Operators.{prefix_of, binary_of, tighter_level}
+use Rattle.mz_grammar.specs.Operators.{prefix_of, binary_of}
 use Rattle.mz_grammar.specs.Parts
-use Rattle.mz_grammar.specs.Parts.{Place, Value, Reading, tree_of}
+use Rattle.mz_grammar.specs.Parts.{Place, Reading}
 use Rattle.mz_grammar.specs.Arguments.{waits, takes_where}
-use Rattle.mz_grammar.specs.Tests.{ItemKind, an_include, item_of, closes, is_left_out, ident_of, text_of, middle_of, tail_of, ends_row, begins_base, begins_type}
-use Rattle.mz_grammar.specs.Model.{Ruled, rule, behind, head_token, head_symbol, head_word, item_by, other_item, by_expression}
+use Rattle.mz_grammar.specs.Tests.{ItemKind, an_include, item_of, closes, is_left_out, ident_of, middle_of, tail_of, begins_base, begins_type}
+use Rattle.mz_grammar.specs.Model.{Ruled, rule, behind, head_token, head_symbol, head_word, item_by, by_expression}
 use Rattle.mz_grammar.specs.Reading.{rank, operand_rank, width}
 
 abbrev Down : {n : Place} → ℕ → Ruled n → Type 0

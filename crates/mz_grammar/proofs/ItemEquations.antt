@@ -1,26 +1,24 @@
 -- How each part of a model is read, by its rule: types, declarations and items.
-use Rattle.std.proofs.Common.{◌≡◌, ℕ, zero, suc, List, [], ◌∷◌, ◌++◌, map, refl, sym, ap, ◌∙◌, arith, ◌<◌, ◌-◌, true, false, Bool, Option, Result}
-use Rattle.std.specs.Prelude.{Ok, Err, Some, None, if◌then◌else◌, ◌&&◌, ◌||◌}
+use Rattle.std.proofs.Common.{◌≡◌, ℕ, zero, suc, List, [], ◌∷◌, refl, ap, ◌∙◌, arith, ◌<◌, ◌-◌, true, false, Bool, Option}
+use Rattle.std.specs.Prelude.{Ok, Err, Some, None, if◌then◌else◌, ◌||◌}
 use Rattle.mz_base.specs.declared.fault.Span.{Span}
 use Rattle.mz_lexer.specs.declared.token.Token.{Token}
-use Rattle.mz_lexer.specs.declared.token.Tok.{Tok}
 use Rattle.mz_lexer.specs.declared.token.Keyword.TheVariants.{KArray, KList, KOf, KVar, KPar, KOpt, KSet, KBool, KInt, KSatisfy, KMinimize, KMaximize}
 use Rattle.mz_lexer.specs.declared.token.Symbol.TheVariants.{SLParen, SRParen, SLBrack, SRBrack, SLBrace, SRBrace, SSemi, SColon, SEq, SConcat}
-use Rattle.mz_tree.specs.Tree.{Name, Tree, Maybe, Declaration, Written, Based, declaration, written, base_bool, base_int, base_of, no_array, just, nothing}
-use Rattle.mz_tree.specs.Items.{GoalTree, satisfy, minimize, maximize, ItemTree, declare}
+use Rattle.mz_tree.specs.Tree.{Name, Written, Based, declaration, written, base_bool, base_int, base_of, no_array, just, nothing}
+use Rattle.mz_tree.specs.Items.{satisfy, minimize, maximize, declare}
 use Rattle.mz_cursor.specs.Tokens.{tok_at, behind, place}
 use Rattle.mz_cursor.specs.Look.{is_sym, is_word}
-use Rattle.mz_cursor.specs.Rules.{Rule, give, refuse, leave_out, look, pass, enter, leave, part, syntax, left_out}
-use Rattle.mz_cursor.specs.Reading.{Read, Reader, Stuck, stuck, on, open_at, symbol_at, word_at, mapped, with_front, listed, step, ◌>>=◌}
-use Rattle.mz_cursor.proofs.Steps.{itself, same_then, same_if, same_on, same_open, step_if, step_on, pass_if, enter_if, pass_on, enter_on}
+use Rattle.mz_cursor.specs.Rules.{give, refuse, leave_out, look, enter, leave, part, syntax, left_out}
+use Rattle.mz_cursor.specs.Reading.{Read, stuck, on, open_at, symbol_at, word_at, mapped, with_front, listed, step, ◌>>=◌}
+use Rattle.mz_cursor.proofs.Steps.{itself, same_then, same_if, same_on, same_open, step_if, step_on, pass_if, enter_if, pass_on}
 use Rattle.mz_grammar.specs.declared.level.Level.TheVariants as level_is
-use Rattle.mz_grammar.specs.declared.list.Closing.{Closing}
 use Rattle.mz_grammar.specs.declared.list.Closing.TheVariants.{Paren, Bracket, Brace}
 use Rattle.mz_grammar.specs.Parts
-use Rattle.mz_grammar.specs.Parts.{Place, Value, Reading, at_of, tree_of}
+use Rattle.mz_grammar.specs.Parts.{Reading, at_of, tree_of}
 use Rattle.mz_grammar.specs.Tests.{ident_of, text_of, begins_base, begins_type, ItemKind, an_include, a_constraint, a_solve, an_output, a_predicate, a_test, a_function, an_annotation, an_enum, item_of}
-use Rattle.mz_grammar.specs.Model.{Ruled, rule, symbol, word, identifier, opening, array_type, marked, function_rule, by_expression, other_item, item_by}
-use Rattle.mz_grammar.specs.Reading.{reads, ident_at, separator_at, dimensions_at, braced_at, function_at, declared_by, by_expression_at, other_item_at, item_at}
+use Rattle.mz_grammar.specs.Model.{rule, word, opening, array_type, marked, function_rule, by_expression, other_item, item_by}
+use Rattle.mz_grammar.specs.Reading.{reads, ident_at, separator_at, dimensions_at, braced_at, function_at, by_expression_at, other_item_at, item_at}
 use Rattle.mz_grammar.proofs.Equations.{by_rule, symbol_reads, word_reads, identifier_reads, behind_reads}
 
 -- Types

@@ -17,7 +17,7 @@ use Rattle.mz_cursor.proofs.Keeps as Generic
 use Rattle.mz_grammar.specs.declared.level.Level.TheVariants as level_is
 use Rattle.mz_grammar.specs.declared.list.Closing.TheVariants.{Paren, Bracket, Brace}
 use Rattle.mz_grammar.specs.Parts
-use Rattle.mz_grammar.specs.Parts.{Place, Value, Reading, at_of, tree_of}
+use Rattle.mz_grammar.specs.Parts.{Place, Value, Reading}
 use Rattle.mz_grammar.specs.Tests.{ItemKind, an_include, a_constraint, a_solve, an_output, a_predicate, a_test, a_function, an_annotation, an_enum, item_of, ident_of, text_of, begins_base, begins_type}
 use Rattle.mz_grammar.specs.Model.{rule, declaration_rule, declared_rule, value_rule, array_type, marked, type_rule, index_types_rule, element_rule, unmarked_rule, base_rule, params_rule, param_list_rule, param_rule, function_rule, by_expression, item_by, item_rule, goal_rule, cases_rule, case_names_rule, file_rule, more_items_rule}
 use Rattle.mz_grammar.proofs.Bounds.{Bounded, Kept, reading_height, highest, right_of, level_fits, more_room, tested, found, behind_kept, chained_height, items_highest}

@@ -11,7 +11,7 @@ use Rattle.mz_cursor.specs.Reading.{on, step, read_by}
 use Rattle.mz_cursor.proofs.Viable.{never, before_calm, last, tokens, maybe, brought}
 use Rattle.mz_grammar.specs.declared.list.Closing.TheVariants.{Brace}
 use Rattle.mz_grammar.specs.Parts
-use Rattle.mz_grammar.specs.Parts.{Place, Value, Reading, tree_of}
+use Rattle.mz_grammar.specs.Parts.{Reading}
 use Rattle.mz_tree.specs.Tree.{Written}
 use Rattle.mz_grammar.specs.Parts.{name, member, other}
 use Rattle.mz_grammar.specs.Tests.{ItemKind, an_include, a_constraint, a_solve, an_output, a_predicate, a_test, a_function, an_annotation, an_enum, item_of, ident_of, text_of, begins_type}

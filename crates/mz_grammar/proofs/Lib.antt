@@ -17,3 +17,4 @@ pub mod DataFaults
 pub mod DataCalm
 pub mod DataViable
 pub mod DataExamples
+mod ModelExamples

@@ -1,27 +1,25 @@
 -- How each part of a model is read, by its rule: lists, generators, `if` and `let`.
-use Rattle.std.proofs.Common.{◌≡◌, ℕ, zero, suc, List, [], ◌∷◌, ◌++◌, map, refl, sym, ap, ◌∙◌, true, false, Bool, Option, Result}
-use Rattle.std.specs.Prelude.{Ok, Err, Some, None, if◌then◌else◌, ◌&&◌, ◌||◌}
-use Rattle.mz_base.specs.declared.fault.Span.{Span}
+use Rattle.std.proofs.Common.{◌≡◌, ℕ, List, [], ◌∷◌, refl, ◌∙◌, true, false, Bool}
+use Rattle.std.specs.Prelude.{Ok, Err, if◌then◌else◌, ◌||◌}
 use Rattle.mz_lexer.specs.declared.token.Token.{Token}
-use Rattle.mz_lexer.specs.declared.token.Tok.{Tok}
 use Rattle.mz_lexer.specs.declared.token.Keyword.TheVariants.{KIn, KWhere, KThen, KElse, KElseif, KEndif, KConstraint}
-use Rattle.mz_lexer.specs.declared.token.Symbol.TheVariants.{SRParen, SRBrack, SRBrace, SRRows, SBar, SComma, SSemi}
-use Rattle.mz_tree.specs.Tree.{Name, Tree, Generator, Part, Shape, Maybe, Let, array, set, array_comp, set_comp, just, nothing, plain, shown, generator, constrained, trees, gens}
+use Rattle.mz_lexer.specs.declared.token.Symbol.TheVariants.{SRBrack, SRBrace, SRRows, SBar, SComma, SSemi}
+use Rattle.mz_tree.specs.Tree.{Tree, Generator, Let, array, set, array_comp, set_comp, just, nothing, plain, shown, generator, constrained, trees, gens}
 use Rattle.mz_tree.specs.Tree as pure
 use Rattle.mz_cursor.specs.Tokens.{tok_at, behind, place}
 use Rattle.mz_cursor.specs.Look.{is_sym, is_word}
-use Rattle.mz_cursor.specs.Rules.{Rule, give, refuse, leave_out, look, pass, enter, leave, part, syntax, left_out}
-use Rattle.mz_cursor.specs.Reading.{Read, Reader, stuck, on, open_at, symbol_at, word_at, mapped, with_front, listed, step, ◌>>=◌}
-use Rattle.mz_cursor.proofs.Steps.{itself, then_front, listed_mapped, same_then, same_if, same_on, same_open, step_if, step_on, pass_if, enter_if, pass_on, enter_on}
+use Rattle.mz_cursor.specs.Rules.{give, refuse, leave_out, look, pass, part, syntax, left_out}
+use Rattle.mz_cursor.specs.Reading.{Read, stuck, on, word_at, mapped, with_front, listed, step, ◌>>=◌}
+use Rattle.mz_cursor.proofs.Steps.{then_front, listed_mapped, same_then, same_if, same_on, step_if, pass_if, pass_on}
 use Rattle.mz_grammar.specs.declared.level.Level.TheVariants as level_is
 use Rattle.mz_grammar.specs.declared.list.Closing.{Closing}
 use Rattle.mz_grammar.specs.declared.list.Closing.TheVariants.{Bracket, Elements, Brace}
 use Rattle.mz_grammar.specs.Parts
-use Rattle.mz_grammar.specs.Parts.{Place, Value, Reading, tree_of}
+use Rattle.mz_grammar.specs.Parts.{Place, Value, tree_of}
 use Rattle.mz_grammar.specs.Tests.{ident_of, middle_of, tail_of, ends_row}
-use Rattle.mz_grammar.specs.Model.{Ruled, rule, word, identifier, behind as behind_element}
+use Rattle.mz_grammar.specs.Model.{rule, behind as behind_element}
 use Rattle.mz_grammar.specs.Reading.{reads, ident_at, separator_at, let_separator_at, with_branches, generators_at}
-use Rattle.mz_grammar.proofs.Equations.{by_rule, symbol_reads, word_reads, identifier_reads, behind_reads}
+use Rattle.mz_grammar.proofs.Equations.{by_rule, word_reads, identifier_reads, behind_reads}
 
 pub text_rest_reads : (room : ℕ) (ts : List Token) → reads Parts.text_rest room ts ≡ (reads Parts.expr room ts >>= λ e. on (middle_of (tok_at e.1))
     (on (tail_of (tok_at e.1)) (stuck syntax e.1) (λ n. Ok (shown e.0 ∷ (plain n ∷ []), behind e.1)))

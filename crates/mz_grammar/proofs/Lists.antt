@@ -12,7 +12,6 @@ use Rattle.mz_tree.specs.Tree.{Tree, Generator}
 use Rattle.mz_grammar.specs.declared.list.Closing.{Closing}
 use Rattle.mz_grammar.specs.declared.list.Closing.TheVariants.{Paren, Bracket, Elements, Brace}
 use Rattle.mz_grammar.specs.Parts
-use Rattle.mz_grammar.specs.Parts.{Place, Value, Reading, tree_of}
 use Rattle.mz_grammar.specs.Tests.{closes, ident_of, ends_row}
 use Rattle.mz_grammar.specs.Model.{Ruled, rule, elements_rule, array_body_rule, set_body_rule, rows_body_rule, more_rows_rule, row_rule, cells_rule, generator_rule, more_names_rule, filter_rule, generators_rule, branch_rule, branches_rule, let_items_rule, let_item_rule}
 use Rattle.mz_grammar.proofs.Calm.{RowEnd, NamesEnd, Takes, Fine, Done, sign, keyword, a_number, an_identifier, closing, tested, found, takes_tested, takes_found, steady_tested, steady_found, fine_word, fine_identifier, takes_behind, fine_behind, after_element, quiet_end, quiet_closing, quiet_endif, quiet_then, quiet_number}

@@ -2,14 +2,14 @@
 use Rattle.std.specs.Prelude.{ℕ, zero, suc, Bool, true, false, List, [], ◌∷◌, map, Option, Some, None, if◌then◌else◌, ◌&&◌, ◌||◌}
 use Rattle.mz_base.specs.declared.fault.Span.{Span}
 use Rattle.mz_lexer.specs.declared.token.Tok.{Tok}
-use Rattle.mz_lexer.specs.declared.token.Tok.TheVariants.{Word, Sym, Ident, Int, Text, TextHead, TextMid, TextTail}
+use Rattle.mz_lexer.specs.declared.token.Tok.TheVariants.{Word, Sym, Ident, Int, Text, TextHead}
 use Rattle.mz_lexer.specs.declared.token.Keyword.{Keyword}
-use Rattle.mz_lexer.specs.declared.token.Keyword.TheVariants.{KAnnotation, KArray, KBool, KConstraint, KElse, KElseif, KEndif, KEnum, KFalse, KFunction, KIf, KIn, KInclude, KInt, KLet, KList, KMaximize, KMinimize, KOf, KOpt, KOutput, KPar, KPredicate, KSatisfy, KSet, KSolve, KTest, KThen, KTrue, KVar, KWhere}
+use Rattle.mz_lexer.specs.declared.token.Keyword.TheVariants.{KArray, KBool, KConstraint, KElse, KElseif, KEndif, KFalse, KIf, KIn, KInt, KLet, KList, KMaximize, KMinimize, KOf, KOpt, KPar, KSatisfy, KSet, KThen, KTrue, KVar, KWhere}
 use Rattle.mz_lexer.specs.declared.token.Symbol.{Symbol}
 use Rattle.mz_lexer.specs.declared.token.Symbol.TheVariants.{SLParen, SRParen, SLBrack, SRBrack, SLBrace, SRBrace, SLRows, SRRows, SBar, SComma, SSemi, SColon, SColons, SDots, SEq, SAbsent, SConcat}
-use Rattle.mz_tree.specs.Tree.{Name, Tree, Maybe, Generator, Let, Declaration, Written, Based, Part, Shape, node, int, bool, absent, text, interp, unary, call, gen_call, access, array, rows, set, array_comp, set_comp, choice, let_in, nothing, just, plain, shown, generator as a_generator, declared as a_declaration, constrained, declaration as make_declaration, written, base_bool, base_int, base_of, no_array, array_of, trees, rows_of, branches as branch_list, parts, gens, lets, bases}
+use Rattle.mz_tree.specs.Tree.{Name, Tree, Generator, Written, Based, node, int, bool, absent, text, interp, unary, call, gen_call, access, array, rows, set, array_comp, set_comp, choice, let_in, nothing, just, plain, shown, generator as a_generator, constrained, declaration as make_declaration, written, base_bool, base_int, base_of, no_array, array_of, trees, rows_of, branches as branch_list, parts, gens, lets, bases}
 use Rattle.mz_tree.specs.Tree as pure
-use Rattle.mz_tree.specs.Items.{GoalTree, satisfy, minimize, maximize, ItemTree, include, declare, assign, constraint, solve, output, function, enum, annotation}
+use Rattle.mz_tree.specs.Items.{satisfy, minimize, maximize, include, declare, assign, constraint, solve, output, function, enum, annotation}
 use Rattle.mz_cursor.specs.Look.{is_sym, is_word}
 use Rattle.mz_cursor.specs.Rules.{Rule, give, refuse, leave_out, look, pass, enter, leave, part}
 use Rattle.mz_cursor.specs.Reading.{on}
@@ -21,7 +21,7 @@ use Rattle.mz_grammar.specs.declared.list.Turn.{Turn}
 use Rattle.mz_grammar.specs.declared.list.Turn.TheVariants.{Clear}
 use Rattle.mz_grammar.specs.Operators.{prefix_of, binary_of, is_single, tighter_level}
 use Rattle.mz_grammar.specs.Parts
-use Rattle.mz_grammar.specs.Parts.{Reading, name, member, other, at_of, tree_of, chained, Argument, given, guarded, strict, Place, Value}
+use Rattle.mz_grammar.specs.Parts.{Reading, name, other, at_of, tree_of, chained, Argument, given, guarded, strict, Place, Value}
 use Rattle.mz_grammar.specs.Arguments.{turn_by, waits, takes_where, trees_of, generators_of}
 use Rattle.mz_grammar.specs.Tests.{closes, is_left_out, ident_of, ItemKind, an_include, a_constraint, a_solve, an_output, a_predicate, a_test, a_function, an_annotation, an_enum, item_of, text_of, middle_of, tail_of, ends_row, begins_base, begins_type}
 

@@ -1,5 +1,5 @@
 -- What the grammar of models reads at the front of a list of tokens.
-use Rattle.std.specs.Prelude.{ℕ, zero, suc, ◌+◌, Bool, true, false, List, [], ◌∷◌, ◌++◌, map, Option, Some, None, Ok, Err, if◌then◌else◌, ◌||◌}
+use Rattle.std.specs.Prelude.{ℕ, suc, ◌+◌, Bool, true, false, List, [], ◌∷◌, ◌++◌, map, Option, Some, Ok, if◌then◌else◌, ◌||◌}
 use Rattle.mz_base.specs.declared.fault.Span.{Span}
 use Rattle.mz_lexer.specs.declared.token.Tok.{Tok}
 use Rattle.mz_lexer.specs.declared.token.Tok.TheVariants.{Word, Sym, Ident, Int, Text, TextHead}
@@ -10,7 +10,7 @@ use Rattle.mz_lexer.specs.declared.token.Symbol.TheVariants.{SLParen, SRParen, S
 use Rattle.mz_tree.specs.Tree.{Name, Tree, Maybe, Generator, Written, Based, node, int, bool, absent, text, interp, call, gen_call, rows, choice, let_in, plain, generator, written, base_bool, base_of, no_array, trees, rows_of, branches, parts, gens, lets}
 use Rattle.mz_tree.specs.Items.{ItemTree, include, declare, assign, constraint, solve, output, function, enum, annotation}
 use Rattle.mz_cursor.specs.Tokens.{tok_at, behind, place}
-use Rattle.mz_cursor.specs.Look.{is_sym, is_word}
+use Rattle.mz_cursor.specs.Look.{is_sym}
 use Rattle.mz_cursor.specs.Rules.{syntax, left_out}
 use Rattle.mz_cursor.specs.Reading.{Read, Reader, stuck, on, open_at, symbol_at, word_at, mapped, with_front, listed, read, ◌>>=◌}
 use Rattle.mz_grammar.specs.declared.level.Level.{Level}

@@ -9,7 +9,7 @@ use Rattle.mz_lexer.specs.declared.token.Tok.TheVariants as tok
 use Rattle.mz_lexer.specs.declared.token.Symbol.TheVariants.{SComma}
 use Rattle.mz_tree.specs.declared.expr.BinOp.{BinOp}
 use Rattle.mz_tree.specs.declared.expr.BinOp.TheVariants as op
-use Rattle.mz_tree.specs.Tree.{Name, Tree, Maybe, Generator, Declaration, links, trees, rows_of, branches as branch_list, parts, gens, lets, bases}
+use Rattle.mz_tree.specs.Tree.{Name, Tree, Generator, links, trees, rows_of, branches as branch_list, parts, gens, lets, bases}
 use Rattle.mz_tree.specs.Tree as pure
 use Rattle.mz_cursor.specs.Rules.{refuse, leave_out}
 use Rattle.mz_cursor.specs.Reading.{on}

@@ -1,6 +1,6 @@
 // One item, by its kind.
 
-ghost use Rattle.std.specs.Prelude.{◌≡◌, ◌≤◌, ◌<◌, length, OnOk, Some, true, false};
+ghost use Rattle.std.specs.Prelude.{◌≡◌, ◌<◌, length, OnOk, Some, false};
 ghost use Rattle.mz_tree.specs.Items.{item, goal};
 ghost use Rattle.mz_tree.specs.Tree as pure;
 ghost use Rattle.mz_tree.specs.Views.{written, based};

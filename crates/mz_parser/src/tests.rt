@@ -325,6 +325,37 @@ fn a_hundred_and_twenty_may_be_open(rt: HostRuntime) -> Result<(), Fail> {
     Ok(())
 }
 
+/// An operator of each level, from the tightest on, with an operand behind it.
+const EACH_LEVEL: &str = " ++ 1 ^ 1 * 1 + 1 .. 1 union 1 in 1 < 1 /\\ 1 \\/ 1 -> 1 <-> 1";
+
+/// A constraint with 8713 expressions one inside the other: each has all levels of operators, each atom as many accesses
+/// as may be open, and the first index of each atom has the next expression.
+fn tall(alloc: Global) -> Result<String, Fail> {
+    let mut text = String::from_str(alloc, "constraint ")?;
+    for _ in 0..120_u32 {
+        text.push_str("a[")?;
+    }
+    text.push('1')?;
+    text.push_str(EACH_LEVEL)?;
+    for accesses in 0..120_u32 {
+        text.push(']')?;
+        for _ in 0..accesses {
+            text.push_str("[1]")?;
+        }
+        text.push_str(EACH_LEVEL)?;
+    }
+    Ok(text)
+}
+
+#[test]
+fn a_tall_tree_is_read(rt: HostRuntime) -> Result<(), Fail> {
+    let text = tall(rt.alloc())?;
+    let mut names = Names::new(rt.alloc());
+    let all = read(rt.alloc(), &mut names, text.as_str())??;
+    assert_eq!(rt; all.len(), 1);
+    Ok(())
+}
+
 /// The place that an item tells: of a declaration or a function that of its type, of others as the trees say.
 fn place_of(item: &Item) -> Option<Span> {
     match item {

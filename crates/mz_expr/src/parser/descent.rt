@@ -2,7 +2,7 @@
 //
 // So each method is proved by itself, and `descend` alone calls itself.
 
-ghost use Rattle.std.specs.Prelude.{◌≡◌, ◌≤◌, ◌<◌, length, OnOk};
+ghost use Rattle.std.specs.Prelude.{◌≡◌, ◌≤◌, ◌<◌, suc, length, OnOk};
 ghost use Rattle.mz_cursor.specs.Promise.{Gives};
 ghost use Rattle.mz_grammar.specs.Parts as parts;
 ghost use Rattle.mz_grammar.specs.Reading.{reads};
@@ -48,6 +48,19 @@ fn tighter(l: Level) -> Entry
 }
 
 impl<F: Fn(Global, &mut Cursor<'_>, Entry) -> Result<Reading, Stop>> Descent<F> {
+    /// What reads all that stands where so many tokens may still be opened.
+    pub fn outside(alloc: Global, room: u32, reader: F) -> Descent<F>
+        requires { room ≤ 120 }
+        ensures { result ≡ record { alloc = alloc; room = suc room; entry = Entry.Unit; reader = reader } }
+    {
+        Descent {
+            alloc,
+            room: room + 1,
+            entry: Entry::Unit,
+            reader,
+        }
+    }
+
     /// What is read behind a token that was opened.
     #[tactic(auto, using(crate::proofs::Descents::below_room))]
     pub fn inside(&self, cur: &mut Cursor<'_>, entry: Entry) -> Result<Reading, Stop>

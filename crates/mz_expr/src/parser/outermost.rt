@@ -32,13 +32,7 @@ pub fn expr(alloc: Global, cur: &mut Cursor<'_>) -> Result<Expr, Stop>
     ensures end { cur.new.end ≡ cur.old.end }
     ensures shorter { OnOk result (length cur.new.rest.now < length cur.old.rest.now) }
 {
-    Descent {
-        alloc,
-        room: cur.room + 1,
-        entry: Entry::Unit,
-        reader: descend,
-    }
-    .expr(cur)
+    Descent::outside(alloc, cur.room, descend).expr(cur)
 }
 
 /// Annotations, which are dropped: whether there are any.
@@ -48,13 +42,7 @@ pub fn annotations(alloc: Global, cur: &mut Cursor<'_>) -> Result<bool, Stop>
     ensures end { cur.new.end ≡ cur.old.end }
     ensures shorter { OnOk result (length cur.new.rest.now ≤ length cur.old.rest.now) }
 {
-    Descent {
-        alloc,
-        room: cur.room + 1,
-        entry: Entry::Unit,
-        reader: descend,
-    }
-    .annotations(cur)
+    Descent::outside(alloc, cur.room, descend).annotations(cur)
 }
 
 /// Marks, which are dropped.
@@ -64,13 +52,7 @@ pub fn marks(alloc: Global, cur: &mut Cursor<'_>) -> Result<(), Stop>
     ensures end { cur.new.end ≡ cur.old.end }
     ensures shorter { OnOk result (length cur.new.rest.now ≤ length cur.old.rest.now) }
 {
-    Descent {
-        alloc,
-        room: cur.room + 1,
-        entry: Entry::Unit,
-        reader: descend,
-    }
-    .marks(cur)
+    Descent::outside(alloc, cur.room, descend).marks(cur)
 }
 
 /// A type.
@@ -80,13 +62,7 @@ pub fn type_text(alloc: Global, cur: &mut Cursor<'_>) -> Result<TypeText, Stop>
     ensures end { cur.new.end ≡ cur.old.end }
     ensures shorter { OnOk result (length cur.new.rest.now < length cur.old.rest.now) }
 {
-    Descent {
-        alloc,
-        room: cur.room + 1,
-        entry: Entry::Unit,
-        reader: descend,
-    }
-    .type_text(cur)
+    Descent::outside(alloc, cur.room, descend).type_text(cur)
 }
 
 /// A declaration.
@@ -96,13 +72,7 @@ pub fn declaration(alloc: Global, cur: &mut Cursor<'_>) -> Result<Decl, Stop>
     ensures end { cur.new.end ≡ cur.old.end }
     ensures shorter { OnOk result (length cur.new.rest.now < length cur.old.rest.now) }
 {
-    Descent {
-        alloc,
-        room: cur.room + 1,
-        entry: Entry::Unit,
-        reader: descend,
-    }
-    .declaration(cur)
+    Descent::outside(alloc, cur.room, descend).declaration(cur)
 }
 
 /// A declaration, behind its type.
@@ -112,11 +82,5 @@ pub fn declared(alloc: Global, cur: &mut Cursor<'_>, ty: TypeText) -> Result<Dec
     ensures end { cur.new.end ≡ cur.old.end }
     ensures shorter { OnOk result (length cur.new.rest.now < length cur.old.rest.now) }
 {
-    Descent {
-        alloc,
-        room: cur.room + 1,
-        entry: Entry::Unit,
-        reader: descend,
-    }
-    .declared(cur, ty)
+    Descent::outside(alloc, cur.room, descend).declared(cur, ty)
 }

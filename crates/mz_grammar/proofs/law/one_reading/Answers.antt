@@ -1,7 +1,5 @@
 -- The lines that are only cited are checked with it.
-use Rattle.std.proofs.Common.{◌≡◌, ◌++◌, [], append-nil, subst, sym}
-use Rattle.std.specs.Prelude.{None}
-use Rattle.mz_cursor.specs.Rules.{Runs}
+use Rattle.std.proofs.Common.{[]}
 use Rattle.mz_cursor.proofs.Laws
 use Rattle.mz_grammar.specs.Parts.{file}
 use Rattle.mz_grammar.specs.Model.{rule}
@@ -11,11 +9,12 @@ use Rattle.mz_grammar.proofs.Viability.{calm_end}
 use Rattle.mz_grammar.proofs.Equations.{expr_reads}
 use Rattle.mz_grammar.proofs.ListEquations.{row_reads}
 use Rattle.mz_grammar.proofs.ItemEquations.{item_reads}
+use Rattle.mz_grammar.proofs.ModelExamples.{fault_at_the_end}
 use Rattle.mz_grammar.proofs.law.one_reading.Goals as goal
 
 cited : {A B : Type 0} → A → B → B
 cited a b = b
 
 pub returns : goal.returns
-returns c = cited calm_end (cited expr_reads (cited row_reads (cited item_reads
-    (λ tokens items others p q. Laws.one_value rule rank width low falls file p.0 q.0 tokens [] items others p.1 q.1))))
+returns c = cited calm_end (cited expr_reads (cited row_reads (cited item_reads (cited fault_at_the_end
+    (λ tokens items others p q. Laws.one_value rule rank width low falls file p.0 q.0 tokens [] items others p.1 q.1)))))
