@@ -15,6 +15,3 @@ pub use kind::Kind;
 pub use names::{Name, Names};
 pub use steps::Steps;
 pub use stop::{Memory, Stop};
-
-#[cfg(test)]
-mod tests;

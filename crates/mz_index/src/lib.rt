@@ -6,6 +6,3 @@ mod law;
 
 pub use index_sets::IndexSets;
 pub use law::places_are_distinct;
-
-#[cfg(test)]
-mod tests;

@@ -7,6 +7,3 @@ mod quotient;
 mod remainder;
 
 pub use interval::Interval;
-
-#[cfg(test)]
-mod tests;

@@ -13,6 +13,3 @@ pub use range_set::{GREATEST, LEAST, RangeSet};
 pub use shown::show;
 pub use text::{join, show_int};
 pub use value::{ArrayValue, Assign, Cases, SetValue, Shape, ShapeBase, TextValue, Value};
-
-#[cfg(test)]
-mod tests;
