@@ -17,6 +17,3 @@ mod token;
 pub use lexer::{one_outcome, tokens};
 pub use place::after;
 pub use token::{Keyword, Symbol, Tok, Token};
-
-#[cfg(test)]
-mod tests;

@@ -30,8 +30,3 @@ pub fn items(alloc: Global, tokens: &[Token], end: Span) -> Result<Vec<Item>, St
     let mut cur = Cursor::new(tokens, end);
     all_items(alloc, &mut cur)
 }
-
-#[cfg(test)]
-mod printer;
-#[cfg(test)]
-mod tests;

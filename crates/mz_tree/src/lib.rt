@@ -16,6 +16,3 @@ pub use make::{
     make_set_comp, make_text, make_unary, make_whole,
 };
 pub use source::{SourceFile, Sources};
-
-#[cfg(test)]
-mod tests;
