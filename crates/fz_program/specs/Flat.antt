@@ -12,7 +12,8 @@ use Rattle.fz_program.specs.declared.program.Arg.{Arg}
 use Rattle.fz_program.specs.declared.program.Arg.TheVariants.{Int, Var}
 use Rattle.fz_program.specs.declared.program.RowName.{RowName}
 use Rattle.fz_program.specs.declared.program.RowName.TheVariants.{IntEq, IntNe, IntLe, IntLt}
-use Rattle.fz_program.specs.Names.{Name, is_identifier}
+use Rattle.fz_program.specs.Names.{Name}
+use Rattle.mz_base.specs.Words.{is_identifier}
 
 -- a variable, with the ranges of its domain and its marks
 pub record Variable : Type 0 where

@@ -2,7 +2,7 @@
 
 ghost use Rattle.std.specs.Prelude.{◌≡◌};
 ghost use Rattle.std.specs.List.{list_all};
-ghost use Rattle.fz_program.specs.Names.{is_identifier, is_letter, is_word, is_word_byte};
+ghost use Rattle.mz_base.specs.Words.{is_identifier, is_letter, is_word, is_word_byte};
 
 use crate::keyword::is_keyword;
 use crate::letter::{is_letter, is_word_byte};

@@ -1,7 +1,7 @@
 // The keywords of MiniZinc.
 
 ghost use Rattle.std.specs.Prelude.{◌≡◌};
-ghost use Rattle.fz_program.specs.Names.{is_keyword};
+ghost use Rattle.mz_base.specs.Words.{is_keyword};
 
 // The keywords.
 const KEYWORDS: [&[u8]; 51] = [

@@ -1,7 +1,7 @@
 // Which bytes words are made of.
 
 ghost use Rattle.std.specs.Prelude.{◌≡◌};
-ghost use Rattle.fz_program.specs.Names.{is_letter, is_digit, is_word_byte};
+ghost use Rattle.mz_base.specs.Words.{is_letter, is_digit, is_word_byte};
 
 // An ASCII letter.
 pub(crate) fn is_letter(byte: u8) -> bool

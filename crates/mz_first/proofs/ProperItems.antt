@@ -11,7 +11,8 @@ use Rattle.mz_tree.specs.Tree as tree
 use Rattle.mz_tree.specs.Tree.{Shape, Declaration, Written, Based, node, chain}
 use Rattle.mz_tree.specs.Items as items
 use Rattle.mz_tree.specs.Items.{ItemTree, GoalTree}
-use Rattle.fz_program.specs.Names.{Name, is_identifier, is_reserved}
+use Rattle.fz_program.specs.Names.{Name, is_reserved}
+use Rattle.mz_base.specs.Words.{is_identifier}
 use Rattle.mz_first.specs.declared.item.Comparison.{Comparison}
 use Rattle.mz_first.specs.Model.{Operand, number, Item, variable, constraint}
 use Rattle.mz_first.specs.Form.{◌>>=◌, Given, nothing, one, other, within, magnitude_in, number_in, operand_in, comparison_of, only, form_of, constraint_of, compared, constraint_in, range_from, range_in, range_of, is_array, domain_of, is_free, variable_of, declared_of, place_of, goal_of, at, given}

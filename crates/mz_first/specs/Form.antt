@@ -11,7 +11,8 @@ use Rattle.mz_tree.specs.Tree as tree
 use Rattle.mz_tree.specs.Tree.{Tree, Shape, Links, Declaration, Written, Based, Dims, node, chain, a_link, no_links}
 use Rattle.mz_tree.specs.Items as items
 use Rattle.mz_tree.specs.Items.{ItemTree, GoalTree}
-use Rattle.fz_program.specs.Names.{Name, is_identifier, is_reserved}
+use Rattle.fz_program.specs.Names.{Name, is_reserved}
+use Rattle.mz_base.specs.Words.{is_identifier}
 use Rattle.mz_first.specs.declared.item.Comparison.{Comparison}
 use Rattle.mz_first.specs.declared.item.Comparison.TheVariants.{Less, LessEqual, Equal, NotEqual, Greater, GreaterEqual}
 use Rattle.mz_first.specs.Model.{Operand, number, name, Item, variable, constraint, satisfy}

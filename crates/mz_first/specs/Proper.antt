@@ -1,7 +1,8 @@
 -- What each item of a model keeps.
 use Rattle.std.specs.Prelude.{◌≡◌, ℤ, pos, neg_ℤ, ◌^◌, ◌≤ℤ◌, List, true}
 use Rattle.std.specs.List.{Contains}
-use Rattle.fz_program.specs.Names.{Name, is_identifier}
+use Rattle.fz_program.specs.Names.{Name}
+use Rattle.mz_base.specs.Words.{is_identifier}
 use Rattle.mz_first.specs.Model.{Operand, number, name, Item, variable, constraint, satisfy}
 
 -- the numbers that a model may write

@@ -3,7 +3,7 @@ use Rattle.std.proofs.Common.{◌≡◌, ℕ, zero, suc, List, [], ◌∷◌, re
 use Rattle.std.specs.Prelude.{Ok, Err, Some, None, if◌then◌else◌, ◌||◌}
 use Rattle.mz_base.specs.declared.fault.Span.{Span}
 use Rattle.mz_lexer.specs.declared.token.Token.{Token}
-use Rattle.mz_lexer.specs.declared.token.Keyword.TheVariants.{KArray, KList, KOf, KVar, KPar, KOpt, KSet, KBool, KInt, KSatisfy, KMinimize, KMaximize}
+use Rattle.mz_base.specs.declared.keyword.Keyword.TheVariants.{KArray, KList, KOf, KVar, KPar, KOpt, KSet, KBool, KInt, KSatisfy, KMinimize, KMaximize}
 use Rattle.mz_lexer.specs.declared.token.Symbol.TheVariants.{SLParen, SRParen, SLBrack, SRBrack, SLBrace, SRBrace, SSemi, SColon, SEq, SConcat}
 use Rattle.mz_tree.specs.Tree.{Name, Written, Based, declaration, written, base_bool, base_int, base_of, no_array, just, nothing}
 use Rattle.mz_tree.specs.Items.{satisfy, minimize, maximize, declare}

@@ -5,7 +5,7 @@ use Rattle.std.proofs.Math.Nat.{max-le}
 use Rattle.mz_base.specs.declared.fault.Span.{Span}
 use Rattle.mz_lexer.specs.declared.token.Token.{Token}
 use Rattle.mz_lexer.specs.declared.token.Tok.{Tok}
-use Rattle.mz_lexer.specs.declared.token.Keyword.TheVariants as keyword
+use Rattle.mz_base.specs.declared.keyword.Keyword.TheVariants as keyword
 use Rattle.mz_lexer.specs.declared.token.Symbol.TheVariants.{SLParen, SRParen, SLBrack, SLBrace, SRBrack, SRBrace, SSemi, SColon, SEq, SConcat}
 use Rattle.mz_tree.specs.declared.item.Item.{Item}
 use Rattle.mz_tree.specs.Tree.{Tree, Written, Based, base_int, base_of, no_array, bases, written}

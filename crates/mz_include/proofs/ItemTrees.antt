@@ -5,7 +5,7 @@ use Rattle.std.proofs.lemmas.List.Elements.{All-nil, All-cons}
 use Rattle.mz_base.specs.declared.fault.Span.{Span}
 use Rattle.mz_lexer.specs.declared.token.Token.{Token}
 use Rattle.mz_lexer.specs.declared.token.Tok.{Tok}
-use Rattle.mz_lexer.specs.declared.token.Keyword.TheVariants as keyword
+use Rattle.mz_base.specs.declared.keyword.Keyword.TheVariants as keyword
 use Rattle.mz_lexer.specs.declared.token.Symbol.TheVariants.{SLParen, SRParen, SLBrack, SLBrace, SRBrack, SRBrace, SSemi, SColon, SEq, SConcat}
 use Rattle.mz_tree.specs.Tree.{Name, Tree, Written, Based, base_int, base_of, no_array, bases, written}
 use Rattle.mz_tree.specs.Items.{ItemTree}

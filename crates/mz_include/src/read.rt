@@ -2,8 +2,8 @@
 
 ghost use Rattle.std.specs.Prelude.{◌≡◌, ◌<◌, ◌≤◌, length, IfOk, IfErr, pos};
 ghost use Rattle.mz_base.specs.Names.{Grows, text_of};
-ghost use Rattle.mz_lexer.specs.Views.{IfRefused as IfStopped};
-ghost use Rattle.mz_lexer.specs.Lexemes.{start_of};
+ghost use Rattle.mz_base.specs.Faults.{IfRefused as IfStopped};
+ghost use Rattle.mz_base.specs.Faults.{start_of};
 ghost use Rattle.mz_include.specs.Sources.{IsReading, Fails};
 ghost use Rattle.mz_include.specs.Parsing.{IsParsed, IsUnparsed};
 ghost use Rattle.mz_include.specs.Ends.{IfRefused, CountsFiles};

@@ -1,19 +1,23 @@
 -- The tokens of a file's bytes, and the first fault.
-use Rattle.std.specs.Prelude.{ℕ, zero, suc, ◌+◌, ◌-◌, List, [], ◌∷◌, take, drop, Bool, true, false, ◌&&◌, not, nat_eq, nat_le, ℤ, pos, Option, Some, None, Result, Ok, Err, if◌then◌else◌, fold}
+use Rattle.std.specs.Prelude.{ℕ, zero, suc, ◌+◌, ◌-◌, ◌+ℤ◌, List, [], ◌∷◌, take, drop, Bool, true, false, ◌&&◌, not, nat_eq, nat_le, ℤ, pos, Option, Some, None, Result, Ok, Err, if◌then◌else◌, fold}
 use Rattle.std.specs.Option.{option_map}
 use Rattle.std.specs.List.{take_while, prefix_len}
 use Rattle.std.specs.Str.Lossy.{utf8_valid_len}
+use Rattle.mz_base.specs.declared.limit.TheConstants.{INTEGER_LIMIT}
+use Rattle.mz_base.specs.Faults.{start_of}
 use Rattle.mz_base.specs.declared.fault.Span.{Span}
 use Rattle.mz_base.specs.declared.fault.Fault.{Fault}
 use Rattle.mz_base.specs.declared.kind.Kind.{Kind}
 use Rattle.mz_base.specs.declared.kind.Kind.TheVariants.{Lexical, LeftOut, Bounds}
-use Rattle.mz_lexer.specs.declared.token.Keyword.{Keyword}
+use Rattle.mz_base.specs.declared.keyword.Keyword.{Keyword}
 use Rattle.mz_lexer.specs.declared.token.Symbol.{Symbol}
 use Rattle.mz_lexer.specs.declared.token.Symbol.TheVariants.{SLParen, SRParen}
 use Rattle.mz_lexer.specs.declared.opening.Opening.{Opening}
 use Rattle.mz_lexer.specs.declared.opening.Opening.TheVariants as opening
-use Rattle.mz_lexer.specs.Bytes.{front_byte, second_byte, third_byte, is_blank, is_newline, is_letter, is_digit, is_hex_digit, is_octal_digit, is_word_byte, is_left_out_byte}
-use Rattle.mz_lexer.specs.Keywords.{keyword_of, is_left_out_keyword}
+use Rattle.mz_lexer.specs.Bytes.{front_byte, second_byte, third_byte, is_blank, is_newline, is_hex_digit, is_octal_digit, is_left_out_byte}
+use Rattle.mz_base.specs.Words.{is_letter, is_digit, is_word_byte}
+use Rattle.mz_base.specs.Keywords.{keyword_of}
+use Rattle.mz_lexer.specs.LeftOut.{is_left_out_keyword}
 use Rattle.mz_lexer.specs.Symbols.{symbol_at}
 use Rattle.mz_lexer.specs.Numbers.{limit, number_of, goes_on}
 use Rattle.mz_lexer.specs.Texts.{content_len, meaning}
@@ -52,15 +56,11 @@ after at bs = fold passed at bs
 
 -- the number of a fault: past the limit for a literal that leaves it
 abbrev pub fault_number : Kind → ℤ
-fault_number Bounds = pos 2305843009213693953
+fault_number Bounds = INTEGER_LIMIT +ℤ pos 1
 fault_number _ = pos 0
 
 abbrev pub fault : Kind → Span → Fault
 fault kind at = record { kind = kind; span = at; number = fault_number kind }
-
--- where a file begins
-abbrev pub start_of : ℕ → Span
-start_of file = record { file = file; line = 1; col = 1; byte = 0 }
 
 -- what stands in front of some bytes
 pub data Front : Type 0 where

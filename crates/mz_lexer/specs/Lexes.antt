@@ -2,24 +2,23 @@
 use Rattle.std.specs.Prelude.{◌≡◌, ℕ, ◌<◌, ◌≤◌, List, [], ◌∷◌, ◌++◌, length, take, Bool, true, false, ◌&&◌, not, nat_eq, pos, Ok, Err, if◌then◌else◌}
 use Rattle.std.specs.List.{list_all}
 use Rattle.std.specs.Str.{IsUtf8}
+use Rattle.mz_base.specs.Words.{is_word}
 use Rattle.mz_base.specs.declared.fault.Span.{Span}
 use Rattle.mz_base.specs.declared.fault.Fault.{Fault}
 use Rattle.mz_base.specs.declared.kind.Kind.TheVariants.{Lexical, LeftOut, Bounds}
-use Rattle.mz_lexer.specs.declared.token.Keyword.{Keyword}
+use Rattle.mz_base.specs.declared.keyword.Keyword.{Keyword}
 use Rattle.mz_lexer.specs.declared.token.Symbol.{Symbol}
 use Rattle.mz_lexer.specs.declared.token.Symbol.TheVariants.{SRParen}
 use Rattle.mz_lexer.specs.declared.opening.Opening.{Opening}
-use Rattle.mz_lexer.specs.Bytes.{front_byte, is_blank, is_newline, is_letter, is_digit, is_hex_digit, is_octal_digit, is_word_byte, is_left_out_byte}
-use Rattle.mz_lexer.specs.Keywords.{keyword_text, is_left_out_keyword}
+use Rattle.mz_lexer.specs.Bytes.{front_byte, is_blank, is_newline, is_hex_digit, is_octal_digit, is_left_out_byte}
+use Rattle.mz_base.specs.Words.{is_letter, is_digit, is_word_byte}
+use Rattle.mz_base.specs.Keywords.{keyword_text}
+use Rattle.mz_lexer.specs.LeftOut.{is_left_out_keyword}
 use Rattle.mz_lexer.specs.Symbols.{symbol_text}
 use Rattle.mz_lexer.specs.Numbers.{limit, number_of, goes_on}
 use Rattle.mz_lexer.specs.Texts.{is_plain, is_escape, escape_value}
-use Rattle.mz_lexer.specs.Lexemes.{Lexeme, word, sym, ident, int, text, text_head, text_mid, text_tail, Lex, begins_piece, passed, after, fault, start_of, opens_behind, Outcome, with_token}
-
--- a letter, and then letters, digits and `_`
-abbrev pub is_word : List ℕ → Bool
-is_word [] = false
-is_word (b ∷ bs) = is_letter b && list_all is_word_byte bs
+use Rattle.mz_lexer.specs.Lexemes.{Lexeme, word, sym, ident, int, text, text_head, text_mid, text_tail, Lex, begins_piece, passed, after, fault, opens_behind, Outcome, with_token}
+use Rattle.mz_base.specs.Faults.{start_of}
 
 -- digits of a kind, and at least one
 abbrev pub are_digits : (ℕ → Bool) → List ℕ → Bool

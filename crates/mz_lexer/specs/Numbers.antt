@@ -1,11 +1,13 @@
 -- Integer literals.
-use Rattle.std.specs.Prelude.{ℕ, ◌+◌, ◌*◌, ◌^◌, List, [], ◌∷◌, Bool, ◌&&◌, ◌||◌, nat_eq}
+use Rattle.std.specs.Prelude.{ℕ, ◌+◌, ◌*◌, List, [], ◌∷◌, Bool, ◌&&◌, ◌||◌, nat_eq, nat_abs}
+use Rattle.mz_base.specs.declared.limit.TheConstants.{INTEGER_LIMIT}
 use Rattle.std.specs.Char.{digit_value}
-use Rattle.mz_lexer.specs.Bytes.{front_byte, second_byte, third_byte, is_digit}
+use Rattle.mz_lexer.specs.Bytes.{front_byte, second_byte, third_byte}
+use Rattle.mz_base.specs.Words.{is_digit}
 
 -- the greatest number of a literal
 abbrev pub limit : ℕ
-limit = 2 ^ 61
+limit = nat_abs INTEGER_LIMIT
 
 -- the number that digits spell in a base, behind digits that spell a number
 abbrev pub number_from : ℕ → ℕ → List ℕ → ℕ

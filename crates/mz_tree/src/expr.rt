@@ -1,4 +1,7 @@
 // Expressions, with the declarations and types that they hold.
+//
+// Each struct is let go by a `drop` of its own, so that a value that is held while more is read costs one call at each
+// exit, and not a branch for each form.
 
 use mz_base::{Name, Span};
 
@@ -71,11 +74,18 @@ pub enum Form {
 }
 
 /// An expression, with the place of its first token.
-#[derive(Debug, Drop)]
+#[derive(Debug)]
 #[cycle(tree)]
 pub struct Expr {
     pub span: Span,
     pub form: Form,
+}
+
+impl Drop for Expr {
+    #[cycle(tree)]
+    fn drop(self) {
+        let Expr { span: _span, form: _form } = self;
+    }
 }
 
 /// A piece of a text with interpolation.
@@ -87,12 +97,19 @@ pub enum TextPart {
 }
 
 /// A generator: its names with their places, the set or array that they run over, and a `where`.
-#[derive(Debug, Drop)]
+#[derive(Debug)]
 #[cycle(tree)]
 pub struct Gen {
     pub names: Vec<(Name, Span)>,
     pub set: Expr,
     pub cond: Option<Expr>,
+}
+
+impl Drop for Gen {
+    #[cycle(tree)]
+    fn drop(self) {
+        let Gen { names: _names, set: _set, cond: _cond } = self;
+    }
 }
 
 /// An item of a `let`.
@@ -104,7 +121,7 @@ pub enum LetItem {
 }
 
 /// A declaration, with the place of its name.
-#[derive(Debug, Drop)]
+#[derive(Debug)]
 #[cycle(tree)]
 pub struct Decl {
     pub ty: TypeText,
@@ -113,8 +130,15 @@ pub struct Decl {
     pub value: Option<Expr>,
 }
 
+impl Drop for Decl {
+    #[cycle(tree)]
+    fn drop(self) {
+        let Decl { ty: _ty, name: _name, span: _span, value: _value } = self;
+    }
+}
+
 /// A written type: `dims` are the index types of an array, in their order.
-#[derive(Debug, Drop)]
+#[derive(Debug)]
 #[cycle(tree)]
 pub struct TypeText {
     pub span: Span,
@@ -123,6 +147,20 @@ pub struct TypeText {
     pub opt: bool,
     pub set: bool,
     pub base: TypeBase,
+}
+
+impl Drop for TypeText {
+    #[cycle(tree)]
+    fn drop(self) {
+        let TypeText {
+            span: _span,
+            dims: _dims,
+            var: _var,
+            opt: _opt,
+            set: _set,
+            base: _base,
+        } = self;
+    }
 }
 
 /// What a type is of: `Of` is a set, given by an expression.
