@@ -4,6 +4,7 @@
 
 mod depth;
 mod fault;
+mod held;
 mod keyword;
 mod kind;
 mod limit;
@@ -14,6 +15,7 @@ mod word;
 
 pub use depth::Depth;
 pub use fault::{Fault, Span};
+pub use held::Held;
 pub use keyword::{Keyword, keyword_of};
 pub use kind::Kind;
 pub use limit::{FILE_LIMIT, INTEGER_LIMIT, OPEN_LIMIT};
