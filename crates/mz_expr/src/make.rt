@@ -4,7 +4,7 @@ ghost use Rattle.std.specs.Prelude.{◌≡◌, false, map, IfOk};
 ghost use Rattle.std.specs.Option.{option_map};
 ghost use Rattle.mz_tree.specs.Tree as pure;
 ghost use Rattle.mz_tree.specs.Views.{tree, part, generator, let_of, declaration, written, based};
-ghost use Rattle.mz_grammar.specs.Model.{array_type, marked};
+ghost use Rattle.mz_tree.specs.Tree.{array_type, marked};
 
 use mz_base::{Name, Span};
 use mz_tree::{Decl, Expr, Gen, LetItem, TextPart, TypeBase, TypeText};

@@ -13,7 +13,7 @@ use Rattle.mz_tree.specs.Items.{ItemTree, item}
 use Rattle.mz_include.specs.Trees.{IsItemOf, IsItemKnown}
 use Rattle.mz_include.specs.Views.{IsFileOf, AreKnown}
 use Rattle.mz_include.proofs.Places.{after_file}
-use Rattle.mz_include.proofs.TreesLater.{item_later}
+use Rattle.mz_tree.proofs.Later.{item_later}
 use Rattle.mz_include.proofs.KnownItems.{item_known}
 
 -- where the table has grown from old to new

@@ -3,6 +3,12 @@
 // Each struct is let go by a `drop` of its own, so that a value that is held while more is read costs one call at each
 // exit, and not a branch for each form.
 
+ghost use Rattle.std.specs.Prelude.{◌≡◌, map};
+ghost use Rattle.std.specs.Option.{option_map};
+ghost use Rattle.mz_tree.specs.Tree as pure;
+ghost use Rattle.mz_tree.specs.Tree.{array_type, marked};
+ghost use Rattle.mz_tree.specs.Views.{tree, generator, written, based};
+
 use mz_base::{Name, Span};
 
 /// A prefix operator.
@@ -112,6 +118,17 @@ impl Drop for Gen {
     }
 }
 
+impl Gen {
+    /// Its names with their places, the set or array that they run over, and its `where`.
+    #[tactic(auto, unfolding(crate::specs::Views::tree, crate::specs::Views::shape, crate::specs::Views::let_of, crate::specs::Views::part, crate::specs::Views::based, crate::specs::Views::declaration, crate::specs::Views::generator, crate::specs::Views::written))]
+    pub fn into_parts(self) -> (Vec<(Name, Span)>, Expr, Option<Expr>)
+        ensures { generator self ≡ pure.generator result.0.items (tree result.1) (pure.maybe (option_map tree result.2)) }
+    {
+        let Gen { names, set, cond } = self;
+        (names, set, cond)
+    }
+}
+
 /// An item of a `let`.
 #[derive(Debug, Drop)]
 #[cycle(tree)]
@@ -160,6 +177,54 @@ impl Drop for TypeText {
             set: _set,
             base: _base,
         } = self;
+    }
+}
+
+impl TypeText {
+    /// An array type with this place and these index types, whose elements have this type.
+    #[tactic(auto, unfolding(crate::specs::Views::tree, crate::specs::Views::shape, crate::specs::Views::let_of, crate::specs::Views::part, crate::specs::Views::based, crate::specs::Views::declaration, crate::specs::Views::generator, crate::specs::Views::written))]
+    pub fn into_array(self, span: Span, dims: Vec<TypeBase>) -> TypeText
+        ensures { written result ≡ array_type span (map based dims.items) (written self) }
+    {
+        let TypeText {
+            span: _span,
+            dims: _dims,
+            var,
+            opt,
+            set,
+            base,
+        } = self;
+        TypeText {
+            span,
+            dims: Some(dims),
+            var,
+            opt,
+            set,
+            base,
+        }
+    }
+
+    /// This type after `var` or `par`, with that word's place.
+    #[tactic(auto, unfolding(crate::specs::Views::tree, crate::specs::Views::shape, crate::specs::Views::let_of, crate::specs::Views::part, crate::specs::Views::based, crate::specs::Views::declaration, crate::specs::Views::generator, crate::specs::Views::written))]
+    pub fn marked(self, span: Span, var: bool) -> TypeText
+        ensures { written result ≡ marked span var (written self) }
+    {
+        let TypeText {
+            span: _span,
+            dims,
+            var: _var,
+            opt,
+            set,
+            base,
+        } = self;
+        TypeText {
+            span,
+            dims,
+            var,
+            opt,
+            set,
+            base,
+        }
     }
 }
 
