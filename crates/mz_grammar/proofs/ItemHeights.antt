@@ -1,7 +1,9 @@
--- The rules of a model keep the bounds on the heights of trees, so the trees of a file are at most 8833 high.
+-- The rules of a model keep the bounds on the heights of trees, so the trees of a file are at most HEIGHT_LIMIT high.
 use Rattle.std.proofs.Common.{◌≡◌, ℕ, zero, suc, List, [], ◌∷◌, ◌≤◌, ◌∙◌, ap, arith, true, false, Bool, Option}
 use Rattle.std.specs.Prelude.{map, ◌||◌}
 use Rattle.std.proofs.Math.Nat.{max-le}
+use Rattle.mz_base.specs.declared.limit.TheConstants.{OPEN_LIMIT}
+use Rattle.mz_tree.specs.declared.height.TheConstants.{HEIGHT_LIMIT}
 use Rattle.mz_base.specs.declared.fault.Span.{Span}
 use Rattle.mz_lexer.specs.declared.token.Token.{Token}
 use Rattle.mz_lexer.specs.declared.token.Tok.{Tok}
@@ -199,9 +201,9 @@ pub bounded : (n : Place) (room : ℕ) {ts : List Token} {x : Value n} {next : O
 bounded n room r = Generic.holds Bounded rule all_kept r
 
 -- the items of a file
-pub file_is_bounded : {ts : List Token} {is : List ItemTree} {next : Option Tok} → Runs rule Parts.file 120 (rule Parts.file) ts is next → highest is ≤ 8833
-file_is_bounded {is = is} r = rw most_in_a_file at (bounded Parts.file 120 r)
+pub file_is_bounded : {ts : List Token} {is : List ItemTree} {next : Option Tok} → Runs rule Parts.file OPEN_LIMIT (rule Parts.file) ts is next → highest is ≤ HEIGHT_LIMIT
+file_is_bounded {is = is} r = rw most_in_a_file at (bounded Parts.file OPEN_LIMIT r)
 
 -- the items in memory that a file is read to
-pub items_are_bounded : (items : List Item) {ts : List Token} {is : List ItemTree} {next : Option Tok} → map tree_of_item items ≡ is → Runs rule Parts.file 120 (rule Parts.file) ts is next → items_height items ≤ 8833
+pub items_are_bounded : (items : List Item) {ts : List Token} {is : List ItemTree} {next : Option Tok} → map tree_of_item items ≡ is → Runs rule Parts.file OPEN_LIMIT (rule Parts.file) ts is next → items_height items ≤ HEIGHT_LIMIT
 items_are_bounded items e r = rw (items_highest items ∙ ap highest e) (file_is_bounded r)

@@ -3,6 +3,7 @@
 
 mod data;
 mod expr;
+mod height;
 mod item;
 mod law;
 #[tactic(auto, unfolding(crate::specs::Views::tree, crate::specs::Views::shape, crate::specs::Views::let_of, crate::specs::Views::part, crate::specs::Views::based, crate::specs::Views::declaration, crate::specs::Views::generator, crate::specs::Views::written))]
@@ -13,6 +14,7 @@ mod source;
 
 pub use data::{Data, DataItem, Datum};
 pub use expr::{BinOp, Decl, Expr, Form, Gen, LetItem, TextPart, TypeBase, TypeText, UnOp};
+pub use height::HEIGHT_LIMIT;
 pub use item::{Function, Goal, Item};
 pub use law::names_and_places;
 pub use make::{
