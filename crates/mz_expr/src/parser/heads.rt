@@ -105,7 +105,7 @@ impl<F: Fn(Global, &mut Cursor<'_>, Entry) -> Result<Reading, Stop>> Descent<F> 
         cur.push()?;
         let at = cur.pass();
         let mut pieces = Vec::new(self.alloc);
-        pieces.push(TextPart::Plain(content))?;
+        pieces.push(make_plain(content))?;
         let all = self.text_rest(cur, pieces)?;
         cur.pop();
         Ok(other(at, make_interp(at, all)))

@@ -216,7 +216,7 @@ fn last_piece(cur: &mut Cursor<'_>, before: Vec<TextPart>) -> Result<Vec<TextPar
         Some(piece) => {
             cur.skip();
             let mut all = before;
-            all.push(TextPart::Plain(piece))?;
+            all.push(make_plain(piece))?;
             Ok(all)
         }
     }
