@@ -12,7 +12,7 @@ use crate::reading::{Reading, other};
 use mz_base::{Held, Name, Stop};
 use mz_cursor::{Cursor, is_sym};
 use mz_lexer::{Keyword, Symbol, Tok};
-use mz_tree::{TextPart, make_absent, make_bool, make_int, make_interp, make_rows, make_text};
+use mz_tree::{make_absent, make_bool, make_int, make_interp, make_plain, make_rows, make_text};
 use std::alloc::Global;
 
 impl<F: Fn(Global, &mut Cursor<'_>, Entry) -> Result<Reading, Stop>> Descent<F> {
