@@ -19,7 +19,8 @@ use Rattle.mz_grammar.specs.Parts.{Reading, at_of, tree_of}
 use Rattle.mz_grammar.specs.Tests.{ident_of, text_of, begins_base, begins_type, ItemKind, an_include, a_constraint, a_solve, an_output, a_predicate, a_test, a_function, an_annotation, an_enum, item_of}
 use Rattle.mz_grammar.specs.Model.{rule, word, opening, function_rule, by_expression, other_item, item_by}
 use Rattle.mz_tree.specs.Tree.{array_type, marked}
-use Rattle.mz_grammar.specs.Reading.{reads, ident_at, separator_at, dimensions_at, braced_at, function_at, by_expression_at, other_item_at, item_at}
+use Rattle.mz_grammar.specs.Reading.{reads}
+use Rattle.mz_grammar.specs.Steps.{ident_at, separator_at, dimensions_at, braced_at, function_at, by_expression_at, other_item_at, item_at}
 use Rattle.mz_grammar.proofs.Equations.{by_rule, symbol_reads, word_reads, identifier_reads, behind_reads}
 
 -- Types

@@ -43,7 +43,7 @@ abbrev pub unless_refused : (ItemTree → Option Span) → Unit {0} → ItemTree
 unless_refused refused u t = stop_at (refused t)
 
 -- of two files, each with an item that is refused, the first one's is the place
-a_constraint : ItemTree → Option Span
+abbrev pub a_constraint : ItemTree → Option Span
 a_constraint (constraint (node s f)) = Some s
 a_constraint _ = None
 

@@ -13,7 +13,7 @@ use Rattle.mz_base.specs.Keywords.{keyword_text, keyword_of}
 use Rattle.mz_lexer.specs.LeftOut.{is_left_out_keyword}
 use Rattle.mz_lexer.specs.Symbols.{symbol_at}
 use Rattle.mz_lexer.specs.Numbers.{goes_on}
-use Rattle.mz_lexer.specs.Lexemes.{Front, refusal, front_of, keyword_or_name, number_front}
+use Rattle.mz_lexer.specs.Steps.{Front, refusal, front_of, keyword_or_name, number_front}
 use Rattle.mz_base.specs.Words.{is_word}
 use Rattle.mz_lexer.specs.Lexes.{are_digits, IsLeftOut, left_byte, left_slash, left_number, left_keyword}
 use Rattle.mz_lexer.proofs.Runs.{both, run_is}

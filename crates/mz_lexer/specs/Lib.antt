@@ -6,3 +6,4 @@ pub mod Numbers
 pub mod Symbols
 pub mod Texts
 pub mod Views
+pub mod Steps

@@ -6,7 +6,8 @@ use Rattle.mz_lexer.specs.declared.token.Tok.TheVariants as tok
 use Rattle.mz_lexer.specs.declared.token.Token.{Token}
 use Rattle.mz_lexer.specs.declared.found.Front.{Front as CodeFront}
 use Rattle.mz_lexer.specs.declared.found.Front.TheVariants as shown
-use Rattle.mz_lexer.specs.Lexemes.{Lexeme, word, sym, ident, int, text, text_head, text_mid, text_tail, Lex, Front, gap, token, refusal}
+use Rattle.mz_lexer.specs.Lexemes.{Lexeme, word, sym, ident, int, text, text_head, text_mid, text_tail, Lex}
+use Rattle.mz_lexer.specs.Steps.{Front, gap, token, refusal}
 
 -- what a token is, where its name is one of this table
 abbrev pub lexeme : List (List ℕ) → Tok → Lexeme

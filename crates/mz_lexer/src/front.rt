@@ -5,7 +5,7 @@ ghost use Rattle.std.specs.List.{list_all};
 ghost use Rattle.mz_base.specs.Names.{Grows};
 ghost use Rattle.mz_lexer.specs.Bytes.{front_byte, second_byte, third_byte};
 ghost use Rattle.mz_base.specs.Words.{is_letter, is_word_byte};
-ghost use Rattle.mz_lexer.specs.Lexemes.{word_front, symbol_or_fault, comment_len, comment_of, front_of};
+ghost use Rattle.mz_lexer.specs.Steps.{word_front, symbol_or_fault, comment_len, comment_of, front_of};
 ghost use Rattle.mz_lexer.specs.Symbols.{symbol_at};
 ghost use Rattle.mz_lexer.specs.Views.{front, IsFrontNamed, Fits};
 
@@ -35,7 +35,7 @@ fn word_text(word: &[u8]) -> &str
 }
 
 /// The longest word in front of bytes that begin with a letter.
-#[tactic(auto, unfolding(crate::specs::Lexemes::word_front))]
+#[tactic(auto, unfolding(crate::specs::Steps::word_front))]
 fn word_front(bytes: &[u8], names: &mut Names) -> Result<Front, Memory>
     requires { is_letter (front_byte bytes.now) ≡ true }
     ensures shown { IfOk result (λ f. front names.new f ≡ word_front bytes.now) }
@@ -93,7 +93,7 @@ fn comment_front(bytes: &[u8]) -> Front
 }
 
 /// What stands in front of some bytes, where `later` says that a `)` begins a piece of a text.
-#[tactic(auto, unfolding(crate::specs::Lexemes::front_of))]
+#[tactic(auto, unfolding(crate::specs::Steps::front_of))]
 pub fn front_of(
     alloc: Global,
     later: bool,

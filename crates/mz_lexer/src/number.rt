@@ -6,7 +6,7 @@ ghost use Rattle.std.specs.List.{prefix_len, take_while};
 ghost use Rattle.mz_base.specs.Words.{is_digit};
 ghost use Rattle.mz_lexer.specs.Bytes.{is_hex_digit, is_octal_digit, front_byte, second_byte, third_byte};
 ghost use Rattle.mz_lexer.specs.Numbers.{limit, number_of, goes_on, is_exponent_letter, is_sign};
-ghost use Rattle.mz_lexer.specs.Lexemes.{literal, number_front};
+ghost use Rattle.mz_lexer.specs.Steps.{literal, number_front};
 ghost use Rattle.mz_lexer.specs.Views.{front, IsFrontNamed, Fits};
 
 use crate::byte::{
@@ -85,7 +85,7 @@ fn is_prefixed(bytes: &[u8], letter: u8, third_is_digit: bool) -> bool
 }
 
 /// The longest literal in front of bytes that begin with a digit.
-#[tactic(auto, unfolding(crate::specs::Lexemes::number_front))]
+#[tactic(auto, unfolding(crate::specs::Steps::number_front))]
 pub fn number_front(bytes: &[u8]) -> Front
     requires { is_digit (front_byte bytes.now) ≡ true }
     ensures shown { (names : List (List ℕ)) → front names result ≡ number_front bytes.now }

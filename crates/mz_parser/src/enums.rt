@@ -9,7 +9,8 @@ ghost use Rattle.mz_grammar.specs.Tests.{ident_of};
 ghost use Rattle.std.specs.Option.{option_map};
 ghost use Rattle.mz_cursor.specs.Promise.{Gives, fault_of};
 ghost use Rattle.mz_grammar.specs.Parts as parts;
-ghost use Rattle.mz_grammar.specs.Reading.{reads, braced_at};
+ghost use Rattle.mz_grammar.specs.Reading.{reads};
+ghost use Rattle.mz_grammar.specs.Steps.{braced_at};
 
 use mz_base::{Name, Span, Stop};
 use mz_cursor::{Cursor, is_sym};

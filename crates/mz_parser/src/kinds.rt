@@ -10,7 +10,8 @@ ghost use Rattle.mz_cursor.specs.Tokens.{behind, place};
 ghost use Rattle.mz_expr.specs.Views.{reading};
 ghost use Rattle.mz_grammar.specs.Parts as parts;
 ghost use Rattle.mz_grammar.specs.Tests.{item_of, an_include, a_constraint, a_solve, an_output, a_predicate, a_test, a_function, an_annotation, an_enum};
-ghost use Rattle.mz_grammar.specs.Reading.{reads, declared_by, by_expression_at, function_at, item_at, other_item_at};
+ghost use Rattle.mz_grammar.specs.Reading.{reads};
+ghost use Rattle.mz_grammar.specs.Steps.{declared_by, by_expression_at, function_at, item_at, other_item_at};
 
 use crate::enums::cases;
 use crate::parameters::params;

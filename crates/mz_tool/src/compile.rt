@@ -2,7 +2,7 @@
 
 ghost use Rattle.std.specs.Prelude.{◌≡◌, ◌<◌, map, length};
 ghost use Rattle.mz_include.specs.Views.{file, AreKnown};
-ghost use Rattle.mz_tool.specs.Compiling.{status_of, IsWritable, Puts, Leaves, unread, Ends, IsNamedEnd};
+ghost use Rattle.mz_tool.specs.StepsCompiling.{status_of, IsWritable, Puts, Leaves, unread, Ends, IsNamedEnd};
 ghost use Rattle.mz_tool.specs.Status.{CountsFiles, CountsOut};
 
 use crate::status::Status;

@@ -5,7 +5,7 @@ ghost use Rattle.std.specs.Option.{option_copied};
 ghost use Rattle.mz_io.specs.Counts.{Rose};
 ghost use Rattle.mz_tool.specs.Words.{named_file};
 ghost use Rattle.mz_tool.specs.Headline.{Writes, WritesFront};
-ghost use Rattle.mz_tool.specs.Compiling.{file_of, IsNamedEnd};
+ghost use Rattle.mz_tool.specs.StepsCompiling.{file_of, IsNamedEnd};
 ghost use Rattle.mz_tool.specs.Status.{OnDone, IfRefused, OnReadFault, OnWriteFault, OnNothingWritten, IsRefusal, CountsFiles, CountsOut, IsComplete, IsNoted};
 
 use crate::compile::{End, compile};

@@ -6,7 +6,8 @@ ghost use Rattle.mz_tree.specs.Tree as pure;
 ghost use Rattle.mz_tree.specs.Views.{tree, branch, let_of};
 ghost use Rattle.mz_cursor.specs.Reads.{Reads};
 ghost use Rattle.mz_grammar.specs.Parts as parts;
-ghost use Rattle.mz_grammar.specs.Reading.{reads, head_word_at, let_at, with_branches};
+ghost use Rattle.mz_grammar.specs.Reading.{reads};
+ghost use Rattle.mz_grammar.specs.Steps.{head_word_at, let_at, with_branches};
 ghost use Rattle.mz_expr.specs.Views.{reading};
 ghost use Rattle.mz_expr.specs.Descent.{MayOpen, MayRead};
 

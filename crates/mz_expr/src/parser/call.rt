@@ -6,7 +6,8 @@ ghost use Rattle.mz_cursor.specs.Look.{is_sym};
 ghost use Rattle.mz_cursor.specs.Reads.{Passes, Reads};
 ghost use Rattle.mz_cursor.specs.Reading.{mapped, with_front};
 ghost use Rattle.mz_grammar.specs.Parts as parts;
-ghost use Rattle.mz_grammar.specs.Reading.{reads, called_at, guarded_at, waited_at};
+ghost use Rattle.mz_grammar.specs.Reading.{reads};
+ghost use Rattle.mz_grammar.specs.Steps.{called_at, guarded_at, waited_at};
 ghost use Rattle.mz_expr.specs.Views.{reading, argument};
 ghost use Rattle.mz_expr.specs.Descent.{MayOpen, MayRead};
 

@@ -7,7 +7,8 @@ ghost use Rattle.mz_tree.specs.Views.{tree, generator};
 ghost use Rattle.mz_cursor.specs.Reads.{Passes, Reads};
 ghost use Rattle.mz_cursor.specs.Reading.{with_front};
 ghost use Rattle.mz_grammar.specs.Parts as parts;
-ghost use Rattle.mz_grammar.specs.Reading.{reads, generators_at};
+ghost use Rattle.mz_grammar.specs.Reading.{reads};
+ghost use Rattle.mz_grammar.specs.Steps.{generators_at};
 ghost use Rattle.mz_expr.specs.Descent.{MayRead};
 
 use crate::parser::descent::{Descent, Entry};

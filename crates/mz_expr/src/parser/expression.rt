@@ -6,7 +6,7 @@ ghost use Rattle.mz_cursor.specs.Reads.{Passes, Reads};
 ghost use Rattle.mz_grammar.specs.Parts as parts;
 ghost use Rattle.mz_grammar.specs.Reading.{reads};
 ghost use Rattle.mz_expr.specs.Views.{reading};
-ghost use Rattle.mz_expr.specs.Climb.{finished};
+ghost use Rattle.mz_expr.specs.StepsClimb.{finished};
 ghost use Rattle.mz_expr.specs.Descent.{MayBegin, MayOpen, MayRead};
 
 use crate::operator::{binary_of, is_single, level_number, next_level, prefix_of};

@@ -3,7 +3,8 @@
 ghost use Rattle.std.specs.Prelude.{◌<◌, length, Some};
 ghost use Rattle.mz_cursor.specs.Reads.{Reads};
 ghost use Rattle.mz_grammar.specs.Parts as parts;
-ghost use Rattle.mz_grammar.specs.Reading.{reads, head_at, head_word_at, head_symbol_at, parenthesised_at};
+ghost use Rattle.mz_grammar.specs.Reading.{reads};
+ghost use Rattle.mz_grammar.specs.Steps.{head_at, head_word_at, head_symbol_at, parenthesised_at};
 ghost use Rattle.mz_expr.specs.Views.{reading};
 ghost use Rattle.mz_expr.specs.Descent.{MayOpen};
 

@@ -10,7 +10,8 @@ ghost use Rattle.mz_grammar.specs.Tests.{tail_of};
 ghost use Rattle.mz_cursor.specs.Promise.{Gives};
 ghost use Rattle.mz_cursor.specs.Reading.{mapped, with_front, listed, on, stuck};
 ghost use Rattle.mz_grammar.specs.Parts as parts;
-ghost use Rattle.mz_grammar.specs.Reading.{reads, separator_at};
+ghost use Rattle.mz_grammar.specs.Reading.{reads};
+ghost use Rattle.mz_grammar.specs.Steps.{separator_at};
 ghost use Rattle.mz_expr.specs.Descent.{MayRead};
 
 use crate::parser::descent::{Descent, Entry};

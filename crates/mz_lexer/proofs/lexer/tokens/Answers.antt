@@ -5,7 +5,8 @@ use Rattle.std.proofs.lemmas.Bool.Decides.{nat_tests}
 use Rattle.mz_lexer.specs.declared.token.Token.{Token}
 use Rattle.mz_lexer.specs.declared.found.Front.TheVariants as shown
 use Rattle.mz_base.proofs.Tables.{grows_on}
-use Rattle.mz_lexer.specs.Lexemes.{gap, token, refusal, begins_piece, front_of, outcome_of, opens_behind}
+use Rattle.mz_lexer.specs.Steps.{gap, token, refusal, front_of, outcome_of}
+use Rattle.mz_lexer.specs.Lexemes.{begins_piece, opens_behind}
 use Rattle.mz_base.specs.Faults.{start_of}
 use Rattle.mz_lexer.specs.Views.{lexeme, front, Fits, HasName, IsNamed, IsFrontNamed}
 use Rattle.mz_lexer.specs.Lexes.{Lexed}

@@ -1,4 +1,4 @@
--- How a compilation ends.
+-- Mirror of src/compile.rt; private clauses only. How a compilation ends.
 use Rattle.std.specs.Prelude.{◌≡◌, ◌<◌, ℕ, List, [], length}
 use Rattle.mz_base.specs.declared.fault.Fault.{Fault}
 use Rattle.mz_base.specs.Names.{Grows, text_of}

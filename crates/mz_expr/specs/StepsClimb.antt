@@ -1,4 +1,5 @@
--- How an expression goes on behind its first operand: level by level, from the tightest to the loosest that it may have.
+-- Mirror of src/parser/expression.rt; private clauses only. How an expression goes on after its first operand: level by level,
+-- from the tightest to the loosest that it may have.
 use Rattle.std.specs.Prelude.{ℕ, zero, suc, List, [], ◌∷◌, Option, Some, None, Ok, if◌then◌else◌, ◌&&◌, nat_lt, nat_le, slice_index_or}
 use Rattle.mz_lexer.specs.declared.token.Tok.{Tok}
 use Rattle.mz_tree.specs.declared.expr.BinOp.{BinOp}
