@@ -1,0 +1,74 @@
+// The places of an array's elements.
+
+use cases::Page;
+use mz_base::Memory;
+use mz_index::{IndexSets, places_are_distinct};
+use std::alloc::Global;
+
+pub fn in_row_order(alloc: Global, page: &mut Page) -> Result<(), Memory> {
+    page.line("# places run in row order");
+    line(alloc, page)?;
+    table(alloc, page)?;
+    cube(alloc, page)?;
+    places_are_distinct();
+    Ok(())
+}
+
+fn line(alloc: Global, page: &mut Page) -> Result<(), Memory> {
+    let line = IndexSets::new(alloc, &[(-3, 3)])?;
+    page.line(format_args!("-3..3 has {} places", line.len()));
+    for at in [-4, -3, 0, 3, 4] {
+        page.line(format_args!("  at {at}: {:?}", line.place(&[at])));
+    }
+    Ok(())
+}
+
+fn table(alloc: Global, page: &mut Page) -> Result<(), Memory> {
+    let table = IndexSets::new(alloc, &[(0, 1), (1, 3)])?;
+    page.line(format_args!("0..1, 1..3 has {} places", table.len()));
+    for at in [
+        [0, 1],
+        [0, 2],
+        [1, 1],
+        [1, 3],
+        [-1, 1],
+        [2, 1],
+        [0, 0],
+        [0, 4],
+    ] {
+        page.line(format_args!("  at {at:?}: {:?}", table.place(&at)));
+    }
+    Ok(())
+}
+
+fn cube(alloc: Global, page: &mut Page) -> Result<(), Memory> {
+    let cube = IndexSets::new(alloc, &[(-1, 0), (5, 6), (-2, 2)])?;
+    page.line(format_args!("-1..0, 5..6, -2..2 has {} places", cube.len()));
+    for at in [
+        [-1, 5, -2],
+        [-1, 5, 2],
+        [-1, 6, -2],
+        [0, 5, -2],
+        [0, 6, 2],
+        [1, 5, 0],
+        [0, 7, 0],
+        [0, 6, -3],
+    ] {
+        page.line(format_args!("  at {at:?}: {:?}", cube.place(&at)));
+    }
+    Ok(())
+}
+
+pub fn in_empty_ranges(alloc: Global, page: &mut Page) -> Result<(), Memory> {
+    const FAR: i64 = 1 << 61;
+    page.line("# an empty range leaves no place");
+    let sets = IndexSets::new(alloc, &[(-FAR, FAR), (-FAR, FAR), (1, 0)])?;
+    page.line(format_args!(
+        "-{FAR}..{FAR}, -{FAR}..{FAR}, 1..0 has {} places",
+        sets.len()
+    ));
+    for at in [[FAR, FAR, 1], [FAR, FAR, 0]] {
+        page.line(format_args!("  at {at:?}: {:?}", sets.place(&at)));
+    }
+    Ok(())
+}
