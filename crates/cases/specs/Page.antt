@@ -14,3 +14,10 @@ AddsLine told old None = Unit {0}
 AddsLine told None (Some new) = ⊥
 AddsLine None (Some old) (Some new) = Unit {0}
 AddsLine (Some bytes) (Some old) (Some new) = new ≡ (old ++ bytes) ++ codes "\n"
+
+-- the same with a call before them, and the end of the line
+abbrev pub AddsCase : List ℕ → Option (List ℕ) → Option (List ℕ) → Option (List ℕ) → Type 0
+AddsCase call told old None = Unit {0}
+AddsCase call told None (Some new) = ⊥
+AddsCase call None (Some old) (Some new) = Unit {0}
+AddsCase call (Some bytes) (Some old) (Some new) = new ≡ (((old ++ call) ++ codes ": ") ++ bytes) ++ codes "\n"

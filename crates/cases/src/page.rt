@@ -1,10 +1,10 @@
 // The page that a program of cases writes.
 
 ghost use Rattle.std.specs.Prelude.{◌≡◌, [], Some, None, IfOk, OnErr, string_bytes};
-ghost use Rattle.cases.specs.Page.{Adds, AddsLine};
+ghost use Rattle.cases.specs.Page.{Adds, AddsLine, AddsCase};
 
 use std::alloc::{AllocError, Global};
-use std::fmt::{Display, Write};
+use std::fmt::{Debug, Display, Write};
 use std::marker::Model;
 
 /// A text that grows. What adds to it gives no answer: where memory runs out the page is cut, and stays so.
@@ -39,7 +39,16 @@ impl Page {
     pub fn put<T: Display + Drop>(&mut self, text: T)
         ensures { Adds (T.output text) self.old self.new }
     {
-        if write!(self.text, "{text}").is_err() {
+        if self.text.write(text).is_err() {
+            self.is_cut = true;
+        }
+    }
+
+    /// Adds a value as `{:?}` shows it.
+    pub fn show<T: Debug + Drop>(&mut self, value: T)
+        ensures { Adds (T.debug_output value) self.old self.new }
+    {
+        if write!(self.text, "{value:?}").is_err() {
             self.is_cut = true;
         }
     }
@@ -49,6 +58,16 @@ impl Page {
         ensures { AddsLine (T.output text) self.old self.new }
     {
         self.put(text);
+        self.put("\n");
+    }
+
+    /// Adds a call and its answer, as `{:?}` shows it, on a line: `CALL: ANSWER`.
+    pub fn case<T: Debug + Drop>(&mut self, call: &str, answer: T)
+        ensures { AddsCase call.now (T.debug_output answer) self.old self.new }
+    {
+        self.put(call);
+        self.put(": ");
+        self.show(answer);
         self.put("\n");
     }
 

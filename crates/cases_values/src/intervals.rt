@@ -6,10 +6,20 @@ use mz_interval::Interval;
 /// The magnitude that no integer passes.
 const LIMIT: i64 = 1 << 61;
 
+/// An interval's ends.
+fn put_ends(page: &mut Page, ends: (i64, i64)) {
+    page.put(ends.0);
+    page.put("..");
+    page.put(ends.1);
+}
+
 /// What an operation gave, and the end of the line.
 fn answer(page: &mut Page, bounds: Option<Interval>) {
     match bounds {
-        Some(bounds) => page.line(format_args!("{}..{}", bounds.lo, bounds.hi)),
+        Some(bounds) => {
+            put_ends(page, (bounds.lo, bounds.hi));
+            page.line("");
+        }
         None => page.line("none"),
     }
 }
@@ -24,7 +34,9 @@ pub fn ends(page: &mut Page) {
         (0, LIMIT + 1),
         (i64::MIN, i64::MAX),
     ] {
-        page.put(format_args!("Interval {lo}..{hi}: "));
+        page.put("Interval ");
+        put_ends(page, (lo, hi));
+        page.put(": ");
         answer(page, Interval::new(lo, hi));
     }
 }
@@ -36,7 +48,10 @@ fn both(a: (i64, i64), b: (i64, i64)) -> Option<(Interval, Interval)> {
 
 /// An operation on two intervals, and the bounds that it gave.
 fn operation(page: &mut Page, a: (i64, i64), sign: &str, b: (i64, i64), bounds: Option<Interval>) {
-    page.put(format_args!("{}..{} {sign} {}..{} = ", a.0, a.1, b.0, b.1));
+    put_ends(page, a);
+    page.put(sign);
+    put_ends(page, b);
+    page.put(" = ");
     answer(page, bounds);
 }
 
@@ -53,8 +68,8 @@ pub fn sums_and_products(page: &mut Page) {
         ((-LIMIT, 0), (-LIMIT, 0)),
     ] {
         if let Some((x, y)) = both(a, b) {
-            operation(page, a, "+", b, x.add(y));
-            operation(page, a, "*", b, x.mul(y));
+            operation(page, a, " + ", b, x.add(y));
+            operation(page, a, " * ", b, x.mul(y));
         }
     }
 }
@@ -74,8 +89,8 @@ pub fn quotients_and_remainders(page: &mut Page) {
         ((-LIMIT, LIMIT), (-1, 0)),
     ] {
         if let Some((x, y)) = both(a, b) {
-            operation(page, a, "div", b, Some(x.div(y)));
-            operation(page, a, "mod", b, Some(x.modulo(y)));
+            operation(page, a, " div ", b, Some(x.div(y)));
+            operation(page, a, " mod ", b, Some(x.modulo(y)));
         }
     }
 }
@@ -88,7 +103,7 @@ pub fn negations_and_hulls(page: &mut Page) {
     }
     for (a, b) in [((-3, 2), (5, 8)), ((1, 4), (2, 3))] {
         if let Some((x, y)) = both(a, b) {
-            operation(page, a, "hull", b, Some(x.hull(y)));
+            operation(page, a, " hull ", b, Some(x.hull(y)));
         }
     }
 }

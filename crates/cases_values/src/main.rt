@@ -19,10 +19,13 @@ fn all(alloc: Global) -> Result<String, Memory> {
     let mut page = Page::new(alloc);
     base::kinds(&mut page);
     base::names(alloc, &mut page)?;
-    base::counts(&mut page);
+    base::steps(&mut page);
+    base::nesting(&mut page);
     sets::sets(alloc, &mut page)?;
+    sets::operations(alloc, &mut page)?;
     shown::texts(alloc, &mut page)?;
-    shown::values(alloc, &mut page)?;
+    shown::sets(alloc, &mut page)?;
+    shown::arrays(alloc, &mut page)?;
     intervals::ends(&mut page);
     intervals::sums_and_products(&mut page);
     intervals::quotients_and_remainders(&mut page);

@@ -16,16 +16,18 @@ pub fn in_row_order(alloc: Global, page: &mut Page) -> Result<(), Memory> {
 
 fn line(alloc: Global, page: &mut Page) -> Result<(), Memory> {
     let line = IndexSets::new(alloc, &[(-3, 3)])?;
-    page.line(format_args!("-3..3 has {} places", line.len()));
+    page.case("places of -3..3", line.len());
     for at in [-4, -3, 0, 3, 4] {
-        page.line(format_args!("  at {at}: {:?}", line.place(&[at])));
+        page.put("  at ");
+        page.put(at);
+        page.case("", line.place(&[at]));
     }
     Ok(())
 }
 
 fn table(alloc: Global, page: &mut Page) -> Result<(), Memory> {
     let table = IndexSets::new(alloc, &[(0, 1), (1, 3)])?;
-    page.line(format_args!("0..1, 1..3 has {} places", table.len()));
+    page.case("places of 0..1, 1..3", table.len());
     for at in [
         [0, 1],
         [0, 2],
@@ -36,14 +38,16 @@ fn table(alloc: Global, page: &mut Page) -> Result<(), Memory> {
         [0, 0],
         [0, 4],
     ] {
-        page.line(format_args!("  at {at:?}: {:?}", table.place(&at)));
+        page.put("  at ");
+        page.show(at);
+        page.case("", table.place(&at));
     }
     Ok(())
 }
 
 fn cube(alloc: Global, page: &mut Page) -> Result<(), Memory> {
     let cube = IndexSets::new(alloc, &[(-1, 0), (5, 6), (-2, 2)])?;
-    page.line(format_args!("-1..0, 5..6, -2..2 has {} places", cube.len()));
+    page.case("places of -1..0, 5..6, -2..2", cube.len());
     for at in [
         [-1, 5, -2],
         [-1, 5, 2],
@@ -54,7 +58,9 @@ fn cube(alloc: Global, page: &mut Page) -> Result<(), Memory> {
         [0, 7, 0],
         [0, 6, -3],
     ] {
-        page.line(format_args!("  at {at:?}: {:?}", cube.place(&at)));
+        page.put("  at ");
+        page.show(at);
+        page.case("", cube.place(&at));
     }
     Ok(())
 }
@@ -63,12 +69,11 @@ pub fn in_empty_ranges(alloc: Global, page: &mut Page) -> Result<(), Memory> {
     const FAR: i64 = 1 << 61;
     page.line("# an empty range leaves no place");
     let sets = IndexSets::new(alloc, &[(-FAR, FAR), (-FAR, FAR), (1, 0)])?;
-    page.line(format_args!(
-        "-{FAR}..{FAR}, -{FAR}..{FAR}, 1..0 has {} places",
-        sets.len()
-    ));
+    page.case("places of -2^61..2^61, -2^61..2^61, 1..0", sets.len());
     for at in [[FAR, FAR, 1], [FAR, FAR, 0]] {
-        page.line(format_args!("  at {at:?}: {:?}", sets.place(&at)));
+        page.put("  at ");
+        page.show(at);
+        page.case("", sets.place(&at));
     }
     Ok(())
 }

@@ -31,45 +31,37 @@ fn colours(alloc: Global) -> Result<Cases, AllocError>
 pub fn texts(alloc: Global, page: &mut Page) -> Result<(), Memory> {
     page.line("# numbers in columns, and texts with commas between");
     for (width, x) in [(4, 7), (-3, 7), (1, -12), (0, 0)] {
-        let shown = show_int(alloc, width, x)?;
-        page.line(format_args!("{x} in {width} columns: {:?}", shown.text));
+        page.show((width, x));
+        page.case("", show_int(alloc, width, x)?.text);
     }
     let parts = vec![in alloc;
         Value::Text(text(alloc, "p")?),
         Value::Text(text(alloc, "q")?),
     ]?;
     let joined = join(alloc, &text(alloc, ", ")?, &parts)?;
-    page.line(format_args!("p and q: {}", joined.text));
+    page.case("p and q", joined.text);
     Ok(())
 }
 
-pub fn values(alloc: Global, page: &mut Page) -> Result<(), Memory> {
-    page.line("# values, where an enum has the cases Red and Green");
+pub fn sets(alloc: Global, page: &mut Page) -> Result<(), Memory> {
+    page.line("# sets, where an enum has the cases Red and Green");
     let cases = colours(alloc)?;
     let scattered = Value::integers(RangeSet::of(alloc, &[1, 5])?);
-    page.line(format_args!(
-        "the set of 1 and 5: {}",
-        show(alloc, &scattered, &cases)?.text
-    ));
+    page.case("1 and 5", show(alloc, &scattered, &cases)?.text);
     let contiguous = Value::integers(RangeSet::range(alloc, 2, 3)?);
-    page.line(format_args!(
-        "the set of 2 and 3: {}",
-        show(alloc, &contiguous, &cases)?.text
-    ));
+    page.case("2 and 3", show(alloc, &contiguous, &cases)?.text);
     let empty = Value::integers(RangeSet::range(alloc, 1, 0)?);
-    page.line(format_args!("the empty set: {}", show(alloc, &empty, &cases)?.text));
+    page.case("none", show(alloc, &empty, &cases)?.text);
     let both = Value::cases(0, RangeSet::range(alloc, 1, 2)?);
-    page.line(format_args!(
-        "the set of both cases: {}",
-        show(alloc, &both, &cases)?.text
-    ));
-    arrays(alloc, page)
+    page.case("cases 1 and 2", show(alloc, &both, &cases)?.text);
+    Ok(())
 }
 
-fn arrays(alloc: Global, page: &mut Page) -> Result<(), Memory> {
+pub fn arrays(alloc: Global, page: &mut Page) -> Result<(), Memory> {
+    page.line("# arrays, where an enum has the cases Red and Green");
     let cases = colours(alloc)?;
     let empty = Value::array(vec![in alloc; (1, 0)]?, Vec::new(alloc));
-    page.line(format_args!("the empty array: {}", show(alloc, &empty, &cases)?.text));
+    page.case("no items", show(alloc, &empty, &cases)?.text);
     let items = vec![in alloc;
         Value::Int(-1),
         Value::Absent,
@@ -77,6 +69,6 @@ fn arrays(alloc: Global, page: &mut Page) -> Result<(), Memory> {
         Value::Enum(0, 2),
     ]?;
     let plane = Value::array(vec![in alloc; (1, 2), (0, 1)]?, items);
-    page.line(format_args!("two rows of two: {}", show(alloc, &plane, &cases)?.text));
+    page.case("two rows of two", show(alloc, &plane, &cases)?.text);
     Ok(())
 }

@@ -20,8 +20,8 @@ pub fn made(alloc: Global, page: &mut Page) -> Result<(), Memory> {
     steps.push((BinOp::Add, make_int(AT, 1)))?;
     let sum = make_chain(alloc, AT, make_ident(AT, x), steps)?;
     let body = make_let(alloc, AT, Vec::new(alloc), sum)?;
-    page.line(format_args!("let {{}} in x + 1: {body:?}"));
+    page.case("let {} in x + 1", &body);
     let rows = make_rows(AT, Vec::new(alloc));
-    page.line(format_args!("[| |]: {rows:?}"));
+    page.case("[| |]", &rows);
     Ok(())
 }
