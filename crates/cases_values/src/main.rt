@@ -25,7 +25,8 @@ fn all(alloc: Global) -> Result<String, Memory> {
     sets::operations(alloc, &mut page)?;
     shown::texts(alloc, &mut page)?;
     shown::sets(alloc, &mut page)?;
-    shown::arrays(alloc, &mut page)?;
+    shown::empty_array(alloc, &mut page)?;
+    shown::plane(alloc, &mut page)?;
     intervals::ends(&mut page);
     intervals::sums_and_products(&mut page);
     intervals::quotients_and_remainders(&mut page);

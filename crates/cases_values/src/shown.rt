@@ -34,10 +34,9 @@ pub fn texts(alloc: Global, page: &mut Page) -> Result<(), Memory> {
         page.show((width, x));
         page.case("", show_int(alloc, width, x)?.text);
     }
-    let parts = vec![in alloc;
-        Value::Text(text(alloc, "p")?),
-        Value::Text(text(alloc, "q")?),
-    ]?;
+    let mut parts = Vec::new(alloc);
+    parts.push(Value::Text(text(alloc, "p")?))?;
+    parts.push(Value::Text(text(alloc, "q")?))?;
     let joined = join(alloc, &text(alloc, ", ")?, &parts)?;
     page.case("p and q", joined.text);
     Ok(())
@@ -45,30 +44,42 @@ pub fn texts(alloc: Global, page: &mut Page) -> Result<(), Memory> {
 
 pub fn sets(alloc: Global, page: &mut Page) -> Result<(), Memory> {
     page.line("# sets, where an enum has the cases Red and Green");
+    integers(alloc, page, "1 and 5", RangeSet::of(alloc, &[1, 5])?)?;
+    integers(alloc, page, "2 and 3", RangeSet::range(alloc, 2, 3)?)?;
+    integers(alloc, page, "none", RangeSet::range(alloc, 1, 0)?)?;
     let cases = colours(alloc)?;
-    let scattered = Value::integers(RangeSet::of(alloc, &[1, 5])?);
-    page.case("1 and 5", show(alloc, &scattered, &cases)?.text);
-    let contiguous = Value::integers(RangeSet::range(alloc, 2, 3)?);
-    page.case("2 and 3", show(alloc, &contiguous, &cases)?.text);
-    let empty = Value::integers(RangeSet::range(alloc, 1, 0)?);
-    page.case("none", show(alloc, &empty, &cases)?.text);
     let both = Value::cases(0, RangeSet::range(alloc, 1, 2)?);
     page.case("cases 1 and 2", show(alloc, &both, &cases)?.text);
     Ok(())
 }
 
-pub fn arrays(alloc: Global, page: &mut Page) -> Result<(), Memory> {
+fn integers(alloc: Global, page: &mut Page, call: &str, set: RangeSet) -> Result<(), Memory> {
+    let cases = Cases {
+        names: Vec::new(alloc),
+    };
+    let value = Value::integers(set);
+    page.case(call, show(alloc, &value, &cases)?.text);
+    Ok(())
+}
+
+pub fn empty_array(alloc: Global, page: &mut Page) -> Result<(), Memory> {
     page.line("# arrays, where an enum has the cases Red and Green");
     let cases = colours(alloc)?;
     let empty = Value::array(vec![in alloc; (1, 0)]?, Vec::new(alloc));
     page.case("no items", show(alloc, &empty, &cases)?.text);
+    Ok(())
+}
+
+pub fn plane(alloc: Global, page: &mut Page) -> Result<(), Memory> {
+    let cases = colours(alloc)?;
+    let index = vec![in alloc; (1, 2), (0, 1)]?;
     let items = vec![in alloc;
         Value::Int(-1),
         Value::Absent,
         Value::Bool(true),
         Value::Enum(0, 2),
     ]?;
-    let plane = Value::array(vec![in alloc; (1, 2), (0, 1)]?, items);
+    let plane = Value::array(index, items);
     page.case("two rows of two", show(alloc, &plane, &cases)?.text);
     Ok(())
 }
