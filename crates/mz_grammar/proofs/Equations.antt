@@ -5,8 +5,8 @@ use Rattle.mz_base.specs.declared.fault.Span.{Span}
 use Rattle.mz_lexer.specs.declared.token.Token.{Token}
 use Rattle.mz_lexer.specs.declared.token.Tok.{Tok}
 use Rattle.mz_lexer.specs.declared.token.Tok.TheVariants.{Word, Sym, Ident, Int, Text, TextHead, TextMid, TextTail}
-use Rattle.mz_lexer.specs.declared.token.Keyword.{Keyword}
-use Rattle.mz_lexer.specs.declared.token.Keyword.TheVariants.{KIn, KWhere, KIf, KLet}
+use Rattle.mz_base.specs.declared.keyword.Keyword.{Keyword}
+use Rattle.mz_base.specs.declared.keyword.Keyword.TheVariants.{KIn, KWhere, KIf, KLet}
 use Rattle.mz_lexer.specs.declared.token.Symbol.{Symbol}
 use Rattle.mz_lexer.specs.declared.token.Symbol.TheVariants.{SLParen, SRParen, SLBrack, SRBrack, SLBrace, SLRows, SComma, SColons, SDots}
 use Rattle.mz_tree.specs.Tree.{Name, Tree, Maybe, node, interp, choice, parts, branches as branch_list, unary, call, plain, generator, trees}

@@ -2,7 +2,7 @@
 use Rattle.std.proofs.Common.{◌≡◌, ℕ, List, [], ◌∷◌, refl, ◌∙◌, true, false, Bool}
 use Rattle.std.specs.Prelude.{Ok, Err, if◌then◌else◌, ◌||◌}
 use Rattle.mz_lexer.specs.declared.token.Token.{Token}
-use Rattle.mz_lexer.specs.declared.token.Keyword.TheVariants.{KIn, KWhere, KThen, KElse, KElseif, KEndif, KConstraint}
+use Rattle.mz_base.specs.declared.keyword.Keyword.TheVariants.{KIn, KWhere, KThen, KElse, KElseif, KEndif, KConstraint}
 use Rattle.mz_lexer.specs.declared.token.Symbol.TheVariants.{SRBrack, SRBrace, SRRows, SBar, SComma, SSemi}
 use Rattle.mz_tree.specs.Tree.{Tree, Generator, Let, array, set, array_comp, set_comp, just, nothing, plain, shown, generator, constrained, trees, gens}
 use Rattle.mz_tree.specs.Tree as pure

@@ -3,8 +3,8 @@ use Rattle.std.specs.Prelude.{ℕ, suc, ◌+◌, Bool, true, false, List, [], �
 use Rattle.mz_base.specs.declared.fault.Span.{Span}
 use Rattle.mz_lexer.specs.declared.token.Tok.{Tok}
 use Rattle.mz_lexer.specs.declared.token.Tok.TheVariants.{Word, Sym, Ident, Int, Text, TextHead}
-use Rattle.mz_lexer.specs.declared.token.Keyword.{Keyword}
-use Rattle.mz_lexer.specs.declared.token.Keyword.TheVariants.{KTrue, KFalse, KIf, KLet, KIn, KOf}
+use Rattle.mz_base.specs.declared.keyword.Keyword.{Keyword}
+use Rattle.mz_base.specs.declared.keyword.Keyword.TheVariants.{KTrue, KFalse, KIf, KLet, KIn, KOf}
 use Rattle.mz_lexer.specs.declared.token.Symbol.{Symbol}
 use Rattle.mz_lexer.specs.declared.token.Symbol.TheVariants.{SLParen, SRParen, SLBrack, SRBrack, SLBrace, SRBrace, SLRows, SComma, SSemi, SColon, SEq, SAbsent, SConcat}
 use Rattle.mz_tree.specs.Tree.{Name, Tree, Maybe, Generator, Written, Based, node, int, bool, absent, text, interp, call, gen_call, rows, choice, let_in, plain, generator, written, base_bool, base_of, no_array, trees, rows_of, branches, parts, gens, lets}

@@ -13,14 +13,15 @@ use Rattle.std.proofs.lemmas.Bool.{cases_lt}
 use Rattle.std.proofs.lemmas.Bool.Decides.{nat_tests, Decides-eqb}
 use Rattle.mz_base.specs.declared.kind.Kind.{Kind}
 use Rattle.mz_base.specs.declared.kind.Kind.TheVariants.{Lexical, LeftOut, Bounds}
-use Rattle.mz_lexer.specs.Bytes.{front_byte, second_byte, is_blank, is_newline, is_digit}
+use Rattle.mz_lexer.specs.Bytes.{front_byte, second_byte, is_blank, is_newline}
+use Rattle.mz_base.specs.Words.{is_digit}
 use Rattle.mz_lexer.specs.Numbers.{limit}
 use Rattle.mz_lexer.specs.Texts.{is_plain, is_escape, content_len, content_from, meaning}
 use Rattle.mz_lexer.specs.Lexemes as lx
 use Rattle.mz_lexer.specs.Lexemes.{Lexeme, Front, front_of, number_front, piece_front, piece_of, piece_end, comment_len, comment_of, ends_comment}
 use Rattle.mz_lexer.specs.Lexes.{Means, nothing, a_byte, an_escape, IsContent, Spells, EndsFirst, opens_piece, NothingBegins, IsStuck, at_the_end, at_newline, at_backslash, at_no_character, IsLineEnd}
 use Rattle.mz_lexer.proofs.Runs.{both}
-use Rattle.mz_lexer.proofs.Spellings.{pick}
+use Rattle.mz_base.proofs.Choices.{pick}
 use Rattle.mz_lexer.proofs.Fronts.{Covers, by_token, by_left_out, covers, raw_front, number_raw, raw_is_front, raw_is_number, front_is_number, front_is_blank, front_is_line, front_is_comment, front_is_text, front_is_later, piece_up_to, content_of}
 use Rattle.mz_lexer.proofs.LeftOuts.{left_front}
 use Rattle.mz_lexer.proofs.Cuts.{front_content}

@@ -6,20 +6,24 @@ use Rattle.std.proofs.lemmas.List.{take_at, drop_at}
 use Rattle.std.proofs.lemmas.Bool.{false≢true}
 use Rattle.std.proofs.lemmas.Bool.Decides.{nat_tests, Decides-eqb}
 use Rattle.mz_base.specs.declared.kind.Kind.TheVariants.{LeftOut}
-use Rattle.mz_lexer.specs.declared.token.Keyword.{Keyword}
+use Rattle.mz_base.specs.declared.keyword.Keyword.{Keyword}
 use Rattle.mz_lexer.specs.declared.token.Symbol.{Symbol}
 use Rattle.mz_lexer.specs.declared.token.Symbol.TheVariants.{SLParen, SRParen, SLBrack, SRBrack, SLBrace, SRBrace, SLRows, SRRows, SBar, SComma, SSemi, SColon, SColons, SDots, SEq, SEqEq, SNe, SLt, SLe, SGt, SGe, SRimp, SImp, SIff, SOr, SAnd, SPlus, SMinus, SStar, SCaret, SConcat, SAbsent}
-use Rattle.mz_lexer.specs.Bytes.{front_byte, second_byte, third_byte, is_blank, is_newline, is_letter, is_digit, is_hex_digit, is_octal_digit, is_word_byte}
-use Rattle.mz_lexer.specs.Keywords.{keyword_text, keyword_of, is_left_out_keyword}
+use Rattle.mz_lexer.specs.Bytes.{front_byte, second_byte, third_byte, is_blank, is_newline, is_hex_digit, is_octal_digit}
+use Rattle.mz_base.specs.Words.{is_letter, is_digit, is_word_byte}
+use Rattle.mz_base.specs.Keywords.{keyword_text, keyword_of}
+use Rattle.mz_lexer.specs.LeftOut.{is_left_out_keyword}
 use Rattle.mz_lexer.specs.Symbols.{symbol_text, symbol_at}
 use Rattle.mz_lexer.specs.Numbers.{number_of, goes_on}
 use Rattle.mz_lexer.specs.Texts.{is_plain, escape_value, content_len, content_from, meaning, meaning_from}
 use Rattle.mz_lexer.specs.Lexemes as lx
 use Rattle.mz_lexer.specs.Lexemes.{Lexeme, Front, front_of, word_front, keyword_or_name, number_front, literal, piece_front, piece_end, comment_len, comment_of, symbol_or_fault}
-use Rattle.mz_lexer.specs.Lexes.{is_word, are_digits, Means, nothing, a_byte, an_escape, IsContent, Spells, an_identifier, a_keyword, decimal, hexadecimal, octal, a_symbol, a_text, a_head, a_middle, a_tail}
+use Rattle.mz_base.specs.Words.{is_word}
+use Rattle.mz_lexer.specs.Lexes.{are_digits, Means, nothing, a_byte, an_escape, IsContent, Spells, an_identifier, a_keyword, decimal, hexadecimal, octal, a_symbol, a_text, a_head, a_middle, a_tail}
 use Rattle.mz_lexer.proofs.Pieces.{valid_piece}
 use Rattle.mz_lexer.proofs.Runs.{both, run_holds}
-use Rattle.mz_lexer.proofs.Spellings.{pick, keyword_known, keyword_found, keyword_is_word, IsCovered, covered, symbol_is_covered}
+use Rattle.mz_base.proofs.Choices.{pick}
+use Rattle.mz_lexer.proofs.Spellings.{keyword_known, keyword_found, keyword_is_word, IsCovered, covered, symbol_is_covered}
 
 -- a token of a number, whatever the number
 abbrev pub number_token : ℕ → List ℕ → ℕ → Front

@@ -9,13 +9,16 @@ use Rattle.mz_base.specs.declared.kind.Kind.TheVariants.{Lexical, LeftOut, Bound
 use Rattle.mz_lexer.specs.declared.opening.Opening.{Opening}
 use Rattle.mz_lexer.specs.declared.token.Symbol.{Symbol}
 use Rattle.mz_lexer.specs.declared.token.Symbol.TheVariants.{SLParen, SRParen, SLBrack, SRBrack, SLBrace, SRBrace, SLRows, SRRows, SBar, SComma, SSemi, SColon, SColons, SDots, SEq, SEqEq, SNe, SLt, SLe, SGt, SGe, SRimp, SImp, SIff, SOr, SAnd, SPlus, SMinus, SStar, SCaret, SConcat, SAbsent}
-use Rattle.mz_lexer.specs.Bytes.{is_blank, is_newline, is_digit}
+use Rattle.mz_lexer.specs.Bytes.{is_blank, is_newline}
+use Rattle.mz_base.specs.Words.{is_digit}
 use Rattle.mz_lexer.specs.Numbers.{limit}
-use Rattle.mz_lexer.specs.Keywords.{keyword_text}
+use Rattle.mz_base.specs.Keywords.{keyword_text}
 use Rattle.mz_lexer.specs.Symbols.{symbol_text}
 use Rattle.mz_lexer.specs.Lexemes as lx
-use Rattle.mz_lexer.specs.Lexemes.{Lexeme, Front, begins_piece, passed, after, fault, start_of, opens_behind, Outcome, with_token, front_of, comment_len, comment_of, outcome_at, outcome_of}
-use Rattle.mz_lexer.specs.Lexes.{is_word, are_digits, Spells, an_identifier, a_keyword, decimal, hexadecimal, octal, a_symbol, a_text, a_head, a_middle, a_tail, IsLongest, IsLeftOut, left_byte, left_slash, left_number, left_keyword, comment, EndsFirst, NothingBegins, IsLineEnd, IsInLimit, Lexed, no_bytes, a_blank, a_line_comment, a_comment, a_token, left_out, past_limit, nothing_begins, in_a_text, IsDetermined}
+use Rattle.mz_lexer.specs.Lexemes.{Lexeme, Front, begins_piece, passed, after, fault, opens_behind, Outcome, with_token, front_of, comment_len, comment_of, outcome_at, outcome_of}
+use Rattle.mz_base.specs.Faults.{start_of}
+use Rattle.mz_base.specs.Words.{is_word}
+use Rattle.mz_lexer.specs.Lexes.{are_digits, Spells, an_identifier, a_keyword, decimal, hexadecimal, octal, a_symbol, a_text, a_head, a_middle, a_tail, IsLongest, IsLeftOut, left_byte, left_slash, left_number, left_keyword, comment, EndsFirst, NothingBegins, IsLineEnd, IsInLimit, Lexed, no_bytes, a_blank, a_line_comment, a_comment, a_token, left_out, past_limit, nothing_begins, in_a_text, IsDetermined}
 use Rattle.mz_lexer.proofs.Runs.{all_of_run}
 use Rattle.mz_lexer.proofs.Spellings.{keyword_is_word}
 use Rattle.mz_lexer.proofs.Fronts.{raw_front, front_is_blank, front_is_line, front_is_comment}

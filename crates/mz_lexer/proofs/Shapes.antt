@@ -10,19 +10,23 @@ use Rattle.std.proofs.lemmas.Str.{utf8_valid_len_le}
 use Rattle.std.proofs.lemmas.Bool.{cases_lt}
 use Rattle.std.proofs.lemmas.Bool.Decides.{nat_tests, Decides-eqb}
 use Rattle.mz_base.specs.declared.kind.Kind.TheVariants.{Lexical, LeftOut, Bounds}
-use Rattle.mz_lexer.specs.declared.token.Keyword.{Keyword}
+use Rattle.mz_base.specs.declared.keyword.Keyword.{Keyword}
 use Rattle.mz_lexer.specs.declared.token.Symbol.{Symbol}
 use Rattle.mz_lexer.specs.declared.token.Symbol.TheVariants.{SRParen, SAnd}
-use Rattle.mz_lexer.specs.Bytes.{front_byte, second_byte, third_byte, is_blank, is_newline, is_letter, is_digit, is_hex_digit, is_octal_digit, is_word_byte, is_left_out_byte}
-use Rattle.mz_lexer.specs.Keywords.{keyword_text, keyword_of, is_left_out_keyword}
+use Rattle.mz_lexer.specs.Bytes.{front_byte, second_byte, third_byte, is_blank, is_newline, is_hex_digit, is_octal_digit, is_left_out_byte}
+use Rattle.mz_base.specs.Words.{is_letter, is_digit, is_word_byte}
+use Rattle.mz_base.specs.Keywords.{keyword_text, keyword_of}
+use Rattle.mz_lexer.specs.LeftOut.{is_left_out_keyword}
 use Rattle.mz_lexer.specs.Symbols.{symbol_text, symbol_at}
 use Rattle.mz_lexer.specs.Numbers.{limit, number_of, goes_on}
 use Rattle.mz_lexer.specs.Texts.{is_plain, content_len, content_from}
 use Rattle.mz_lexer.specs.Lexemes as lx
 use Rattle.mz_lexer.specs.Lexemes.{Lexeme, Front, front_of, word_front, keyword_or_name, number_front, literal, piece_front, piece_of, piece_end, comment_len, comment_of, ends_comment, symbol_or_fault}
-use Rattle.mz_lexer.specs.Lexes.{is_word, are_digits, Means, IsContent, Spells, an_identifier, a_keyword, decimal, hexadecimal, octal, a_symbol, a_text, a_head, a_middle, a_tail, opens_piece, IsLeftOut, left_byte, left_slash, left_number, left_keyword, comment, EndsFirst, IsStuck, at_no_character, IsInLimit}
+use Rattle.mz_base.specs.Words.{is_word}
+use Rattle.mz_lexer.specs.Lexes.{are_digits, Means, IsContent, Spells, an_identifier, a_keyword, decimal, hexadecimal, octal, a_symbol, a_text, a_head, a_middle, a_tail, opens_piece, IsLeftOut, left_byte, left_slash, left_number, left_keyword, comment, EndsFirst, IsStuck, at_no_character, IsInLimit}
 use Rattle.mz_lexer.proofs.Runs.{both, stops_run, all_of_run}
-use Rattle.mz_lexer.proofs.Spellings.{pick, keyword_known, keyword_found, IsFound, none_found, one_found, symbol_is_found}
+use Rattle.mz_base.proofs.Choices.{pick}
+use Rattle.mz_lexer.proofs.Spellings.{keyword_known, keyword_found, IsFound, none_found, one_found, symbol_is_found}
 use Rattle.mz_lexer.proofs.Fronts.{number_raw, number_token, raw_front, raw_is_number, word_is, meaning_of}
 use Rattle.mz_lexer.proofs.Cuts.{front_content, stuck_at, valid_whole, cut_before, high_behind, no_character, valid_front, plain_cons}
 

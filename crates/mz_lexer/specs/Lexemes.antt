@@ -1,19 +1,24 @@
--- The tokens of a file's bytes, and the first fault.
-use Rattle.std.specs.Prelude.{ℕ, zero, suc, ◌+◌, ◌-◌, List, [], ◌∷◌, take, drop, Bool, true, false, ◌&&◌, not, nat_eq, nat_le, ℤ, pos, Option, Some, None, Result, Ok, Err, if◌then◌else◌, fold}
+-- Mirror of src/front.rt and the files that it calls; private clauses only. The tokens of a file's bytes, as the code finds
+-- them, and the first fault.
+use Rattle.std.specs.Prelude.{ℕ, zero, suc, ◌+◌, ◌-◌, ◌+ℤ◌, List, [], ◌∷◌, take, drop, Bool, true, false, ◌&&◌, not, nat_eq, nat_le, codes, ℤ, pos, Option, Some, None, Result, Ok, Err, if◌then◌else◌, fold}
 use Rattle.std.specs.Option.{option_map}
 use Rattle.std.specs.List.{take_while, prefix_len}
 use Rattle.std.specs.Str.Lossy.{utf8_valid_len}
+use Rattle.mz_base.specs.declared.limit.TheConstants.{INTEGER_LIMIT}
+use Rattle.mz_base.specs.Faults.{start_of}
 use Rattle.mz_base.specs.declared.fault.Span.{Span}
 use Rattle.mz_base.specs.declared.fault.Fault.{Fault}
 use Rattle.mz_base.specs.declared.kind.Kind.{Kind}
 use Rattle.mz_base.specs.declared.kind.Kind.TheVariants.{Lexical, LeftOut, Bounds}
-use Rattle.mz_lexer.specs.declared.token.Keyword.{Keyword}
+use Rattle.mz_base.specs.declared.keyword.Keyword.{Keyword}
 use Rattle.mz_lexer.specs.declared.token.Symbol.{Symbol}
 use Rattle.mz_lexer.specs.declared.token.Symbol.TheVariants.{SLParen, SRParen}
 use Rattle.mz_lexer.specs.declared.opening.Opening.{Opening}
 use Rattle.mz_lexer.specs.declared.opening.Opening.TheVariants as opening
-use Rattle.mz_lexer.specs.Bytes.{front_byte, second_byte, third_byte, is_blank, is_newline, is_letter, is_digit, is_hex_digit, is_octal_digit, is_word_byte, is_left_out_byte}
-use Rattle.mz_lexer.specs.Keywords.{keyword_of, is_left_out_keyword}
+use Rattle.mz_lexer.specs.Bytes.{is_byte, quote, backslash, front_byte, second_byte, third_byte, is_blank, is_newline, is_hex_digit, is_octal_digit, is_left_out_byte}
+use Rattle.mz_base.specs.Words.{is_letter, is_digit, is_word_byte}
+use Rattle.mz_base.specs.Keywords.{keyword_of}
+use Rattle.mz_lexer.specs.LeftOut.{is_left_out_keyword}
 use Rattle.mz_lexer.specs.Symbols.{symbol_at}
 use Rattle.mz_lexer.specs.Numbers.{limit, number_of, goes_on}
 use Rattle.mz_lexer.specs.Texts.{content_len, meaning}
@@ -52,15 +57,11 @@ after at bs = fold passed at bs
 
 -- the number of a fault: past the limit for a literal that leaves it
 abbrev pub fault_number : Kind → ℤ
-fault_number Bounds = pos 2305843009213693953
+fault_number Bounds = INTEGER_LIMIT +ℤ pos 1
 fault_number _ = pos 0
 
 abbrev pub fault : Kind → Span → Fault
 fault kind at = record { kind = kind; span = at; number = fault_number kind }
-
--- where a file begins
-abbrev pub start_of : ℕ → Span
-start_of file = record { file = file; line = 1; col = 1; byte = 0 }
 
 -- what stands in front of some bytes
 pub data Front : Type 0 where
@@ -86,9 +87,9 @@ literal base ds n = if nat_le (number_of base ds) limit then token (int (pos (nu
 -- the longest literal in front of bytes that begin with a digit
 unfoldable pub number_front : List ℕ → Front
 number_front bs =
-    if nat_eq (front_byte bs) 48 && (nat_eq (second_byte bs) 120 && is_hex_digit (third_byte bs))
+    if is_byte (codes "0") (front_byte bs) && (is_byte (codes "x") (second_byte bs) && is_hex_digit (third_byte bs))
     then literal 16 (take_while is_hex_digit (drop 2 bs)) (2 + prefix_len is_hex_digit (drop 2 bs)) else
-    if nat_eq (front_byte bs) 48 && (nat_eq (second_byte bs) 111 && is_octal_digit (third_byte bs))
+    if is_byte (codes "0") (front_byte bs) && (is_byte (codes "o") (second_byte bs) && is_octal_digit (third_byte bs))
     then literal 8 (take_while is_octal_digit (drop 2 bs)) (2 + prefix_len is_octal_digit (drop 2 bs)) else
     if goes_on (drop (prefix_len is_digit bs) bs) then refusal LeftOut 0
     else literal 10 (take_while is_digit bs) (prefix_len is_digit bs)
@@ -96,8 +97,8 @@ number_front bs =
 -- the piece of a text by its end: the flag says that it isn't the first, n is the length of its content
 abbrev pub piece_end : Bool → List ℕ → ℕ → List ℕ → Front
 piece_end later value n bs =
-    if nat_eq (front_byte bs) 34 then token (if later then text_tail value else text value) (n + 2) else
-    if nat_eq (front_byte bs) 92 && nat_eq (second_byte bs) 40 then token (if later then text_mid value else text_head value) (n + 3)
+    if nat_eq (front_byte bs) quote then token (if later then text_tail value else text value) (n + 2) else
+    if nat_eq (front_byte bs) backslash && is_byte (codes "(") (second_byte bs) then token (if later then text_mid value else text_head value) (n + 3)
     else refusal Lexical (n + 1)
 
 -- the piece of a text with this content in front of these bytes
@@ -112,7 +113,7 @@ piece_front later bs = piece_of later (take (content_len bs) bs) (content_len bs
 
 -- `*/` stands in front
 abbrev pub ends_comment : List ℕ → Bool
-ends_comment bs = nat_eq (front_byte bs) 42 && nat_eq (second_byte bs) 47
+ends_comment bs = is_byte (codes "*") (front_byte bs) && is_byte (codes "/") (second_byte bs)
 
 -- how many bytes there are up to the end of a comment, if it has one
 unfoldable pub comment_len : List ℕ → Option ℕ
@@ -134,10 +135,10 @@ front_of later bs =
     if is_blank (front_byte bs) then gap 1 else
     if is_letter (front_byte bs) then word_front bs else
     if is_digit (front_byte bs) then number_front bs else
-    if nat_eq (front_byte bs) 34 then piece_front false (drop 1 bs) else
-    if later && nat_eq (front_byte bs) 41 then piece_front true (drop 1 bs) else
-    if nat_eq (front_byte bs) 37 then gap (1 + prefix_len (λ b. not (is_newline b)) (drop 1 bs)) else
-    if nat_eq (front_byte bs) 47 && nat_eq (second_byte bs) 42 then comment_of (comment_len (drop 2 bs))
+    if nat_eq (front_byte bs) quote then piece_front false (drop 1 bs) else
+    if later && is_byte (codes ")") (front_byte bs) then piece_front true (drop 1 bs) else
+    if is_byte (codes "%") (front_byte bs) then gap (1 + prefix_len (λ b. not (is_newline b)) (drop 1 bs)) else
+    if is_byte (codes "/") (front_byte bs) && is_byte (codes "*") (second_byte bs) then comment_of (comment_len (drop 2 bs))
     else symbol_or_fault (front_byte bs) (symbol_at (front_byte bs) (second_byte bs) (third_byte bs))
 
 abbrev pub closed : List Opening → List Opening

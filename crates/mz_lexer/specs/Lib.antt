@@ -1,5 +1,5 @@
 pub mod Bytes
-pub mod Keywords
+pub mod LeftOut
 pub mod Lexemes
 pub mod Lexes
 pub mod Numbers

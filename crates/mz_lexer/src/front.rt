@@ -3,35 +3,25 @@
 ghost use Rattle.std.specs.Prelude.{ℕ, List, ◌≡◌, ◌+◌, ◌<◌, ◌≤◌, ◌^◌, length, true, IfOk, IfSome};
 ghost use Rattle.std.specs.List.{list_all};
 ghost use Rattle.mz_base.specs.Names.{Grows};
-ghost use Rattle.mz_lexer.specs.Bytes.{front_byte, second_byte, third_byte, is_letter, is_word_byte};
+ghost use Rattle.mz_lexer.specs.Bytes.{front_byte, second_byte, third_byte};
+ghost use Rattle.mz_base.specs.Words.{is_letter, is_word_byte};
 ghost use Rattle.mz_lexer.specs.Lexemes.{word_front, symbol_or_fault, comment_len, comment_of, front_of};
 ghost use Rattle.mz_lexer.specs.Symbols.{symbol_at};
 ghost use Rattle.mz_lexer.specs.Views.{front, IsFrontNamed, Fits};
 
 use crate::byte::{
-    front_byte, is_blank, is_digit, is_left_out_byte, is_letter, line_len, second_byte, third_byte,
-    word_len,
+    front_byte, is_blank, is_left_out_byte, line_len, second_byte, third_byte, word_len,
 };
 use crate::comment::comment_len;
-use crate::keyword::{is_left_out, keyword_of};
+use crate::found::Front;
+use crate::left_out::is_left_out;
 use crate::number::number_front;
 use crate::piece::piece_front;
 use crate::symbol::symbol_at;
 use crate::token::Tok;
-use mz_base::{Kind, Memory, Names};
+use mz_base::{Kind, Memory, Names, is_digit, is_letter, keyword_of};
 use std::alloc::Global;
 use std::str::from_utf8;
-
-/// What stands in front of some bytes. Lengths are in bytes.
-#[derive(Clone, Copy, Debug)]
-pub enum Front {
-    /// A blank or a comment, with its length.
-    Gap(usize),
-    /// A token with its length.
-    Token(Tok, usize),
-    /// A fault, and how many bytes stand before it.
-    Refusal(Kind, usize),
-}
 
 /// A word as a text.
 fn word_text(word: &[u8]) -> &str

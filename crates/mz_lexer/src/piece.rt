@@ -8,7 +8,7 @@ ghost use Rattle.mz_lexer.specs.Views.{front, lexeme, IsNamed, IsFrontNamed, Fit
 
 use crate::byte::{front_byte, second_byte};
 use crate::content::{content_len, meaning};
-use crate::front::Front;
+use crate::found::Front;
 use crate::token::Tok;
 use mz_base::{Kind, Memory, Names};
 use std::alloc::Global;

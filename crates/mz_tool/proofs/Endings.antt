@@ -19,7 +19,8 @@ use Rattle.fz_program.specs.Flat.{Program, program}
 use Rattle.fz_text.specs.Spelling.{spelling}
 use Rattle.mz_first.specs.declared.building.Built.{Built}
 use Rattle.mz_first.specs.declared.building.Built.TheVariants as built
-use Rattle.mz_first.specs.Reading.{Where, formed}
+use Rattle.mz_include.specs.Walks.{Where}
+use Rattle.mz_first.specs.Reading.{formed}
 use Rattle.mz_first.specs.Promise.{IsBuilt, IsProgram, IsNotBuilt, IsNamedBuilt}
 use Rattle.mz_first.proofs.Later.{formed_later}
 use Rattle.mz_tool.specs.declared.compile.End.{End}

@@ -51,14 +51,7 @@ fn write_built<S: Sink>(alloc: Global, built: &Built, out: &mut S) -> End
             Wrote::Failed => End::WriteFault,
             Wrote::Memory => End::Memory,
         },
-        Built::NotBuilt(span, file) => {
-            let fault = Fault {
-                kind: Kind::NotBuilt,
-                span: *span,
-                number: 0,
-            };
-            End::Refused(fault, *file)
-        }
+        Built::NotBuilt(span, file) => End::Refused(Fault::at(Kind::NotBuilt, *span), *file),
     }
 }
 

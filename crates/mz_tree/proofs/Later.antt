@@ -5,7 +5,7 @@ use Rattle.mz_base.specs.declared.fault.Span.{Span}
 use Rattle.mz_tree.specs.Tree as pure
 use Rattle.mz_tree.specs.Tree.{Name, Tree, Shape, Maybe, Trees, Links, Rows, Branches, Part, Parts, Generator, Gens, Let, Lets, Declaration, Written, Based, Dims, Bases}
 use Rattle.mz_tree.specs.Items.{GoalTree, satisfy, minimize, maximize, ItemTree, include, declare, assign, constraint, solve, output, function, enum, annotation}
-use Rattle.mz_include.specs.Trees.{IsSpot, OfTree, OfShape, OfMaybe, OfTrees, OfLinks, OfRows, OfBranches, OfPart, OfParts, OfGenerator, OfGens, OfLet, OfLets, OfDeclaration, OfWritten, OfBased, OfDims, OfBases, OfGoal, OfCases, OfItem}
+use Rattle.mz_tree.specs.Kinds.{IsSpot, OfTree, OfShape, OfMaybe, OfTrees, OfLinks, OfRows, OfBranches, OfPart, OfParts, OfGenerator, OfGens, OfLet, OfLets, OfDeclaration, OfWritten, OfBased, OfDims, OfBases, OfGoal, OfCases, OfItem}
 
 module _ (N M : Name → Type 0) (P Q : Span → Type 0) (name : (n : Name) → N n → M n) (place : (s : Span) → P s → Q s) where
   spots_later : (ns : List (Name × Span)) → All (IsSpot N P) ns → All (IsSpot M Q) ns

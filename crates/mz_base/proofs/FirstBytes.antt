@@ -1,13 +1,13 @@
 -- A keyword is sought among those that begin with its first byte.
-use Rattle.std.proofs.Common.{◌≡◌, ℕ, List, [], ◌∷◌, false, refl, sym, subst, arith}
-use Rattle.std.specs.Prelude.{nat_eq, find}
+use Rattle.std.proofs.Common.{◌≡◌, ◌<◌, ◌≤◌, ℕ, List, [], ◌∷◌, length, get_or, false, refl, sym, subst, arith}
+use Rattle.std.specs.Prelude.{nat_eq, find, None}
 use Rattle.std.specs.Str.{bytes_eq}
 use Rattle.std.proofs.lemmas.Bool.Decides.{nat_tests, Decides-eqb}
-use Rattle.mz_lexer.specs.declared.token.Keyword.{Keyword}
-use Rattle.mz_lexer.specs.declared.token.Keyword.TheVariants.{KAnn, KAnnotation, KAny, KArray, KBool, KCase, KConstraint, KDefault, KDiff, KDiv, KElse, KElseif, KEndif, KEnum, KFalse, KFloat, KFunction, KIf, KIn, KInclude, KInt, KIntersect, KLet, KList, KMaximize, KMinimize, KMod, KNot, KOf, KOp, KOpt, KOutput, KPar, KPredicate, KRecord, KSatisfy, KSet, KSolve, KString, KSubset, KSuperset, KSymdiff, KTest, KThen, KTrue, KTuple, KType, KUnion, KVar, KWhere, KXor}
-use Rattle.mz_lexer.specs.Bytes.{front_byte}
-use Rattle.mz_lexer.specs.Keywords.{keyword_text, keyword_of, keywords_with}
-use Rattle.mz_lexer.proofs.Spellings.{pick}
+use Rattle.mz_base.specs.declared.keyword.Keyword.{Keyword}
+use Rattle.mz_base.specs.declared.keyword.Keyword.TheVariants.{KAnn, KAnnotation, KAny, KArray, KBool, KCase, KConstraint, KDefault, KDiff, KDiv, KElse, KElseif, KEndif, KEnum, KFalse, KFloat, KFunction, KIf, KIn, KInclude, KInt, KIntersect, KLet, KList, KMaximize, KMinimize, KMod, KNot, KOf, KOp, KOpt, KOutput, KPar, KPredicate, KRecord, KSatisfy, KSet, KSolve, KString, KSubset, KSuperset, KSymdiff, KTest, KThen, KTrue, KTuple, KType, KUnion, KVar, KWhere, KXor}
+use Rattle.mz_base.specs.Keywords.{keyword_text, keyword_of}
+use Rattle.mz_base.specs.StepsKeywords.{keywords_with}
+use Rattle.mz_base.proofs.Choices.{pick}
 
 -- the keyword of a word is found among these
 pub data AreEnough (w : List ℕ) (ks : List Keyword) : Type 0 where
@@ -120,13 +120,14 @@ in_front b bs =
     pick (AreEnough (b ∷ bs)) (nat_eq b 120) _ _ (λ e. subst (λ x. AreEnough (x ∷ bs) (KXor ∷ [])) (sym ((Decides-eqb b 120).0 e)) (with_x bs)) (λ not_x.
     with_other b bs not_a not_b not_c not_d not_e not_f not_i not_l not_m not_n not_o not_p not_r not_s not_t not_u not_v not_w not_x)))))))))))))))))))
 
-no_word : AreEnough [] (keywords_with 0)
-unfolding keywords_with keyword_of
-no_word = enough refl
-
 opened : (w : List ℕ) (ks : List Keyword) → AreEnough w ks → find (λ k. bytes_eq (keyword_text k) w) ks ≡ keyword_of w
 opened w ks (enough e) = e
 
-pub by_first_byte : (w : List ℕ) → find (λ k. bytes_eq (keyword_text k) w) (keywords_with (front_byte w)) ≡ keyword_of w
-by_first_byte [] = opened [] _ no_word
-by_first_byte (b ∷ bs) = opened (b ∷ bs) _ (in_front b bs)
+pub by_first_byte : (w : List ℕ) → 1 ≤ length w → find (λ k. bytes_eq (keyword_text k) w) (keywords_with (get_or w 0 0)) ≡ keyword_of w
+by_first_byte [] some = absurd (omega arith)
+by_first_byte (b ∷ bs) some = opened (b ∷ bs) _ (in_front b bs)
+
+pub no_word : (w : List ℕ) → length w < 1 → None ≡ keyword_of w
+unfolding keyword_of
+no_word [] none = refl
+no_word (b ∷ bs) none = absurd (omega arith)

@@ -1,8 +1,8 @@
 -- The keywords and how they are spelled.
-use Rattle.std.specs.Prelude.{ℕ, List, [], ◌∷◌, Bool, true, false, codes, Option, find, nat_eq, if◌then◌else◌}
+use Rattle.std.specs.Prelude.{ℕ, List, [], ◌∷◌, codes, Option, find}
 use Rattle.std.specs.Str.{bytes_eq}
-use Rattle.mz_lexer.specs.declared.token.Keyword.{Keyword}
-use Rattle.mz_lexer.specs.declared.token.Keyword.TheVariants.{KAnn, KAnnotation, KAny, KArray, KBool, KCase, KConstraint, KDefault, KDiff, KDiv, KElse, KElseif, KEndif, KEnum, KFalse, KFloat, KFunction, KIf, KIn, KInclude, KInt, KIntersect, KLet, KList, KMaximize, KMinimize, KMod, KNot, KOf, KOp, KOpt, KOutput, KPar, KPredicate, KRecord, KSatisfy, KSet, KSolve, KString, KSubset, KSuperset, KSymdiff, KTest, KThen, KTrue, KTuple, KType, KUnion, KVar, KWhere, KXor}
+use Rattle.mz_base.specs.declared.keyword.Keyword.{Keyword}
+use Rattle.mz_base.specs.declared.keyword.Keyword.TheVariants.{KAnn, KAnnotation, KAny, KArray, KBool, KCase, KConstraint, KDefault, KDiff, KDiv, KElse, KElseif, KEndif, KEnum, KFalse, KFloat, KFunction, KIf, KIn, KInclude, KInt, KIntersect, KLet, KList, KMaximize, KMinimize, KMod, KNot, KOf, KOp, KOpt, KOutput, KPar, KPredicate, KRecord, KSatisfy, KSet, KSolve, KString, KSubset, KSuperset, KSymdiff, KTest, KThen, KTrue, KTuple, KType, KUnion, KVar, KWhere, KXor}
 
 -- how a keyword is spelled
 abbrev pub keyword_text : Keyword → List ℕ
@@ -65,41 +65,3 @@ all_keywords = KAnn ∷ KAnnotation ∷ KAny ∷ KArray ∷ KBool ∷ KCase ∷ 
 -- the keyword that a word is, if it is one
 unfoldable pub keyword_of : List ℕ → Option Keyword
 keyword_of w = find (λ k. bytes_eq (keyword_text k) w) all_keywords
-
--- the keywords of forms that are left out
-abbrev pub is_left_out_keyword : Keyword → Bool
-is_left_out_keyword KAnn = true
-is_left_out_keyword KAny = true
-is_left_out_keyword KCase = true
-is_left_out_keyword KDefault = true
-is_left_out_keyword KFloat = true
-is_left_out_keyword KOp = true
-is_left_out_keyword KRecord = true
-is_left_out_keyword KString = true
-is_left_out_keyword KTuple = true
-is_left_out_keyword KType = true
-is_left_out_keyword _ = false
-
--- the keywords that begin with a byte
-unfoldable pub keywords_with : ℕ → List Keyword
-keywords_with b =
-    if nat_eq b 97 then KAnn ∷ KAnnotation ∷ KAny ∷ KArray ∷ [] else
-    if nat_eq b 98 then KBool ∷ [] else
-    if nat_eq b 99 then KCase ∷ KConstraint ∷ [] else
-    if nat_eq b 100 then KDefault ∷ KDiff ∷ KDiv ∷ [] else
-    if nat_eq b 101 then KElse ∷ KElseif ∷ KEndif ∷ KEnum ∷ [] else
-    if nat_eq b 102 then KFalse ∷ KFloat ∷ KFunction ∷ [] else
-    if nat_eq b 105 then KIf ∷ KIn ∷ KInclude ∷ KInt ∷ KIntersect ∷ [] else
-    if nat_eq b 108 then KLet ∷ KList ∷ [] else
-    if nat_eq b 109 then KMaximize ∷ KMinimize ∷ KMod ∷ [] else
-    if nat_eq b 110 then KNot ∷ [] else
-    if nat_eq b 111 then KOf ∷ KOp ∷ KOpt ∷ KOutput ∷ [] else
-    if nat_eq b 112 then KPar ∷ KPredicate ∷ [] else
-    if nat_eq b 114 then KRecord ∷ [] else
-    if nat_eq b 115 then KSatisfy ∷ KSet ∷ KSolve ∷ KString ∷ KSubset ∷ KSuperset ∷ KSymdiff ∷ [] else
-    if nat_eq b 116 then KTest ∷ KThen ∷ KTrue ∷ KTuple ∷ KType ∷ [] else
-    if nat_eq b 117 then KUnion ∷ [] else
-    if nat_eq b 118 then KVar ∷ [] else
-    if nat_eq b 119 then KWhere ∷ [] else
-    if nat_eq b 120 then KXor ∷ [] else
-    []

@@ -1,4 +1,4 @@
--- How sets are made: each walk goes along its lists once.
+-- Mirror of src/walks.rt; private clauses only. How sets are made: each walk goes along its lists once.
 use Rattle.std.specs.Prelude.{◌≡◌, refl, ℤ, pos, List, [], ◌∷◌, ◌++◌, ◌+ℤ◌, ◌-ℤ◌, if◌then◌else◌, int_le, int_lt}
 use Rattle.std.specs.Int.{int_max, int_min}
 use Rattle.mz_value.specs.Ranges.{Range, range_of, greatest}

@@ -1,11 +1,116 @@
-// The keywords.
+// The keywords of MiniZinc, and how they are spelled.
 
 ghost use Rattle.std.specs.Prelude.{◌≡◌, find};
 ghost use Rattle.std.specs.Str.{bytes_eq};
-ghost use Rattle.mz_lexer.specs.Keywords.{keyword_text, keyword_of, keywords_with, is_left_out_keyword};
+ghost use Rattle.mz_base.specs.Keywords.{keyword_text, keyword_of};
+ghost use Rattle.mz_base.specs.StepsKeywords.{keywords_with};
 
-use crate::byte::front_byte;
-use crate::token::Keyword;
+/// A keyword, by its spelling.
+#[derive(Clone, Copy, Debug, PartialEq, Eq)]
+pub enum Keyword {
+    /// `ann`
+    KAnn,
+    /// `annotation`
+    KAnnotation,
+    /// `any`
+    KAny,
+    /// `array`
+    KArray,
+    /// `bool`
+    KBool,
+    /// `case`
+    KCase,
+    /// `constraint`
+    KConstraint,
+    /// `default`
+    KDefault,
+    /// `diff`
+    KDiff,
+    /// `div`
+    KDiv,
+    /// `else`
+    KElse,
+    /// `elseif`
+    KElseif,
+    /// `endif`
+    KEndif,
+    /// `enum`
+    KEnum,
+    /// `false`
+    KFalse,
+    /// `float`
+    KFloat,
+    /// `function`
+    KFunction,
+    /// `if`
+    KIf,
+    /// `in`
+    KIn,
+    /// `include`
+    KInclude,
+    /// `int`
+    KInt,
+    /// `intersect`
+    KIntersect,
+    /// `let`
+    KLet,
+    /// `list`
+    KList,
+    /// `maximize`
+    KMaximize,
+    /// `minimize`
+    KMinimize,
+    /// `mod`
+    KMod,
+    /// `not`
+    KNot,
+    /// `of`
+    KOf,
+    /// `op`
+    KOp,
+    /// `opt`
+    KOpt,
+    /// `output`
+    KOutput,
+    /// `par`
+    KPar,
+    /// `predicate`
+    KPredicate,
+    /// `record`
+    KRecord,
+    /// `satisfy`
+    KSatisfy,
+    /// `set`
+    KSet,
+    /// `solve`
+    KSolve,
+    /// `string`
+    KString,
+    /// `subset`
+    KSubset,
+    /// `superset`
+    KSuperset,
+    /// `symdiff`
+    KSymdiff,
+    /// `test`
+    KTest,
+    /// `then`
+    KThen,
+    /// `true`
+    KTrue,
+    /// `tuple`
+    KTuple,
+    /// `type`
+    KType,
+    /// `union`
+    KUnion,
+    /// `var`
+    KVar,
+    /// `where`
+    KWhere,
+    /// `xor`
+    KXor,
+}
 
 // The keywords by their first letters.
 
@@ -137,7 +242,7 @@ fn spelling(keyword: Keyword) -> &'static [u8]
 }
 
 /// The keywords that begin with a byte.
-#[tactic(auto, unfolding(crate::specs::Keywords::keywords_with))]
+#[tactic(auto, unfolding(crate::specs::StepsKeywords::keywords_with))]
 fn keywords_with(first: u8) -> &'static [Keyword]
     ensures { result.now ≡ keywords_with first }
 {
@@ -176,24 +281,8 @@ fn among(keywords: &[Keyword], word: &[u8]) -> Option<Keyword>
 pub fn keyword_of(word: &[u8]) -> Option<Keyword>
     ensures { result ≡ keyword_of word.now }
 {
-    among(keywords_with(front_byte(word)), word)
-}
-
-/// Whether a keyword stands for a form that is left out.
-pub fn is_left_out(keyword: Keyword) -> bool
-    ensures { result ≡ is_left_out_keyword keyword }
-{
-    matches!(
-        keyword,
-        Keyword::KAnn
-            | Keyword::KAny
-            | Keyword::KCase
-            | Keyword::KDefault
-            | Keyword::KFloat
-            | Keyword::KOp
-            | Keyword::KRecord
-            | Keyword::KString
-            | Keyword::KTuple
-            | Keyword::KType
-    )
+    match word {
+        [] => None,
+        [first, ..] => among(keywords_with(*first), word),
+    }
 }
