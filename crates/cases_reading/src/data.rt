@@ -6,7 +6,7 @@ use crate::file::{FILE, end_of};
 use crate::spellings::Spellings;
 use crate::stopped;
 use cases::Page;
-use mz_base::{Memory, Names, Stop};
+use mz_base::{FILE_LIMIT, Memory, Names, Stop};
 use mz_dzn::data_items;
 use mz_lexer::tokens;
 use mz_tree::Data;
@@ -21,7 +21,7 @@ struct ReadData {
 
 /// Reads a text, where the table of names is that of its tokens or, if `outside`, an empty one.
 fn read(alloc: Global, bytes: &[u8], outside: bool) -> Result<ReadData, Stop>
-    requires { length bytes.now ≤ 67108864 }
+    requires { length bytes.now ≤ FILE_LIMIT }
 {
     let mut table = Names::new(alloc);
     let all = tokens(alloc, bytes, FILE, &mut table)?;
@@ -35,7 +35,7 @@ fn read(alloc: Global, bytes: &[u8], outside: bool) -> Result<ReadData, Stop>
 
 /// Each item with the bytes where its name and its value begin, or the refusal.
 pub fn print(alloc: Global, bytes: &[u8], outside: bool, page: &mut Page) -> Result<(), Memory>
-    requires { length bytes.now ≤ 67108864 }
+    requires { length bytes.now ≤ FILE_LIMIT }
 {
     match read(alloc, bytes, outside) {
         Ok(read) => {

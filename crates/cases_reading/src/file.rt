@@ -2,23 +2,15 @@
 
 ghost use Rattle.std.specs.Prelude.{◌≤◌, length};
 
-use mz_base::Span;
+use mz_base::{FILE_LIMIT, Span};
 use mz_lexer::after;
 
 /// The number that a text has as a file.
 pub const FILE: u64 = 7;
 
-/// The place where a text begins.
-const START: Span = Span {
-    file: FILE,
-    line: 1,
-    col: 1,
-    byte: 0,
-};
-
 /// The place where a text ends.
 pub fn end_of(bytes: &[u8]) -> Span
-    requires { length bytes.now ≤ 67108864 }
+    requires { length bytes.now ≤ FILE_LIMIT }
 {
-    after(START, bytes)
+    after(Span::start(FILE), bytes)
 }

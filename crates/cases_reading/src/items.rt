@@ -9,7 +9,7 @@ use crate::stopped;
 use crate::stopped::put_place;
 use crate::types::{put_declaration, put_type};
 use cases::Page;
-use mz_base::{Memory, Name, Names, Span, Stop};
+use mz_base::{FILE_LIMIT, Memory, Name, Names, Span, Stop};
 use mz_lexer::tokens;
 use mz_parser::items;
 use mz_tree::{Expr, Function, Goal, Item};
@@ -24,7 +24,7 @@ pub struct ReadItems {
 
 /// Reads a text.
 pub fn read(alloc: Global, bytes: &[u8]) -> Result<ReadItems, Stop>
-    requires { length bytes.now ≤ 67108864 }
+    requires { length bytes.now ≤ FILE_LIMIT }
 {
     let mut table = Names::new(alloc);
     let all = tokens(alloc, bytes, FILE, &mut table)?;
@@ -35,7 +35,7 @@ pub fn read(alloc: Global, bytes: &[u8]) -> Result<ReadItems, Stop>
 
 /// Each item, or the refusal.
 pub fn print(alloc: Global, bytes: &[u8], page: &mut Page) -> Result<(), Memory>
-    requires { length bytes.now ≤ 67108864 }
+    requires { length bytes.now ≤ FILE_LIMIT }
 {
     match read(alloc, bytes) {
         Ok(read) => {
@@ -119,7 +119,7 @@ fn put_cases(page: &mut Page, names: &Spellings, cases: &[(Name, Span)]) {
 
 /// The place of each item, or the refusal.
 pub fn print_places(alloc: Global, bytes: &[u8], page: &mut Page) -> Result<(), Memory>
-    requires { length bytes.now ≤ 67108864 }
+    requires { length bytes.now ≤ FILE_LIMIT }
 {
     match read(alloc, bytes) {
         Ok(read) => {

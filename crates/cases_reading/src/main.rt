@@ -12,13 +12,10 @@ mod tokens;
 mod types;
 
 use cases::{Page, bytes_of};
-use mz_base::Memory;
+use mz_base::{FILE_LIMIT, Memory};
 use std::alloc::Global;
 use std::io;
 use std::io::ErrorKind;
-
-/// The most bytes that a file may have.
-const FILE_LIMIT: usize = 67_108_864;
 
 /// What the case of a line answers. A line of another kind, as a comment, has no answer.
 fn answer(alloc: Global, line: &str, page: &mut Page) -> Result<(), Memory> {
@@ -27,7 +24,7 @@ fn answer(alloc: Global, line: &str, page: &mut Page) -> Result<(), Memory> {
         None => (line, ""),
     };
     let bytes = bytes_of(alloc, text)?;
-    if bytes.len() > FILE_LIMIT {
+    if bytes.len() as u64 > FILE_LIMIT {
         return Ok(());
     }
     let bytes = bytes.as_slice();

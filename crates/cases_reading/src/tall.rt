@@ -3,11 +3,8 @@
 use crate::items::read;
 use crate::stopped;
 use cases::Page;
-use mz_base::Memory;
+use mz_base::{FILE_LIMIT, Memory, OPEN_LIMIT};
 use std::alloc::{AllocError, Global};
-
-/// The most tokens that may be open at once.
-const MOST_OPEN: u32 = 120;
 
 /// An operator of each level, from the tightest on, with an operand after it.
 const EACH_LEVEL: &str = " ++ 1 ^ 1 * 1 + 1 .. 1 union 1 in 1 < 1 /\\ 1 \\/ 1 -> 1 <-> 1";
@@ -16,12 +13,12 @@ const EACH_LEVEL: &str = " ++ 1 ^ 1 * 1 + 1 .. 1 union 1 in 1 < 1 /\\ 1 \\/ 1 ->
 /// accesses as may be open, and the first index of each atom has the next expression.
 fn text(alloc: Global) -> Result<String, AllocError> {
     let mut text = String::from_str(alloc, "constraint ")?;
-    for _ in 0..MOST_OPEN {
+    for _ in 0..OPEN_LIMIT {
         text.push_str("a[")?;
     }
     text.push('1')?;
     text.push_str(EACH_LEVEL)?;
-    for accesses in 0..MOST_OPEN {
+    for accesses in 0..OPEN_LIMIT {
         text.push(']')?;
         for _ in 0..accesses {
             text.push_str("[1]")?;
@@ -35,7 +32,7 @@ fn text(alloc: Global) -> Result<String, AllocError> {
 pub fn print(alloc: Global, page: &mut Page) -> Result<(), Memory> {
     let text = text(alloc)?;
     let bytes = text.as_bytes();
-    if bytes.len() > 67_108_864 {
+    if bytes.len() as u64 > FILE_LIMIT {
         return Ok(());
     }
     match read(alloc, bytes) {

@@ -7,13 +7,13 @@ use crate::file::FILE;
 use crate::stopped;
 use crate::stopped::put_place;
 use cases::Page;
-use mz_base::{Memory, Names};
+use mz_base::{FILE_LIMIT, Memory, Names};
 use mz_lexer::{Tok, Token, tokens};
 use std::alloc::Global;
 
 /// Each token with its place, its length and what it is, or the refusal.
 pub fn print(alloc: Global, bytes: &[u8], page: &mut Page) -> Result<(), Memory>
-    requires { length bytes.now ≤ 67108864 }
+    requires { length bytes.now ≤ FILE_LIMIT }
 {
     let mut names = Names::new(alloc);
     match tokens(alloc, bytes, FILE, &mut names) {

@@ -1,10 +1,8 @@
 // Intervals of integers, and the bounds of operations on them.
 
 use cases::Page;
+use mz_base::INTEGER_LIMIT as LIMIT;
 use mz_interval::Interval;
-
-/// The magnitude that no integer passes.
-const LIMIT: i64 = 1 << 61;
 
 /// An interval's ends.
 fn put_ends(page: &mut Page, ends: (i64, i64)) {

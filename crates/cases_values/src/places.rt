@@ -1,7 +1,7 @@
 // The places of an array's elements.
 
 use cases::Page;
-use mz_base::Memory;
+use mz_base::{INTEGER_LIMIT, Memory};
 use mz_index::{IndexSets, places_are_distinct};
 use std::alloc::Global;
 
@@ -66,11 +66,20 @@ fn cube(alloc: Global, page: &mut Page) -> Result<(), Memory> {
 }
 
 pub fn in_empty_ranges(alloc: Global, page: &mut Page) -> Result<(), Memory> {
-    const FAR: i64 = 1 << 61;
     page.line("# an empty range leaves no place");
-    let sets = IndexSets::new(alloc, &[(-FAR, FAR), (-FAR, FAR), (1, 0)])?;
+    let sets = IndexSets::new(
+        alloc,
+        &[
+            (-INTEGER_LIMIT, INTEGER_LIMIT),
+            (-INTEGER_LIMIT, INTEGER_LIMIT),
+            (1, 0),
+        ],
+    )?;
     page.case("places of -2^61..2^61, -2^61..2^61, 1..0", sets.len());
-    for at in [[FAR, FAR, 1], [FAR, FAR, 0]] {
+    for at in [
+        [INTEGER_LIMIT, INTEGER_LIMIT, 1],
+        [INTEGER_LIMIT, INTEGER_LIMIT, 0],
+    ] {
         page.put("  at ");
         page.show(at);
         page.case("", sets.place(&at));

@@ -5,23 +5,17 @@ use mz_base::{Memory, Names, Span};
 use mz_tree::{BinOp, make_chain, make_ident, make_int, make_let, make_rows};
 use std::alloc::Global;
 
-const AT: Span = Span {
-    file: 0,
-    line: 1,
-    col: 1,
-    byte: 0,
-};
-
 pub fn made(alloc: Global, page: &mut Page) -> Result<(), Memory> {
     page.line("# trees");
+    let at = Span::start(0);
     let mut names = Names::new(alloc);
     let x = names.intern("x")?;
     let mut steps = Vec::new(alloc);
-    steps.push((BinOp::Add, make_int(AT, 1)))?;
-    let sum = make_chain(alloc, AT, make_ident(AT, x), steps)?;
-    let body = make_let(alloc, AT, Vec::new(alloc), sum)?;
+    steps.push((BinOp::Add, make_int(at, 1)))?;
+    let sum = make_chain(alloc, at, make_ident(at, x), steps)?;
+    let body = make_let(alloc, at, Vec::new(alloc), sum)?;
     page.case("let {} in x + 1", &body);
-    let rows = make_rows(AT, Vec::new(alloc));
+    let rows = make_rows(at, Vec::new(alloc));
     page.case("[| |]", &rows);
     Ok(())
 }
