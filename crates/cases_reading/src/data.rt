@@ -1,12 +1,13 @@
 // The items of a text, as a data file.
 
 ghost use Rattle.std.specs.Prelude.{◌≤◌, length};
+ghost use Rattle.mz_base.specs.declared.limit.TheConstants.{FILE_LIMIT};
 
 use crate::file::{FILE, end_of};
 use crate::spellings::Spellings;
 use crate::stopped;
 use cases::Page;
-use mz_base::{FILE_LIMIT, Memory, Names, Stop};
+use mz_base::{Memory, Names, Stop};
 use mz_dzn::data_items;
 use mz_lexer::tokens;
 use mz_tree::Data;

@@ -1,8 +1,9 @@
 // A text as a file: its number, and its ends.
 
 ghost use Rattle.std.specs.Prelude.{◌≤◌, length};
+ghost use Rattle.mz_base.specs.declared.limit.TheConstants.{FILE_LIMIT};
 
-use mz_base::{FILE_LIMIT, Span};
+use mz_base::Span;
 use mz_lexer::after;
 
 /// The number that a text has as a file.

@@ -1,6 +1,7 @@
 // The items of a text, as a model's file.
 
 ghost use Rattle.std.specs.Prelude.{◌≤◌, length};
+ghost use Rattle.mz_base.specs.declared.limit.TheConstants.{FILE_LIMIT};
 
 use crate::expressions::put_expression;
 use crate::file::{FILE, end_of};
@@ -9,7 +10,7 @@ use crate::stopped;
 use crate::stopped::put_place;
 use crate::types::{put_declaration, put_type};
 use cases::Page;
-use mz_base::{FILE_LIMIT, Memory, Name, Names, Span, Stop};
+use mz_base::{Memory, Name, Names, Span, Stop};
 use mz_lexer::tokens;
 use mz_parser::items;
 use mz_tree::{Expr, Function, Goal, Item};

@@ -1,13 +1,14 @@
 // The tokens of a text.
 
 ghost use Rattle.std.specs.Prelude.{◌≤◌, length};
+ghost use Rattle.mz_base.specs.declared.limit.TheConstants.{FILE_LIMIT};
 ghost use Rattle.mz_lexer.specs.Views.{HasName};
 
 use crate::file::FILE;
 use crate::stopped;
 use crate::stopped::put_place;
 use cases::Page;
-use mz_base::{FILE_LIMIT, Memory, Names};
+use mz_base::{Memory, Names};
 use mz_lexer::{Tok, Token, tokens};
 use std::alloc::Global;
 
