@@ -1,3 +1,4 @@
 pub mod Tests
 pub mod OrderLaws
 pub mod PathLaws
+pub mod BaseJoins

@@ -30,7 +30,7 @@ allowed-under t u e v o ok =
     let p = and_parts (not (u.opt && (is_set u.base || is_text u.base))) (not (u.var && is_text u.base)) ok in
     rw e (and_is (mark-under t.opt u.opt (is_set u.base || is_text u.base) o p.0) (mark-under t.var u.var (is_text u.base) v p.1))
 
-raising-is : (a b : Base) → raises a b ≡ true → Raises (raising a) a b
+pub raising-is : (a b : Base) → raises a b ≡ true → Raises (raising a) a b
 raising-is base.Bool base.Int h = bool_to_int
 raising-is (base.Enum e) base.Int h = enum_to_int e
 raising-is (base.SetEnum e) base.SetInt h = set_enum_to_set_int e
@@ -149,9 +149,9 @@ unfolding coercions
 coercions-lead t u h = elim (cases_Bool (same_type t u)) [
   | inl e ↦ rw e (subst (λ x. Leads t [] x) (same_type-is t u e) (arrived t))
   | inr n ↦ rw n (elim (below-cases t u h) [
-      | inl e ↦ absurd (both_ways (same_type t u) n (subst (λ x. same_type t x ≡ true) e (same_type-refl t)))
-      | inr f ↦ fits-leads t u f
-    ])
+    | inl e ↦ absurd (both_ways (same_type t u) n (subst (λ x. same_type t x ≡ true) e (same_type-refl t)))
+    | inr f ↦ fits-leads t u f
+  ])
 ]
 
 pub sound : (t u : PlainType) → below t u ≡ true → Below t u

@@ -2,3 +2,4 @@ pub mod Types
 pub mod Coercions
 pub mod Order
 pub mod Paths
+pub mod Join

@@ -1,11 +1,16 @@
 // Types and their order, and the typed tree that every later stage reads.
 #![tactic(auto)]
 
+mod join;
+mod make;
 mod order;
+mod paths;
 mod program;
 mod tree;
 mod types;
 
+pub use join::join_types;
+pub use make::{copy_type, make_type};
 pub use order::{below, same_type};
 pub use program::{CoreFunction, CoreGoal, Program};
 pub use tree::{Core, CoreDecl, CoreForm, CoreGen, CoreItem, CoreStep, CoreType};
