@@ -2,3 +2,4 @@ pub mod Tests
 pub mod OrderLaws
 pub mod PathLaws
 pub mod BaseJoins
+pub mod JoinLaws
