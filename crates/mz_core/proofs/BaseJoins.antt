@@ -89,9 +89,9 @@ pub base_join-is : (a b : Base) → IsBaseJoin a b (base_join a b)
 base_join-is a b = elim (cases_Bool (base_below a b)) [
   | inl h ↦ rw h (record { first = h; second = base_below-refl b; least = λ c p q. q })
   | inr n ↦ rw n (elim (cases_Bool (base_below b a)) [
-      | inl h ↦ rw h (record { first = base_below-refl a; second = h; least = λ c p q. p })
-      | inr m ↦ rw m (base_apart-is a b n m)
-    ])
+    | inl h ↦ rw h (record { first = base_below-refl a; second = h; least = λ c p q. p })
+    | inr m ↦ rw m (base_apart-is a b n m)
+  ])
 ]
 
 -- BASES OF ARRAYS THAT SETS BECOME

@@ -87,11 +87,11 @@ no_list xs ys e n h = absurd (omega (arith, e, ap length (no_dims-is xs n), dims
 shapes : {X : Type 0} (t u v : PlainType) → length t.dims ≡ length u.dims → Fits t v → Fits u v → (base_below t.base v.base ≡ true → base_below u.base v.base ≡ true → dims_below t.dims v.dims ≡ true → dims_below u.dims v.dims ≡ true → X) → (BecomesArray t v → BecomesArray u v → X) → X
 shapes t u v e f g both arrays =
     shape-cases t v f.shape
-        (λ p q. shape-cases u v g.shape (λ r s. both p r q s)
-            (λ b. no_list u.dims t.dims (sym e) b.scalar (subst (λ ds. dims_below t.dims ds ≡ true) (is_list-is v.dims b.list) q)))
-        (λ a. shape-cases u v g.shape
-            (λ r s. no_list t.dims u.dims e a.scalar (subst (λ ds. dims_below u.dims ds ≡ true) (is_list-is v.dims a.list) s))
-            (λ b. arrays a b))
+    (λ p q. shape-cases u v g.shape (λ r s. both p r q s)
+    (λ b. no_list u.dims t.dims (sym e) b.scalar (subst (λ ds. dims_below t.dims ds ≡ true) (is_list-is v.dims b.list) q)))
+    (λ a. shape-cases u v g.shape
+    (λ r s. no_list t.dims u.dims e a.scalar (subst (λ ds. dims_below u.dims ds ≡ true) (is_list-is v.dims a.list) s))
+    (λ b. arrays a b))
 
 some-least : (a b j : Base) → ((c : Base) → base_below a c ≡ true → base_below b c ≡ true → base_below j c ≡ true) → (s : Option Base) → below_some a s ≡ true → below_some b s ≡ true → below_some j s ≡ true
 some-least a b j l None p q = p
@@ -108,14 +108,14 @@ scalars (x ∷ xs) ys h = absurd cc
 plain-shape : (t u v : PlainType) (b : Base) → length t.dims ≡ length u.dims → LeastBase t.base u.base b → Fits t v → Fits u v → shape_below (plain t u b) v ≡ true
 plain-shape t u v b e l f g =
     shapes t u v e f g
-        (λ p r q s. shape-plain (plain t u b) v (l.least v.base p r) (indices_join-least t.dims u.dims v.dims q s))
-        (λ a c. shape-array (plain t u b) v (record {
-          not_var = neither t.var u.var a.not_var c.not_var;
-          not_opt = neither t.opt u.opt a.not_opt c.not_opt;
-          scalar = scalars t.dims u.dims a.scalar;
-          list = a.list;
-          set = some-least t.base u.base b l.least (set_of v.base) a.set c.set;
-        }))
+    (λ p r q s. shape-plain (plain t u b) v (l.least v.base p r) (indices_join-least t.dims u.dims v.dims q s))
+    (λ a c. shape-array (plain t u b) v (record {
+      not_var = neither t.var u.var a.not_var c.not_var;
+      not_opt = neither t.opt u.opt a.not_opt c.not_opt;
+      scalar = scalars t.dims u.dims a.scalar;
+      list = a.list;
+      set = some-least t.base u.base b l.least (set_of v.base) a.set c.set;
+    }))
 
 plain-fits : (t u v : PlainType) (b : Base) → length t.dims ≡ length u.dims → LeastBase t.base u.base b → Fits t v → Fits u v → Fits (plain t u b) v
 plain-fits t u v b e l f g = record {
@@ -223,10 +223,10 @@ below_no_dims xs ys n h o = absurd (omega (arith, ap length (no_dims-is xs n), d
 over_list : {X : Type 0} (t u v : PlainType) → ParScalar t → one_dim u.dims ≡ true → Fits t v → Fits u v → (BecomesArray t v → base_below u.base v.base ≡ true → dims_below u.dims v.dims ≡ true → X) → X
 over_list t u v s o f g go =
     shape-cases u v g.shape
-        (λ p q. shape-cases t v f.shape
-            (λ r d. absurd (omega (arith, ap length (no_dims-is t.dims s.scalar), dims_below-length t.dims v.dims d, dims_below-length u.dims v.dims q, one_dim-length u.dims o)))
-            (λ a. go a p q))
-        (λ b. absurd (omega (arith, ap length (no_dims-is u.dims b.scalar), one_dim-length u.dims o)))
+    (λ p q. shape-cases t v f.shape
+    (λ r d. absurd (omega (arith, ap length (no_dims-is t.dims s.scalar), dims_below-length t.dims v.dims d, dims_below-length u.dims v.dims q, one_dim-length u.dims o)))
+    (λ a. go a p q))
+    (λ b. absurd (omega (arith, ap length (no_dims-is u.dims b.scalar), one_dim-length u.dims o)))
 
 list-above : (t u : PlainType) (b : Base) → ParScalar t → one_dim u.dims ≡ true → below_some t.base (set_of b) ≡ true → base_below u.base b ≡ true → Fits t (list_of u b) × Fits u (list_of u b)
 list-above t u b s o h k = (
@@ -241,7 +241,8 @@ list-above t u b s o h k = (
     var = mark_below-refl u.var;
     opt = mark_below-refl u.opt;
     shape = shape-plain u (list_of u b) k (one_dim-below u.dims o);
-  })
+  },
+)
 
 list-least : (t u : PlainType) (b : Base) → Apart t u → ParScalar t → one_dim u.dims ≡ true → LeastElement t.base u.base b → Least t u (list_of u b)
 list-least t u b a s o l = let both = list-above t u b s o l.set l.second in record {
@@ -262,8 +263,8 @@ list-none : (t u j : PlainType) → ParScalar t → one_dim u.dims ≡ true → 
 list-none t u j s o k l a h =
     let each = k j.base a.set h in
     below_each t.base j.base a.set (λ e.
-      let both = list-above t u (base.Enum e) s o (each e).0 (each e).1 in
-      base_of j (list_of u (base.Enum e)) (is_list-is j.dims a.list) refl (l.least (list_of u (base.Enum e)) (fits-below t (list_of u (base.Enum e)) both.0) (fits-below u (list_of u (base.Enum e)) both.1)))
+    let both = list-above t u (base.Enum e) s o (each e).0 (each e).1 in
+    base_of j (list_of u (base.Enum e)) (is_list-is j.dims a.list) refl (l.least (list_of u (base.Enum e)) (fits-below t (list_of u (base.Enum e)) both.0) (fits-below u (list_of u (base.Enum e)) both.1)))
   where
     base_of : (j v : PlainType) → j.dims ≡ ix.Int ∷ [] → v.dims ≡ ix.Int ∷ [] → below j v ≡ true → base_below j.base v.base ≡ true
     base_of j v d e b = elim (below-cases j v b) [
@@ -297,12 +298,12 @@ either-is t u a n None None k l = λ j is.
     let g = apart-fits u t j (apart-swapped a) m.second m.first in
     let same : length t.dims ≡ length u.dims → ⊥ = λ e. both_ways (nat_eq (length t.dims) (length u.dims)) n (eq-eqb (length t.dims) (length u.dims) e) in
     shape-cases t j f.shape
-        (λ p q. shape-cases u j g.shape
-            (λ r s. same (dims_below-length t.dims j.dims q ∙ sym (dims_below-length u.dims j.dims s)))
-            (λ b. l j (swapped m) b p q))
-        (λ c. shape-cases u j g.shape
-            (λ r s. k j m c r s)
-            (λ b. same (ap length (no_dims-is t.dims c.scalar) ∙ sym (ap length (no_dims-is u.dims b.scalar)))))
+    (λ p q. shape-cases u j g.shape
+    (λ r s. same (dims_below-length t.dims j.dims q ∙ sym (dims_below-length u.dims j.dims s)))
+    (λ b. l j (swapped m) b p q))
+    (λ c. shape-cases u j g.shape
+    (λ r s. k j m c r s)
+    (λ b. same (ap length (no_dims-is t.dims c.scalar) ∙ sym (ap length (no_dims-is u.dims b.scalar)))))
 
 join_apart-is : (t u : PlainType) → Apart t u → IsJoin t u (join_apart t u (dims_join t.dims u.dims))
 join_apart-is t u a = elim (cases_Bool (nat_eq (length t.dims) (length u.dims))) [
@@ -315,7 +316,7 @@ unfolding join
 join-is t u = elim (cases_Bool (below t u)) [
   | inl h ↦ rw h (least-is (record { first = h; second = below-refl u; least = λ v p q. q }))
   | inr n ↦ rw n (elim (cases_Bool (below u t)) [
-      | inl h ↦ rw h (least-is (record { first = below-refl t; second = h; least = λ v p q. p }))
-      | inr m ↦ rw m (join_apart-is t u (record { not_below = n; not_above = m }))
-    ])
+    | inl h ↦ rw h (least-is (record { first = below-refl t; second = h; least = λ v p q. p }))
+    | inr m ↦ rw m (join_apart-is t u (record { not_below = n; not_above = m }))
+  ])
 ]

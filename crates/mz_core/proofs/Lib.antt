@@ -3,3 +3,4 @@ pub mod OrderLaws
 pub mod PathLaws
 pub mod BaseJoins
 pub mod JoinLaws
+pub mod TypeLaws

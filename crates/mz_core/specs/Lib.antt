@@ -3,3 +3,4 @@ pub mod Coercions
 pub mod Order
 pub mod Paths
 pub mod Join
+pub mod Laws

@@ -2,6 +2,7 @@
 #![tactic(auto)]
 
 mod join;
+mod laws;
 mod make;
 mod order;
 mod paths;
@@ -10,8 +11,10 @@ mod tree;
 mod types;
 
 pub use join::join_types;
+pub use laws::types_are_ordered;
 pub use make::{copy_type, make_type};
-pub use order::{below, same_type};
+pub use order::{below, dims_below, same_type};
+pub use paths::coercions;
 pub use program::{CoreFunction, CoreGoal, Program};
 pub use tree::{Core, CoreDecl, CoreForm, CoreGen, CoreItem, CoreStep, CoreType};
 pub use types::{Base, Coercion, Ix, Limits, Signature, TypeInst};

@@ -116,3 +116,36 @@ fn add_links(
     }
     add_marks(alloc, path, t, u)
 }
+
+#[tactic(auto, unfolding(crate::specs::Paths::coercions, crate::specs::Types::plain_type))]
+fn links(alloc: Global, t: &TypeInst, u: &TypeInst) -> Result<Vec<(Coercion, TypeInst)>, Memory>
+    ensures { IfOk result (λ v. path_links v.items ≡ coercions (plain_type t.now) (plain_type u.now)) }
+{
+    let mut path = Vec::new(alloc);
+    if !same_type(t, u) {
+        let set = if becomes_array(t, u) {
+            set_of(u.base)
+        } else {
+            None
+        };
+        add_links(alloc, &mut path, t, u, set)?;
+    }
+    Ok(path)
+}
+
+/// The coercions that lead from a type to one above it, in order, each with the type that it leads
+/// to; none where the two are equal.
+///
+/// The base is coerced first, a set to the array of its elements with it, then the indices from the
+/// left, then option and var.
+pub fn coercions(
+    alloc: Global,
+    t: &TypeInst,
+    u: &TypeInst,
+) -> Result<Vec<(Coercion, TypeInst)>, Memory>
+    requires { Below (plain_type t.now) (plain_type u.now) }
+    ensures leads { IfOk result (λ v. Leads (plain_type t.now) (path_links v.items) (plain_type u.now)) }
+    ensures computed { IfOk result (λ v. path_links v.items ≡ coercions (plain_type t.now) (plain_type u.now)) }
+{
+    links(alloc, t, u)
+}
