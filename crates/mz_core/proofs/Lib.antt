@@ -4,3 +4,4 @@ pub mod PathLaws
 pub mod BaseJoins
 pub mod JoinLaws
 pub mod TypeLaws
+pub mod TreeLaws

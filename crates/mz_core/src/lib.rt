@@ -11,7 +11,7 @@ mod tree;
 mod types;
 
 pub use join::join_types;
-pub use laws::types_are_ordered;
+pub use laws::{trees_are_read_by_layers, types_are_ordered};
 pub use make::{copy_type, make_type};
 pub use order::{below, dims_below, same_type};
 pub use paths::coercions;
