@@ -1,12 +1,11 @@
 -- The least base and the least index types above two.
-use Rattle.std.proofs.Common.{◌≡◌, ℕ, ◌+◌, Bool, true, false, not, ◌&&◌, ◌||◌, List, [], ◌∷◌, Option, Some, None, nat_eq, is_some, ◌≢◌, length, map, refl, ap, sym, ◌∙◌, subst, ◌⊎◌, inl, inr, if◌then◌else◌, arith}
-use Rattle.std.specs.List.{zip}
+use Rattle.std.proofs.Common.{◌≡◌, ℕ, true, false, ◌||◌, List, [], ◌∷◌, Option, Some, None, nat_eq, is_some, length, refl, ap, sym, ◌∙◌, subst, inl, inr, arith}
 use Rattle.std.proofs.lemmas.Bool.{and_parts, or_cases, cases_Bool, both_ways, true≢false, eqb-true, eq-eqb}
 use Rattle.mz_core.specs.declared.types.Base.{Base}
 use Rattle.mz_core.specs.declared.types.Base.TheVariants as base
 use Rattle.mz_core.specs.declared.types.Ix.{Ix}
 use Rattle.mz_core.specs.declared.types.Ix.TheVariants as ix
-use Rattle.mz_core.specs.Order.{base_below, raises, same_base, same_index, index_below, dims_below, no_dims, set_of, below_some, mark_below}
+use Rattle.mz_core.specs.Order.{base_below, raises, same_base, same_index, index_below, dims_below, set_of, below_some}
 use Rattle.mz_core.specs.Join.{base_apart, base_join, index_join, indices_join, number_above, element_join}
 use Rattle.mz_core.specs.Types.{is_set}
 use Rattle.mz_core.specs.Coercions.{Raises, bool_to_int, enum_to_int, set_enum_to_set_int, bottom_to_base, set_bottom_to_set}

@@ -1,16 +1,15 @@
 -- The join is the least type above two, and there is none where it is None.
-use Rattle.std.proofs.Common.{◌≡◌, ℕ, Bool, true, false, not, ◌&&◌, ◌||◌, List, [], ◌∷◌, Option, Some, None, nat_eq, length, ◌⊎◌, inl, inr, refl, ap, sym, ◌∙◌, subst, if◌then◌else◌, arith}
-use Rattle.std.proofs.lemmas.Bool.{and_parts, or_cases, cases_Bool, not-true, both_ways, true≢false, eq-eqb, eqb-true}
+use Rattle.std.proofs.Common.{◌≡◌, Bool, true, false, not, ◌&&◌, ◌||◌, List, [], ◌∷◌, Option, Some, None, nat_eq, length, inl, inr, refl, ap, sym, ◌∙◌, subst, arith}
+use Rattle.std.proofs.lemmas.Bool.{and_parts, or_cases, cases_Bool, not-true, both_ways, eq-eqb, eqb-true}
 use Rattle.std.specs.Option.{option_map, option_or}
 use Rattle.mz_core.specs.declared.types.Base.{Base}
 use Rattle.mz_core.specs.declared.types.Base.TheVariants as base
 use Rattle.mz_core.specs.declared.types.Ix.{Ix}
 use Rattle.mz_core.specs.declared.types.Ix.TheVariants as ix
-use Rattle.mz_core.specs.Types.{PlainType, is_set, is_text, is_allowed}
-use Rattle.mz_core.specs.Coercions.{Below}
-use Rattle.mz_core.specs.Order.{base_below, raises, same_base, dims_below, no_dims, is_list, is_par_scalar, set_of, below_some, becomes_array, mark_below, shape_below, below}
-use Rattle.mz_core.specs.Join.{IsLeast, IsJoin, base_join, indices_join, dims_join, if_allowed, plain_join, element_join, one_dim, list_of, array_join, join_apart, join}
-use Rattle.mz_core.proofs.Tests.{and_is, or_left, or_right, same_base-is, mark_below-refl, base_below-refl, dims_below-refl}
+use Rattle.mz_core.specs.Types.{PlainType, is_allowed}
+use Rattle.mz_core.specs.Order.{base_below, raises, same_base, dims_below, no_dims, is_par_scalar, set_of, below_some, mark_below, shape_below, below}
+use Rattle.mz_core.specs.Join.{IsLeast, IsJoin, base_join, indices_join, dims_join, plain_join, element_join, one_dim, list_of, array_join, join_apart, join}
+use Rattle.mz_core.proofs.Tests.{and_is, same_base-is, mark_below-refl, base_below-refl, dims_below-refl}
 use Rattle.mz_core.proofs.OrderLaws.{Fits, fits-below, below-refl, below-cases, BecomesArray, shape-cases, shape-plain, shape-array}
 use Rattle.mz_core.proofs.PathLaws.{allowed-under, par-allowed, no_dims-is, is_list-is, sound, Below-test}
 use Rattle.mz_core.proofs.BaseJoins.{LeastBase, IsBaseJoin, base_join-is, LeastElement, IsElementJoin, EachEnumAbove, element_join-is, below_each, indices_join-first, indices_join-second, indices_join-least, dims_below-length}

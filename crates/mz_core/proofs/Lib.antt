@@ -5,3 +5,4 @@ pub mod BaseJoins
 pub mod JoinLaws
 pub mod TypeLaws
 pub mod TreeLaws
+mod Examples

@@ -1,17 +1,15 @@
 -- The test of the order is the order that the steps make, and the path of coercions leads there.
-use Rattle.std.proofs.Common.{◌≡◌, ℕ, Bool, true, false, not, ◌&&◌, ◌||◌, List, [], ◌∷◌, ◌++◌, Option, Some, None, nat_eq, ◌⊎◌, inl, inr, refl, ap, sym, ◌∙◌, subst, if◌then◌else◌, append_assoc}
-use Rattle.std.proofs.lemmas.Bool.{and_parts, or_cases, cases_Bool, not-true, eqb-true}
-use Rattle.std.specs.Bool.{beq}
+use Rattle.std.proofs.Common.{◌≡◌, ℕ, true, not, ◌&&◌, List, [], ◌∷◌, ◌++◌, ◌⊎◌, inl, inr, refl, subst}
+use Rattle.std.proofs.lemmas.Bool.{and_parts, or_cases}
 use Rattle.mz_core.specs.declared.types.Base.{Base}
 use Rattle.mz_core.specs.declared.types.Base.TheVariants as base
 use Rattle.mz_core.specs.declared.types.Ix.{Ix}
 use Rattle.mz_core.specs.declared.types.Ix.TheVariants as ix
 use Rattle.mz_core.specs.declared.types.Coercion.{Coercion}
-use Rattle.mz_core.specs.declared.types.Coercion.TheVariants.{ToVar, BoolToInt, EnumToInt, SetEnumToSetInt, ToOpt, SetToArray, IndexToInt, BottomToBase, SetBottomToSet}
-use Rattle.mz_core.specs.Types.{PlainType, is_set, is_text, is_allowed}
-use Rattle.mz_core.specs.Coercions.{Raises, bool_to_int, enum_to_int, set_enum_to_set_int, bottom_to_base, set_bottom_to_set, HasElements, integers, cases, Coerces, to_var, to_opt, to_base, to_array, to_int_index, PathLink, Leads, arrived, goes, Below}
-use Rattle.mz_core.specs.Order.{same_base, raises, base_below, same_index, index_below, dims_below, no_dims, is_list, is_par_scalar, set_of, below_some, becomes_array, same_type, mark_below, marks_below, shape_below, below, IsOrder}
-use Rattle.mz_core.proofs.Tests.{and_is, or_left, or_right, same_bool-is, same_base-is, same_type-is, same_type-refl, dims_below-refl, mark_below-refl, base_below-refl, raises-below, raises-below_some}
+use Rattle.mz_core.specs.Types.{PlainType, is_allowed}
+use Rattle.mz_core.specs.Coercions.{Raises, bool_to_int, enum_to_int, set_enum_to_set_int, bottom_to_base, set_bottom_to_set, HasElements, integers, cases, Coerces, to_var, to_opt, to_base, to_array, to_int_index, PathLink, Leads, arrived, goes}
+use Rattle.mz_core.specs.Order.{same_base, raises, base_below, index_below, dims_below, no_dims, is_list, is_par_scalar, set_of, below_some, becomes_array, same_type, mark_below, marks_below, shape_below, below}
+use Rattle.mz_core.proofs.Tests.{and_is, or_left, or_right, same_type-is, same_type-refl, dims_below-refl, mark_below-refl, base_below-refl, raises-below, raises-below_some}
 
 -- what the test asks for, where t isn't u
 pub record Fits (t u : PlainType) : Type 0 where

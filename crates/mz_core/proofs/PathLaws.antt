@@ -1,16 +1,15 @@
 -- The path of coercions leads to the higher type.
-use Rattle.std.proofs.Common.{◌≡◌, ℕ, Bool, true, false, not, ◌&&◌, ◌||◌, List, [], ◌∷◌, ◌++◌, Option, Some, None, nat_eq, ◌⊎◌, inl, inr, refl, ap, sym, ◌∙◌, subst, if◌then◌else◌, append_assoc}
+use Rattle.std.proofs.Common.{◌≡◌, Bool, true, false, not, ◌&&◌, ◌||◌, List, [], ◌∷◌, ◌++◌, Option, Some, None, nat_eq, inl, inr, refl, sym, ◌∙◌, subst, if◌then◌else◌, append_assoc}
 use Rattle.std.proofs.lemmas.Bool.{and_parts, or_cases, cases_Bool, not-true, eqb-true, both_ways}
 use Rattle.std.specs.Bool.{beq}
 use Rattle.mz_core.specs.declared.types.Base.{Base}
 use Rattle.mz_core.specs.declared.types.Base.TheVariants as base
 use Rattle.mz_core.specs.declared.types.Ix.{Ix}
 use Rattle.mz_core.specs.declared.types.Ix.TheVariants as ix
-use Rattle.mz_core.specs.declared.types.Coercion.{Coercion}
-use Rattle.mz_core.specs.declared.types.Coercion.TheVariants.{ToVar, BoolToInt, EnumToInt, SetEnumToSetInt, ToOpt, SetToArray, IndexToInt, BottomToBase, SetBottomToSet}
+use Rattle.mz_core.specs.declared.types.Coercion.TheVariants.{ToVar, ToOpt, SetToArray, IndexToInt}
 use Rattle.mz_core.specs.Types.{PlainType, is_set, is_text, is_allowed}
 use Rattle.mz_core.specs.Coercions.{Raises, bool_to_int, enum_to_int, set_enum_to_set_int, bottom_to_base, set_bottom_to_set, HasElements, integers, cases, Coerces, to_var, to_opt, to_base, to_array, to_int_index, PathLink, Leads, arrived, goes, Below}
-use Rattle.mz_core.specs.Order.{same_base, raises, base_below, same_index, index_below, dims_below, no_dims, is_list, set_of, below_some, becomes_array, same_type, mark_below, below}
+use Rattle.mz_core.specs.Order.{same_base, raises, base_below, dims_below, no_dims, is_list, set_of, below_some, becomes_array, same_type, mark_below, below}
 use Rattle.mz_core.specs.Paths.{raising, base_links, index_links, opt_links, var_links, mark_links, links_by, coercions}
 use Rattle.mz_core.proofs.Tests.{and_is, same_bool-is, same_base-is, same_type-is, same_type-refl, mark_below-refl}
 use Rattle.mz_core.proofs.OrderLaws.{Fits, BecomesArray, array-is, array-parts, shape-cases, below-cases, complete}

@@ -1,5 +1,5 @@
 -- What the tests of types say.
-use Rattle.std.proofs.Common.{◌≡◌, ℕ, Bool, true, false, not, ◌&&◌, ◌||◌, List, [], ◌∷◌, nat_eq, refl, ap, ◌∙◌, arith, Option, Some, None}
+use Rattle.std.proofs.Common.{◌≡◌, Bool, true, false, ◌&&◌, ◌||◌, List, [], ◌∷◌, refl, ap, ◌∙◌, Option, Some, None}
 use Rattle.std.proofs.lemmas.Bool.{and_parts, and_from, eqb-true, eq-eqb}
 use Rattle.std.specs.Bool.{beq}
 use Rattle.std.specs.Cmp.{booleans_Decides}
@@ -7,8 +7,8 @@ use Rattle.mz_core.specs.declared.types.Base.{Base}
 use Rattle.mz_core.specs.declared.types.Base.TheVariants as base
 use Rattle.mz_core.specs.declared.types.Ix.{Ix}
 use Rattle.mz_core.specs.declared.types.Ix.TheVariants as ix
-use Rattle.mz_core.specs.Types.{PlainType, is_set}
-use Rattle.mz_core.specs.Order.{same_base, same_index, same_dims, same_type, no_dims, raises, base_below, index_below, dims_below, mark_below, below_some}
+use Rattle.mz_core.specs.Types.{PlainType}
+use Rattle.mz_core.specs.Order.{same_base, same_index, same_dims, same_type, raises, base_below, index_below, dims_below, mark_below, below_some}
 
 pub and_is : {a b : Bool} → a ≡ true → b ≡ true → a && b ≡ true
 and_is {a} {b} p q = and_from a b p q

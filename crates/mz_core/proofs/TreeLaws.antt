@@ -3,7 +3,6 @@ use Rattle.std.proofs.Common.{◌≡◌, ◌∙◌, ℕ, List, [], ◌∷◌, Op
 use Rattle.std.specs.Option.{option_map}
 use Rattle.mz_base.specs.declared.fault.Span.{Span}
 use Rattle.mz_core.specs.declared.types.TypeInst.{TypeInst}
-use Rattle.mz_core.specs.declared.types.Coercion.{Coercion}
 use Rattle.mz_core.specs.declared.tree.Core.{Core, the_lemmas as core_lemmas}
 use Rattle.mz_core.specs.declared.tree.CoreForm.{CoreForm, CoreForm-F, the_lemmas as form_lemmas}
 use Rattle.mz_core.specs.declared.tree.CoreItem.{CoreItem, CoreItem-F}
@@ -18,7 +17,7 @@ use Rattle.mz_core.specs.declared.tree.CoreForm.TheShapes as shapes
 use Rattle.mz_core.specs.Types.{PlainType, plain_type}
 use Rattle.mz_core.specs.Tree as pure
 use Rattle.mz_core.specs.Tree.{Tree, Shape, Item, Decl, Gen, Step, DeclaredType, Layer, layer, maybe, if_tree, maybes, all_maybes, trees, all_trees, steps, all_steps, gens, all_gens, items, all_items, branches, all_branches, rows_of, all_rows}
-use Rattle.mz_core.specs.TreeViews.{tree, shape, item, item_layer, decl, gen, step, declared_type, branch, form_step, item_step, core_step, decl_step, gen_step, step_step, type_step, form_layer, inner_in, coercions_in, IsReadByLayer, TreesAreReadByLayers}
+use Rattle.mz_core.specs.TreeViews.{tree, shape, item, item_layer, decl, gen, step, declared_type, branch, form_step, item_step, core_step, decl_step, gen_step, step_step, type_step, form_layer, inner_in, coercions_in, TreesAreReadByLayers}
 
 -- LISTS OF PARTS are read as they were made
 

@@ -1,15 +1,15 @@
 -- Laws of the order, by the relation and by the test, and equations of the views of types.
-use Rattle.std.proofs.Common.{◌≡◌, ℕ, Bool, true, false, not, ◌&&◌, ◌||◌, List, [], ◌∷◌, nat_eq, map, length, ◌⊎◌, inl, inr, refl, ap, sym, ◌∙◌, subst, arith}
-use Rattle.std.proofs.lemmas.Bool.{and_parts, or_cases, both_ways, eqb-true}
+use Rattle.std.proofs.Common.{◌≡◌, Bool, true, false, ◌&&◌, ◌||◌, List, [], ◌∷◌, map, length, inl, inr, refl, ap, sym, ◌∙◌, subst, arith}
+use Rattle.std.proofs.lemmas.Bool.{and_parts, or_cases, eqb-true}
 use Rattle.mz_core.specs.declared.types.Base.{Base}
 use Rattle.mz_core.specs.declared.types.Base.TheVariants as base
 use Rattle.mz_core.specs.declared.types.Ix.{Ix}
 use Rattle.mz_core.specs.declared.types.Ix.TheVariants as ix
 use Rattle.mz_core.specs.declared.types.TypeInst.{TypeInst}
 use Rattle.mz_core.specs.declared.types.Signature.{Signature}
-use Rattle.mz_core.specs.Types.{PlainType, plain_type, PlainSignature, plain_signature}
+use Rattle.mz_core.specs.Types.{PlainType, plain_type, plain_signature}
 use Rattle.mz_core.specs.Coercions.{Below}
-use Rattle.mz_core.specs.Order.{same_base, raises, base_below, index_below, dims_below, no_dims, is_list, becomes_array, mark_below, below}
+use Rattle.mz_core.specs.Order.{same_base, raises, base_below, index_below, dims_below, no_dims, is_list, mark_below, below}
 use Rattle.mz_core.specs.Laws.{IsPartialOrder}
 use Rattle.mz_core.proofs.Tests.{and_is, or_left, or_right, same_base-is, dims_below-refl, type_of}
 use Rattle.mz_core.proofs.OrderLaws.{Fits, BecomesArray, below-refl, below-cases, shape-cases}

@@ -1,5 +1,5 @@
 -- The least type above two.
-use Rattle.std.specs.Prelude.{◌≡◌, ℕ, Bool, true, false, not, ◌&&◌, ◌||◌, List, [], ◌∷◌, if◌then◌else◌, Option, Some, None, nat_eq, length, map}
+use Rattle.std.specs.Prelude.{Bool, true, false, ◌&&◌, ◌||◌, List, [], ◌∷◌, if◌then◌else◌, Option, Some, None, nat_eq, length, map}
 use Rattle.std.specs.List.{zip}
 use Rattle.std.specs.Option.{option_map, option_or}
 use Rattle.mz_core.specs.declared.types.Base.{Base}

@@ -1,5 +1,5 @@
 -- The trees that the code's typed expressions stand for.
-use Rattle.std.specs.Prelude.{◌≡◌, List, [], ◌∷◌, ◌++◌, map, Vec, Option}
+use Rattle.std.specs.Prelude.{◌≡◌, List, [], ◌∷◌, ◌++◌, map}
 use Rattle.std.specs.Option.{option_map}
 use Rattle.mz_core.specs.declared.tree.Core.{Core, Core-F, fold-Core}
 use Rattle.mz_core.specs.declared.tree.CoreForm.{CoreForm, CoreForm-F, fold-CoreForm}

@@ -1,4 +1,4 @@
-use Rattle.std.proofs.Common.{◌≡◌, ◌∙◌, sym, ap, Some, List}
+use Rattle.std.proofs.Common.{◌∙◌, ap}
 use Rattle.mz_core.specs.Types.{plain_type}
 use Rattle.mz_core.specs.Join.{join_apart}
 use Rattle.mz_core.proofs.join.join_apart.Goals as goal
