@@ -10,8 +10,8 @@ use Rattle.mz_core.specs.Join.{base_apart, base_join, index_join, indices_join, 
 use Rattle.mz_core.specs.Types.{is_set}
 use Rattle.mz_core.specs.Coercions.{Raises, bool_to_int, enum_to_int, set_enum_to_set_int, bottom_to_base, set_bottom_to_set}
 use Rattle.mz_core.specs.declared.types.Coercion.{Coercion}
-use Rattle.mz_core.proofs.Tests.{and_is, or_right, base_below-refl, index_below-refl, same_index-is, same_base-is}
-use Rattle.mz_core.proofs.PathLaws.{raising-is}
+use Rattle.mz_core.proofs.Tests.{and_is, or_right, base_below_refl, index_below_refl, same_index_is, same_base_is}
+use Rattle.mz_core.proofs.PathLaws.{raising_is}
 
 -- BASES
 
@@ -25,71 +25,71 @@ IsBaseJoin a b None = (c : Base) → base_below a c ≡ true → base_below b c 
 IsBaseJoin a b (Some j) = LeastBase a b j
 
 -- an enum is below no other enum
-pub enum-below : (e f : ℕ) → base_below (base.Enum e) (base.Enum f) ≡ true → e ≡ f
-enum-below e f h = elim (or_cases (nat_eq e f) false h) [ inl p ↦ eqb-true e f p | inr p ↦ absurd cc ]
+pub enum_below : (e f : ℕ) → base_below (base.Enum e) (base.Enum f) ≡ true → e ≡ f
+enum_below e f h = elim (or_cases (nat_eq e f) false h) [ inl p ↦ eqb-true e f p | inr p ↦ absurd cc ]
 
-set_enum-below : (e f : ℕ) → base_below (base.SetEnum e) (base.SetEnum f) ≡ true → e ≡ f
-set_enum-below e f h = elim (or_cases (nat_eq e f) false h) [ inl p ↦ eqb-true e f p | inr p ↦ absurd cc ]
+set_enum_below : (e f : ℕ) → base_below (base.SetEnum e) (base.SetEnum f) ≡ true → e ≡ f
+set_enum_below e f h = elim (or_cases (nat_eq e f) false h) [ inl p ↦ eqb-true e f p | inr p ↦ absurd cc ]
 
-same-below : (a b : Base) → a ≡ b → base_below a b ≡ true
-same-below a b e = subst (λ x. base_below a x ≡ true) e (base_below-refl a)
+same_below : (a b : Base) → a ≡ b → base_below a b ≡ true
+same_below a b e = subst (λ x. base_below a x ≡ true) e (base_below_refl a)
 
-enums-least : (e f : ℕ) → base_below (base.Enum e) (base.Enum f) ≡ false → (c : Base) → base_below (base.Enum e) c ≡ true → base_below (base.Enum f) c ≡ true → base_below base.Int c ≡ true
-enums-least e f n base.Int p q = refl
-enums-least e f n (base.Enum g) p q =
-    absurd (both_ways (base_below (base.Enum e) (base.Enum f)) n (same-below (base.Enum e) (base.Enum f) (ap base.Enum (enum-below e g p ∙ sym (enum-below f g q)))))
-enums-least e f n c p q = absurd cc
+enums_least : (e f : ℕ) → base_below (base.Enum e) (base.Enum f) ≡ false → (c : Base) → base_below (base.Enum e) c ≡ true → base_below (base.Enum f) c ≡ true → base_below base.Int c ≡ true
+enums_least e f n base.Int p q = refl
+enums_least e f n (base.Enum g) p q =
+    absurd (both_ways (base_below (base.Enum e) (base.Enum f)) n (same_below (base.Enum e) (base.Enum f) (ap base.Enum (enum_below e g p ∙ sym (enum_below f g q)))))
+enums_least e f n c p q = absurd cc
 
-sets-least : (e f : ℕ) → base_below (base.SetEnum e) (base.SetEnum f) ≡ false → (c : Base) → base_below (base.SetEnum e) c ≡ true → base_below (base.SetEnum f) c ≡ true → base_below base.SetInt c ≡ true
-sets-least e f n base.SetInt p q = refl
-sets-least e f n (base.SetEnum g) p q =
-    absurd (both_ways (base_below (base.SetEnum e) (base.SetEnum f)) n (same-below (base.SetEnum e) (base.SetEnum f) (ap base.SetEnum (set_enum-below e g p ∙ sym (set_enum-below f g q)))))
-sets-least e f n c p q = absurd cc
+sets_least : (e f : ℕ) → base_below (base.SetEnum e) (base.SetEnum f) ≡ false → (c : Base) → base_below (base.SetEnum e) c ≡ true → base_below (base.SetEnum f) c ≡ true → base_below base.SetInt c ≡ true
+sets_least e f n base.SetInt p q = refl
+sets_least e f n (base.SetEnum g) p q =
+    absurd (both_ways (base_below (base.SetEnum e) (base.SetEnum f)) n (same_below (base.SetEnum e) (base.SetEnum f) (ap base.SetEnum (set_enum_below e g p ∙ sym (set_enum_below f g q)))))
+sets_least e f n c p q = absurd cc
 
-bool-least : (f : ℕ) (c : Base) → base_below base.Bool c ≡ true → base_below (base.Enum f) c ≡ true → base_below base.Int c ≡ true
-bool-least f base.Int p q = refl
-bool-least f c p q = absurd cc
+bool_least : (f : ℕ) (c : Base) → base_below base.Bool c ≡ true → base_below (base.Enum f) c ≡ true → base_below base.Int c ≡ true
+bool_least f base.Int p q = refl
+bool_least f c p q = absurd cc
 
 -- nothing is above two bases that are apart, where the table has none
-raised-apart : {f g : Coercion} {a b c : Base} → Raises f a c → Raises g b c → base_apart a b ≡ None → base_below a b ≡ false → base_below b a ≡ false → ⊥
-raised-apart {b = b} (bottom_to_base x) s e n m = both_ways (base_below base.Bottom b) n (or_right (same_base base.Bottom b) refl)
-raised-apart {a = a} r (bottom_to_base x) e n m = both_ways (base_below base.Bottom a) m (or_right (same_base base.Bottom a) refl)
-raised-apart bool_to_int bool_to_int e n m = absurd cc
-raised-apart bool_to_int (enum_to_int f) e n m = absurd cc
-raised-apart bool_to_int (set_bottom_to_set b h) e n m = absurd cc
-raised-apart (enum_to_int f) bool_to_int e n m = absurd cc
-raised-apart (enum_to_int f) (enum_to_int g) e n m = absurd cc
-raised-apart (enum_to_int f) (set_bottom_to_set b h) e n m = absurd cc
-raised-apart (set_enum_to_set_int f) (set_enum_to_set_int g) e n m = absurd cc
-raised-apart (set_enum_to_set_int f) (set_bottom_to_set b h) e n m = absurd cc
-raised-apart (set_bottom_to_set b h) bool_to_int e n m = absurd cc
-raised-apart (set_bottom_to_set b h) (enum_to_int g) e n m = absurd cc
-raised-apart (set_bottom_to_set b h) (set_enum_to_set_int g) e n m = absurd cc
-raised-apart (set_bottom_to_set b h) (set_bottom_to_set c k) e n m = absurd cc
+raised_apart : {f g : Coercion} {a b c : Base} → Raises f a c → Raises g b c → base_apart a b ≡ None → base_below a b ≡ false → base_below b a ≡ false → ⊥
+raised_apart {b = b} (bottom_to_base x) s e n m = both_ways (base_below base.Bottom b) n (or_right (same_base base.Bottom b) refl)
+raised_apart {a = a} r (bottom_to_base x) e n m = both_ways (base_below base.Bottom a) m (or_right (same_base base.Bottom a) refl)
+raised_apart bool_to_int bool_to_int e n m = absurd cc
+raised_apart bool_to_int (enum_to_int f) e n m = absurd cc
+raised_apart bool_to_int (set_bottom_to_set b h) e n m = absurd cc
+raised_apart (enum_to_int f) bool_to_int e n m = absurd cc
+raised_apart (enum_to_int f) (enum_to_int g) e n m = absurd cc
+raised_apart (enum_to_int f) (set_bottom_to_set b h) e n m = absurd cc
+raised_apart (set_enum_to_set_int f) (set_enum_to_set_int g) e n m = absurd cc
+raised_apart (set_enum_to_set_int f) (set_bottom_to_set b h) e n m = absurd cc
+raised_apart (set_bottom_to_set b h) bool_to_int e n m = absurd cc
+raised_apart (set_bottom_to_set b h) (enum_to_int g) e n m = absurd cc
+raised_apart (set_bottom_to_set b h) (set_enum_to_set_int g) e n m = absurd cc
+raised_apart (set_bottom_to_set b h) (set_bottom_to_set c k) e n m = absurd cc
 
 -- a base below another is it, or is raised to it
 raised : (a b c : Base) → base_below b a ≡ false → base_below a c ≡ true → base_below b c ≡ true → raises a c ≡ true
 raised a b c m p q = elim (or_cases (same_base a c) (raises a c) p) [
-  | inl e ↦ absurd (both_ways (base_below b a) m (subst (λ x. base_below b x ≡ true) (sym (same_base-is a c e)) q))
+  | inl e ↦ absurd (both_ways (base_below b a) m (subst (λ x. base_below b x ≡ true) (sym (same_base_is a c e)) q))
   | inr r ↦ r
 ]
 
-none-above : (a b c : Base) → base_apart a b ≡ None → base_below a b ≡ false → base_below b a ≡ false → base_below a c ≡ true → base_below b c ≡ true → ⊥
-none-above a b c e n m p q = raised-apart (raising-is a c (raised a b c m p q)) (raising-is b c (raised b a c n q p)) e n m
+none_above : (a b c : Base) → base_apart a b ≡ None → base_below a b ≡ false → base_below b a ≡ false → base_below a c ≡ true → base_below b c ≡ true → ⊥
+none_above a b c e n m p q = raised_apart (raising_is a c (raised a b c m p q)) (raising_is b c (raised b a c n q p)) e n m
 
-base_apart-is : (a b : Base) → base_below a b ≡ false → base_below b a ≡ false → IsBaseJoin a b (base_apart a b)
-base_apart-is base.Bool (base.Enum f) n m = record { first = refl; second = refl; least = bool-least f }
-base_apart-is (base.Enum e) base.Bool n m = record { first = refl; second = refl; least = λ c p q. bool-least e c q p }
-base_apart-is (base.Enum e) (base.Enum f) n m = record { first = refl; second = refl; least = enums-least e f n }
-base_apart-is (base.SetEnum e) (base.SetEnum f) n m = record { first = refl; second = refl; least = sets-least e f n }
-base_apart-is a b n m = λ c. none-above a b c refl n m
+base_apart_is : (a b : Base) → base_below a b ≡ false → base_below b a ≡ false → IsBaseJoin a b (base_apart a b)
+base_apart_is base.Bool (base.Enum f) n m = record { first = refl; second = refl; least = bool_least f }
+base_apart_is (base.Enum e) base.Bool n m = record { first = refl; second = refl; least = λ c p q. bool_least e c q p }
+base_apart_is (base.Enum e) (base.Enum f) n m = record { first = refl; second = refl; least = enums_least e f n }
+base_apart_is (base.SetEnum e) (base.SetEnum f) n m = record { first = refl; second = refl; least = sets_least e f n }
+base_apart_is a b n m = λ c. none_above a b c refl n m
 
-pub base_join-is : (a b : Base) → IsBaseJoin a b (base_join a b)
-base_join-is a b = elim (cases_Bool (base_below a b)) [
-  | inl h ↦ rw h (record { first = h; second = base_below-refl b; least = λ c p q. q })
+pub base_join_is : (a b : Base) → IsBaseJoin a b (base_join a b)
+base_join_is a b = elim (cases_Bool (base_below a b)) [
+  | inl h ↦ rw h (record { first = h; second = base_below_refl b; least = λ c p q. q })
   | inr n ↦ rw n (elim (cases_Bool (base_below b a)) [
-    | inl h ↦ rw h (record { first = base_below-refl a; second = h; least = λ c p q. p })
-    | inr m ↦ rw m (base_apart-is a b n m)
+    | inl h ↦ rw h (record { first = base_below_refl a; second = h; least = λ c p q. p })
+    | inr m ↦ rw m (base_apart_is a b n m)
   ])
 ]
 
@@ -139,10 +139,10 @@ any_set b h = absurd cc
 none_of : (a : Base) → below_some a None ≡ true → ⊥
 none_of a h = absurd cc
 
-bool-number : (a c : Base) → below_some a (set_of c) ≡ true → base_below base.Bool c ≡ true → base_below base.Int c ≡ true
-bool-number a base.Int p q = refl
-bool-number a base.Bool p q = p
-bool-number a c p q = absurd cc
+bool_number : (a c : Base) → below_some a (set_of c) ≡ true → base_below base.Bool c ≡ true → base_below base.Int c ≡ true
+bool_number a base.Int p q = refl
+bool_number a base.Bool p q = p
+bool_number a c p q = absurd cc
 
 no_number : (a b c : Base) → number_above b ≡ None → below_some a (set_of c) ≡ true → base_below b c ≡ true → b ≡ base.Bottom
 no_number a base.SetInt base.Int e p q = absurd cc
@@ -159,11 +159,11 @@ no_number a b c e p q = absurd cc
 above_each : (a b : Base) → Any a → b ≡ base.Bottom → EachEnumAbove a b
 above_each a b any e = λ n. (any (base.Enum n) refl, subst (λ x. base_below x (base.Enum n) ≡ true) (sym e) refl)
 
-number_above-is : (a b : Base) → Any a → IsElementJoin a b (number_above b)
-number_above-is a base.Bool any = record { set = any base.Int refl; second = refl; least = bool-number a }
-number_above-is a base.Int any = record { set = any base.Int refl; second = refl; least = λ c p q. q }
-number_above-is a (base.Enum e) any = record { set = any (base.Enum e) refl; second = base_below-refl (base.Enum e); least = λ c p q. q }
-number_above-is a b any = λ c p q. above_each a b any (no_number a b c refl p q)
+number_above_is : (a b : Base) → Any a → IsElementJoin a b (number_above b)
+number_above_is a base.Bool any = record { set = any base.Int refl; second = refl; least = bool_number a }
+number_above_is a base.Int any = record { set = any base.Int refl; second = refl; least = λ c p q. q }
+number_above_is a (base.Enum e) any = record { set = any (base.Enum e) refl; second = base_below_refl (base.Enum e); least = λ c p q. q }
+number_above_is a b any = λ c p q. above_each a b any (no_number a b c refl p q)
 
 -- no array comes from what is neither a set nor Bottom
 no_set : {X : Type 0} (a c : Base) → is_set a || same_base a base.Bottom ≡ false → below_some a (set_of c) ≡ true → X
@@ -177,62 +177,62 @@ no_set base.Text base.Int n h = absurd cc
 no_set base.Text c n h = absurd cc
 no_set a c n h = absurd cc
 
-pub element_join-is : (a b : Base) → IsElementJoin a b (element_join a b)
-element_join-is base.SetInt b = by_elements base.SetInt base.Int b of_integers (base_join base.Int b) (base_join-is base.Int b)
-element_join-is (base.SetEnum e) b = by_elements (base.SetEnum e) (base.Enum e) b (of_cases e) (base_join (base.Enum e) b) (base_join-is (base.Enum e) b)
-element_join-is base.SetBottom b = number_above-is base.SetBottom b any_set
-element_join-is base.Bottom b = number_above-is base.Bottom b any_bottom
-element_join-is a b = λ c p q. no_set a c refl p
+pub element_join_is : (a b : Base) → IsElementJoin a b (element_join a b)
+element_join_is base.SetInt b = by_elements base.SetInt base.Int b of_integers (base_join base.Int b) (base_join_is base.Int b)
+element_join_is (base.SetEnum e) b = by_elements (base.SetEnum e) (base.Enum e) b (of_cases e) (base_join (base.Enum e) b) (base_join_is (base.Enum e) b)
+element_join_is base.SetBottom b = number_above_is base.SetBottom b any_set
+element_join_is base.Bottom b = number_above_is base.Bottom b any_bottom
+element_join_is a b = λ c p q. no_set a c refl p
 
 -- no base of an array is below each enum
 pub below_each : (a j : Base) → below_some a (set_of j) ≡ true → ((e : ℕ) → base_below j (base.Enum e) ≡ true) → ⊥
 below_each a base.Int h each = absurd (true≢false (sym (each 0)))
-below_each a (base.Enum f) h each = absurd (omega (arith, enum-below f 0 (each 0), enum-below f 1 (each 1)))
+below_each a (base.Enum f) h each = absurd (omega (arith, enum_below f 0 (each 0), enum_below f 1 (each 1)))
 below_each a j h each = absurd cc
 
 -- INDICES
 
-pub indices_join-first : (xs ys : List Ix) → length xs ≡ length ys → dims_below xs (indices_join xs ys) ≡ true
+pub indices_join_first : (xs ys : List Ix) → length xs ≡ length ys → dims_below xs (indices_join xs ys) ≡ true
 unfolding dims_below
-indices_join-first [] ys e = refl
-indices_join-first (x ∷ xs) [] e = absurd (omega (arith, e))
-indices_join-first (x ∷ xs) (y ∷ ys) e = and_is (index_join-first x y) (indices_join-first xs ys (omega (arith, e)))
+indices_join_first [] ys e = refl
+indices_join_first (x ∷ xs) [] e = absurd (omega (arith, e))
+indices_join_first (x ∷ xs) (y ∷ ys) e = and_is (index_join_first x y) (indices_join_first xs ys (omega (arith, e)))
   where
-    index_join-first : (x y : Ix) → index_below x (index_join x y) ≡ true
-    index_join-first x y = elim (cases_Bool (same_index x y)) [ inl e ↦ rw e (index_below-refl x) | inr n ↦ rw n refl ]
+    index_join_first : (x y : Ix) → index_below x (index_join x y) ≡ true
+    index_join_first x y = elim (cases_Bool (same_index x y)) [ inl e ↦ rw e (index_below_refl x) | inr n ↦ rw n refl ]
 
-pub indices_join-second : (xs ys : List Ix) → length xs ≡ length ys → dims_below ys (indices_join xs ys) ≡ true
+pub indices_join_second : (xs ys : List Ix) → length xs ≡ length ys → dims_below ys (indices_join xs ys) ≡ true
 unfolding dims_below
-indices_join-second [] [] e = refl
-indices_join-second [] (y ∷ ys) e = absurd (omega (arith, e))
-indices_join-second (x ∷ xs) [] e = absurd (omega (arith, e))
-indices_join-second (x ∷ xs) (y ∷ ys) e = and_is (index_join-second x y) (indices_join-second xs ys (omega (arith, e)))
+indices_join_second [] [] e = refl
+indices_join_second [] (y ∷ ys) e = absurd (omega (arith, e))
+indices_join_second (x ∷ xs) [] e = absurd (omega (arith, e))
+indices_join_second (x ∷ xs) (y ∷ ys) e = and_is (index_join_second x y) (indices_join_second xs ys (omega (arith, e)))
   where
-    index_join-second : (x y : Ix) → index_below y (index_join x y) ≡ true
-    index_join-second x y = elim (cases_Bool (same_index x y)) [ inl e ↦ rw e (subst (λ z. index_below y z ≡ true) (sym (same_index-is x y e)) (index_below-refl y)) | inr n ↦ rw n refl ]
+    index_join_second : (x y : Ix) → index_below y (index_join x y) ≡ true
+    index_join_second x y = elim (cases_Bool (same_index x y)) [ inl e ↦ rw e (subst (λ z. index_below y z ≡ true) (sym (same_index_is x y e)) (index_below_refl y)) | inr n ↦ rw n refl ]
 
-pub indices_join-least : (xs ys zs : List Ix) → dims_below xs zs ≡ true → dims_below ys zs ≡ true → dims_below (indices_join xs ys) zs ≡ true
+pub indices_join_least : (xs ys zs : List Ix) → dims_below xs zs ≡ true → dims_below ys zs ≡ true → dims_below (indices_join xs ys) zs ≡ true
 unfolding dims_below
-indices_join-least [] ys zs p q = p
-indices_join-least (x ∷ xs) [] [] p q = refl
-indices_join-least (x ∷ xs) [] (z ∷ zs) p q = absurd cc
-indices_join-least (x ∷ xs) (y ∷ ys) [] p q = absurd cc
-indices_join-least (x ∷ xs) (y ∷ ys) (z ∷ zs) p q =
+indices_join_least [] ys zs p q = p
+indices_join_least (x ∷ xs) [] [] p q = refl
+indices_join_least (x ∷ xs) [] (z ∷ zs) p q = absurd cc
+indices_join_least (x ∷ xs) (y ∷ ys) [] p q = absurd cc
+indices_join_least (x ∷ xs) (y ∷ ys) (z ∷ zs) p q =
     let a = and_parts (index_below x z) (dims_below xs zs) p in
     let b = and_parts (index_below y z) (dims_below ys zs) q in
-    and_is (index_join-least x y z a.0 b.0) (indices_join-least xs ys zs a.1 b.1)
+    and_is (index_join_least x y z a.0 b.0) (indices_join_least xs ys zs a.1 b.1)
   where
-    index_join-least : (x y z : Ix) → index_below x z ≡ true → index_below y z ≡ true → index_below (index_join x y) z ≡ true
-    index_join-least x y ix.Int p q = refl
-    index_join-least ix.Int y (ix.Enum g) p q = absurd cc
-    index_join-least (ix.Enum e) ix.Int (ix.Enum g) p q = absurd cc
-    index_join-least (ix.Enum e) (ix.Enum f) (ix.Enum g) p q = rw (eq-eqb e f (eqb-true e g p ∙ sym (eqb-true f g q))) p
+    index_join_least : (x y z : Ix) → index_below x z ≡ true → index_below y z ≡ true → index_below (index_join x y) z ≡ true
+    index_join_least x y ix.Int p q = refl
+    index_join_least ix.Int y (ix.Enum g) p q = absurd cc
+    index_join_least (ix.Enum e) ix.Int (ix.Enum g) p q = absurd cc
+    index_join_least (ix.Enum e) (ix.Enum f) (ix.Enum g) p q = rw (eq-eqb e f (eqb-true e g p ∙ sym (eqb-true f g q))) p
 
-pub dims_below-length : (xs ys : List Ix) → dims_below xs ys ≡ true → length xs ≡ length ys
+pub dims_below_length : (xs ys : List Ix) → dims_below xs ys ≡ true → length xs ≡ length ys
 unfolding dims_below
-dims_below-length [] [] h = refl
-dims_below-length [] (y ∷ ys) h = absurd cc
-dims_below-length (x ∷ xs) [] h = absurd cc
-dims_below-length (x ∷ xs) (y ∷ ys) h =
+dims_below_length [] [] h = refl
+dims_below_length [] (y ∷ ys) h = absurd cc
+dims_below_length (x ∷ xs) [] h = absurd cc
+dims_below_length (x ∷ xs) (y ∷ ys) h =
     let p = and_parts (index_below x y) (dims_below xs ys) h in
-    omega (arith, dims_below-length xs ys p.1)
+    omega (arith, dims_below_length xs ys p.1)

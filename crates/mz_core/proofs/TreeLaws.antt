@@ -21,38 +21,38 @@ use Rattle.mz_core.specs.TreeViews.{tree, shape, item, item_layer, decl, gen, st
 
 -- LISTS OF PARTS are read as they were made
 
-maybe-read : (m : Option Tree) → if_tree (maybe m) ≡ m
-maybe-read None = refl
-maybe-read (Some e) = refl
+maybe_read : (m : Option Tree) → if_tree (maybe m) ≡ m
+maybe_read None = refl
+maybe_read (Some e) = refl
 
-trees-read : (es : List Tree) → all_trees (trees es) ≡ es
-trees-read [] = refl
-trees-read (e ∷ es) = ap (λ ts. e ∷ ts) (trees-read es)
+trees_read : (es : List Tree) → all_trees (trees es) ≡ es
+trees_read [] = refl
+trees_read (e ∷ es) = ap (λ ts. e ∷ ts) (trees_read es)
 
-maybes-read : (ms : List (Option Tree)) → all_maybes (maybes ms) ≡ ms
-maybes-read [] = refl
-maybes-read (m ∷ ms) = rw (maybe-read m, maybes-read ms) refl
+maybes_read : (ms : List (Option Tree)) → all_maybes (maybes ms) ≡ ms
+maybes_read [] = refl
+maybes_read (m ∷ ms) = rw (maybe_read m, maybes_read ms) refl
 
-steps-read : (ss : List Step) → all_steps (steps ss) ≡ ss
-steps-read [] = refl
-steps-read (s ∷ ss) = ap (λ ts. s ∷ ts) (steps-read ss)
+steps_read : (ss : List Step) → all_steps (steps ss) ≡ ss
+steps_read [] = refl
+steps_read (s ∷ ss) = ap (λ ts. s ∷ ts) (steps_read ss)
 
-gens-read : (gs : List Gen) → all_gens (gens gs) ≡ gs
-gens-read [] = refl
-gens-read (g ∷ gs) = rw (maybe-read g.cond, gens-read gs) refl
+gens_read : (gs : List Gen) → all_gens (gens gs) ≡ gs
+gens_read [] = refl
+gens_read (g ∷ gs) = rw (maybe_read g.cond, gens_read gs) refl
 
-items-read : (is : List Item) → all_items (items is) ≡ is
-items-read [] = refl
-items-read (pure.declares d ∷ is) = rw (maybes-read d.ty.index, maybe-read d.ty.set, maybe-read d.value, items-read is) refl
-items-read (pure.constrains e ∷ is) = ap (λ ts. pure.constrains e ∷ ts) (items-read is)
+items_read : (is : List Item) → all_items (items is) ≡ is
+items_read [] = refl
+items_read (pure.declares d ∷ is) = rw (maybes_read d.ty.index, maybe_read d.ty.set, maybe_read d.value, items_read is) refl
+items_read (pure.constrains e ∷ is) = ap (λ ts. pure.constrains e ∷ ts) (items_read is)
 
-branches-read : (bs : List (Tree × Tree)) → all_branches (branches bs) ≡ bs
-branches-read [] = refl
-branches-read (b ∷ bs) = ap (λ ts. b ∷ ts) (branches-read bs)
+branches_read : (bs : List (Tree × Tree)) → all_branches (branches bs) ≡ bs
+branches_read [] = refl
+branches_read (b ∷ bs) = ap (λ ts. b ∷ ts) (branches_read bs)
 
-rows-read : (rs : List (List Tree)) → all_rows (rows_of rs) ≡ rs
-rows-read [] = refl
-rows-read (r ∷ rs) = rw (trees-read r, rows-read rs) refl
+rows_read : (rs : List (List Tree)) → all_rows (rows_of rs) ≡ rs
+rows_read [] = refl
+rows_read (r ∷ rs) = rw (trees_read r, rows_read rs) refl
 
 map-same : {A B : Type 0} (f g : A → B) (xs : List A) → ((x : A) → f x ≡ g x) → map f xs ≡ map g xs
 map-same f g [] e = refl
@@ -75,15 +75,15 @@ decl_fold = folds.fold-CoreDecl Shape Item Tree Decl Gen Step DeclaredType form_
 abbrev item_fold : CoreItem → Item
 item_fold = folds.fold-CoreItem Shape Item Tree Decl Gen Step DeclaredType form_step item_step core_step decl_step gen_step step_step type_step
 
-step_fold-is : (s : CoreStep) → step_fold s ≡ step s
-step_fold-is s = simp form_lemmas refl
+step_fold_is : (s : CoreStep) → step_fold s ≡ step s
+step_fold_is s = simp form_lemmas refl
 
 gen_map : (ss : Vec ℕ Global) (e : Core) (c : Option Core) → gen_step (folds.map-CoreGen CoreForm CoreItem Core CoreDecl CoreGen CoreStep CoreType Shape Item Tree Decl Gen Step DeclaredType shape item_fold tree decl_fold gen_fold step_fold type_fold (record { slots = ss; set = e; cond = c })) ≡ record { slots = ss.items; set = tree e; cond = option_map tree c }
 gen_map ss e None = refl
 gen_map ss e (Some x) = refl
 
-gen_fold-is : (g : CoreGen) → gen_fold g ≡ gen g
-gen_fold-is g =
+gen_fold_is : (g : CoreGen) → gen_fold g ≡ gen g
+gen_fold_is g =
     let u = out-CoreGen g in
     folds.fold_out-CoreGen Shape Item Tree Decl Gen Step DeclaredType form_step item_step core_step decl_step gen_step step_step type_step g ∙ gen_map u.slots u.set u.cond
 
@@ -98,8 +98,8 @@ type_map : (s : Span) (t : TypeInst) (v : Vec (Option Core) Global) (c : Option 
 type_map s t v None = ap (type_with s (plain_type t) None) (map-same (shapes.former-CoreType-index-at-1.map Core Tree tree) (option_map tree) v.items index_map)
 type_map s t v (Some x) = ap (type_with s (plain_type t) (Some (tree x))) (map-same (shapes.former-CoreType-index-at-1.map Core Tree tree) (option_map tree) v.items index_map)
 
-type_fold-is : (t : CoreType) → type_fold t ≡ declared_type t
-type_fold-is t =
+type_fold_is : (t : CoreType) → type_fold t ≡ declared_type t
+type_fold_is t =
     let u = out-CoreType t in
     folds.fold_out-CoreType Shape Item Tree Decl Gen Step DeclaredType form_step item_step core_step decl_step gen_step step_step type_step t ∙ type_map u.span u.ty u.index u.set
 
@@ -107,17 +107,17 @@ decl_map : (s n : ℕ) (p : Span) (t : CoreType) (c : Option Core) → decl_step
 decl_map s n p t None = refl
 decl_map s n p t (Some x) = refl
 
-decl_fold-is : (d : CoreDecl) → decl_fold d ≡ decl d
-decl_fold-is d =
+decl_fold_is : (d : CoreDecl) → decl_fold d ≡ decl d
+decl_fold_is d =
     let u = out-CoreDecl d in
-    folds.fold_out-CoreDecl Shape Item Tree Decl Gen Step DeclaredType form_step item_step core_step decl_step gen_step step_step type_step d ∙ decl_map u.slot u.name u.span u.ty u.value ∙ rw (type_fold-is u.ty) refl
+    folds.fold_out-CoreDecl Shape Item Tree Decl Gen Step DeclaredType form_step item_step core_step decl_step gen_step step_step type_step d ∙ decl_map u.slot u.name u.span u.ty u.value ∙ rw (type_fold_is u.ty) refl
 
 item_map : (i : CoreItem-F CoreForm CoreItem Core CoreDecl CoreGen CoreStep CoreType) → item_step (folds.map-CoreItem CoreForm CoreItem Core CoreDecl CoreGen CoreStep CoreType Shape Item Tree Decl Gen Step DeclaredType shape item_fold tree decl_fold gen_fold step_fold type_fold i) ≡ item_layer i
-item_map (open_form.Decl d) = ap pure.declares (decl_fold-is d)
+item_map (open_form.Decl d) = ap pure.declares (decl_fold_is d)
 item_map (open_form.Constraint e) = refl
 
-item_fold-is : (i : CoreItem) → item_fold i ≡ item i
-item_fold-is i = folds.fold_out-CoreItem Shape Item Tree Decl Gen Step DeclaredType form_step item_step core_step decl_step gen_step step_step type_step i ∙ item_map (out-CoreItem i)
+item_fold_is : (i : CoreItem) → item_fold i ≡ item i
+item_fold_is i = folds.fold_out-CoreItem Shape Item Tree Decl Gen Step DeclaredType form_step item_step core_step decl_step gen_step step_step type_step i ∙ item_map (out-CoreItem i)
 
 -- THE FOLD OF A FORM
 
@@ -129,63 +129,63 @@ rows_map : (f : Vec Core Global → Vec Tree Global) (g : Vec Tree Global → Li
 rows_map f g h [] e = refl
 rows_map f g h (r ∷ rs) e = rw (e r, rows_map f g h rs e) refl
 
-layer-mapped : (f : CoreForm-F CoreForm CoreItem Core CoreDecl CoreGen CoreStep CoreType) → layer (form_step (mapped f)) ≡ form_layer f
-layer-mapped (open_form.Chain e ss) = ap (pure.chain_form (tree e.value)) (steps-read (map step_fold ss.items) ∙ map-same step_fold step ss.items step_fold-is)
-layer-mapped (open_form.Builtin r es) = ap (pure.builtin_form r) (trees-read (map tree es.items))
-layer-mapped (open_form.Call f es) = ap (pure.call_form f) (trees-read (map tree es.items))
-layer-mapped (open_form.Access e es) = ap (pure.access_form (tree e.value)) (trees-read (map tree es.items))
-layer-mapped (open_form.Array es) = ap pure.array_form (trees-read (map tree es.items))
-layer-mapped (open_form.Rows rs) =
-    ap (λ t. pure.rows_form (all_rows (rows_of t))) (rows_map _ _ (λ r. map tree r.items) rs.items (λ r. refl)) ∙ ap pure.rows_form (rows-read (map (λ r. map tree r.items) rs.items))
-layer-mapped (open_form.Set es) = ap pure.set_form (trees-read (map tree es.items))
-layer-mapped (open_form.Comp b e gs) = ap (pure.comp_form b (tree e.value)) (gens-read (map gen_fold gs.items) ∙ map-same gen_fold gen gs.items gen_fold-is)
-layer-mapped (open_form.If bs None) = ap (λ t. pure.if_form t None) (branches-read (map branch bs.items))
-layer-mapped (open_form.If bs (Some e)) = ap (λ t. pure.if_form t (Some (tree e.value))) (branches-read (map branch bs.items))
-layer-mapped (open_form.Let is e) = ap (λ t. pure.let_form t (tree e.value)) (items-read (map item_fold is.items) ∙ map-same item_fold item is.items item_fold-is)
-layer-mapped f = refl
+layer_mapped : (f : CoreForm-F CoreForm CoreItem Core CoreDecl CoreGen CoreStep CoreType) → layer (form_step (mapped f)) ≡ form_layer f
+layer_mapped (open_form.Chain e ss) = ap (pure.chain_form (tree e.value)) (steps_read (map step_fold ss.items) ∙ map-same step_fold step ss.items step_fold_is)
+layer_mapped (open_form.Builtin r es) = ap (pure.builtin_form r) (trees_read (map tree es.items))
+layer_mapped (open_form.Call f es) = ap (pure.call_form f) (trees_read (map tree es.items))
+layer_mapped (open_form.Access e es) = ap (pure.access_form (tree e.value)) (trees_read (map tree es.items))
+layer_mapped (open_form.Array es) = ap pure.array_form (trees_read (map tree es.items))
+layer_mapped (open_form.Rows rs) =
+    ap (λ t. pure.rows_form (all_rows (rows_of t))) (rows_map _ _ (λ r. map tree r.items) rs.items (λ r. refl)) ∙ ap pure.rows_form (rows_read (map (λ r. map tree r.items) rs.items))
+layer_mapped (open_form.Set es) = ap pure.set_form (trees_read (map tree es.items))
+layer_mapped (open_form.Comp b e gs) = ap (pure.comp_form b (tree e.value)) (gens_read (map gen_fold gs.items) ∙ map-same gen_fold gen gs.items gen_fold_is)
+layer_mapped (open_form.If bs None) = ap (λ t. pure.if_form t None) (branches_read (map branch bs.items))
+layer_mapped (open_form.If bs (Some e)) = ap (λ t. pure.if_form t (Some (tree e.value))) (branches_read (map branch bs.items))
+layer_mapped (open_form.Let is e) = ap (λ t. pure.let_form t (tree e.value)) (items_read (map item_fold is.items) ∙ map-same item_fold item is.items item_fold_is)
+layer_mapped f = refl
 
-shape-is : (f : CoreForm) → shape f ≡ form_step (mapped (out-CoreForm f))
-shape-is f = folds.fold_out-CoreForm Shape Item Tree Decl Gen Step DeclaredType form_step item_step core_step decl_step gen_step step_step type_step f
+shape_is : (f : CoreForm) → shape f ≡ form_step (mapped (out-CoreForm f))
+shape_is f = folds.fold_out-CoreForm Shape Item Tree Decl Gen Step DeclaredType form_step item_step core_step decl_step gen_step step_step type_step f
 
-pub layer-shape : (f : CoreForm) → layer (shape f) ≡ form_layer (out-CoreForm f)
-layer-shape f = ap layer (shape-is f) ∙ layer-mapped (out-CoreForm f)
+pub layer_shape : (f : CoreForm) → layer (shape f) ≡ form_layer (out-CoreForm f)
+layer_shape f = ap layer (shape_is f) ∙ layer_mapped (out-CoreForm f)
 
-pub tree-is : (e : Core) → tree e ≡ pure.node e.span (plain_type e.ty) (shape e.form)
-tree-is e = simp core_lemmas refl
+pub tree_is : (e : Core) → tree e ≡ pure.node e.span (plain_type e.ty) (shape e.form)
+tree_is e = simp core_lemmas refl
 
 -- COERCIONS AT THE ROOT
 
-inner-mapped : (s : Span) (t : PlainType) (f : CoreForm-F CoreForm CoreItem Core CoreDecl CoreGen CoreStep CoreType) → pure.inner_tree (pure.node s t (form_step (mapped f))) ≡ inner_in (pure.node s t (form_step (mapped f))) f
-inner-mapped s t (open_form.Coerce c e) = refl
-inner-mapped s t f = refl
+inner_mapped : (s : Span) (t : PlainType) (f : CoreForm-F CoreForm CoreItem Core CoreDecl CoreGen CoreStep CoreType) → pure.inner_tree (pure.node s t (form_step (mapped f))) ≡ inner_in (pure.node s t (form_step (mapped f))) f
+inner_mapped s t (open_form.Coerce c e) = refl
+inner_mapped s t f = refl
 
-coercions-mapped : (s : Span) (t : PlainType) (f : CoreForm-F CoreForm CoreItem Core CoreDecl CoreGen CoreStep CoreType) → pure.root_coercions (pure.node s t (form_step (mapped f))) ≡ coercions_in t f
-coercions-mapped s t (open_form.Coerce c e) = refl
-coercions-mapped s t f = refl
+coercions_mapped : (s : Span) (t : PlainType) (f : CoreForm-F CoreForm CoreItem Core CoreDecl CoreGen CoreStep CoreType) → pure.root_coercions (pure.node s t (form_step (mapped f))) ≡ coercions_in t f
+coercions_mapped s t (open_form.Coerce c e) = refl
+coercions_mapped s t f = refl
 
-tree-mapped : (e : Core) → tree e ≡ pure.node e.span (plain_type e.ty) (form_step (mapped (out-CoreForm e.form)))
-tree-mapped e = tree-is e ∙ ap (pure.node e.span (plain_type e.ty)) (shape-is e.form)
+tree_mapped : (e : Core) → tree e ≡ pure.node e.span (plain_type e.ty) (form_step (mapped (out-CoreForm e.form)))
+tree_mapped e = tree_is e ∙ ap (pure.node e.span (plain_type e.ty)) (shape_is e.form)
 
-pub inner_tree-is : (e : Core) → pure.inner_tree (tree e) ≡ inner_in (tree e) (out-CoreForm e.form)
-inner_tree-is e = ap pure.inner_tree (tree-mapped e) ∙ inner-mapped e.span (plain_type e.ty) (out-CoreForm e.form) ∙ ap (λ t. inner_in t (out-CoreForm e.form)) (sym (tree-mapped e))
+pub inner_tree_is : (e : Core) → pure.inner_tree (tree e) ≡ inner_in (tree e) (out-CoreForm e.form)
+inner_tree_is e = ap pure.inner_tree (tree_mapped e) ∙ inner_mapped e.span (plain_type e.ty) (out-CoreForm e.form) ∙ ap (λ t. inner_in t (out-CoreForm e.form)) (sym (tree_mapped e))
 
-pub root_coercions-is : (e : Core) → pure.root_coercions (tree e) ≡ coercions_in (plain_type e.ty) (out-CoreForm e.form)
-root_coercions-is e = ap pure.root_coercions (tree-mapped e) ∙ coercions-mapped e.span (plain_type e.ty) (out-CoreForm e.form)
+pub root_coercions_is : (e : Core) → pure.root_coercions (tree e) ≡ coercions_in (plain_type e.ty) (out-CoreForm e.form)
+root_coercions_is e = ap pure.root_coercions (tree_mapped e) ∙ coercions_mapped e.span (plain_type e.ty) (out-CoreForm e.form)
 
-pub place_of-tree : (e : Core) → pure.place_of (tree e) ≡ e.span
-place_of-tree e = ap pure.place_of (tree-is e)
+pub place_of_tree : (e : Core) → pure.place_of (tree e) ≡ e.span
+place_of_tree e = ap pure.place_of (tree_is e)
 
-pub type_of-tree : (e : Core) → pure.type_of (tree e) ≡ plain_type e.ty
-type_of-tree e = ap pure.type_of (tree-is e)
+pub type_of_tree : (e : Core) → pure.type_of (tree e) ≡ plain_type e.ty
+type_of_tree e = ap pure.type_of (tree_is e)
 
-pub layer-tree : (e : Core) → layer (pure.shape_of (tree e)) ≡ form_layer (out-CoreForm e.form)
-layer-tree e = ap (λ t. layer (pure.shape_of t)) (tree-is e) ∙ layer-shape e.form
+pub layer_tree : (e : Core) → layer (pure.shape_of (tree e)) ≡ form_layer (out-CoreForm e.form)
+layer_tree e = ap (λ t. layer (pure.shape_of t)) (tree_is e) ∙ layer_shape e.form
 
-pub trees_read : TreesAreReadByLayers
-trees_read e = record {
-  place = place_of-tree e;
-  type = type_of-tree e;
-  layer = layer-tree e;
-  inner = inner_tree-is e;
-  coercions = root_coercions-is e;
+pub trees_read_by_layers : TreesAreReadByLayers
+trees_read_by_layers e = record {
+  place = place_of_tree e;
+  type = type_of_tree e;
+  layer = layer_tree e;
+  inner = inner_tree_is e;
+  coercions = root_coercions_is e;
 }
