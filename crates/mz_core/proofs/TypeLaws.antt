@@ -10,7 +10,7 @@ use Rattle.mz_core.specs.declared.types.Signature.{Signature}
 use Rattle.mz_core.specs.Types.{PlainType, plain_type, plain_signature}
 use Rattle.mz_core.specs.Coercions.{Below}
 use Rattle.mz_core.specs.Order.{same_base, raises, base_below, index_below, dims_below, no_dims, is_list, mark_below, below}
-use Rattle.mz_core.specs.Laws.{IsPartialOrder}
+use Rattle.mz_core.specs.Coercions.{IsPartialOrder}
 use Rattle.mz_core.proofs.Tests.{and_is, or_left, or_right, same_base_is, dims_below_refl, type_of}
 use Rattle.mz_core.proofs.OrderLaws.{Fits, BecomesArray, below_refl, below_cases, shape_cases}
 use Rattle.mz_core.proofs.PathLaws.{leads_on, sound, Below_test, no_dims_is, is_list_is}
