@@ -1,0 +1,8 @@
+// The table of operators, built-ins and globals, and the signatures that their names have.
+#![tactic(auto)]
+
+mod entry;
+mod table;
+
+pub use entry::{Entry, Letter, Mark, Of, Outcome, Param};
+pub use table::entries;
