@@ -1,3 +1,4 @@
 pub mod Types
 pub mod Coercions
 pub mod Order
+pub mod Paths
