@@ -1,2 +1,4 @@
 pub mod Entries
 pub mod Table
+pub mod Readings
+pub mod Signatures

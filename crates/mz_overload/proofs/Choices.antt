@@ -4,13 +4,16 @@ use Rattle.std.specs.Prelude.{slice_get}
 use Rattle.std.specs.List.{list_any, list_all, position_from}
 use Rattle.mz_core.specs.Types.{PlainType, PlainSignature}
 use Rattle.mz_core.specs.Order.{below}
+use Rattle.mz_core.proofs.OrderLaws.{complete}
+use Rattle.mz_core.proofs.PathLaws.{leads_on, sound}
 use Rattle.mz_overload.specs.declared.choice.Choice.{Choice}
 use Rattle.mz_overload.specs.declared.choice.Choice.TheVariants.{One, NoneFits, Ambiguous}
 use Rattle.mz_overload.specs.Best.{all_below, accepts, is_least, is_best, choice_of, choice, IsAccepting, IsBest, IsChoice}
 use Rattle.mz_overload.specs.StepsChoice.{choice_from, first_accepting}
 
-abbrev Trans : Type 0
-Trans = (t u v : PlainType) → below t u ≡ true → below u v ≡ true → below t v ≡ true
+-- the order goes on, since paths do
+below_trans : (t u v : PlainType) → below t u ≡ true → below u v ≡ true → below t v ≡ true
+below_trans t u v p q = let a = sound t u p in let b = sound u v q in complete (leads_on a.1 b.1)
 
 bool_case : (b : Bool) → (b ≡ true) ⊎ (b ≡ false)
 bool_case true = inl refl
@@ -36,25 +39,25 @@ is_false true h = absurd (h refl)
 is_false false h = refl
 
 -- the order on lists of types goes on
-pub all_below_trans : Trans → (ts us vs : List PlainType) → all_below ts us ≡ true → all_below us vs ≡ true → all_below ts vs ≡ true
+pub all_below_trans : (ts us vs : List PlainType) → all_below ts us ≡ true → all_below us vs ≡ true → all_below ts vs ≡ true
 unfolding all_below
-all_below_trans go [] [] [] p q = refl
-all_below_trans go [] [] (v ∷ vs) p q = q
-all_below_trans go [] (u ∷ us) vs p q = absurd cc
-all_below_trans go (t ∷ ts) [] vs p q = absurd cc
-all_below_trans go (t ∷ ts) (u ∷ us) [] p q = absurd cc
-all_below_trans go (t ∷ ts) (u ∷ us) (v ∷ vs) p q =
+all_below_trans [] [] [] p q = refl
+all_below_trans [] [] (v ∷ vs) p q = q
+all_below_trans [] (u ∷ us) vs p q = absurd cc
+all_below_trans (t ∷ ts) [] vs p q = absurd cc
+all_below_trans (t ∷ ts) (u ∷ us) [] p q = absurd cc
+all_below_trans (t ∷ ts) (u ∷ us) (v ∷ vs) p q =
     let a = both (below t u) (all_below ts us) p in
     let b = both (below u v) (all_below us vs) q in
-    all_of (go t u v a.0 b.0) (all_below_trans go ts us vs a.1 b.1)
+    all_of (below_trans t u v a.0 b.0) (all_below_trans ts us vs a.1 b.1)
 
 -- a candidate below a least one is least
-least_below : Trans → (ds : List PlainSignature) (args : List PlainType) (c d : PlainSignature) → all_below c.params d.params ≡ true → is_least ds args d ≡ true → is_least ds args c ≡ true
+least_below : (ds : List PlainSignature) (args : List PlainType) (c d : PlainSignature) → all_below c.params d.params ≡ true → is_least ds args d ≡ true → is_least ds args c ≡ true
 unfolding is_least
-least_below go [] args c d p h = refl
-least_below go (x ∷ ds) args c d p h =
+least_below [] args c d p h = refl
+least_below (x ∷ ds) args c d p h =
     let a = both (not (accepts args x) || all_below d.params x.params) (is_least ds args d) h in
-    all_of (implies (accepts args x) (all_below c.params x.params) (λ e. all_below_trans go c.params d.params x.params p (implied (accepts args x) (all_below d.params x.params) a.0 e))) (least_below go ds args c d p a.1)
+    all_of (implies (accepts args x) (all_below c.params x.params) (λ e. all_below_trans c.params d.params x.params p (implied (accepts args x) (all_below d.params x.params) a.0 e))) (least_below ds args c d p a.1)
 
 -- what is least of all is least of the rest
 abbrev OfAll : List PlainSignature → List PlainSignature → List PlainType → Type 0
@@ -96,17 +99,17 @@ refused : (a l : Bool) → a ≡ false → a && l ≡ true → ⊥
 refused true l e f = absurd cc
 refused false l e f = absurd cc
 
-pub from_is : Trans → (all : List PlainSignature) (args : List PlainType) (k : ℕ) (c : PlainSignature) (i : ℕ) (rest : List PlainSignature) → accepts args c ≡ true → OfAll all rest args → choice_from all args k c i rest ≡ first_best all args k c i rest
+pub from_is : (all : List PlainSignature) (args : List PlainType) (k : ℕ) (c : PlainSignature) (i : ℕ) (rest : List PlainSignature) → accepts args c ≡ true → OfAll all rest args → choice_from all args k c i rest ≡ first_best all args k c i rest
 unfolding choice_from
-from_is go all args k c i [] a h = settled (accepts args c) (is_least all args c) k a
-from_is go all args k c i (d ∷ ds) a h =
+from_is all args k c i [] a h = settled (accepts args c) (is_least all args c) k a
+from_is all args k c i (d ∷ ds) a h =
     let after = position_from (is_best all args) (i + 1) ds in
     let rest_of : OfAll all ds args = least_rest all ds args d h in
-    let stays = from_is go all args k c (i + 1) ds a rest_of in
+    let stays = from_is all args k c (i + 1) ds a rest_of in
     branch (accepts args d) (all_below c.params d.params) (choice_from all args i d (i + 1) ds) (choice_from all args k c (i + 1) ds) (first_best all args k c i (d ∷ ds))
     (λ e. stays ∙ passed (is_best all args c) (is_best all args d) k i after (λ f. absurd (refused (accepts args d) (is_least all args d) e f)))
-    (λ e b. stays ∙ passed (is_best all args c) (is_best all args d) k i after (λ f. all_of a (least_below go all args c d b (both (accepts args d) (is_least all args d) f).1)))
-    (λ e b. from_is go all args i d (i + 1) ds e rest_of ∙ replaced (is_best all args c) (is_best all args d) k i after (λ f. let g = least_first all ds args d c h (both (accepts args c) (is_least all args c) f).1 e in cc))
+    (λ e b. stays ∙ passed (is_best all args c) (is_best all args d) k i after (λ f. all_of a (least_below all args c d b (both (accepts args d) (is_least all args d) f).1)))
+    (λ e b. from_is all args i d (i + 1) ds e rest_of ∙ replaced (is_best all args c) (is_best all args d) k i after (λ f. let g = least_first all ds args d c h (both (accepts args c) (is_least all args c) f).1 e in cc))
 
 -- no candidate before the i-th accepts
 abbrev best_of : List PlainSignature → List PlainType → ℕ → List PlainSignature → Choice
@@ -116,13 +119,13 @@ begins : (a l : Bool) (x y : Choice) (i : ℕ) (r : Option ℕ) (s : Bool) → (
 begins true l x y i r s f g = f refl
 begins false l x y i r s f g = g refl
 
-pub first_is : Trans → (all : List PlainSignature) (args : List PlainType) (i : ℕ) (rest : List PlainSignature) → OfAll all rest args → first_accepting all args i rest ≡ best_of all args i rest
+pub first_is : (all : List PlainSignature) (args : List PlainType) (i : ℕ) (rest : List PlainSignature) → OfAll all rest args → first_accepting all args i rest ≡ best_of all args i rest
 unfolding first_accepting
-first_is go all args i [] h = refl
-first_is go all args i (c ∷ cs) h =
+first_is all args i [] h = refl
+first_is all args i (c ∷ cs) h =
     begins (accepts args c) (is_least all args c) (choice_from all args i c (i + 1) cs) (first_accepting all args (i + 1) cs) i (position_from (is_best all args) (i + 1) cs) (list_any (accepts args) cs)
-    (λ e. from_is go all args i c (i + 1) cs e (least_rest all cs args c h))
-    (λ e. first_is go all args (i + 1) cs (least_rest all cs args c h))
+    (λ e. from_is all args i c (i + 1) cs e (least_rest all cs args c h))
+    (λ e. first_is all args (i + 1) cs (least_rest all cs args c h))
 
 -- the first that passes a test stands in the list, and passes
 abbrev Hit : {X : Type 0} → (X → Bool) → ℕ → List X → ℕ → Type 0
@@ -199,9 +202,9 @@ unfolding choice
 choice_is cands args = is_choice_of cands args (position_from (is_best cands args) 0 cands) (list_any (accepts args) cands) refl refl
 
 -- the first candidate that accepts, and those that replace it, lead to the first best
-pub chosen_first : Trans → (cands : List PlainSignature) (args : List PlainType) → first_accepting cands args 0 cands ≡ choice cands args
+pub chosen_first : (cands : List PlainSignature) (args : List PlainType) → first_accepting cands args 0 cands ≡ choice cands args
 unfolding choice
-chosen_first go cands args = first_is go cands args 0 cands (λ c h. h)
+chosen_first cands args = first_is cands args 0 cands (λ c h. h)
 
 pub chosen_is : (cands : List PlainSignature) (args : List PlainType) (r : Choice) → r ≡ choice cands args → IsChoice cands args r
 chosen_is cands args r e = subst (λ x. IsChoice cands args x) (sym e) (choice_is cands args)
