@@ -1,5 +1,5 @@
 -- The readings of an entry for given argument types, and the signature that each gives.
-use Rattle.std.specs.Prelude.{ℕ, ◌+◌, zero, suc, Bool, true, false, not, ◌&&◌, List, [], ◌∷◌, ◌++◌, map, nat_eq, if◌then◌else◌, Option, Some, None, slice_get}
+use Rattle.std.specs.Prelude.{ℕ, zero, suc, Bool, true, false, List, [], ◌∷◌, ◌++◌, map, length, nat_eq, if◌then◌else◌, Option, Some, None, slice_get}
 use Rattle.std.specs.List.{flat_map, list_any}
 use Rattle.mz_core.specs.declared.types.Base.{Base}
 use Rattle.mz_core.specs.declared.types.Base.TheVariants as base
@@ -23,7 +23,7 @@ use Rattle.mz_builtin.specs.Entries.{PlainEntry}
 
 -- the number joins those that are there, if it isn't among them
 unfoldable pub with_number : List ℕ → ℕ → List ℕ
-with_number all n = if list_any (nat_eq n) all then all else all ++ (n ∷ [])
+with_number all n = if list_any (λ m. nat_eq m n) all then all else all ++ (n ∷ [])
 
 unfoldable pub with_base : List ℕ → Base → List ℕ
 with_base all (base.Enum e) = with_number all e
@@ -46,13 +46,8 @@ unfoldable pub index_enums_from : List ℕ → List PlainType → List ℕ
 index_enums_from all [] = all
 index_enums_from all (t ∷ ts) = index_enums_from (with_indices all t.dims) ts
 
--- how many dimensions
-unfoldable pub rank : List Ix → ℕ
-rank [] = 0
-rank (i ∷ is) = suc (rank is)
-
 unfoldable pub with_rank : List ℕ → List Ix → List ℕ
-with_rank all is = if no_dims is then all else with_number all (rank is)
+with_rank all is = if no_dims is then all else with_number all (length is)
 
 -- the numbers of dimensions that occur, each once
 unfoldable pub ranks_from : List ℕ → List PlainType → List ℕ
@@ -154,8 +149,15 @@ unfoldable pub index_lists : List Ix → ℕ → List (List Ix)
 index_lists indices zero = [] ∷ []
 index_lists indices (suc n) = joined indices (index_lists indices n)
 
+-- arrays with these index types
+unfoldable pub types_with : Meaning → Bool → Of → List (List Ix) → List PlainType
+types_with m var o lists = map (type_of m var o) lists
+
+unfoldable pub types_of_rank : Meaning → Bool → Of → List Ix → ℕ → List PlainType
+types_of_rank m var o indices n = types_with m var o (index_lists indices n)
+
 unfoldable pub array_types : Meaning → Bool → Of → List Ix → List ℕ → List PlainType
-array_types m var o indices ranks = map (type_of m var o) (flat_map (index_lists indices) ranks)
+array_types m var o indices ranks = flat_map (types_of_rank m var o indices) ranks
 
 abbrev pub set_type : Base → PlainType
 set_type b = record { var = false; opt = false; base = b; dims = [] }
@@ -209,15 +211,18 @@ Numbered = ℕ × PlainSignature
 unfoldable pub numbered : PlainEntry → Meaning → Bool → List PlainType → Numbered
 numbered e m var params = (e.number, record { params = params; result = result_type m (result_var e.mark var) e.result params })
 
--- the lists of types that an entry's parameters have
-unfoldable pub params_of : Choices → Meaning → Bool → List Param → List (List PlainType)
-params_of c m var ps = products (map (param_types c m var) ps)
+-- what gives the lists of types that an entry's parameters take
+abbrev pub Maker : Type 0
+Maker = Meaning → Bool → List Param → List (List PlainType)
 
-unfoldable pub with_mark : Choices → PlainEntry → Meaning → Bool → List Numbered
-with_mark c e m var = map (numbered e m var) (params_of c m var e.params)
+unfoldable pub all_params : Choices → Maker
+all_params c m var ps = products (map (param_types c m var) ps)
 
-unfoldable pub with_meaning : Choices → PlainEntry → Meaning → List Numbered
-with_meaning c e m = flat_map (with_mark c e m) (readings_of e.mark)
+unfoldable pub with_mark : Maker → PlainEntry → Meaning → Bool → List Numbered
+with_mark make e m var = map (numbered e m var) (make m var e.params)
 
-unfoldable pub of_entry : Choices → PlainEntry → List Numbered
-of_entry c e = flat_map (with_meaning c e) (meanings c.enums e.letter)
+unfoldable pub with_meaning : Maker → PlainEntry → Meaning → List Numbered
+with_meaning make e m = flat_map (with_mark make e m) (readings_of e.mark)
+
+unfoldable pub of_entry : Maker → List ℕ → PlainEntry → List Numbered
+of_entry make enums e = flat_map (with_meaning make e) (meanings enums e.letter)

@@ -6,17 +6,20 @@ use Rattle.mz_core.specs.Types.{PlainType}
 use Rattle.mz_overload.specs.Best.{accepts}
 use Rattle.mz_builtin.specs.Entries.{PlainEntry}
 use Rattle.mz_builtin.specs.Table.{built_ins, table}
-use Rattle.mz_builtin.specs.Readings.{Choices, choices, Numbered, of_entry}
+use Rattle.mz_builtin.specs.Readings.{Maker, choices, all_params, Numbered, of_entry}
 
 unfoldable pub has_name : List ℕ → PlainEntry → Bool
 has_name name e = pointwise nat_eq e.name name
 
-unfoldable pub of_named : List ℕ → Choices → PlainEntry → List Numbered
-of_named name c e = if has_name name e then of_entry c e else []
+unfoldable pub of_named : Maker → List ℕ → List ℕ → PlainEntry → List Numbered
+of_named make enums name e = if has_name name e then of_entry make enums e else []
 
 -- each entry of the name, once for each reading
+unfoldable pub made : Maker → List ℕ → List ℕ → List Numbered
+made make enums name = flat_map (of_named make enums name) table
+
 unfoldable pub signatures : List ℕ → List PlainType → List Numbered
-signatures name args = flat_map (of_named name (choices args)) table
+signatures name args = made (all_params (choices args)) (choices args).enums name
 
 abbrev pub accepts_all : List PlainType → Numbered → Bool
 accepts_all args n = accepts args n.1
