@@ -2,5 +2,5 @@ pub mod Entries
 pub mod Table
 pub mod Readings
 pub mod Signatures
-pub mod StepsFitting
+pub mod StepsFits
 pub mod Views

@@ -1,4 +1,4 @@
--- Mirror of src/fitting.rt; private clauses only.
+-- Mirror of src/fits.rt; private clauses only.
 use Rattle.std.specs.Prelude.{ℕ, Bool, true, false, ◌&&◌, List, [], ◌∷◌, map, filter, length, nat_eq, if◌then◌else◌}
 use Rattle.std.specs.List.{flat_map}
 use Rattle.mz_core.specs.declared.types.Ix.{Ix}
