@@ -20,7 +20,7 @@ use mz_core::{Signature, TypeInst};
 use std::alloc::Global;
 
 /// Which signatures are wanted.
-#[derive(Clone, Copy, Debug, PartialEq, Eq)]
+#[derive(Clone, Copy)]
 pub(crate) enum Wanted {
     All,
     /// Those that accept the arguments.
@@ -186,7 +186,7 @@ pub fn signatures(
 /// Those of [`signatures`] that accept arguments of these types, in the same order, in which the
 /// readings that are below others stand before them. They are made from the arguments' types, at
 /// most 64 readings of each argument's indices.
-#[tactic(auto, unfolding(crate::specs::Views::maker_of))]
+#[tactic(auto, using(crate::proofs::Acceptance::fitting_is), unfolding(crate::specs::Views::maker_of))]
 pub fn fitting(
     alloc: Global,
     name: &str,

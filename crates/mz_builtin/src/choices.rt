@@ -11,7 +11,7 @@ use std::alloc::Global;
 
 /// The enums that occur; the index types, `int` the last; and the numbers of dimensions, 1 the
 /// first.
-#[derive(Debug, Drop)]
+#[derive(Drop)]
 pub struct Choices {
     pub enums: Vec<u64>,
     pub indices: Vec<Ix>,

@@ -1,7 +1,7 @@
 // What an entry of the table is made of.
 
 /// What the letter of an entry stands for. Each reading of the entry gives it one meaning.
-#[derive(Clone, Copy, Debug, PartialEq, Eq)]
+#[derive(Clone, Copy)]
 pub enum Letter {
     /// The entry has no letter.
     None,
@@ -18,7 +18,7 @@ pub enum Letter {
 }
 
 /// What an entry makes of var arguments.
-#[derive(Clone, Copy, Debug, PartialEq, Eq)]
+#[derive(Clone, Copy)]
 pub enum Mark {
     /// The arguments are par, and so is the result.
     Par,
@@ -29,7 +29,7 @@ pub enum Mark {
 }
 
 /// A scalar's type, or that of an array's elements, without its mark `var`.
-#[derive(Clone, Copy, Debug, PartialEq, Eq)]
+#[derive(Clone, Copy)]
 pub enum Of {
     Bool,
     Int,
@@ -46,7 +46,7 @@ pub enum Of {
 }
 
 /// A parameter.
-#[derive(Clone, Copy, Debug, PartialEq, Eq)]
+#[derive(Clone, Copy)]
 pub enum Param {
     /// A scalar, which is var in the var reading.
     One(Of),
@@ -63,7 +63,7 @@ pub enum Param {
 }
 
 /// A result. It is var in the var reading of an entry that is marked `Var`.
-#[derive(Clone, Copy, Debug, PartialEq, Eq)]
+#[derive(Clone, Copy)]
 pub enum Outcome {
     /// A scalar.
     One(Of),
@@ -78,7 +78,7 @@ pub enum Outcome {
 }
 
 /// An operator, built-in or global in one of its forms.
-#[derive(Clone, Copy, Debug, PartialEq, Eq)]
+#[derive(Clone, Copy)]
 pub struct Entry {
     /// Its place in the table, from 0.
     pub number: u32,

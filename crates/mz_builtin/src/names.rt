@@ -30,7 +30,7 @@ pub fn known(name: &str) -> bool
 
 /// The place, from 0, of this name and form among the globals, in the order of the table; None for
 /// an operator or built-in. Takes no memory.
-#[tactic(auto, unfolding(crate::specs::Signatures::global_place))]
+#[tactic(auto, using(crate::proofs::Places::place_of_built_in, crate::proofs::Places::place_of_global))]
 pub fn global(number: u32) -> Option<u32>
     requires { number < length table }
     ensures { result ≡ global_place number }
