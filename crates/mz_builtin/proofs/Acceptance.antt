@@ -1,6 +1,8 @@
 -- The lists of parameters that are made from the arguments' types are those that accept.
 use Rattle.std.proofs.Common.{◌≡◌, ◌≢◌, ℕ, zero, suc, ◌-◌, ◌≤◌, Bool, true, false, ◌&&◌, ◌||◌, List, [], ◌∷◌, ◌++◌, ◌⊎◌, inl, inr, refl, ap, sym, ◌∙◌, subst, map, filter, length, nat_eq, arith, if◌then◌else◌}
+use Rattle.std.specs.Prelude.{Result, IfOk}
 use Rattle.std.specs.List.{flat_map}
+use Rattle.std.proofs.lemmas.Result.{IfOk-weaker}
 use Rattle.std.proofs.lemmas.List.Elements.{filter_agree}
 use Rattle.std.proofs.lemmas.Bool.{eqb-true, eqb-false}
 use Rattle.std.proofs.lemmas.Bool.Decides.{nat_tests}
@@ -175,3 +177,8 @@ made_is c args enums name =
 pub fitting_is : (name : List ℕ) (args : List PlainType) → made (accepting_params (choices args) args) (choices args).enums name ≡ fitting name args
 unfolding fitting signatures
 fitting_is name args = sym (made_is (choices args) args (choices args).enums name)
+
+pub from_made : {X E : Type 0} (r : Result X E) (see : X → List Numbered) (c : Choices) (name : List ℕ) (args : List PlainType) → c ≡ choices args → IfOk r (λ v. see v ≡ made (accepting_params c args) c.enums name) → IfOk r (λ v. see v ≡ fitting name args)
+from_made r see c name args e h =
+    IfOk-weaker r (λ v. see v ≡ made (accepting_params c args) c.enums name) (λ v. see v ≡ fitting name args)
+      (λ v q. q ∙ (ap (λ d. made (accepting_params d args) d.enums name) e ∙ fitting_is name args)) h

@@ -186,7 +186,6 @@ pub fn signatures(
 /// Those of [`signatures`] that accept arguments of these types, in the same order, in which the
 /// readings that are below others stand before them. They are made from the arguments' types, at
 /// most 64 readings of each argument's indices.
-#[tactic(auto, using(crate::proofs::Acceptance::fitting_is), unfolding(crate::specs::Views::maker_of))]
 pub fn fitting(
     alloc: Global,
     name: &str,
