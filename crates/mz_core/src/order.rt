@@ -78,8 +78,9 @@ fn index_below(x: Ix, y: Ix) -> bool
     }
 }
 
+/// Whether steps of coercion lead from the one list of index types to the other. Takes no memory.
 #[tactic(auto, unfolding(crate::specs::Order::dims_below))]
-fn dims_below(xs: &[Ix], ys: &[Ix]) -> bool
+pub fn dims_below(xs: &[Ix], ys: &[Ix]) -> bool
     ensures { result ≡ dims_below xs.now ys.now }
 {
     match xs {
