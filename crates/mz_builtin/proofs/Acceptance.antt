@@ -11,9 +11,8 @@ use Rattle.mz_core.specs.declared.types.Ix.{Ix}
 use Rattle.mz_core.specs.declared.types.Ix.TheVariants as ix
 use Rattle.mz_core.specs.Types.{PlainType}
 use Rattle.mz_core.specs.Order.{below, base_below, dims_below, index_below, no_dims, is_list}
-use Rattle.mz_core.proofs.Tests.{or_left, or_right, dims_below-refl}
-use Rattle.mz_core.proofs.OrderLaws.{below-cases, BecomesArray, shape-cases}
-use Rattle.mz_core.proofs.PathLaws.{no_dims-is}
+use Rattle.mz_core.proofs.Tests.{or_left, or_right, dims_below_refl}
+use Rattle.mz_core.proofs.OrderLaws.{below_cases, BecomesArray, shape_cases}
 use Rattle.mz_overload.specs.Best.{all_below, accepts}
 use Rattle.mz_builtin.specs.declared.entry.Of.{Of}
 use Rattle.mz_builtin.specs.declared.entry.Param.{Param}
@@ -40,9 +39,9 @@ may_array [] ds e h = or_right (no_dims ds) h
 may_array (d ∷ dims) ds e h = absurd cc
 
 pub below_may : (a t : PlainType) → below a t ≡ true → may a.dims t.dims ≡ true
-below_may a t h = elim (below-cases a t h) [
-  | inl e ↦ subst (λ u. may a.dims u.dims ≡ true) e (may_plain a.dims a.dims (dims_below-refl a.dims))
-  | inr f ↦ shape-cases a t f.shape (λ b d. may_plain a.dims t.dims d) (λ b. may_array a.dims t.dims b.scalar b.list)
+below_may a t h = elim (below_cases a t h) [
+  | inl e ↦ subst (λ u. may a.dims u.dims ≡ true) e (may_plain a.dims a.dims (dims_below_refl a.dims))
+  | inr f ↦ shape_cases a t f.shape (λ b d. may_plain a.dims t.dims d) (λ b. may_array a.dims t.dims b.scalar b.list)
 ]
 
 same_rank : (indices dims : List Ix) → filter (dims_below dims) (index_lists indices (length dims)) ≡ lists_above indices dims

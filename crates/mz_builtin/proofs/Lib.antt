@@ -2,3 +2,8 @@ pub mod IndexLists
 pub mod Places
 pub mod Filters
 pub mod Acceptance
+pub mod Calls
+pub mod ExampleTypes
+mod OperatorExamples
+mod BuiltInExamples
+mod GlobalExamples
