@@ -4,5 +4,6 @@ pub mod PathLaws
 pub mod BaseJoins
 pub mod JoinLaws
 pub mod TypeLaws
+pub mod Equations
 pub mod TreeLaws
 mod Examples

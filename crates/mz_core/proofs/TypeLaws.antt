@@ -1,28 +1,18 @@
--- Laws of the order, by the relation and by the test, and equations of the views of types.
-use Rattle.std.proofs.Common.{◌≡◌, Bool, true, false, ◌&&◌, ◌||◌, List, [], ◌∷◌, map, length, inl, inr, refl, ap, sym, ◌∙◌, subst, arith}
+-- Laws of the order, by the relation and by the test.
+use Rattle.std.proofs.Common.{◌≡◌, Bool, true, false, ◌&&◌, ◌||◌, List, [], ◌∷◌, length, inl, inr, refl, ap, sym, ◌∙◌, subst, arith}
 use Rattle.std.proofs.lemmas.Bool.{and_parts, or_cases, eqb-true}
 use Rattle.mz_core.specs.declared.types.Base.{Base}
 use Rattle.mz_core.specs.declared.types.Base.TheVariants as base
 use Rattle.mz_core.specs.declared.types.Ix.{Ix}
 use Rattle.mz_core.specs.declared.types.Ix.TheVariants as ix
-use Rattle.mz_core.specs.declared.types.TypeInst.{TypeInst}
-use Rattle.mz_core.specs.declared.types.Signature.{Signature}
-use Rattle.mz_core.specs.Types.{PlainType, plain_type, plain_signature}
+use Rattle.mz_core.specs.Types.{PlainType}
 use Rattle.mz_core.specs.Coercions.{Below}
 use Rattle.mz_core.specs.Order.{same_base, raises, base_below, index_below, dims_below, no_dims, is_list, mark_below, below}
-use Rattle.mz_core.specs.Laws.{IsPartialOrder}
+use Rattle.mz_core.specs.Coercions.{IsPartialOrder}
 use Rattle.mz_core.proofs.Tests.{and_is, or_left, or_right, same_base_is, dims_below_refl, type_of}
 use Rattle.mz_core.proofs.OrderLaws.{Fits, BecomesArray, below_refl, below_cases, shape_cases}
 use Rattle.mz_core.proofs.PathLaws.{leads_on, sound, Below_test, no_dims_is, is_list_is}
 use Rattle.mz_core.proofs.BaseJoins.{dims_below_length}
-
-pub plain_type_is : (t : TypeInst) → plain_type t ≡ record { var = t.var; opt = t.opt; base = t.base; dims = t.dims.items }
-unfolding plain_type
-plain_type_is t = refl
-
-pub plain_signature_is : (s : Signature) → plain_signature s ≡ record { params = map plain_type s.params.items; result = plain_type s.result }
-unfolding plain_signature
-plain_signature_is s = refl
 
 pub Below_refl : (t : PlainType) → Below t t
 Below_refl t = sound t t (below_refl t)

@@ -43,3 +43,9 @@ pub data Leads : PlainType → List PathLink → PlainType → Type 0 where
 -- the order: some path leads from the one to the other
 abbrev pub Below : PlainType → PlainType → Type 0
 Below t u = (links : List PathLink) × Leads t links u
+
+-- `Below` orders types
+pub record IsPartialOrder : Type 0 where
+  pub reflexive : (t : PlainType) → Below t t
+  pub transitive : (t u v : PlainType) → Below t u → Below u v → Below t v
+  pub antisymmetric : (t u : PlainType) → Below t u → Below u t → t ≡ u

@@ -3,7 +3,6 @@ pub mod Coercions
 pub mod Order
 pub mod Paths
 pub mod Join
-pub mod Laws
 pub mod Tree
 pub mod TreeViews
 pub mod Program

@@ -1,12 +1,11 @@
 -- The test of the order of types.
-use Rattle.std.specs.Prelude.{◌≡◌, ◌↔◌, Bool, true, false, not, ◌&&◌, ◌||◌, List, [], ◌∷◌, nat_eq, Option, Some, None}
+use Rattle.std.specs.Prelude.{Bool, true, false, not, ◌&&◌, ◌||◌, List, [], ◌∷◌, nat_eq, Option, Some, None}
 use Rattle.std.specs.Bool.{beq}
 use Rattle.mz_core.specs.declared.types.Base.{Base}
 use Rattle.mz_core.specs.declared.types.Base.TheVariants as base
 use Rattle.mz_core.specs.declared.types.Ix.{Ix}
 use Rattle.mz_core.specs.declared.types.Ix.TheVariants as ix
 use Rattle.mz_core.specs.Types.{PlainType, is_set, is_allowed}
-use Rattle.mz_core.specs.Coercions.{Below}
 
 abbrev pub same_base : Base → Base → Bool
 same_base base.Bool base.Bool = true
@@ -95,7 +94,3 @@ shape_below t u = (base_below t.base u.base && dims_below t.dims u.dims) || beco
 -- t is u, or u is allowed and steps lead from t to it
 unfoldable pub below : PlainType → PlainType → Bool
 below t u = same_type t u || (is_allowed u && (marks_below t u && shape_below t u))
-
--- the test is the order that the steps make
-abbrev pub IsOrder : Type 0
-IsOrder = (t u : PlainType) → (below t u ≡ true) ↔ Below t u

@@ -1,6 +1,6 @@
 // Laws of the order of types and of typed trees, for callers' proofs.
 
-ghost use Rattle.mz_core.specs.Laws.{IsPartialOrder};
+ghost use Rattle.mz_core.specs.Coercions.{IsPartialOrder};
 ghost use Rattle.mz_core.specs.TreeViews.{TreesAreReadByLayers};
 
 /// Each type is below itself, what is below a type below a third is below that one, and two types
