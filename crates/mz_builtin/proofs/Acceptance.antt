@@ -180,4 +180,4 @@ fitting_is name args = sym (made_is (choices args) args (choices args).enums nam
 pub from_made : {X E : Type 0} (r : Result X E) (see : X → List Numbered) (c : Choices) (name : List ℕ) (args : List PlainType) → c ≡ choices args → IfOk r (λ v. see v ≡ made (accepting_params c args) c.enums name) → IfOk r (λ v. see v ≡ fitting name args)
 from_made r see c name args e h =
     IfOk-weaker r (λ v. see v ≡ made (accepting_params c args) c.enums name) (λ v. see v ≡ fitting name args)
-      (λ v q. q ∙ (ap (λ d. made (accepting_params d args) d.enums name) e ∙ fitting_is name args)) h
+    (λ v q. q ∙ (ap (λ d. made (accepting_params d args) d.enums name) e ∙ fitting_is name args)) h

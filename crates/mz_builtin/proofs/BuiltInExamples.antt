@@ -108,7 +108,8 @@ calls_of_arrays =
     ∷ example (codes "array1d") (se ∷ li n ∷ []) (takes 63 (se ∷ li n ∷ []) (by (ie ∷ []) n))
     ∷ example (codes "array1d") (sn ∷ li (va e) ∷ []) (takes 63 (sn ∷ li (va e) ∷ []) (li (va e)))
     ∷ example (codes "array1d") (empty ∷ li n ∷ []) (takes 63 (sn ∷ li n ∷ []) (li n))
-    ∷ example (codes "array1d") (empty ∷ by (ie ∷ []) n ∷ []) ambiguous
+    ∷ example (codes "array1d") (empty ∷ by (ie ∷ []) n ∷ []) (takes 63 (se ∷ by (ie ∷ []) n ∷ []) (by (ie ∷ []) n))
+    ∷ example (codes "array1d") (empty ∷ by (ie ∷ jf ∷ []) n ∷ []) ambiguous
     ∷ example (codes "array1d") (li bot ∷ []) ambiguous
     ∷ example (codes "array1d") (li tx ∷ []) none_fits
     ∷ example (codes "array1d") (va sn ∷ li n ∷ []) none_fits

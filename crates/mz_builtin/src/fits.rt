@@ -122,11 +122,7 @@ fn near_types(
 }
 
 // The types that the argument is below.
-fn kept_above(
-    alloc: Global,
-    a: &TypeInst,
-    types: Vec<TypeInst>,
-) -> Result<Vec<TypeInst>, Memory>
+fn kept_above(alloc: Global, a: &TypeInst, types: Vec<TypeInst>) -> Result<Vec<TypeInst>, Memory>
     ensures { IfOk result (λ v. map plain_type v.items ≡ filter (below (plain_type a.now)) (map plain_type types.items)) }
 {
     let mut all = Vec::new(alloc);

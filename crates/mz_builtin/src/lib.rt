@@ -9,11 +9,10 @@ mod lists;
 mod names;
 mod params;
 mod readings;
-
 mod table;
 mod types;
 
+pub use candidates::{fitting, signatures};
 pub use entry::{Entry, Letter, Mark, Of, Outcome, Param};
 pub use names::{global, known};
-pub use candidates::{fitting, signatures};
 pub use table::entries;

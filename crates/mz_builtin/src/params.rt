@@ -48,12 +48,7 @@ fn array_types(
     Ok(all)
 }
 
-pub(crate) fn one_type(
-    alloc: Global,
-    m: Meaning,
-    var: bool,
-    o: Of,
-) -> Result<Vec<TypeInst>, Memory>
+pub(crate) fn one_type(alloc: Global, m: Meaning, var: bool, o: Of) -> Result<Vec<TypeInst>, Memory>
     ensures { IfOk result (λ v. map plain_type v.items ≡ type_of m var o [] ∷ []) }
 {
     let mut all = Vec::new(alloc);

@@ -51,11 +51,7 @@ fn add_sets(all: &mut Vec<Meaning>, enums: &[u64]) -> Result<(), Memory>
 }
 
 #[tactic(auto, unfolding(crate::specs::Readings::meanings))]
-pub(crate) fn meanings(
-    alloc: Global,
-    enums: &[u64],
-    letter: Letter,
-) -> Result<Vec<Meaning>, Memory>
+pub(crate) fn meanings(alloc: Global, enums: &[u64], letter: Letter) -> Result<Vec<Meaning>, Memory>
     ensures { IfOk result (λ v. v.items ≡ meanings enums.now letter) }
 {
     let mut all = Vec::new(alloc);

@@ -178,7 +178,7 @@ best_passes : (cands : List PlainSignature) (args : List PlainType) (k : ℕ) (c
 unfolding is_least
 best_passes cands args k c b =
     all_of b.accepted.accepting (each_passes (λ d. not (accepts args d) || all_below c.params d.params) cands
-      (λ m d at. implies (accepts args d) (all_below c.params d.params) (λ a. b.least m d (record { at = at; accepting = a }))))
+    (λ m d at. implies (accepts args d) (all_below c.params d.params) (λ a. b.least m d (record { at = at; accepting = a }))))
 
 least_of : (cands : List PlainSignature) (args : List PlainType) (c : PlainSignature) → is_least cands args c ≡ true → (j : ℕ) (d : PlainSignature) → IsAccepting cands args j d → all_below c.params d.params ≡ true
 unfolding is_least

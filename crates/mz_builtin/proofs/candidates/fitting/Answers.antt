@@ -8,4 +8,4 @@ pub returns : goal.returns
 unfolding maker_of
 returns c =
     from_made c.made.result (λ v. map plain_numbered v.items) (plain_choices c.in_ok-c.c)
-      c.args.name.now (map plain_type c.args.args.now) c.in_ok-c.ensures c.made.ensures
+    c.args.name.now (map plain_type c.args.args.now) c.in_ok-c.ensures c.made.ensures
