@@ -1,5 +1,5 @@
 -- The choice is the first best candidate, and what it means.
-use Rattle.std.proofs.Common.{◌≡◌, ℕ, zero, suc, ◌+◌, Bool, true, false, not, ◌&&◌, ◌||◌, List, [], ◌∷◌, Option, Some, None, ◌⊎◌, inl, inr, refl, ap, sym, subst, arith, if◌then◌else◌, add-one, ◌∙◌}
+use Rattle.std.proofs.Common.{◌≡◌, ℕ, zero, suc, ◌+◌, Bool, true, false, not, ◌&&◌, ◌||◌, List, [], ◌∷◌, Option, Some, None, ◌⊎◌, inl, inr, refl, sym, subst, arith, if◌then◌else◌, ◌∙◌}
 use Rattle.std.specs.Prelude.{slice_get}
 use Rattle.std.specs.List.{list_any, list_all, position_from}
 use Rattle.mz_core.specs.Types.{PlainType, PlainSignature}
@@ -7,7 +7,7 @@ use Rattle.mz_core.specs.Order.{below}
 use Rattle.mz_core.proofs.OrderLaws.{complete}
 use Rattle.mz_core.proofs.PathLaws.{leads_on, sound}
 use Rattle.mz_overload.specs.declared.choice.Choice.{Choice}
-use Rattle.mz_overload.specs.declared.choice.Choice.TheVariants.{One, NoneFits, Ambiguous}
+use Rattle.mz_overload.specs.declared.choice.Choice.TheVariants.{One, Ambiguous}
 use Rattle.mz_overload.specs.Best.{all_below, accepts, is_least, is_best, choice_of, choice, IsAccepting, IsBest, IsChoice}
 use Rattle.mz_overload.specs.StepsChoice.{choice_from, first_accepting}
 
