@@ -1,25 +1,22 @@
 -- The lists of parameters that are made from the arguments' types are those that accept.
-use Rattle.std.proofs.Common.{◌≡◌, ◌≢◌, ℕ, zero, suc, ◌-◌, ◌≤◌, Bool, true, false, ◌&&◌, ◌||◌, List, [], ◌∷◌, ◌++◌, ◌⊎◌, inl, inr, refl, ap, sym, ◌∙◌, subst, map, filter, length, nat_eq, arith, if◌then◌else◌}
+use Rattle.std.proofs.Common.{◌≡◌, ℕ, zero, suc, Bool, true, false, ◌&&◌, ◌||◌, List, [], ◌∷◌, inl, inr, refl, ap, sym, ◌∙◌, subst, map, filter, length, nat_eq, arith}
 use Rattle.std.specs.Prelude.{Result, IfOk}
-use Rattle.std.specs.List.{flat_map}
 use Rattle.std.proofs.lemmas.Result.{IfOk-weaker}
-use Rattle.std.proofs.lemmas.List.Elements.{filter_agree}
 use Rattle.std.proofs.lemmas.Bool.{eqb-true, eqb-false}
 use Rattle.std.proofs.lemmas.Bool.Decides.{nat_tests}
-use Rattle.mz_core.specs.declared.types.Base.{Base}
 use Rattle.mz_core.specs.declared.types.Ix.{Ix}
 use Rattle.mz_core.specs.declared.types.Ix.TheVariants as ix
 use Rattle.mz_core.specs.Types.{PlainType}
-use Rattle.mz_core.specs.Order.{below, base_below, dims_below, index_below, no_dims, is_list}
+use Rattle.mz_core.specs.Order.{below, dims_below, index_below, no_dims, is_list}
 use Rattle.mz_core.proofs.Tests.{or_left, or_right, dims_below_refl}
-use Rattle.mz_core.proofs.OrderLaws.{below_cases, BecomesArray, shape_cases}
-use Rattle.mz_overload.specs.Best.{all_below, accepts}
+use Rattle.mz_core.proofs.OrderLaws.{below_cases, shape_cases}
+use Rattle.mz_overload.specs.Best.{all_below}
 use Rattle.mz_builtin.specs.declared.entry.Of.{Of}
 use Rattle.mz_builtin.specs.declared.entry.Param.{Param}
 use Rattle.mz_builtin.specs.declared.entry.Param.TheVariants as param
 use Rattle.mz_builtin.specs.Entries.{PlainEntry}
 use Rattle.mz_builtin.specs.Table.{table}
-use Rattle.mz_builtin.specs.Readings.{Choices, Meaning, Maker, Numbered, type_of, types_with, types_of_rank, array_types, joined, products, index_lists, param_types, all_params, numbered, with_mark, with_meaning, of_entry, readings_of, meanings, choices}
+use Rattle.mz_builtin.specs.Readings.{Choices, Meaning, Numbered, type_of, types_with, types_of_rank, array_types, joined, products, index_lists, param_types, all_params, numbered, with_mark, with_meaning, of_entry, readings_of, meanings, choices}
 use Rattle.mz_builtin.specs.Signatures.{has_name, of_named, made, signatures, accepts_all, fitting}
 use Rattle.mz_builtin.specs.StepsFits.{indices_above, lists_above, near_lists, near_of_rank, near_arrays, near_types, types_above, accepting, accepting_params}
 use Rattle.mz_builtin.proofs.Filters.{bool_case, filter_flat_map, flat_map_agree, filter_map_is, filter_joined, filter_joined_none}

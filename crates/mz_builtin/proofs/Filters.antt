@@ -1,8 +1,8 @@
 -- Lists of which those elements are kept that pass a test.
-use Rattle.std.proofs.Common.{◌≡◌, ℕ, Bool, true, false, ◌&&◌, List, [], ◌∷◌, ◌++◌, ◌⊎◌, inl, inr, refl, ap, sym, ◌∙◌, map, filter, if◌then◌else◌}
+use Rattle.std.proofs.Common.{◌≡◌, Bool, true, false, ◌&&◌, List, [], ◌∷◌, ◌++◌, ◌⊎◌, inl, inr, refl, ap, ◌∙◌, map, filter, if◌then◌else◌}
 use Rattle.std.specs.List.{flat_map}
 use Rattle.std.proofs.lemmas.List.Elements.{filter-append, filter_agree}
-use Rattle.mz_builtin.specs.Readings.{joined, products}
+use Rattle.mz_builtin.specs.Readings.{joined}
 
 pub bool_case : (b : Bool) → (b ≡ true) ⊎ (b ≡ false)
 bool_case true = inl refl

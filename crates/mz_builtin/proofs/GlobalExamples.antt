@@ -1,13 +1,12 @@
 -- Worked examples of globals: a call's arguments, and what it takes.
-use Rattle.std.proofs.Common.{◌≡◌, ℕ, Bool, true, false, List, [], ◌∷◌, map, refl, codes}
-use Rattle.mz_core.specs.Types.{PlainType}
+use Rattle.std.proofs.Common.{◌≡◌, List, [], ◌∷◌, map, refl, codes}
 use Rattle.mz_core.specs.Order.{below, same_type, same_dims, dims_below}
 use Rattle.mz_overload.specs.Best.{all_below, is_least, choice}
 use Rattle.mz_builtin.specs.Table.{built_ins, globals, table}
 use Rattle.mz_builtin.specs.Readings.{with_number, with_base, with_indices, enums_from, index_enums_from, with_rank, ranks_from, choices, cases, sets_of_cases, scalars, sets, meanings, readings_of, result_var, opt_of, base_of, type_of, types_with, types_of_rank, array_types, joined, products, index_lists, index_sets, param_types, given_indices, array_indices, result_type, numbered, all_params, with_mark, with_meaning, of_entry}
 use Rattle.mz_builtin.specs.Signatures.{has_name, of_named, made, signatures, fitting}
-use Rattle.mz_builtin.proofs.Calls.{Taken, takes, none_fits, ambiguous, call}
-use Rattle.mz_builtin.proofs.ExampleTypes.{b, n, e, f, sn, se, sf, empty, tx, bot, absent, i, ie, jf, va, op, li, by, Example, example, called, expected}
+use Rattle.mz_builtin.proofs.Calls.{takes, none_fits, call}
+use Rattle.mz_builtin.proofs.ExampleTypes.{b, n, e, sn, se, empty, bot, i, ie, jf, va, op, li, by, Example, example, called, expected}
 
 abbrev calls_of_order : List Example
 calls_of_order =

@@ -1,5 +1,5 @@
 -- One more dimension.
-use Rattle.std.proofs.Common.{◌≡◌, ℕ, zero, suc, ◌-◌, ◌≤◌, List, refl, ap, arith}
+use Rattle.std.proofs.Common.{◌≡◌, ℕ, zero, suc, ◌-◌, ◌≤◌, List, ap, arith}
 use Rattle.mz_core.specs.declared.types.Ix.{Ix}
 use Rattle.mz_builtin.specs.Readings.{joined, index_lists}
 

@@ -1,5 +1,5 @@
 -- Mirror of src/fits.rt; private clauses only.
-use Rattle.std.specs.Prelude.{ℕ, Bool, true, false, ◌&&◌, List, [], ◌∷◌, map, filter, length, nat_eq, if◌then◌else◌}
+use Rattle.std.specs.Prelude.{ℕ, Bool, false, ◌&&◌, List, [], ◌∷◌, filter, length, nat_eq, if◌then◌else◌}
 use Rattle.std.specs.List.{flat_map}
 use Rattle.mz_core.specs.declared.types.Ix.{Ix}
 use Rattle.mz_core.specs.declared.types.Ix.TheVariants as ix
@@ -8,7 +8,7 @@ use Rattle.mz_core.specs.Order.{below, index_below, no_dims}
 use Rattle.mz_builtin.specs.declared.entry.Of.{Of}
 use Rattle.mz_builtin.specs.declared.entry.Param.{Param}
 use Rattle.mz_builtin.specs.declared.entry.Param.TheVariants as param
-use Rattle.mz_builtin.specs.Readings.{Choices, Meaning, Maker, type_of, types_with, joined, index_sets, all_params}
+use Rattle.mz_builtin.specs.Readings.{Choices, Meaning, Maker, type_of, types_with, joined, index_sets}
 
 -- the index types that are above one
 unfoldable pub indices_above : List Ix → Ix → List Ix

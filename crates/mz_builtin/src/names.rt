@@ -1,8 +1,7 @@
 // Names and numbers of the table.
 
-ghost use Rattle.std.specs.Prelude.{◌≡◌, ◌<◌, length};
+ghost use Rattle.std.specs.Prelude.{◌≡◌};
 ghost use Rattle.mz_builtin.specs.Entries.{plain_entry};
-ghost use Rattle.mz_builtin.specs.Table.{table};
 ghost use Rattle.mz_builtin.specs.Signatures.{has_name, is_known, global_place};
 
 use crate::entry::Entry;
@@ -28,11 +27,10 @@ pub fn known(name: &str) -> bool
     false
 }
 
-/// The place, from 0, of this name and form among the globals, in the order of the table; None for
-/// an operator or built-in. Takes no memory.
+/// The place, from 0, among the globals, in the order of the table, of the one with this number;
+/// None for the number of an operator or built-in. Takes no memory.
 #[tactic(auto, using(crate::proofs::Places::place_of_built_in, crate::proofs::Places::place_of_global))]
 pub fn global(number: u32) -> Option<u32>
-    requires { number < length table }
     ensures { result ≡ global_place number }
 {
     if number < FIRST_GLOBAL {

@@ -1,5 +1,5 @@
-use Rattle.std.proofs.Common.{◌≡◌, ◌++◌, ◌∷◌, ◌+◌, [], drop, take, map, false, true}
-use Rattle.mz_builtin.specs.Views.{plain_choices, index_lists_of, type_lists_of, plain_numbered, maker_of}
+use Rattle.std.proofs.Common.{◌≡◌, ◌++◌, map}
+use Rattle.mz_builtin.specs.Views.{type_lists_of, plain_numbered}
 use Rattle.mz_builtin.specs.Entries.{plain_entry}
 use Rattle.std.specs.Vec.Iter.{into_iter_items}
 use Rattle.mz_builtin.specs.Readings.{numbered}

@@ -1,6 +1,6 @@
-use Rattle.std.proofs.Common.{◌≡◌, ◌++◌, ◌∷◌, ◌+◌, [], drop, take, map, false, true}
+use Rattle.std.proofs.Common.{◌≡◌, ◌++◌, drop, map}
 use Rattle.mz_core.specs.Types.{plain_type}
-use Rattle.mz_builtin.specs.Views.{plain_choices, index_lists_of, type_lists_of, plain_numbered, maker_of}
+use Rattle.mz_builtin.specs.Views.{plain_choices, plain_numbered, maker_of}
 use Rattle.mz_builtin.specs.Entries.{plain_entry}
 use Rattle.std.specs.List.{flat_map}
 use Rattle.mz_builtin.specs.Readings.{with_meaning}

@@ -1,4 +1,4 @@
-use Rattle.std.proofs.Common.{◌≡◌, ◌++◌, ◌∷◌, ◌+◌, [], drop, take, map, false, true}
+use Rattle.std.proofs.Common.{◌≡◌, ◌++◌, drop, map}
 use Rattle.mz_core.specs.declared.types.Ix.TheVariants as ix
 use Rattle.mz_builtin.proofs.choices.indices_of.Given as goal
 

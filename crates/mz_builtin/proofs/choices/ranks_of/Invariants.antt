@@ -1,4 +1,4 @@
-use Rattle.std.proofs.Common.{◌≡◌, ◌++◌, ◌∷◌, ◌+◌, [], drop, take, map, false, true}
+use Rattle.std.proofs.Common.{◌≡◌, ◌∷◌, [], drop, map}
 use Rattle.mz_core.specs.Types.{plain_type}
 use Rattle.mz_builtin.specs.Readings.{ranks_from}
 use Rattle.mz_builtin.proofs.choices.ranks_of.Given as goal

@@ -1,4 +1,4 @@
-use Rattle.std.proofs.Common.{◌≡◌, ◌++◌, ◌∷◌, ◌+◌, [], drop, take, map, false, true}
+use Rattle.std.proofs.Common.{◌≡◌, drop}
 use Rattle.mz_builtin.specs.Readings.{with_indices}
 use Rattle.mz_builtin.proofs.choices.with_indices.Given as goal
 

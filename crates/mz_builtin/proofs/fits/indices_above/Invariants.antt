@@ -1,4 +1,4 @@
-use Rattle.std.proofs.Common.{◌≡◌, ◌++◌, ◌∷◌, ◌+◌, [], drop, take, map, false, true}
+use Rattle.std.proofs.Common.{◌≡◌, ◌++◌, drop}
 use Rattle.mz_builtin.specs.StepsFits.{indices_above}
 use Rattle.mz_builtin.proofs.fits.indices_above.Given as goal
 

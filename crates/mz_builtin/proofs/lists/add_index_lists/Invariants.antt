@@ -1,5 +1,5 @@
-use Rattle.std.proofs.Common.{◌≡◌, ◌++◌, ◌∷◌, ◌+◌, [], drop, take, map, false, true}
-use Rattle.mz_builtin.specs.Views.{index_lists_of, type_lists_of}
+use Rattle.std.proofs.Common.{◌≡◌, ◌++◌, ◌∷◌, drop, map}
+use Rattle.mz_builtin.specs.Views.{index_lists_of}
 use Rattle.mz_builtin.proofs.lists.add_index_lists.Given as goal
 
 abbrev pub invariant-loop-tail : goal.invariant-loop-tail

@@ -1,6 +1,6 @@
-use Rattle.std.proofs.Common.{◌≡◌, ◌++◌, ◌∷◌, ◌+◌, [], drop, take, map, false, true}
+use Rattle.std.proofs.Common.{◌≡◌, ◌++◌, drop, map}
 use Rattle.mz_core.specs.Types.{plain_type}
-use Rattle.mz_builtin.specs.Views.{index_lists_of, type_lists_of}
+use Rattle.mz_builtin.specs.Views.{type_lists_of}
 use Rattle.mz_builtin.specs.Readings.{joined}
 use Rattle.mz_builtin.proofs.lists.joined_types.Given as goal
 

@@ -1,5 +1,4 @@
-use Rattle.std.proofs.Common.{◌≡◌, ◌++◌, ◌∷◌, ◌+◌, [], drop, take, map, false, true}
-use Rattle.mz_builtin.specs.Views.{plain_choices, index_lists_of, type_lists_of, plain_numbered, maker_of}
+use Rattle.std.proofs.Common.{◌≡◌, drop, map}
 use Rattle.mz_builtin.specs.Entries.{plain_entry}
 use Rattle.std.specs.List.{list_any}
 use Rattle.mz_builtin.specs.Signatures.{has_name}

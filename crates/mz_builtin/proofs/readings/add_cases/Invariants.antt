@@ -1,4 +1,4 @@
-use Rattle.std.proofs.Common.{◌≡◌, ◌++◌, ◌∷◌, ◌+◌, [], drop, take, map, false, true}
+use Rattle.std.proofs.Common.{◌≡◌, ◌++◌, drop}
 use Rattle.mz_builtin.specs.Readings.{cases}
 use Rattle.mz_builtin.proofs.readings.add_cases.Given as goal
 

@@ -1,4 +1,4 @@
-use Rattle.std.proofs.Common.{◌≡◌, ◌++◌, ◌∷◌, ◌+◌, [], drop, take, map, false, true}
+use Rattle.std.proofs.Common.{◌≡◌, ◌++◌, drop}
 use Rattle.mz_builtin.specs.Readings.{sets_of_cases}
 use Rattle.mz_builtin.proofs.readings.add_sets_of_cases.Given as goal
 
