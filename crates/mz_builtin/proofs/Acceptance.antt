@@ -1,5 +1,5 @@
 -- The lists of parameters that are made from the arguments' types are those that accept.
-use Rattle.std.proofs.Common.{◌≡◌, ℕ, zero, suc, Bool, true, false, ◌&&◌, ◌||◌, List, [], ◌∷◌, inl, inr, refl, ap, sym, ◌∙◌, subst, map, filter, length, nat_eq, arith}
+use Rattle.std.proofs.Common.{◌≡◌, if◌then◌else◌, ℕ, zero, suc, Bool, true, false, ◌&&◌, ◌||◌, List, [], ◌∷◌, inl, inr, refl, ap, sym, ◌∙◌, subst, map, filter, length, nat_eq, arith}
 use Rattle.std.specs.Prelude.{Result, IfOk}
 use Rattle.std.proofs.lemmas.Result.{IfOk-weaker}
 use Rattle.std.proofs.lemmas.Bool.{eqb-true, eqb-false}
@@ -9,7 +9,7 @@ use Rattle.mz_core.specs.declared.types.Ix.TheVariants as ix
 use Rattle.mz_core.specs.Types.{PlainType}
 use Rattle.mz_core.specs.Order.{below, dims_below, index_below, no_dims, is_list}
 use Rattle.mz_core.proofs.Tests.{or_left, or_right, dims_below_refl}
-use Rattle.mz_core.proofs.OrderLaws.{below_cases, shape_cases}
+use Rattle.mz_core.proofs.OrderLaws.{fits_below, below_refl, below_cases, shape_cases, shape_plain}
 use Rattle.mz_overload.specs.Best.{all_below}
 use Rattle.mz_builtin.specs.declared.entry.Of.{Of}
 use Rattle.mz_builtin.specs.declared.entry.Param.{Param}
@@ -18,7 +18,7 @@ use Rattle.mz_builtin.specs.Entries.{PlainEntry}
 use Rattle.mz_builtin.specs.Table.{table}
 use Rattle.mz_builtin.specs.Readings.{Choices, Meaning, Numbered, type_of, types_with, types_of_rank, array_types, joined, products, index_lists, param_types, all_params, numbered, with_mark, with_meaning, of_entry, readings_of, meanings, choices}
 use Rattle.mz_builtin.specs.Signatures.{has_name, of_named, made, signatures, accepts_all, fitting}
-use Rattle.mz_builtin.specs.StepsFits.{indices_above, lists_above, near_lists, near_of_rank, near_arrays, near_types, types_above, accepting, accepting_params}
+use Rattle.mz_builtin.specs.StepsFits.{indices_above, lists_above, near_lists, near_of_rank, near_arrays, near_types, element, element_fits, may_fit, types_above, accepting, accepting_params}
 use Rattle.mz_builtin.proofs.Filters.{bool_case, filter_flat_map, flat_map_agree, filter_map_is, filter_joined, filter_joined_none}
 
 -- index types that an array with these may have to be above an argument with those
@@ -122,13 +122,52 @@ kept_arrays a m var o indices ranks =
     ∙ (flat_map_agree (λ n. filter (below a) (near_of_rank m var o indices a.dims n)) (λ n. filter (below a) (types_of_rank m var o indices n)) (kept_rank a m var o indices) ranks
     ∙ sym (filter_flat_map (below a) (types_of_rank m var o indices) ranks))
 
+-- an array's elements are below those of each array that is above it
+element_below : (a : PlainType) (m : Meaning) (var : Bool) (o : Of) (ds : List Ix) → below a (type_of m var o ds) ≡ true → element_fits m var o a ≡ true
+unfolding element_fits type_of dims_below
+element_below a m var o ds h = elim (bool_case (no_dims a.dims)) [
+  | inl e ↦ or_left (below (element a) (type_of m var o [])) e
+  | inr e ↦ or_right (no_dims a.dims) (elim (below_cases a (type_of m var o ds) h) [
+    | inl q ↦ subst (λ t. below (element a) (element t) ≡ true) q (below_refl (element a))
+    | inr f ↦ fits_below (element a) (type_of m var o []) (record {
+      allowed = f.allowed;
+      var = f.var;
+      opt = f.opt;
+      shape = shape_cases a (type_of m var o ds) f.shape
+          (λ p d. shape_plain (element a) (type_of m var o []) p refl)
+          (λ b. absurd (let q = b.scalar in cc));
+    })
+  ])
+]
+
+none_kept : (a : PlainType) (m : Meaning) (var : Bool) (o : Of) (lists : List (List Ix)) → element_fits m var o a ≡ false → filter (below a) (types_with m var o lists) ≡ []
+unfolding types_with
+none_kept a m var o [] h = refl
+none_kept a m var o (ds ∷ lists) h = elim (bool_case (below a (type_of m var o ds))) [
+  | inl b ↦ let f = element_below a m var o ds b in absurd (cc)
+  | inr b ↦ rw b (none_kept a m var o lists h)
+]
+
+none_of_ranks : (a : PlainType) (m : Meaning) (var : Bool) (o : Of) (indices : List Ix) (ranks : List ℕ) → element_fits m var o a ≡ false → filter (below a) (array_types m var o indices ranks) ≡ []
+unfolding array_types types_of_rank
+none_of_ranks a m var o indices [] h = refl
+none_of_ranks a m var o indices (n ∷ ranks) h =
+    filter_flat_map (below a) (types_of_rank m var o indices) (n ∷ ranks)
+    ∙ rw (none_kept a m var o (index_lists indices n) h) (sym (filter_flat_map (below a) (types_of_rank m var o indices) ranks) ∙ none_of_ranks a m var o indices ranks h)
+
+arrays_are : (a : PlainType) (m : Meaning) (var : Bool) (o : Of) (indices : List Ix) (ranks : List ℕ) → (if element_fits m var o a then filter (below a) (near_arrays m var o indices a.dims ranks) else []) ≡ filter (below a) (array_types m var o indices ranks)
+arrays_are a m var o indices ranks = elim (bool_case (element_fits m var o a)) [
+  | inl e ↦ rw e (kept_arrays a m var o indices ranks)
+  | inr e ↦ rw e (sym (none_of_ranks a m var o indices ranks e))
+]
+
 above_is : (c : Choices) (m : Meaning) (var : Bool) (a : PlainType) (p : Param) → types_above c m var a p ≡ filter (below a) (param_types c m var p)
-unfolding types_above near_types param_types
+unfolding types_above may_fit near_types param_types
 above_is c m var a (param.One o) = refl
 above_is c m var a (param.Par o) = refl
-above_is c m var a (param.Array o) = kept_arrays a m var o c.indices c.ranks
-above_is c m var a (param.Sized n o) = kept_arrays a m var o c.indices (n ∷ [])
-above_is c m var a (param.ParSized n o) = kept_arrays a m false o c.indices (n ∷ [])
+above_is c m var a (param.Array o) = arrays_are a m var o c.indices c.ranks
+above_is c m var a (param.Sized n o) = arrays_are a m var o c.indices (n ∷ [])
+above_is c m var a (param.ParSized n o) = arrays_are a m false o c.indices (n ∷ [])
 above_is c m var a param.IndexSet = refl
 
 accepting_is : (c : Choices) (m : Meaning) (var : Bool) (args : List PlainType) (ps : List Param) → filter (all_below args) (products (map (param_types c m var) ps)) ≡ accepting c m var args ps

@@ -7,3 +7,4 @@ pub mod ExampleTypes
 mod OperatorExamples
 mod BuiltInExamples
 mod GlobalExamples
+mod SignatureExamples

@@ -1,5 +1,5 @@
 -- Mirror of src/fits.rt; private clauses only.
-use Rattle.std.specs.Prelude.{ℕ, Bool, false, ◌&&◌, List, [], ◌∷◌, filter, length, nat_eq, if◌then◌else◌}
+use Rattle.std.specs.Prelude.{ℕ, Bool, true, false, ◌&&◌, ◌||◌, List, [], ◌∷◌, filter, length, nat_eq, if◌then◌else◌}
 use Rattle.std.specs.List.{flat_map}
 use Rattle.mz_core.specs.declared.types.Ix.{Ix}
 use Rattle.mz_core.specs.declared.types.Ix.TheVariants as ix
@@ -41,9 +41,26 @@ near_types c m var dims (param.Sized n o) = near_arrays m var o c.indices dims (
 near_types c m var dims (param.ParSized n o) = near_arrays m false o c.indices dims (n ∷ [])
 near_types c m var dims param.IndexSet = index_sets c.enums
 
+-- an element of an array of this type
+abbrev pub element : PlainType → PlainType
+element a = record a { dims = [] }
+
+-- the argument is no array, or its elements fit
+unfoldable pub element_fits : Meaning → Bool → Of → PlainType → Bool
+element_fits m var o a = no_dims a.dims || below (element a) (type_of m var o [])
+
+-- no type of the parameter need be made where an array's elements don't fit
+unfoldable pub may_fit : Meaning → Bool → PlainType → Param → Bool
+may_fit m var a (param.One o) = true
+may_fit m var a (param.Par o) = true
+may_fit m var a (param.Array o) = element_fits m var o a
+may_fit m var a (param.Sized n o) = element_fits m var o a
+may_fit m var a (param.ParSized n o) = element_fits m false o a
+may_fit m var a param.IndexSet = true
+
 -- a parameter's types that the argument fits
 unfoldable pub types_above : Choices → Meaning → Bool → PlainType → Param → List PlainType
-types_above c m var a p = filter (below a) (near_types c m var a.dims p)
+types_above c m var a p = if may_fit m var a p then filter (below a) (near_types c m var a.dims p) else []
 
 -- the lists of parameters that accept the arguments
 unfoldable pub accepting : Choices → Meaning → Bool → List PlainType → List Param → List (List PlainType)

@@ -3,7 +3,8 @@
 ghost use Rattle.std.specs.Prelude.{◌≡◌, ◌++◌, ◌∷◌, [], map, filter, IfOk};
 ghost use Rattle.mz_core.specs.Types.{plain_type};
 ghost use Rattle.mz_core.specs.Order.{below, index_below};
-ghost use Rattle.mz_builtin.specs.StepsFits.{indices_above, lists_above, near_lists, near_of_rank, near_arrays, near_types, types_above, accepting};
+ghost use Rattle.mz_builtin.specs.StepsFits.{indices_above, lists_above, near_lists, near_of_rank, near_arrays, near_types, element, element_fits, may_fit, types_above, accepting};
+ghost use Rattle.mz_builtin.specs.Readings.{type_of};
 ghost use Rattle.mz_builtin.specs.Views.{plain_choices, index_lists_of, type_lists_of};
 
 use crate::choices::Choices;
@@ -11,9 +12,9 @@ use crate::entry::{Of, Param};
 use crate::lists::{joined_indices, joined_types, no_index, no_type};
 use crate::params::one_type;
 use crate::readings::Meaning;
-use crate::types::{add_types_with, index_sets};
+use crate::types::{add_types_with, index_sets, type_of};
 use mz_base::Memory;
-use mz_core::{Ix, TypeInst, below};
+use mz_core::{Ix, TypeInst, below, make_type};
 use std::alloc::Global;
 
 fn index_below(x: Ix, y: Ix) -> bool
@@ -134,6 +135,43 @@ fn kept_above(alloc: Global, a: &TypeInst, types: Vec<TypeInst>) -> Result<Vec<T
     Ok(all)
 }
 
+#[tactic(auto, unfolding(mz_core::specs::Types::plain_type))]
+fn is_element_below(
+    alloc: Global,
+    a: &TypeInst,
+    m: Meaning,
+    var: bool,
+    o: Of,
+) -> Result<bool, Memory>
+    ensures { IfOk result (λ b. b ≡ below (element (plain_type a.now)) (type_of m var o [])) }
+{
+    let element = make_type(alloc, a.var, a.opt, a.base, &[])?;
+    let wanted = type_of(alloc, m, var, o, &[])?;
+    Ok(below(&element, &wanted))
+}
+
+// Whether the argument is no array, or its elements fit.
+#[tactic(auto, unfolding(crate::specs::StepsFits::element_fits, mz_core::specs::Types::plain_type))]
+fn element_fits(alloc: Global, m: Meaning, var: bool, o: Of, a: &TypeInst) -> Result<bool, Memory>
+    ensures { IfOk result (λ b. b ≡ element_fits m var o (plain_type a.now)) }
+{
+    if a.dims.is_empty() {
+        return Ok(true);
+    }
+    is_element_below(alloc, a, m, var, o)
+}
+
+#[tactic(auto, unfolding(crate::specs::StepsFits::may_fit))]
+fn may_fit(alloc: Global, m: Meaning, var: bool, a: &TypeInst, p: Param) -> Result<bool, Memory>
+    ensures { IfOk result (λ b. b ≡ may_fit m var (plain_type a.now) p) }
+{
+    match p {
+        Param::One(_) | Param::Par(_) | Param::IndexSet => Ok(true),
+        Param::Array(o) | Param::Sized(_, o) => element_fits(alloc, m, var, o, a),
+        Param::ParSized(_, o) => element_fits(alloc, m, false, o, a),
+    }
+}
+
 #[tactic(auto, unfolding(crate::specs::StepsFits::types_above, mz_core::specs::Types::plain_type))]
 fn types_above(
     alloc: Global,
@@ -145,6 +183,9 @@ fn types_above(
 ) -> Result<Vec<TypeInst>, Memory>
     ensures { IfOk result (λ v. map plain_type v.items ≡ types_above (plain_choices c.now) m var (plain_type a.now) p) }
 {
+    if !may_fit(alloc, m, var, a, p)? {
+        return Ok(Vec::new(alloc));
+    }
     let near = near_types(alloc, c, m, var, &a.dims, p)?;
     kept_above(alloc, a, near)
 }
