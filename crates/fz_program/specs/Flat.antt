@@ -1,7 +1,7 @@
 -- FlatZinc programs: their parts, when they are well formed, and what solves them.
-use Rattle.std.specs.Prelude.{◌≡◌, ◌≢◌, ℕ, ℤ, pos, List, [], ◌∷◌, ◌<◌, ◌≤ℤ◌, ◌<ℤ◌, ◌^◌, neg_ℤ, length, map, Bool, true, false, Option, Some, None, string_bytes, slice_index_or}
+use Rattle.std.specs.Prelude.{◌≡◌, ◌≢◌, ℕ, ℤ, pos, List, [], ◌∷◌, ◌<◌, ◌≤ℤ◌, ◌<ℤ◌, length, map, Bool, true, false, Option, Some, None, string_bytes, slice_index_or}
 use Rattle.std.specs.List.{AllByRecursion, Contains}
-use Rattle.mz_value.specs.Ranges.{Range, AreCanonical, Has}
+use Rattle.mz_value.specs.Ranges.{Range, AreCanonical, Has, IsInLimit}
 use Rattle.fz_program.specs.declared.program.FzProgram.{FzProgram}
 use Rattle.fz_program.specs.declared.program.FzVar.{FzVar}
 use Rattle.fz_program.specs.declared.program.FzRow.{FzRow}
@@ -12,7 +12,8 @@ use Rattle.fz_program.specs.declared.program.Arg.{Arg}
 use Rattle.fz_program.specs.declared.program.Arg.TheVariants.{Int, Var}
 use Rattle.fz_program.specs.declared.program.RowName.{RowName}
 use Rattle.fz_program.specs.declared.program.RowName.TheVariants.{IntEq, IntNe, IntLe, IntLt}
-use Rattle.fz_program.specs.Names.{Name, is_identifier}
+use Rattle.fz_program.specs.Names.{Name}
+use Rattle.mz_base.specs.Words.{is_identifier}
 
 -- a variable, with the ranges of its domain and its marks
 pub record Variable : Type 0 where
@@ -53,7 +54,7 @@ labels p = labels_of p.vars
 
 -- the numbers that a program may write
 abbrev pub IsLiteral : ℤ → Type 0
-IsLiteral n = (neg_ℤ (pos (2 ^ 61)) ≤ℤ n) × (n ≤ℤ pos (2 ^ 61))
+IsLiteral n = IsInLimit n
 
 abbrev pub AreWithin : Range → Type 0
 AreWithin r = IsLiteral r.0 × IsLiteral r.1

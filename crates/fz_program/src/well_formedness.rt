@@ -24,10 +24,9 @@ ghost use Rattle.fz_program.specs.Flat.{
   variable,
 };
 
-use crate::identifier::is_identifier;
 use crate::program::{Arg, Domain, FzName, FzProgram, FzRow, FzVar};
-
-const LIMIT: i64 = 1 << 61;
+use mz_base::is_identifier;
+use mz_value::{GREATEST, LEAST};
 
 /// Whether a program is well formed: distinct identifiers as names, the marks of one line, domains
 /// that aren't empty, numbers within -2^61 and 2^61, rows of two arguments that are declared, and a
@@ -130,7 +129,7 @@ fn is_within(range: (i64, i64)) -> bool
 fn is_literal(n: i64) -> bool
     ensures { IsTrue result ↔ IsLiteral n }
 {
-    -LIMIT <= n && n <= LIMIT
+    LEAST <= n && n <= GREATEST
 }
 
 // Whether the rows are well formed, where so many variables are declared.

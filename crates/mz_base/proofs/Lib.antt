@@ -1,1 +1,4 @@
+pub mod Choices
+pub mod FirstBytes
+pub mod Found
 pub mod Tables

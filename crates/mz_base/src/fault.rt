@@ -1,5 +1,8 @@
 // Where in the input something stands, and what is refused there.
 
+ghost use Rattle.std.specs.Prelude.{◌≡◌};
+ghost use Rattle.mz_base.specs.Faults.{start_of, fault_at};
+
 use crate::kind::Kind;
 
 /// A place in a file, or in the solver's stream.
@@ -21,4 +24,31 @@ pub struct Fault {
     pub kind: Kind,
     pub span: Span,
     pub number: i128,
+}
+
+impl Span {
+    /// Where a file begins: line 1, column 1, byte 0.
+    pub fn start(file: u64) -> Span
+        ensures { result ≡ start_of file }
+    {
+        Span {
+            file,
+            line: 1,
+            col: 1,
+            byte: 0,
+        }
+    }
+}
+
+impl Fault {
+    /// A refusal whose kind has no number.
+    pub fn at(kind: Kind, span: Span) -> Fault
+        ensures { result ≡ fault_at kind span }
+    {
+        Fault {
+            kind,
+            span,
+            number: 0,
+        }
+    }
 }

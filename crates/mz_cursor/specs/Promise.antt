@@ -1,7 +1,8 @@
 -- What a caller is promised of a part that is read at the front of a list of tokens.
-use Rattle.std.specs.Prelude.{◌≡◌, ℕ, List, [], ◌∷◌, ◌++◌, Option, Some, None, Result, Ok, Err, pos}
+use Rattle.std.specs.Prelude.{◌≡◌, ℕ, List, [], ◌∷◌, ◌++◌, Option, Some, None, Result, Ok, Err}
 use Rattle.mz_base.specs.declared.fault.Span.{Span}
 use Rattle.mz_base.specs.declared.fault.Fault.{Fault}
+use Rattle.mz_base.specs.Faults.{fault_at}
 use Rattle.mz_base.specs.declared.kind.Kind.{Kind}
 use Rattle.mz_base.specs.declared.kind.Kind.TheVariants as kind
 use Rattle.mz_base.specs.declared.stop.Stop.{Stop}
@@ -23,7 +24,7 @@ reason_of kind.TooDeep = too_deep
 reason_of _ = syntax
 
 abbrev pub fault_of : Reason → Span → Fault
-fault_of why s = record { kind = kind_of why; span = s; number = pos 0 }
+fault_of why s = fault_at (kind_of why) s
 
 -- What a private call answered, with the cursor before rest, is what reading gives, unless memory ran out.
 abbrev pub Stops : {Y : Type 0} → Span → List Token → Stop → Read Y → Type 0

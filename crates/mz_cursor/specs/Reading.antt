@@ -4,7 +4,7 @@ use Rattle.mz_base.specs.declared.fault.Span.{Span}
 use Rattle.mz_lexer.specs.declared.token.Token.{Token}
 use Rattle.mz_lexer.specs.declared.token.Tok.{Tok}
 use Rattle.mz_lexer.specs.declared.token.Symbol.{Symbol}
-use Rattle.mz_lexer.specs.declared.token.Keyword.{Keyword}
+use Rattle.mz_base.specs.declared.keyword.Keyword.{Keyword}
 use Rattle.mz_cursor.specs.Tokens.{tok_at, behind, place}
 use Rattle.mz_cursor.specs.Look.{is_sym, is_word}
 use Rattle.mz_cursor.specs.Rules.{Reason, syntax, left_out, too_deep, Rule, give, refuse, leave_out, look, pass, enter, leave, part}

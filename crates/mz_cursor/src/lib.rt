@@ -4,5 +4,6 @@
 mod cursor;
 mod look;
 
-pub use cursor::{Cursor, OPEN_LIMIT};
+pub use cursor::Cursor;
 pub use look::{is_sym, is_word};
+pub use mz_base::OPEN_LIMIT;

@@ -5,7 +5,7 @@ use Rattle.mz_base.specs.declared.kind.Kind.TheVariants as kind
 use Rattle.mz_base.specs.declared.stop.Stop.{Stop}
 use Rattle.mz_base.specs.declared.stop.Stop.TheVariants.{Refused, Memory}
 use Rattle.mz_lexer.specs.declared.token.Token.{Token}
-use Rattle.mz_lexer.specs.Views.{IfRefused}
+use Rattle.mz_base.specs.Faults.{IfRefused}
 use Rattle.mz_cursor.specs.Tokens.{tok_at}
 use Rattle.mz_cursor.specs.Reading.{Read}
 use Rattle.mz_cursor.specs.Promise.{kind_of, reason_of, Stops}

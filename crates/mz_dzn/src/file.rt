@@ -1,7 +1,7 @@
 // The items of a data file.
 
 ghost use Rattle.std.specs.Prelude.{◌≡◌, ◌≤◌, ◌<◌, [], length, map, OnOk, IfErr};
-ghost use Rattle.mz_lexer.specs.Views.{IfRefused};
+ghost use Rattle.mz_base.specs.Faults.{IfRefused};
 ghost use Rattle.mz_tree.specs.Data.{value, given};
 ghost use Rattle.mz_cursor.specs.Promise.{Gives, Answers};
 ghost use Rattle.mz_cursor.specs.Tokens.{place};

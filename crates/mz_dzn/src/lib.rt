@@ -10,6 +10,3 @@ mod value;
 mod word;
 
 pub use file::data_items;
-
-#[cfg(test)]
-mod tests;

@@ -15,7 +15,7 @@ use Rattle.mz_expr.specs.declared.argument.Argument.{Argument}
 use Rattle.mz_expr.specs.declared.argument.Role.{Role}
 use Rattle.mz_expr.specs.declared.argument.Role.TheVariants as role_is
 use Rattle.mz_expr.specs.declared.reading.Reading.{Reading}
-use Rattle.mz_expr.specs.declared.held.Held.{Held}
+use Rattle.mz_base.specs.declared.held.Held.{Held}
 use Rattle.mz_expr.specs.Views.{reading, argument, role, condition}
 use Rattle.mz_expr.proofs.Arguments.{trees_of-behind, Taken, taken-waiting, taken-bound, taken-unfit, taken-done, taken-waits, taken-fails}
 

@@ -3,7 +3,7 @@ use Rattle.std.proofs.Common.{◌≡◌, ℕ, List, [], ◌∷◌, ◌++◌, map
 use Rattle.std.proofs.lemmas.List.{map-append}
 use Rattle.std.specs.Prelude.{Ok, Err, Some, None}
 use Rattle.mz_lexer.specs.declared.token.Token.{Token}
-use Rattle.mz_lexer.specs.declared.token.Keyword.TheVariants.{KElseif}
+use Rattle.mz_base.specs.declared.keyword.Keyword.TheVariants.{KElseif}
 use Rattle.mz_tree.specs.declared.expr.BinOp.{BinOp}
 use Rattle.mz_tree.specs.Tree.{Tree, Maybe, Part}
 use Rattle.mz_tree.specs.Tree as pure
@@ -23,7 +23,8 @@ use Rattle.mz_grammar.proofs.Equations.{operators_reads}
 use Rattle.mz_grammar.proofs.ListEquations.{branches_reads, text_rest_reads}
 use Rattle.mz_grammar.specs.declared.level.Level.{Level}
 use Rattle.mz_grammar.specs.Operators.{binary_of, is_single}
-use Rattle.mz_grammar.specs.Reading.{reads, with_branches}
+use Rattle.mz_grammar.specs.Reading.{reads}
+use Rattle.mz_grammar.specs.Steps.{with_branches}
 use Rattle.mz_expr.specs.Views.{annotated}
 
 pub annotated_step : (b : Bool) (o : Read Bool) → annotated true o ≡ annotated b (mapped (λ x. true) o)

@@ -1,10 +1,10 @@
 -- Where the descent begins, and how far down a call may still go.
-use Rattle.std.specs.Prelude.{◌≡◌, ℕ, ◌+◌, ◌*◌, ◌<◌, length, Result, OnOk}
+use Rattle.std.specs.Prelude.{ℕ, ◌+◌, ◌*◌, ◌<◌, ◌≤◌, Result}
 use Rattle.std.specs.declared.alloc.Global.{Global}
 use denote.Ref.{MutBor}
 use Rattle.mz_base.specs.declared.stop.Stop.{Stop}
 use Rattle.mz_cursor.specs.declared.cursor.Cursor.{Cursor}
-use Rattle.mz_cursor.specs.Promise.{Gives}
+use Rattle.mz_cursor.specs.Reads.{Reads}
 use Rattle.mz_cursor.specs.Reading.{Reader, on}
 use Rattle.mz_grammar.specs.declared.level.Level.{Level}
 use Rattle.mz_grammar.specs.Operators.{tighter_level}
@@ -35,15 +35,26 @@ height entry_is.Head = 0
 abbrev pub extent : ℕ → Entry → ℕ
 extent room e = 32 * room + height e
 
--- what stands there was read at the front of old
-pub record HasRead (e : Entry) (old new : Cursor) (result : Result Reading Stop) : Type 0 where
-  pub reads : Gives reading new.end new.rest.now result (entry_at e old.room old.rest.now)
-  pub room : OnOk result (new.room ≡ old.room)
-  pub end : new.end ≡ old.end
-  pub shorter : OnOk result (length new.rest.now < length old.rest.now)
-
 -- A call that goes further down than this room and entry may be made, and reads what stands there.
 pub record Descends (room : ℕ) (entry : Entry) (pre : Global → MutBor Cursor → Entry → Type 0)
     (post : Global → MutBor Cursor → Entry → Result Reading Stop → MutBor Cursor → Type 0) : Type 0 where
   pub callable : (alloc : Global) (old : MutBor Cursor) (e : Entry) → extent old.now.room e < extent room entry → pre alloc old e
-  pub reads : (alloc : Global) (old new : MutBor Cursor) (e : Entry) (result : Result Reading Stop) → post alloc old e result new → HasRead e old.now new.now result
+  pub reads : (alloc : Global) (old new : MutBor Cursor) (e : Entry) (result : Result Reading Stop) → post alloc old e result new → Reads reading (entry_at e) old.now new.now result
+
+-- A method may be called that goes further down than this room: fewer tokens may be opened at its place.
+pub record MayRead (room : ℕ) (entry : Entry) (pre : Global → MutBor Cursor → Entry → Type 0)
+    (post : Global → MutBor Cursor → Entry → Result Reading Stop → MutBor Cursor → Type 0) (old : Cursor) : Type 0 where
+  pub calls : Descends room entry pre post
+  pub below : old.room < room
+
+-- A method may be called that opens a token before it goes further down.
+pub record MayOpen (room : ℕ) (entry : Entry) (pre : Global → MutBor Cursor → Entry → Type 0)
+    (post : Global → MutBor Cursor → Entry → Result Reading Stop → MutBor Cursor → Type 0) (old : Cursor) : Type 0 where
+  pub calls : Descends room entry pre post
+  pub below : old.room ≤ room
+
+-- A method may be called that begins with what is read from an entry on, and then goes further down.
+pub record MayBegin (e : Entry) (room : ℕ) (entry : Entry) (pre : Global → MutBor Cursor → Entry → Type 0)
+    (post : Global → MutBor Cursor → Entry → Result Reading Stop → MutBor Cursor → Type 0) (old : Cursor) : Type 0 where
+  pub calls : Descends room entry pre post
+  pub below : extent old.room e ≤ extent room entry

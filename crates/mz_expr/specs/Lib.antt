@@ -1,4 +1,4 @@
 pub mod Views
 pub mod Front
 pub mod Descent
-pub mod Climb
+pub mod StepsClimb

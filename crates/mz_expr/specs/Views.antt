@@ -6,7 +6,7 @@ use Rattle.mz_tree.specs.declared.expr.BinOp.{BinOp}
 use Rattle.mz_tree.specs.declared.expr.BinOp.TheVariants as op
 use Rattle.mz_grammar.specs.Arguments as pure_role
 use Rattle.mz_tree.specs.declared.expr.Expr.{Expr}
-use Rattle.mz_expr.specs.declared.held.Held.{Held}
+use Rattle.mz_base.specs.declared.held.Held.{Held}
 use Rattle.mz_expr.specs.declared.argument.Role.{Role}
 use Rattle.mz_expr.specs.declared.argument.Role.TheVariants as role_of
 use Rattle.mz_tree.specs.Views.{tree, generator}

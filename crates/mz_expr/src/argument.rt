@@ -8,12 +8,10 @@ ghost use Rattle.mz_grammar.specs.Parts.{given, guarded, strict};
 ghost use Rattle.mz_grammar.specs.Arguments.{turn_by, waits, takes_where, given_of, trees_of, role_of, bound, generators_of};
 ghost use Rattle.mz_expr.specs.Views.{reading, argument, role, condition};
 
-use crate::held::Held;
-use crate::make::make_generator;
 use crate::reading::Reading;
-use mz_base::{Name, Span};
+use mz_base::{Held, Name, Span};
 use mz_grammar::Turn;
-use mz_tree::{Expr, Gen};
+use mz_tree::{Expr, Gen, make_generator};
 use std::alloc::{AllocError, Global};
 
 /// An argument: an expression, one that a `where` makes a generator, or a generator behind such a one.
@@ -155,7 +153,8 @@ fn guarded_role(alloc: Global, x: Reading, cond: Held<Expr>) -> Result<Role, All
 fn strict_role(g: Gen) -> Role
     ensures { role result ≡ role_of (strict (generator g)) }
 {
-    Role::Bound(g.names, Held::new(g.set), holding(g.cond))
+    let (names, set, cond) = g.into_parts();
+    Role::Bound(names, Held::new(set), holding(cond))
 }
 
 fn holding(cond: Option<Expr>) -> Option<Held<Expr>>

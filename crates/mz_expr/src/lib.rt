@@ -3,8 +3,6 @@
 
 mod argument;
 mod front;
-mod held;
-mod make;
 mod operator;
 pub mod parser;
 mod reading;

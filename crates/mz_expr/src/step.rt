@@ -4,7 +4,7 @@ ghost use Rattle.std.specs.Prelude.{◌≡◌, ◌<◌, OnOk, length, Some};
 ghost use Rattle.mz_cursor.specs.Tokens.{tok_at};
 ghost use Rattle.mz_cursor.specs.Promise.{Gives};
 ghost use Rattle.mz_grammar.specs.Tests.{closes, is_left_out, ident_of, middle_of, tail_of, ends_row, begins_expression, begins_base};
-ghost use Rattle.mz_grammar.specs.Reading.{ident_at, separator_at, let_separator_at};
+ghost use Rattle.mz_grammar.specs.Steps.{ident_at, separator_at, let_separator_at};
 
 use mz_base::{Name, Span, Stop};
 use mz_cursor::{Cursor, is_sym, is_word};

@@ -6,11 +6,13 @@ use Rattle.mz_include.specs.Naming.{File}
 use Rattle.mz_include.specs.Views.{AreKnown, IsFileOf}
 use Rattle.fz_program.specs.Names.{Name}
 use Rattle.fz_program.specs.Flat.{Program, WellFormed}
-use Rattle.mz_first.specs.Model.{Item}
+use Rattle.mz_first.specs.Model.{Item, Solves}
 use Rattle.mz_first.specs.Emission.{program_of}
-use Rattle.mz_first.specs.Reading.{Where, has_goal, end_of_model, read_files, declared_names, formed}
+use Rattle.mz_include.specs.Walks.{Where}
+use Rattle.mz_first.specs.Reading.{has_goal, end_of_model, read_files, declared_names, formed}
 use Rattle.mz_first.specs.Known.{IsFileKnown}
-use Rattle.mz_first.specs.Promise.{IsNotBuilt, IsProgram, KeepsSolutions}
+use Rattle.mz_first.specs.Promise.{IsNotBuilt, IsProgram}
+use Rattle.fz_emission.specs.Solutions.{KeepsSolutions}
 use Rattle.mz_first.proofs.Reached.{all_proper, all_distinct, all_declared}
 use Rattle.mz_first.proofs.Solutions.{well_formed, keeps_solutions}
 
@@ -41,7 +43,7 @@ module _ (table : List Name) (files : List File) where
         rows = ap (λ (q : Program). q.rows) is;
         goal = ap (λ (q : Program). q.goal) is;
         well_formed = subst WellFormed (sym is) (well_formed items distinct declared (all_proper table (declared_names table files) files items e));
-        solutions = subst (KeepsSolutions items) (sym is) (keeps_solutions items distinct declared);
+        solutions = subst (KeepsSolutions (Solves items)) (sym is) (keeps_solutions items distinct declared);
       }
 
 -- the files one by one

@@ -4,7 +4,7 @@ use Rattle.std.proofs.lemmas.Option.{some_pair_parts}
 use Rattle.std.specs.Prelude.{Some}
 use Rattle.mz_tree.specs.declared.expr.BinOp.{BinOp}
 use Rattle.mz_tree.specs.Tree.{Tree, Shape, Links, node, chain, a_link, no_links}
-use Rattle.mz_include.specs.Trees.{OfTree, OfShape, OfLinks}
+use Rattle.mz_tree.specs.Kinds.{OfTree, OfShape, OfLinks}
 use Rattle.fz_program.specs.Names.{Name}
 use Rattle.mz_first.specs.Form.{◌>>=◌, form_of, only}
 use Rattle.mz_first.specs.Known.{IsShapeKnown}

@@ -14,7 +14,8 @@ use Rattle.mz_include.specs.Views.{file, AreKnown, IsFileOf}
 use Rattle.fz_program.specs.Names.{Name}
 use Rattle.mz_first.specs.Model.{Item}
 use Rattle.mz_first.specs.Form.{given, declared, with_name}
-use Rattle.mz_first.specs.Reading.{◌>>=◌, Where, add, located, read_items, read_files, declared_names, end_of_model, finished, formed}
+use Rattle.mz_include.specs.Walks.{◌>>=◌, Where, located, walk_items, walk_files}
+use Rattle.mz_first.specs.Reading.{add, read_items, read_files, declared_names, end_of_model, finished, formed}
 use Rattle.mz_first.proofs.LaterItems.{given_later, declared_later}
 
 -- the names in the items of each file are of the table
@@ -35,7 +36,7 @@ each_file table (f ∷ fs) from known =
 
 module _ (table later : List Name) (grows : Grows table later) where
   items_later : (known : List Name) (turn : ℕ) (ts : List ItemTree) (before : List Item) → All (IsItemOf table turn) ts → read_items later known before ts ≡ read_items table known before ts
-  unfolding read_items
+  unfolding walk_items
   items_later known turn [] before all = refl
   items_later known turn (t ∷ ts) before all =
       ap (λ g. add known before g >>= λ after. read_items later known after ts) (given_later table later grows turn t (All-head (IsItemOf table turn) t ts all))
@@ -46,7 +47,7 @@ module _ (table later : List Name) (grows : Grows table later) where
       on (Err s) h = refl
 
   files_later : (known : List Name) (fs : List File) (before : List Item) → AllByRecursion (AreTrees table) fs → read_files later known before fs ≡ read_files table known before fs
-  unfolding read_files
+  unfolding walk_files
   files_later known [] before all = refl
   files_later known (f ∷ fs) before all =
       ap (λ r. located f.name r >>= λ after. read_files later known after fs) (items_later known all.0.turn f.items before all.0.all)

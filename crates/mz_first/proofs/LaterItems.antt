@@ -9,7 +9,8 @@ use Rattle.mz_tree.specs.Tree as tree
 use Rattle.mz_tree.specs.Tree.{Shape, Links, Declaration, node, chain, a_link, no_links}
 use Rattle.mz_tree.specs.Items as items
 use Rattle.mz_tree.specs.Items.{ItemTree}
-use Rattle.mz_include.specs.Trees.{IsSpot, OfShape, OfTree, OfLinks, OfDeclaration, IsItemOf}
+use Rattle.mz_tree.specs.Kinds.{IsSpot, OfShape, OfTree, OfLinks, OfDeclaration}
+use Rattle.mz_include.specs.Trees.{IsItemOf}
 use Rattle.fz_program.specs.Names.{Name}
 use Rattle.mz_first.specs.Model.{name}
 use Rattle.mz_first.specs.Form.{◌>>=◌, only, operand_in, compared, constraint_in, domain_of, variable_of, declared_of, place_of, at, given, cases_of, declared}

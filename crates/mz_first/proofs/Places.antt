@@ -5,7 +5,7 @@ use Rattle.std.specs.List.{list_any, Contains, prefix_len}
 use Rattle.std.specs.Str.{bytes_eq}
 use Rattle.std.proofs.lemmas.Slice.Eq.{bytes_eq-Decides}
 use Rattle.fz_program.specs.Names.{Name}
-use Rattle.mz_first.specs.Model.{Assignment, read_off, ReadsOff}
+use Rattle.fz_emission.specs.Solutions.{Assignment, read_off, ReadsOff}
 use Rattle.fz_program.specs.Flat.{AreDistinct}
 use Rattle.mz_first.specs.Emission.{place_of}
 

@@ -3,6 +3,7 @@ use Rattle.std.proofs.Common.{◌≡◌, ℕ, List, [], ◌∷◌, Bool, true, f
 use Rattle.std.specs.Prelude.{Option, Some, None, int_le}
 use Rattle.std.proofs.lemmas.Int.{ints}
 use Rattle.std.proofs.lemmas.Option.{cond_some, same_Some}
+use Rattle.mz_value.specs.Ranges.{least, greatest, IsInLimit}
 use Rattle.mz_base.specs.declared.fault.Span.{Span}
 use Rattle.mz_tree.specs.declared.expr.BinOp.{BinOp}
 use Rattle.mz_tree.specs.declared.expr.BinOp.TheVariants as op
@@ -11,36 +12,37 @@ use Rattle.mz_tree.specs.Tree as tree
 use Rattle.mz_tree.specs.Tree.{Shape, Declaration, Written, Based, node, chain}
 use Rattle.mz_tree.specs.Items as items
 use Rattle.mz_tree.specs.Items.{ItemTree, GoalTree}
-use Rattle.fz_program.specs.Names.{Name, is_identifier, is_reserved}
+use Rattle.fz_program.specs.Names.{Name, is_reserved}
+use Rattle.mz_base.specs.Words.{is_identifier}
 use Rattle.mz_first.specs.declared.item.Comparison.{Comparison}
 use Rattle.mz_first.specs.Model.{Operand, number, Item, variable, constraint}
 use Rattle.mz_first.specs.Form.{◌>>=◌, Given, nothing, one, other, within, magnitude_in, number_in, operand_in, comparison_of, only, form_of, constraint_of, compared, constraint_in, range_from, range_in, range_of, is_array, domain_of, is_free, variable_of, declared_of, place_of, goal_of, at, given}
 use Rattle.mz_base.specs.Names.{text_of}
 use Rattle.mz_first.specs.Emission.{names_of}
-use Rattle.mz_first.specs.Proper.{IsWithin, IsProperOperand, IsProper}
+use Rattle.mz_first.specs.Proper.{IsProperOperand, IsProper}
 use Rattle.mz_first.proofs.Options.{bind_some, and_parts, int_le_true}
 
-within_some : (n m : ℤ) → within n ≡ Some m → IsWithin m
+within_some : (n m : ℤ) → within n ≡ Some m → IsInLimit m
 unfolding within
 within_some n m e =
-    let parts = cond_some (int_le (neg_ℤ (pos (2 ^ 61))) n && int_le n (pos (2 ^ 61))) n m e in
-    let both = and_parts (int_le (neg_ℤ (pos (2 ^ 61))) n) (int_le n (pos (2 ^ 61))) parts.0 in
-    subst IsWithin parts.1 (int_le_true _ _ both.0, int_le_true _ _ both.1)
+    let parts = cond_some (int_le least n && int_le n greatest) n m e in
+    let both = and_parts (int_le least n) (int_le n greatest) parts.0 in
+    subst IsInLimit parts.1 (int_le_true _ _ both.0, int_le_true _ _ both.1)
 
-magnitude_some : (f : Shape) (m : ℤ) → magnitude_in f ≡ Some m → IsWithin m
+magnitude_some : (f : Shape) (m : ℤ) → magnitude_in f ≡ Some m → IsInLimit m
 unfolding magnitude_in
 magnitude_some (tree.int n) m e = within_some n m e
 magnitude_some _ m e = cc
 
-negated : (n : ℤ) → IsWithin n → IsWithin (neg_ℤ n)
+negated : (n : ℤ) → IsInLimit n → IsInLimit (neg_ℤ n)
 negated n h = (omega (arith, ints, h.0, h.1), omega (arith, ints, h.0, h.1))
 
-number_some : (f : Shape) (m : ℤ) → number_in f ≡ Some m → IsWithin m
+number_some : (f : Shape) (m : ℤ) → number_in f ≡ Some m → IsInLimit m
 unfolding number_in
 number_some (tree.int n) m e = within_some n m e
 number_some (tree.unary prefix.Minus (node s f)) m e =
     let read = bind_some (magnitude_in f) (λ n. Some (neg_ℤ n)) m e in
-    subst IsWithin (same_Some _ _ read.2) (negated read.0 (magnitude_some f read.0 read.1))
+    subst IsInLimit (same_Some _ _ read.2) (negated read.0 (magnitude_some f read.0 read.1))
 number_some _ m e = cc
 
 as_number : (f : Shape) (p : Operand) → (number_in f >>= λ n. Some (number n)) ≡ Some p → IsProperOperand p
@@ -74,7 +76,7 @@ constraint_in_some table (chain first rest) i e =
 constraint_in_some table _ i e = cc
 
 abbrev AreWithin : ℤ × ℤ → Type 0
-AreWithin r = IsWithin r.0 × IsWithin r.1
+AreWithin r = IsInLimit r.0 × IsInLimit r.1
 
 ends_some : (first last : Shape) (r : ℤ × ℤ) → (number_in first >>= λ lo. number_in last >>= λ hi. Some (lo, hi)) ≡ Some r → AreWithin r
 ends_some first last r e =
@@ -108,7 +110,7 @@ domain_some (tree.written s ds var opt set base) r e = go (var && not opt && not
     go true h = range_some base r h
     go false h = cc
 
-variable_some : (lo hi : ℤ) (x : Name) (i : Item) → IsWithin lo → IsWithin hi → variable_of lo hi x ≡ Some i → IsProper i
+variable_some : (lo hi : ℤ) (x : Name) (i : Item) → IsInLimit lo → IsInLimit hi → variable_of lo hi x ≡ Some i → IsProper i
 unfolding variable_of is_free
 variable_some lo hi x i low high e =
     let parts = cond_some (int_le lo hi && (is_identifier x && not (is_reserved x))) (variable lo hi x) i e in

@@ -17,7 +17,8 @@ use Rattle.fz_program.proofs.Each.{each_push}
 use Rattle.mz_first.specs.Model.{Operand, number, name, Item, variable, constraint, satisfy}
 use Rattle.mz_first.specs.Form.{Given, nothing, one, other, given, at, place_of, declared, declared_of, constraint_in, goal_of, with_name}
 use Rattle.mz_first.specs.Emission.{names, names_of}
-use Rattle.mz_first.specs.Reading.{Where, has, is_declared, fits, add, read_items, read_files, declared_names}
+use Rattle.mz_include.specs.Walks.{Where, walk_items, walk_files}
+use Rattle.mz_first.specs.Reading.{has, is_declared, fits, add, read_items, read_files, declared_names}
 use Rattle.mz_first.specs.Proper.{IsProper, IsDeclaredIn, AreDeclaredIn}
 use Rattle.mz_first.proofs.Options.{and_parts, not_true}
 use Rattle.mz_first.proofs.Places.{missing_of, nothing_contained, find, there, nowhere}
@@ -27,7 +28,7 @@ use Rattle.mz_first.proofs.ProperItems.{IsProperGiven, given_proper, variable_is
 -- what each step keeps, the whole keeps
 module _ (table known : List Name) (Kept : List Item → Type 0) (step : (before after : List Item) (t : ItemTree) → Kept before → add known before (given table t) ≡ Ok after → Kept after) where
   pub items_keep : (ts : List ItemTree) (before after : List Item) → Kept before → read_items table known before ts ≡ Ok after → Kept after
-  unfolding read_items
+  unfolding walk_items
   items_keep [] before after kept e = subst Kept (same_ok _ _ e) kept
     where
       same_ok : (x y : List Item) → ◌≡◌ {A = Result (List Item) Span} (Ok x) (Ok y) → x ≡ y
@@ -39,7 +40,7 @@ module _ (table known : List Name) (Kept : List Item → Type 0) (step : (before
       go (Err s) is on h = let fails = rw is at h in cc
 
   pub files_keep : (fs : List File) (before after : List Item) → Kept before → read_files table known before fs ≡ Ok after → Kept after
-  unfolding read_files
+  unfolding walk_files
   files_keep [] before after kept e = subst Kept (same_ok _ _ e) kept
     where
       same_ok : (x y : List Item) → ◌≡◌ {A = Result (List Item) Where} (Ok x) (Ok y) → x ≡ y
@@ -163,7 +164,7 @@ same_ok x y e = cc
 
 module _ (table known : List Name) where
   items_declare : (ts : List ItemTree) (before after : List Item) → read_items table known before ts ≡ Ok after → names after ≡ names before ++ flat_map (declared table) ts
-  unfolding read_items
+  unfolding walk_items
   items_declare [] before after e = ap names (sym (same_ok _ _ e)) ∙ sym (append-nil (names before))
   items_declare (t ∷ ts) before after e = go (add known before (given table t)) refl (λ middle. items_declare ts middle after) e
     where
@@ -174,7 +175,7 @@ module _ (table known : List Name) where
       go (Err s) is on h = let fails = rw is at h in cc
 
   files_declare : (fs : List File) (before after : List Item) → read_files table known before fs ≡ Ok after → names after ≡ names before ++ flat_map (λ f. flat_map (declared table) f.items) fs
-  unfolding read_files
+  unfolding walk_files
   files_declare [] before after e = ap names (sym (same_ok _ _ e)) ∙ sym (append-nil (names before))
   files_declare (f ∷ fs) before after e = go (read_items table known before f.items) refl (λ middle. files_declare fs middle after) e
     where

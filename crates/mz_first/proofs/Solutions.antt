@@ -4,16 +4,17 @@ use Rattle.std.specs.Prelude.{ℤ, pos, neg_ℤ, ◌^◌, ◌≤ℤ◌}
 use Rattle.std.specs.List.{AllByRecursion}
 use Rattle.std.proofs.lemmas.Int.{ints}
 use Rattle.std.proofs.lemmas.List.{length-map}
-use Rattle.mz_value.specs.Ranges.{Has}
+use Rattle.mz_value.specs.Ranges.{Has, least, greatest}
 use Rattle.fz_program.specs.declared.program.Arg.{Arg}
 use Rattle.mz_first.specs.declared.item.Comparison.{Comparison}
 use Rattle.mz_first.specs.declared.item.Comparison.TheVariants.{Less, LessEqual, Equal, NotEqual, Greater, GreaterEqual}
 use Rattle.fz_program.specs.Names.{Name}
-use Rattle.mz_first.specs.Model.{Item, Operand, number, name, variable, constraint, satisfy, Assignment, value_of, Solves, Compares, read_off}
+use Rattle.mz_first.specs.Model.{Item, Operand, number, name, variable, constraint, satisfy, value_of, Solves, Compares}
+use Rattle.fz_emission.specs.Solutions.{Assignment, read_off}
 use Rattle.fz_program.specs.Flat.{Variable, Row, labels, AreDistinct, Values, arg_value, RowHolds, AreInDomains, WellFormed, IsWellFormedVariable, IsWellFormedRow, IsWellFormedArg, AreWithin}
 use Rattle.mz_first.specs.Proper.{IsDeclaredIn, AreDeclaredIn, IsProper, IsProperOperand}
 use Rattle.mz_first.specs.Emission.{names, variables, rows, argument, program_of, row}
-use Rattle.mz_first.specs.Promise.{KeepsSolutions}
+use Rattle.fz_emission.specs.Solutions.{KeepsSolutions}
 use Rattle.mz_first.proofs.Places.{below_of, value_at, reads_back, lists_back}
 
 labels_names : (is : List Item) → map (λ (v : Variable). v.label) (variables is) ≡ names is
@@ -74,7 +75,7 @@ solves a known (constraint p op q ∷ is) declared domains held =
 solves a known (satisfy ∷ is) declared domains held = (tt, solves a known is declared.1 domains held)
 
 -- each part of a well-formed program
-within_range : (lo hi : ℤ) → neg_ℤ (pos (2 ^ 61)) ≤ℤ lo → lo ≤ℤ hi → hi ≤ℤ pos (2 ^ 61) → AreWithin (lo, hi)
+within_range : (lo hi : ℤ) → least ≤ℤ lo → lo ≤ℤ hi → hi ≤ℤ greatest → AreWithin (lo, hi)
 within_range lo hi low ordered high = ((low, omega (arith, ints)), (omega (arith, ints), high))
 
 well_formed_variables : (is : List Item) → AllByRecursion IsProper is → AllByRecursion IsWellFormedVariable (variables is)
@@ -123,7 +124,7 @@ one_for_each (v ∷ vs) [] h = absurd h
 listed : (is : List Item) (f : Values) → AreDistinct (names is) → length f ≡ length (variables is) → map (read_off (labels (program_of is)) f) (names is) ≡ f
 listed is f distinct same = rw (labels_names is) (lists_back (names is) f distinct (same ∙ count_names is))
 
-pub keeps_solutions : (is : List Item) → AreDistinct (names is) → AllByRecursion (AreDeclaredIn (names is)) is → KeepsSolutions is (program_of is)
+pub keeps_solutions : (is : List Item) → AreDistinct (names is) → AllByRecursion (AreDeclaredIn (names is)) is → KeepsSolutions (Solves is) (program_of is)
 keeps_solutions is distinct declared = record {
   none_invented = λ f h.
       let back = listed is f distinct (one_for_each (variables is) f h.domains) in

@@ -1,9 +1,10 @@
 -- The first form: what each item of a model's files gives.
-use Rattle.std.specs.Prelude.{ℕ, ℤ, pos, neg_ℤ, ◌^◌, List, [], ◌∷◌, ◌++◌, map, int_le, Bool, true, false, not, ◌&&◌, Option, Some, None, if◌then◌else◌}
+use Rattle.std.specs.Prelude.{ℕ, ℤ, neg_ℤ, List, [], ◌∷◌, ◌++◌, map, int_le, Bool, true, false, not, ◌&&◌, Option, Some, None, if◌then◌else◌}
 use Rattle.std.specs.List.{list_any}
 use Rattle.std.specs.Str.{bytes_eq}
 use Rattle.mz_base.specs.declared.fault.Span.{Span}
 use Rattle.mz_base.specs.Names.{text_of}
+use Rattle.mz_value.specs.Ranges.{least, greatest}
 use Rattle.mz_tree.specs.declared.expr.BinOp.{BinOp}
 use Rattle.mz_tree.specs.declared.expr.BinOp.TheVariants as op
 use Rattle.mz_tree.specs.declared.expr.UnOp.TheVariants as prefix
@@ -11,7 +12,8 @@ use Rattle.mz_tree.specs.Tree as tree
 use Rattle.mz_tree.specs.Tree.{Tree, Shape, Links, Declaration, Written, Based, Dims, node, chain, a_link, no_links}
 use Rattle.mz_tree.specs.Items as items
 use Rattle.mz_tree.specs.Items.{ItemTree, GoalTree}
-use Rattle.fz_program.specs.Names.{Name, is_identifier, is_reserved}
+use Rattle.fz_program.specs.Names.{Name, is_reserved}
+use Rattle.mz_base.specs.Words.{is_identifier}
 use Rattle.mz_first.specs.declared.item.Comparison.{Comparison}
 use Rattle.mz_first.specs.declared.item.Comparison.TheVariants.{Less, LessEqual, Equal, NotEqual, Greater, GreaterEqual}
 use Rattle.mz_first.specs.Model.{Operand, number, name, Item, variable, constraint, satisfy}
@@ -29,7 +31,7 @@ None >>= f = None
 
 -- the numbers that a model may write
 unfoldable pub within : ℤ → Option ℤ
-within n = if int_le (neg_ℤ (pos (2 ^ 61))) n && int_le n (pos (2 ^ 61)) then Some n else None
+within n = if int_le least n && int_le n greatest then Some n else None
 
 unfoldable pub magnitude_in : Shape → Option ℤ
 magnitude_in (tree.int n) = within n

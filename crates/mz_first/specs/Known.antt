@@ -4,7 +4,7 @@ use Rattle.mz_base.specs.declared.fault.Span.{Span}
 use Rattle.mz_tree.specs.declared.source.SourceFile.{SourceFile}
 use Rattle.mz_tree.specs.Tree.{Shape, Declaration}
 use Rattle.mz_tree.specs.Items.{ItemTree, item}
-use Rattle.mz_include.specs.Trees.{OfShape, OfDeclaration, OfItem}
+use Rattle.mz_tree.specs.Kinds.{OfShape, OfDeclaration, OfItem}
 use Rattle.fz_program.specs.Names.{Name}
 
 abbrev pub IsName : List Name → ℕ → Type 0

@@ -6,21 +6,14 @@ use Rattle.mz_include.specs.Naming.{File}
 use Rattle.mz_include.specs.Views.{file, AreKnown}
 use Rattle.fz_program.specs.declared.program.FzGoal.TheVariants.{Satisfy}
 use Rattle.fz_program.specs.Names.{Name}
-use Rattle.fz_program.specs.Flat.{Program, program, labels, Values, FlatSolves, WellFormed}
+use Rattle.fz_program.specs.Flat.{Program, program, WellFormed}
+use Rattle.fz_emission.specs.Solutions.{KeepsSolutions}
 use Rattle.mz_first.specs.declared.building.Built.{Built}
 use Rattle.mz_first.specs.declared.building.Built.TheVariants as built
-use Rattle.mz_first.specs.Model.{Item, Assignment, Solves, read_off, ReadsOff}
+use Rattle.mz_first.specs.Model.{Item, Solves}
 use Rattle.mz_first.specs.Emission.{names, variables, rows}
-use Rattle.mz_first.specs.Reading.{Where, formed}
-
--- the program's solutions, read off by names, are the model's
-pub record KeepsSolutions (items : List Item) (p : Program) : Type 0 where
-  -- a solution of the program gives the names values that solve the model
-  pub none_invented : (f : Values) → FlatSolves p f → Solves items (read_off (labels p) f)
-  -- values that solve the model are read off from a solution of the program
-  pub none_lost : (a : Assignment) → Solves items a → (f : Values) × FlatSolves p f × ReadsOff (labels p) f a
-  -- values for the program's variables whose names solve the model solve the program
-  pub exact : (f : Values) → length f ≡ length p.vars → Solves items (read_off (labels p) f) → FlatSolves p f
+use Rattle.mz_include.specs.Walks.{Where}
+use Rattle.mz_first.specs.Reading.{formed}
 
 -- the files are a model, and this is its program
 pub record IsProgram (table : List Name) (files : List File) (p : Program) : Type 0 where
@@ -30,7 +23,7 @@ pub record IsProgram (table : List Name) (files : List File) (p : Program) : Typ
   pub rows : p.rows ≡ rows (names items) items
   pub goal : p.goal ≡ Satisfy
   pub well_formed : WellFormed p
-  pub solutions : KeepsSolutions items p
+  pub solutions : KeepsSolutions (Solves items) p
 
 -- the files aren't a model: this is the first place that isn't of the form
 abbrev pub IsNotBuilt : List Name → List File → Where → Type 0

@@ -1,20 +1,18 @@
 -- What each item of a model keeps.
-use Rattle.std.specs.Prelude.{◌≡◌, ℤ, pos, neg_ℤ, ◌^◌, ◌≤ℤ◌, List, true}
+use Rattle.std.specs.Prelude.{◌≡◌, ◌≤ℤ◌, List, true}
+use Rattle.mz_value.specs.Ranges.{least, greatest, IsInLimit}
 use Rattle.std.specs.List.{Contains}
-use Rattle.fz_program.specs.Names.{Name, is_identifier}
+use Rattle.fz_program.specs.Names.{Name}
+use Rattle.mz_base.specs.Words.{is_identifier}
 use Rattle.mz_first.specs.Model.{Operand, number, name, Item, variable, constraint, satisfy}
 
--- the numbers that a model may write
-abbrev pub IsWithin : ℤ → Type 0
-IsWithin n = (neg_ℤ (pos (2 ^ 61)) ≤ℤ n) × (n ≤ℤ pos (2 ^ 61))
-
 abbrev pub IsProperOperand : Operand → Type 0
-IsProperOperand (number n) = IsWithin n
+IsProperOperand (number n) = IsInLimit n
 IsProperOperand (name x) = Unit {0}
 
 -- numbers within the limit, a range that isn't empty, and an identifier
 abbrev pub IsProper : Item → Type 0
-IsProper (variable lo hi x) = (is_identifier x ≡ true) × (neg_ℤ (pos (2 ^ 61)) ≤ℤ lo) × (lo ≤ℤ hi) × (hi ≤ℤ pos (2 ^ 61))
+IsProper (variable lo hi x) = (is_identifier x ≡ true) × (least ≤ℤ lo) × (lo ≤ℤ hi) × (hi ≤ℤ greatest)
 IsProper (constraint p op q) = IsProperOperand p × IsProperOperand q
 IsProper satisfy = Unit {0}
 

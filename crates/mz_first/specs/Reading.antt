@@ -4,16 +4,13 @@ use Rattle.std.specs.List.{flat_map, list_any}
 use Rattle.std.specs.Str.{bytes_eq}
 use Rattle.mz_base.specs.declared.fault.Span.{Span}
 use Rattle.mz_tree.specs.Items.{ItemTree}
+use Rattle.mz_base.specs.Faults.{start_of}
 use Rattle.mz_include.specs.Naming.{File}
+use Rattle.mz_include.specs.Walks.{◌>>=◌, Where, walk_items, walk_files}
 use Rattle.fz_program.specs.Names.{Name}
 use Rattle.mz_first.specs.Model.{Operand, number, name, Item, variable, constraint, satisfy}
 use Rattle.mz_first.specs.Form.{Given, nothing, one, other, given, declared, with_name}
 use Rattle.mz_first.specs.Emission.{names}
-
-infixl 10 ◌>>=◌
-abbrev pub ◌>>=◌ : {A B E : Type 0} → Result A E → (A → Result B E) → Result B E
-(Ok x) >>= f = f x
-(Err e) >>= f = Err e
 
 abbrev pub has : List Name → Name → Bool
 has known x = list_any (bytes_eq x) known
@@ -42,26 +39,12 @@ add known before nothing = Ok before
 add known before (one s i) = if fits known before i then Ok (before ++ i ∷ []) else Err s
 add known before (other s) = Err s
 
--- the items of a file behind those of the files before it, or the place of the first that isn't of the form
-unfoldable pub read_items : List Name → List Name → List Item → List ItemTree → Result (List Item) Span
-read_items table known before [] = Ok before
-read_items table known before (t ∷ ts) = do
-  so_far ← add known before (given table t)
-  read_items table known so_far ts
+-- the items of a file after those of the files before it, or the place of the first that isn't of the form
+abbrev pub read_items : List Name → List Name → List Item → List ItemTree → Result (List Item) Span
+read_items table known before ts = walk_items (λ so_far t. add known so_far (given table t)) before ts
 
--- a place, and the name of the file that it lies in
-abbrev pub Where : Type 0
-Where = Span × Name
-
-abbrev pub located : {A : Type 0} → Name → Result A Span → Result A Where
-located file (Ok x) = Ok x
-located file (Err s) = Err (s, file)
-
-unfoldable pub read_files : List Name → List Name → List Item → List File → Result (List Item) Where
-read_files table known before [] = Ok before
-read_files table known before (f ∷ fs) = do
-  so_far ← located f.name (read_items table known before f.items)
-  read_files table known so_far fs
+abbrev pub read_files : List Name → List Name → List Item → List File → Result (List Item) Where
+read_files table known before fs = walk_files (λ so_far t. add known so_far (given table t)) before fs
 
 -- the names that the items of these files declare, each once
 unfoldable pub declared_names : List Name → List File → List Name
@@ -69,7 +52,7 @@ declared_names table files = fold with_name [] (flat_map (λ f. flat_map (declar
 
 -- the end of the model's own file
 abbrev pub end_of_model : List File → Where
-end_of_model [] = (record { file = 0; line = 1; col = 1; byte = 0 }, [])
+end_of_model [] = (start_of 0, [])
 end_of_model (f ∷ fs) = (f.end, f.name)
 
 -- a model has a solve item

@@ -18,7 +18,8 @@ use Rattle.fz_program.specs.Names as bytes
 use Rattle.mz_first.specs.Model as model
 use Rattle.mz_first.specs.Form as form
 use Rattle.mz_first.specs.Emission.{names}
-use Rattle.mz_first.specs.Reading.{has_goal, Where}
+use Rattle.mz_first.specs.Reading.{has_goal}
+use Rattle.mz_include.specs.Walks.{Where}
 
 abbrev pub operand : Operand → model.Operand
 operand (Number n) = model.number n

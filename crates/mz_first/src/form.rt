@@ -7,14 +7,14 @@ ghost use Rattle.mz_tree.specs.Views.{shape, based, written, declaration, link};
 ghost use Rattle.mz_tree.specs.Items.{goal as goal_tree, item as tree_of};
 ghost use Rattle.fz_program.specs.Names.{is_reserved};
 ghost use Rattle.mz_first.specs.Form.{within, magnitude_in, number_in, operand_in, comparison_of, only, constraint_of, compared, constraint_in, range_from, range_in, range_of, domain_of, is_free, variable_of, declared_of, goal_of, at, given};
-ghost use Rattle.mz_first.specs.Proper.{IsWithin};
+ghost use Rattle.mz_value.specs.Ranges.{IsInLimit};
 ghost use Rattle.mz_first.specs.Known.{IsShapeKnown, IsDeclarationKnown, IsItemKnown};
 ghost use Rattle.mz_first.specs.Views.{operand, item as item_of, given as given_of, pair};
 
 use crate::item::{Comparison, Item, Operand};
-use fz_program::is_identifier;
-use mz_base::{Names, Span};
-use mz_tree::{BinOp, Decl, Expr, Form, Goal, Item as Tree, TypeBase, TypeText, UnOp};
+use mz_base::{Names, Span, is_identifier};
+use mz_value::{GREATEST, LEAST};
+use mz_tree::{BinOp, Decl, Expr, Form, Goal, Item as TreeItem, TypeBase, TypeText, UnOp};
 
 /// What an item of a file gives, with its place: nothing, an item of the model, or it isn't of the
 /// form.
@@ -25,25 +25,22 @@ pub enum Given<'a> {
     Other(Span),
 }
 
-/// The greatest number that a model may write, and the negation of the least.
-const LIMIT: i64 = 1 << 61;
-
 #[tactic(auto, unfolding(crate::specs::Form::within))]
 fn within(n: i64) -> Option<i64>
     ensures number { result ≡ within n }
-    ensures bound { IfSome result IsWithin }
+    ensures bound { IfSome result IsInLimit }
 {
-    if -LIMIT <= n && n <= LIMIT {
+    if LEAST <= n && n <= GREATEST {
         Some(n)
     } else {
         None
     }
 }
 
-#[tactic(auto, unfolding(crate::specs::Form::magnitude_in))]
+#[tactic(auto, unfolding(crate::specs::Form::magnitude_in, mz_tree::specs::Views::tree, mz_tree::specs::Views::shape, mz_tree::specs::Views::based, mz_tree::specs::Views::written, mz_tree::specs::Views::declaration))]
 fn magnitude_in(f: &Form) -> Option<i64>
     ensures number { result ≡ magnitude_in (shape f.now) }
-    ensures bound { IfSome result IsWithin }
+    ensures bound { IfSome result IsInLimit }
 {
     match f {
         Form::Int(n) => within(*n),
@@ -52,7 +49,7 @@ fn magnitude_in(f: &Form) -> Option<i64>
 }
 
 /// num = [ "-" ] INT
-#[tactic(auto, unfolding(crate::specs::Form::number_in))]
+#[tactic(auto, unfolding(crate::specs::Form::number_in, mz_tree::specs::Views::tree, mz_tree::specs::Views::shape, mz_tree::specs::Views::based, mz_tree::specs::Views::written, mz_tree::specs::Views::declaration))]
 fn number_in(f: &Form) -> Option<i64>
     ensures { result ≡ number_in (shape f.now) }
 {
@@ -67,7 +64,7 @@ fn number_in(f: &Form) -> Option<i64>
 }
 
 /// p = num | IDENT
-#[tactic(auto, unfolding(crate::specs::Form::operand_in, mz_include::specs::Trees::OfShape))]
+#[tactic(auto, unfolding(crate::specs::Form::operand_in, mz_tree::specs::Kinds::OfShape, mz_tree::specs::Views::tree, mz_tree::specs::Views::shape, mz_tree::specs::Views::based, mz_tree::specs::Views::written, mz_tree::specs::Views::declaration))]
 fn operand_in<'a>(names: &'a Names, f: &Form) -> Option<Operand<'a>>
     requires { IsShapeKnown names.now (shape f.now) }
     ensures { option_map operand result ≡ operand_in names.now (shape f.now) }
@@ -98,7 +95,7 @@ fn comparison_of(op: BinOp) -> Option<Comparison>
 }
 
 /// An operator with the operand behind it, where no other follows.
-#[tactic(auto, using(crate::proofs::Links::only_none, crate::proofs::Links::only_many), unfolding(crate::specs::Form::only))]
+#[tactic(auto, using(crate::proofs::Links::only_none, crate::proofs::Links::only_many), unfolding(crate::specs::Form::only, mz_tree::specs::Views::tree, mz_tree::specs::Views::shape, mz_tree::specs::Views::based, mz_tree::specs::Views::written, mz_tree::specs::Views::declaration))]
 fn only<'e>(rest: &'e [(BinOp, Expr)]) -> Option<(BinOp, &'e Form)>
     ensures { option_map pair result ≡ only (links (map link rest.now)) }
 {
@@ -133,7 +130,7 @@ fn compared<'a>(names: &'a Names, first: &Form, op: BinOp, last: &Form) -> Optio
     constraint_of(p, op, q)
 }
 
-#[tactic(auto, unfolding(crate::specs::Form::constraint_in))]
+#[tactic(auto, unfolding(crate::specs::Form::constraint_in, mz_tree::specs::Views::tree, mz_tree::specs::Views::shape, mz_tree::specs::Views::based, mz_tree::specs::Views::written, mz_tree::specs::Views::declaration))]
 fn constraint_in<'a>(names: &'a Names, f: &Form) -> Option<Item<'a>>
     requires { IsShapeKnown names.now (shape f.now) }
     ensures { option_map item_of result ≡ constraint_in names.now (shape f.now) }
@@ -162,7 +159,7 @@ fn range_from(first: &Form, op: BinOp, last: &Form) -> Option<(i64, i64)>
 }
 
 /// num ".." num
-#[tactic(auto, unfolding(crate::specs::Form::range_in))]
+#[tactic(auto, unfolding(crate::specs::Form::range_in, mz_tree::specs::Views::tree, mz_tree::specs::Views::shape, mz_tree::specs::Views::based, mz_tree::specs::Views::written, mz_tree::specs::Views::declaration))]
 fn range_in(f: &Form) -> Option<(i64, i64)>
     ensures { result ≡ range_in (shape f.now) }
 {
@@ -175,7 +172,7 @@ fn range_in(f: &Form) -> Option<(i64, i64)>
     }
 }
 
-#[tactic(auto, unfolding(crate::specs::Form::range_of))]
+#[tactic(auto, unfolding(crate::specs::Form::range_of, mz_tree::specs::Views::tree, mz_tree::specs::Views::shape, mz_tree::specs::Views::based, mz_tree::specs::Views::written, mz_tree::specs::Views::declaration))]
 fn range_of(base: &TypeBase) -> Option<(i64, i64)>
     ensures { result ≡ range_of (based base.now) }
 {
@@ -186,7 +183,7 @@ fn range_of(base: &TypeBase) -> Option<(i64, i64)>
 }
 
 /// "var" num ".." num
-#[tactic(auto, unfolding(crate::specs::Form::domain_of))]
+#[tactic(auto, unfolding(crate::specs::Form::domain_of, mz_tree::specs::Views::tree, mz_tree::specs::Views::shape, mz_tree::specs::Views::based, mz_tree::specs::Views::written, mz_tree::specs::Views::declaration))]
 fn domain_of(t: &TypeText) -> Option<(i64, i64)>
     ensures { result ≡ domain_of (written t.now) }
 {
@@ -226,7 +223,7 @@ fn variable_of<'a>(lo: i64, hi: i64, name: &'a str) -> Option<Item<'a>>
 }
 
 /// "var" num ".." num ":" IDENT
-#[tactic(auto, unfolding(crate::specs::Form::declared_of, mz_include::specs::Trees::OfDeclaration))]
+#[tactic(auto, unfolding(crate::specs::Form::declared_of, mz_tree::specs::Kinds::OfDeclaration, mz_tree::specs::Views::tree, mz_tree::specs::Views::shape, mz_tree::specs::Views::based, mz_tree::specs::Views::written, mz_tree::specs::Views::declaration))]
 fn declared_of<'a>(names: &'a Names, d: &Decl) -> Option<Item<'a>>
     requires { IsDeclarationKnown names.now (declaration d.now) }
     ensures { option_map item_of result ≡ declared_of names.now (declaration d.now) }
@@ -261,20 +258,20 @@ fn at<'a>(place: Span, found: Option<Item<'a>>) -> Given<'a>
 }
 
 /// What an item gives. The place is that of its name, of `solve`, or of its expression.
-#[tactic(auto, unfolding(mz_include::specs::Trees::OfTree))]
-pub fn gives<'a>(names: &'a Names, item: &Tree) -> Given<'a>
+#[tactic(auto, unfolding(mz_tree::specs::Kinds::OfTree, mz_tree::specs::Views::tree, mz_tree::specs::Views::shape, mz_tree::specs::Views::based, mz_tree::specs::Views::written, mz_tree::specs::Views::declaration))]
+pub fn gives<'a>(names: &'a Names, item: &TreeItem) -> Given<'a>
     requires { IsItemKnown names.now (tree_of item.now) }
     ensures { given_of result ≡ given names.now (tree_of item.now) }
 {
     match item {
-        Tree::Include(_, _) => Given::Nothing,
-        Tree::Annotation(_) => Given::Nothing,
-        Tree::Decl(d) => at(d.span, declared_of(names, d)),
-        Tree::Constraint(e) => at(e.span, constraint_in(names, &e.form)),
-        Tree::Solve(place, goal) => at(*place, goal_of(goal)),
-        Tree::Assign(_, place, _) => Given::Other(*place),
-        Tree::Output(e) => Given::Other(e.span),
-        Tree::Function(f) => Given::Other(f.span),
-        Tree::Enum(_, place, _) => Given::Other(*place),
+        TreeItem::Include(_, _) => Given::Nothing,
+        TreeItem::Annotation(_) => Given::Nothing,
+        TreeItem::Decl(d) => at(d.span, declared_of(names, d)),
+        TreeItem::Constraint(e) => at(e.span, constraint_in(names, &e.form)),
+        TreeItem::Solve(place, goal) => at(*place, goal_of(goal)),
+        TreeItem::Assign(_, place, _) => Given::Other(*place),
+        TreeItem::Output(e) => Given::Other(e.span),
+        TreeItem::Function(f) => Given::Other(f.span),
+        TreeItem::Enum(_, place, _) => Given::Other(*place),
     }
 }

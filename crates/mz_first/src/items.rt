@@ -13,7 +13,7 @@ use crate::form::{Given, gives};
 use crate::item::{Comparison, Item, Operand};
 use crate::names::NameTable;
 use mz_base::{Name, Names, Span};
-use mz_tree::{Item as Tree, SourceFile};
+use mz_tree::{Item as TreeItem, SourceFile};
 use std::alloc::{AllocError, Global};
 
 /// The items so far, the names that they declare, in order, and whether the solve item came.
@@ -129,7 +129,7 @@ impl<'a> Items<'a> {
         &mut self,
         known: &NameTable<'a>,
         names: &'a Names,
-        items: &[Tree],
+        items: &[TreeItem],
     ) -> Result<Option<Span>, AllocError>
         requires kept { IsKept self.old }
         requires known { All (λ i. IsItemKnown names.now (tree_of i)) items.now }

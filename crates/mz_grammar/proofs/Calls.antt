@@ -3,7 +3,7 @@ use Rattle.std.proofs.Common.{◌≡◌, List, [], ◌∷◌, ◌++◌, refl, tr
 use Rattle.std.specs.Prelude.{Some, None, if◌then◌else◌, ◌&&◌}
 use Rattle.mz_base.specs.declared.fault.Span.{Span}
 use Rattle.mz_lexer.specs.declared.token.Tok.{Tok}
-use Rattle.mz_lexer.specs.declared.token.Keyword.TheVariants.{KIn, KWhere}
+use Rattle.mz_base.specs.declared.keyword.Keyword.TheVariants.{KIn, KWhere}
 use Rattle.mz_lexer.specs.declared.token.Symbol.TheVariants.{SLParen, SRParen}
 use Rattle.mz_cursor.specs.Rules.{give, refuse, look, pass, leave, part}
 use Rattle.mz_cursor.specs.Look.{is_sym, is_word, symbol_number, keyword_number}

@@ -1,6 +1,6 @@
 -- The rules of declarations and types keep to what makes each front of tokens viable.
 use Rattle.std.proofs.Common.{ℕ, zero, suc, [], ◌∷◌}
-use Rattle.mz_lexer.specs.declared.token.Keyword.TheVariants.{KArray, KBool, KInt, KList, KOf, KOpt, KPar, KSet, KVar}
+use Rattle.mz_base.specs.declared.keyword.Keyword.TheVariants.{KArray, KBool, KInt, KList, KOf, KOpt, KPar, KSet, KVar}
 use Rattle.mz_lexer.specs.declared.token.Symbol.TheVariants.{SLParen, SRParen, SLBrack, SRBrack, SColon, SEq}
 use Rattle.mz_cursor.specs.Rules.{give, part}
 use Rattle.mz_cursor.specs.Look.{is_sym, is_word, symbol_number, keyword_number}

@@ -5,8 +5,8 @@ use Rattle.mz_base.specs.declared.fault.Span.{Span}
 use Rattle.mz_lexer.specs.declared.token.Token.{Token}
 use Rattle.mz_lexer.specs.declared.token.Tok.{Tok}
 use Rattle.mz_lexer.specs.declared.token.Tok.TheVariants.{Word, Sym, Ident, Int, Text, TextHead, TextMid, TextTail}
-use Rattle.mz_lexer.specs.declared.token.Keyword.{Keyword}
-use Rattle.mz_lexer.specs.declared.token.Keyword.TheVariants.{KIn, KWhere, KIf, KLet}
+use Rattle.mz_base.specs.declared.keyword.Keyword.{Keyword}
+use Rattle.mz_base.specs.declared.keyword.Keyword.TheVariants.{KIn, KWhere, KIf, KLet}
 use Rattle.mz_lexer.specs.declared.token.Symbol.{Symbol}
 use Rattle.mz_lexer.specs.declared.token.Symbol.TheVariants.{SLParen, SRParen, SLBrack, SRBrack, SLBrace, SLRows, SComma, SColons, SDots}
 use Rattle.mz_tree.specs.Tree.{Name, Tree, Maybe, node, interp, choice, parts, branches as branch_list, unary, call, plain, generator, trees}
@@ -28,7 +28,8 @@ use Rattle.mz_grammar.specs.Parts.{Place, Reading, tree_of, chained, Argument, g
 use Rattle.mz_grammar.specs.Arguments.{turn_by, waits, takes_where, trees_of, generators_of}
 use Rattle.mz_grammar.specs.Tests.{closes, is_left_out, ident_of}
 use Rattle.mz_grammar.specs.Model.{Ruled, rule, behind as behind_element, symbol, word, identifier, accessed, unless_annotated, called, generator_call, guarded_rest, head_token, head_symbol, head_word}
-use Rattle.mz_grammar.specs.Reading.{rank, width, reads, ident_at, separator_at, with_branches, generators_at, guarded_at, waited_at, called_at, parenthesised_at, let_at, head_at, head_symbol_at, head_word_at}
+use Rattle.mz_grammar.specs.Reading.{rank, width, reads}
+use Rattle.mz_grammar.specs.Steps.{ident_at, separator_at, with_branches, generators_at, guarded_at, waited_at, called_at, parenthesised_at, let_at, head_at, head_symbol_at, head_word_at}
 use Rattle.mz_grammar.proofs.Falls.{low, falls}
 
 pub by_rule : (n : Place) (room : ℕ) (ts : List Token) → reads n room ts ≡ step reads (rule n) room ts

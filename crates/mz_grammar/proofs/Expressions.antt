@@ -3,8 +3,8 @@ use Rattle.std.proofs.Common.{[], ◌∷◌, true, false, Bool, Option}
 use Rattle.std.specs.Prelude.{Some, None, if◌then◌else◌}
 use Rattle.mz_lexer.specs.declared.token.Tok.{Tok}
 use Rattle.mz_lexer.specs.declared.token.Tok.TheVariants.{Word, Sym, Ident, Int, Text, TextHead, TextMid, TextTail}
-use Rattle.mz_lexer.specs.declared.token.Keyword.{Keyword}
-use Rattle.mz_lexer.specs.declared.token.Keyword.TheVariants.{KEndif, KFalse, KIf, KIn, KLet, KThen, KTrue}
+use Rattle.mz_base.specs.declared.keyword.Keyword.{Keyword}
+use Rattle.mz_base.specs.declared.keyword.Keyword.TheVariants.{KEndif, KFalse, KIf, KIn, KLet, KThen, KTrue}
 use Rattle.mz_lexer.specs.declared.token.Symbol.{Symbol}
 use Rattle.mz_lexer.specs.declared.token.Symbol.TheVariants.{SLParen, SRParen, SLBrack, SRBrack, SLBrace, SRBrace, SLRows, SRRows, SComma, SColons, SDots, SAbsent}
 use Rattle.mz_cursor.specs.Rules.{give, part}

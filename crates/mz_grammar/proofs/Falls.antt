@@ -4,8 +4,8 @@ use Rattle.std.specs.Prelude.{Some, None, if◌then◌else◌, ◌&&◌, ◌||�
 use Rattle.mz_base.specs.declared.fault.Span.{Span}
 use Rattle.mz_lexer.specs.declared.token.Tok.{Tok}
 use Rattle.mz_lexer.specs.declared.token.Tok.TheVariants.{Word, Sym, Ident, Int, Text, TextHead, TextMid, TextTail}
-use Rattle.mz_lexer.specs.declared.token.Keyword.{Keyword}
-use Rattle.mz_lexer.specs.declared.token.Keyword.TheVariants as keyword
+use Rattle.mz_base.specs.declared.keyword.Keyword.{Keyword}
+use Rattle.mz_base.specs.declared.keyword.Keyword.TheVariants as keyword
 use Rattle.mz_lexer.specs.declared.token.Symbol.{Symbol}
 use Rattle.mz_lexer.specs.declared.token.Symbol.TheVariants as symbol_is
 use Rattle.mz_lexer.specs.declared.token.Symbol.TheVariants.{SLParen, SRParen, SLBrack, SRBrack, SRBrace, SRRows, SBar, SComma, SSemi, SColon, SColons, SDots, SEq}

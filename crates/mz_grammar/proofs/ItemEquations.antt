@@ -3,7 +3,7 @@ use Rattle.std.proofs.Common.{◌≡◌, ℕ, zero, suc, List, [], ◌∷◌, re
 use Rattle.std.specs.Prelude.{Ok, Err, Some, None, if◌then◌else◌, ◌||◌}
 use Rattle.mz_base.specs.declared.fault.Span.{Span}
 use Rattle.mz_lexer.specs.declared.token.Token.{Token}
-use Rattle.mz_lexer.specs.declared.token.Keyword.TheVariants.{KArray, KList, KOf, KVar, KPar, KOpt, KSet, KBool, KInt, KSatisfy, KMinimize, KMaximize}
+use Rattle.mz_base.specs.declared.keyword.Keyword.TheVariants.{KArray, KList, KOf, KVar, KPar, KOpt, KSet, KBool, KInt, KSatisfy, KMinimize, KMaximize}
 use Rattle.mz_lexer.specs.declared.token.Symbol.TheVariants.{SLParen, SRParen, SLBrack, SRBrack, SLBrace, SRBrace, SSemi, SColon, SEq, SConcat}
 use Rattle.mz_tree.specs.Tree.{Name, Written, Based, declaration, written, base_bool, base_int, base_of, no_array, just, nothing}
 use Rattle.mz_tree.specs.Items.{satisfy, minimize, maximize, declare}
@@ -17,8 +17,10 @@ use Rattle.mz_grammar.specs.declared.list.Closing.TheVariants.{Paren, Bracket, B
 use Rattle.mz_grammar.specs.Parts
 use Rattle.mz_grammar.specs.Parts.{Reading, at_of, tree_of}
 use Rattle.mz_grammar.specs.Tests.{ident_of, text_of, begins_base, begins_type, ItemKind, an_include, a_constraint, a_solve, an_output, a_predicate, a_test, a_function, an_annotation, an_enum, item_of}
-use Rattle.mz_grammar.specs.Model.{rule, word, opening, array_type, marked, function_rule, by_expression, other_item, item_by}
-use Rattle.mz_grammar.specs.Reading.{reads, ident_at, separator_at, dimensions_at, braced_at, function_at, by_expression_at, other_item_at, item_at}
+use Rattle.mz_grammar.specs.Model.{rule, word, opening, function_rule, by_expression, other_item, item_by}
+use Rattle.mz_tree.specs.Tree.{array_type, marked}
+use Rattle.mz_grammar.specs.Reading.{reads}
+use Rattle.mz_grammar.specs.Steps.{ident_at, separator_at, dimensions_at, braced_at, function_at, by_expression_at, other_item_at, item_at}
 use Rattle.mz_grammar.proofs.Equations.{by_rule, symbol_reads, word_reads, identifier_reads, behind_reads}
 
 -- Types

@@ -1,11 +1,13 @@
--- The rules of a model keep the bounds on the heights of trees, so the trees of a file are at most 8833 high.
+-- The rules of a model keep the bounds on the heights of trees, so the trees of a file are at most HEIGHT_LIMIT high.
 use Rattle.std.proofs.Common.{◌≡◌, ℕ, zero, suc, List, [], ◌∷◌, ◌≤◌, ◌∙◌, ap, arith, true, false, Bool, Option}
 use Rattle.std.specs.Prelude.{map, ◌||◌}
 use Rattle.std.proofs.Math.Nat.{max-le}
+use Rattle.mz_base.specs.declared.limit.TheConstants.{OPEN_LIMIT}
+use Rattle.mz_tree.specs.declared.height.TheConstants.{HEIGHT_LIMIT}
 use Rattle.mz_base.specs.declared.fault.Span.{Span}
 use Rattle.mz_lexer.specs.declared.token.Token.{Token}
 use Rattle.mz_lexer.specs.declared.token.Tok.{Tok}
-use Rattle.mz_lexer.specs.declared.token.Keyword.TheVariants as keyword
+use Rattle.mz_base.specs.declared.keyword.Keyword.TheVariants as keyword
 use Rattle.mz_lexer.specs.declared.token.Symbol.TheVariants.{SLParen, SRParen, SLBrack, SLBrace, SRBrack, SRBrace, SSemi, SColon, SEq, SConcat}
 use Rattle.mz_tree.specs.declared.item.Item.{Item}
 use Rattle.mz_tree.specs.Tree.{Tree, Written, Based, base_int, base_of, no_array, bases, written}
@@ -19,7 +21,8 @@ use Rattle.mz_grammar.specs.declared.list.Closing.TheVariants.{Paren, Bracket, B
 use Rattle.mz_grammar.specs.Parts
 use Rattle.mz_grammar.specs.Parts.{Place, Value, Reading}
 use Rattle.mz_grammar.specs.Tests.{ItemKind, an_include, a_constraint, a_solve, an_output, a_predicate, a_test, a_function, an_annotation, an_enum, item_of, ident_of, text_of, begins_base, begins_type}
-use Rattle.mz_grammar.specs.Model.{rule, declaration_rule, declared_rule, value_rule, array_type, marked, type_rule, index_types_rule, element_rule, unmarked_rule, base_rule, params_rule, param_list_rule, param_rule, function_rule, by_expression, item_by, item_rule, goal_rule, cases_rule, case_names_rule, file_rule, more_items_rule}
+use Rattle.mz_grammar.specs.Model.{rule, declaration_rule, declared_rule, value_rule, type_rule, index_types_rule, element_rule, unmarked_rule, base_rule, params_rule, param_list_rule, param_rule, function_rule, by_expression, item_by, item_rule, goal_rule, cases_rule, case_names_rule, file_rule, more_items_rule}
+use Rattle.mz_tree.specs.Tree.{array_type, marked}
 use Rattle.mz_grammar.proofs.Bounds.{Bounded, Kept, reading_height, highest, right_of, level_fits, more_room, tested, found, behind_kept, chained_height, items_highest}
 use Rattle.mz_grammar.proofs.Heights.{operand_kept, operators_kept, unit_kept, atom_kept, accesses_kept, indices_kept, more_indices_kept, annotations_kept, marks_kept, head_kept, named_kept, arguments_kept, text_rest_kept, elements_kept, array_body_kept, set_body_kept, rows_body_kept, more_rows_kept, row_kept, cells_kept, generator_kept, more_names_kept, filter_kept, generators_kept, branch_kept, branches_kept, let_items_kept, let_item_kept}
 
@@ -198,9 +201,9 @@ pub bounded : (n : Place) (room : ℕ) {ts : List Token} {x : Value n} {next : O
 bounded n room r = Generic.holds Bounded rule all_kept r
 
 -- the items of a file
-pub file_is_bounded : {ts : List Token} {is : List ItemTree} {next : Option Tok} → Runs rule Parts.file 120 (rule Parts.file) ts is next → highest is ≤ 8833
-file_is_bounded {is = is} r = rw most_in_a_file at (bounded Parts.file 120 r)
+pub file_is_bounded : {ts : List Token} {is : List ItemTree} {next : Option Tok} → Runs rule Parts.file OPEN_LIMIT (rule Parts.file) ts is next → highest is ≤ HEIGHT_LIMIT
+file_is_bounded {is = is} r = rw most_in_a_file at (bounded Parts.file OPEN_LIMIT r)
 
 -- the items in memory that a file is read to
-pub items_are_bounded : (items : List Item) {ts : List Token} {is : List ItemTree} {next : Option Tok} → map tree_of_item items ≡ is → Runs rule Parts.file 120 (rule Parts.file) ts is next → items_height items ≤ 8833
+pub items_are_bounded : (items : List Item) {ts : List Token} {is : List ItemTree} {next : Option Tok} → map tree_of_item items ≡ is → Runs rule Parts.file OPEN_LIMIT (rule Parts.file) ts is next → items_height items ≤ HEIGHT_LIMIT
 items_are_bounded items e r = rw (items_highest items ∙ ap highest e) (file_is_bounded r)

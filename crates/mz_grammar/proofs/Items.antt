@@ -3,7 +3,7 @@ use Rattle.std.proofs.Common.{◌≡◌, [], ◌∷◌, refl, sym, ap, subst, tr
 use Rattle.std.specs.Prelude.{Some, None, if◌then◌else◌, ◌||◌}
 use Rattle.mz_lexer.specs.declared.token.Tok.{Tok}
 use Rattle.mz_lexer.specs.declared.token.Tok.TheVariants.{Text}
-use Rattle.mz_lexer.specs.declared.token.Keyword.TheVariants.{KInt, KMaximize, KMinimize, KSatisfy}
+use Rattle.mz_base.specs.declared.keyword.Keyword.TheVariants.{KInt, KMaximize, KMinimize, KSatisfy}
 use Rattle.mz_lexer.specs.declared.token.Symbol.TheVariants.{SLParen, SLBrace, SRBrace, SSemi, SColon, SEq, SConcat}
 use Rattle.mz_cursor.specs.Rules.{give, refuse, look, pass, part}
 use Rattle.mz_cursor.specs.Look.{is_sym, is_word, symbol_number, keyword_number}

@@ -2,7 +2,7 @@
 use Rattle.std.proofs.Common.{◌≡◌, ℕ, List, [], ◌∷◌, refl, ◌∙◌, true, false, Bool}
 use Rattle.std.specs.Prelude.{Ok, Err, if◌then◌else◌, ◌||◌}
 use Rattle.mz_lexer.specs.declared.token.Token.{Token}
-use Rattle.mz_lexer.specs.declared.token.Keyword.TheVariants.{KIn, KWhere, KThen, KElse, KElseif, KEndif, KConstraint}
+use Rattle.mz_base.specs.declared.keyword.Keyword.TheVariants.{KIn, KWhere, KThen, KElse, KElseif, KEndif, KConstraint}
 use Rattle.mz_lexer.specs.declared.token.Symbol.TheVariants.{SRBrack, SRBrace, SRRows, SBar, SComma, SSemi}
 use Rattle.mz_tree.specs.Tree.{Tree, Generator, Let, array, set, array_comp, set_comp, just, nothing, plain, shown, generator, constrained, trees, gens}
 use Rattle.mz_tree.specs.Tree as pure
@@ -18,7 +18,8 @@ use Rattle.mz_grammar.specs.Parts
 use Rattle.mz_grammar.specs.Parts.{Place, Value, tree_of}
 use Rattle.mz_grammar.specs.Tests.{ident_of, middle_of, tail_of, ends_row}
 use Rattle.mz_grammar.specs.Model.{rule, behind as behind_element}
-use Rattle.mz_grammar.specs.Reading.{reads, ident_at, separator_at, let_separator_at, with_branches, generators_at}
+use Rattle.mz_grammar.specs.Reading.{reads}
+use Rattle.mz_grammar.specs.Steps.{ident_at, separator_at, let_separator_at, with_branches, generators_at}
 use Rattle.mz_grammar.proofs.Equations.{by_rule, word_reads, identifier_reads, behind_reads}
 
 pub text_rest_reads : (room : ℕ) (ts : List Token) → reads Parts.text_rest room ts ≡ (reads Parts.expr room ts >>= λ e. on (middle_of (tok_at e.1))

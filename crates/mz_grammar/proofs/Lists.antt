@@ -2,7 +2,7 @@
 use Rattle.std.proofs.Common.{◌≡◌, [], ◌∷◌, refl, sym, ap, true, false, Bool, inl, inr, ◌⊎◌}
 use Rattle.std.specs.Prelude.{Some, if◌then◌else◌, ◌||◌}
 use Rattle.mz_lexer.specs.declared.token.Tok.TheVariants.{Word, Sym}
-use Rattle.mz_lexer.specs.declared.token.Keyword.TheVariants.{KConstraint, KElse, KElseif, KEndif, KIn, KThen, KWhere}
+use Rattle.mz_base.specs.declared.keyword.Keyword.TheVariants.{KConstraint, KElse, KElseif, KEndif, KIn, KThen, KWhere}
 use Rattle.mz_lexer.specs.declared.token.Symbol.TheVariants.{SRBrack, SRBrace, SRRows, SBar, SComma, SSemi}
 use Rattle.mz_cursor.specs.Rules.{give, part}
 use Rattle.mz_cursor.specs.Look.{is_sym, is_word, symbol_number, keyword_number}

@@ -5,7 +5,7 @@ use Rattle.mz_base.specs.declared.fault.Span.{Span}
 use Rattle.mz_lexer.specs.declared.token.Token.{Token}
 use Rattle.mz_lexer.specs.declared.token.Tok.{Tok}
 use Rattle.mz_lexer.specs.declared.token.Tok.TheVariants.{Word, Sym, Ident, Int}
-use Rattle.mz_lexer.specs.declared.token.Keyword.TheVariants.{KConstraint, KIf, KThen, KEndif, KIn, KLet, KSatisfy, KSolve}
+use Rattle.mz_base.specs.declared.keyword.Keyword.TheVariants.{KConstraint, KIf, KThen, KEndif, KIn, KLet, KSatisfy, KSolve}
 use Rattle.mz_lexer.specs.declared.token.Symbol.TheVariants.{SLParen, SRParen, SLBrack, SRBrack, SLBrace, SRBrace, SLRows, SRRows, SBar, SComma, SSemi, SColon, SColons, SLt, SEq, SPlus, SMinus, SStar}
 use Rattle.mz_tree.specs.declared.expr.BinOp.{BinOp}
 use Rattle.mz_tree.specs.declared.expr.BinOp.TheVariants as op

@@ -5,7 +5,7 @@ use Rattle.mz_base.specs.Names.{text_of}
 use Rattle.mz_base.specs.declared.fault.Span.{Span}
 use Rattle.mz_lexer.specs.declared.token.Tok.{Tok}
 use Rattle.mz_lexer.specs.declared.token.Tok.TheVariants.{Word, Ident, Int}
-use Rattle.mz_lexer.specs.declared.token.Keyword.TheVariants.{KTrue, KFalse}
+use Rattle.mz_base.specs.declared.keyword.Keyword.TheVariants.{KTrue, KFalse}
 use Rattle.mz_lexer.specs.declared.token.Symbol.{Symbol}
 use Rattle.mz_lexer.specs.declared.token.Symbol.TheVariants.{SLParen, SRParen, SLBrack, SRBrack, SLBrace, SRBrace, SLRows, SRRows, SBar, SComma, SSemi, SDots, SEq, SMinus, SAbsent}
 use Rattle.mz_tree.specs.Tree.{Name}

@@ -6,3 +6,4 @@ pub mod Model
 pub mod Reading
 pub mod Data
 pub mod Promise
+pub mod Steps

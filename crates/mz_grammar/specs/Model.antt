@@ -3,11 +3,11 @@ use Rattle.std.specs.Prelude.{ℕ, zero, suc, Bool, true, false, List, [], ◌�
 use Rattle.mz_base.specs.declared.fault.Span.{Span}
 use Rattle.mz_lexer.specs.declared.token.Tok.{Tok}
 use Rattle.mz_lexer.specs.declared.token.Tok.TheVariants.{Word, Sym, Ident, Int, Text, TextHead}
-use Rattle.mz_lexer.specs.declared.token.Keyword.{Keyword}
-use Rattle.mz_lexer.specs.declared.token.Keyword.TheVariants.{KArray, KBool, KConstraint, KElse, KElseif, KEndif, KFalse, KIf, KIn, KInt, KLet, KList, KMaximize, KMinimize, KOf, KOpt, KPar, KSatisfy, KSet, KThen, KTrue, KVar, KWhere}
+use Rattle.mz_base.specs.declared.keyword.Keyword.{Keyword}
+use Rattle.mz_base.specs.declared.keyword.Keyword.TheVariants.{KArray, KBool, KConstraint, KElse, KElseif, KEndif, KFalse, KIf, KIn, KInt, KLet, KList, KMaximize, KMinimize, KOf, KOpt, KPar, KSatisfy, KSet, KThen, KTrue, KVar, KWhere}
 use Rattle.mz_lexer.specs.declared.token.Symbol.{Symbol}
 use Rattle.mz_lexer.specs.declared.token.Symbol.TheVariants.{SLParen, SRParen, SLBrack, SRBrack, SLBrace, SRBrace, SLRows, SRRows, SBar, SComma, SSemi, SColon, SColons, SDots, SEq, SAbsent, SConcat}
-use Rattle.mz_tree.specs.Tree.{Name, Tree, Generator, Written, Based, node, int, bool, absent, text, interp, unary, call, gen_call, access, array, rows, set, array_comp, set_comp, choice, let_in, nothing, just, plain, shown, generator as a_generator, constrained, declaration as make_declaration, written, base_bool, base_int, base_of, no_array, array_of, trees, rows_of, branches as branch_list, parts, gens, lets, bases}
+use Rattle.mz_tree.specs.Tree.{Name, Tree, Generator, Written, Based, array_type, marked, node, int, bool, absent, text, interp, unary, call, gen_call, access, array, rows, set, array_comp, set_comp, choice, let_in, nothing, just, plain, shown, generator as a_generator, constrained, declaration as make_declaration, written, base_bool, base_int, base_of, no_array, array_of, trees, rows_of, branches as branch_list, parts, gens, lets, bases}
 use Rattle.mz_tree.specs.Tree as pure
 use Rattle.mz_tree.specs.Items.{satisfy, minimize, maximize, include, declare, assign, constraint, solve, output, function, enum, annotation}
 use Rattle.mz_cursor.specs.Look.{is_sym, is_word}
@@ -276,9 +276,6 @@ value_rule = look (λ o. if is_sym SEq o then pass (λ s. part Parts.expr λ e. 
 
 -- type = [ "array" "[" base { "," base } "]" "of" | "list" "of" ] elem
 -- `list of` means `array[int] of`
-abbrev pub array_type : Span → List Based → Written → Written
-array_type s bs (written t ds v o st b) = written s (array_of (bases bs)) v o st b
-
 abbrev pub type_rule : Ruled Parts.type
 type_rule = look (λ o. if is_word KArray o
     then pass (λ s. opening SLBrack λ b. look (λ o. if is_sym SRBrack o then refuse else part (Parts.index_types 6) λ bs. leave (word KOf λ f. part Parts.element λ t. give (array_type s bs t))))
@@ -294,9 +291,6 @@ index_types_rule (suc n) = look (λ o. if is_sym SRBrack o
     else part Parts.base λ b. behind Bracket (part (Parts.index_types n) λ bs. give (b.1 ∷ bs)) (give (b.1 ∷ [])))
 
 -- elem = [ "var" | "par" ] [ "opt" | "set" "of" ] base
-abbrev pub marked : Span → Bool → Written → Written
-marked s var (written t ds v o st b) = written s ds var o st b
-
 abbrev pub element_rule : Ruled Parts.element
 element_rule = look (λ o. if is_word KVar o
     then pass (λ s. part Parts.unmarked λ t. give (marked s true t))

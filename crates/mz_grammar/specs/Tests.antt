@@ -2,7 +2,7 @@
 use Rattle.std.specs.Prelude.{Bool, true, false, Option, Some, None, ◌||◌}
 use Rattle.mz_lexer.specs.declared.token.Tok.{Tok}
 use Rattle.mz_lexer.specs.declared.token.Tok.TheVariants.{Word, Sym, Ident, Int, Text, TextHead, TextMid, TextTail}
-use Rattle.mz_lexer.specs.declared.token.Keyword.TheVariants.{KBool, KInt, KTrue, KFalse, KIf, KLet, KNot, KArray, KList, KVar, KPar, KOpt, KSet, KInclude, KConstraint, KSolve, KOutput, KPredicate, KTest, KFunction, KAnnotation, KEnum}
+use Rattle.mz_base.specs.declared.keyword.Keyword.TheVariants.{KBool, KInt, KTrue, KFalse, KIf, KLet, KNot, KArray, KList, KVar, KPar, KOpt, KSet, KInclude, KConstraint, KSolve, KOutput, KPredicate, KTest, KFunction, KAnnotation, KEnum}
 use Rattle.mz_lexer.specs.declared.token.Symbol.TheVariants.{SLParen, SRParen, SLBrack, SRBrack, SLBrace, SRBrace, SLRows, SRRows, SBar, SColon, SPlus, SMinus, SAbsent}
 use Rattle.mz_tree.specs.Tree.{Name}
 use Rattle.mz_grammar.specs.declared.list.Closing.{Closing}

@@ -5,8 +5,8 @@ use Rattle.std.proofs.lemmas.List.Elements.{All-nil, All-cons}
 use Rattle.mz_base.specs.declared.fault.Span.{Span}
 use Rattle.mz_lexer.specs.declared.token.Tok.{Tok}
 use Rattle.mz_lexer.specs.declared.token.Tok.TheVariants.{Word, Sym, Ident, Int, Text, TextHead, TextMid, TextTail}
-use Rattle.mz_lexer.specs.declared.token.Keyword.{Keyword}
-use Rattle.mz_lexer.specs.declared.token.Keyword.TheVariants as keyword
+use Rattle.mz_base.specs.declared.keyword.Keyword.{Keyword}
+use Rattle.mz_base.specs.declared.keyword.Keyword.TheVariants as keyword
 use Rattle.mz_lexer.specs.declared.token.Symbol.{Symbol}
 use Rattle.mz_lexer.specs.declared.token.Symbol.TheVariants as symbol_is
 use Rattle.mz_lexer.specs.declared.token.Symbol.TheVariants.{SLParen, SRParen, SLBrack, SLBrace, SRBrack, SRBrace, SRRows, SBar, SComma, SSemi, SColons, SDots}
@@ -23,7 +23,7 @@ use Rattle.mz_grammar.specs.Parts.{Place, Reading, Argument}
 use Rattle.mz_grammar.specs.Arguments.{waits, takes_where, trees_of, generators_of}
 use Rattle.mz_grammar.specs.Tests.{closes, ident_of, middle_of, tail_of, ends_row}
 use Rattle.mz_grammar.specs.Model.{Ruled, behind, operand_rule, operators_rule, unit_rule, atom_rule, unless_annotated, accesses_rule, indices_rule, more_indices_rule, annotations_rule, marks_rule, head_symbol, head_word, head_token, called, named_rule, guarded_rest, arguments_rule, text_rest_rule, elements_rule, array_body_rule, set_body_rule, rows_body_rule, more_rows_rule, row_rule, cells_rule, generator_rule, more_names_rule, filter_rule, generators_rule, branch_rule, branches_rule, let_items_rule, let_item_rule}
-use Rattle.mz_include.specs.Trees.{IsSpot, OfTree, OfTrees, OfGens}
+use Rattle.mz_tree.specs.Kinds.{IsSpot, OfTree, OfTrees, OfGens}
 use Rattle.mz_include.proofs.PartTrees as Of
 
 module _ (Named : Name → Type 0) (Placed : Span → Type 0) where

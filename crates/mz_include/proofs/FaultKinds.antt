@@ -11,7 +11,7 @@ use Rattle.mz_io.specs.Files.{FileCounts}
 use Rattle.mz_lexer.specs.declared.opening.Opening.{Opening}
 use Rattle.mz_lexer.specs.Lexemes.{Lex, Outcome, with_token}
 use Rattle.mz_lexer.specs.Lexes.{Lexed, no_bytes, a_blank, a_line_comment, a_comment, a_token, left_out, past_limit, nothing_begins, in_a_text}
-use Rattle.mz_lexer.specs.Views.{IfRefused as IfStopped}
+use Rattle.mz_base.specs.Faults.{IfRefused as IfStopped}
 use Rattle.mz_cursor.specs.Rules.{Reason, syntax, left_out as is_left_out, too_deep}
 use Rattle.mz_cursor.specs.Promise.{kind_of, reason_of}
 use Rattle.mz_lexer.specs.declared.token.Token.{Token}

@@ -5,7 +5,7 @@ use Rattle.std.proofs.lemmas.List.Elements.{All-nil, All-cons}
 use Rattle.mz_base.specs.declared.fault.Span.{Span}
 use Rattle.mz_lexer.specs.declared.token.Token.{Token}
 use Rattle.mz_lexer.specs.declared.token.Tok.{Tok}
-use Rattle.mz_lexer.specs.declared.token.Keyword.TheVariants as keyword
+use Rattle.mz_base.specs.declared.keyword.Keyword.TheVariants as keyword
 use Rattle.mz_lexer.specs.declared.token.Symbol.TheVariants.{SLParen, SRParen, SLBrack, SLBrace, SRBrack, SRBrace, SSemi, SColon, SEq, SConcat}
 use Rattle.mz_tree.specs.Tree.{Name, Tree, Written, Based, base_int, base_of, no_array, bases, written}
 use Rattle.mz_tree.specs.Items.{ItemTree}
@@ -17,8 +17,9 @@ use Rattle.mz_grammar.specs.declared.list.Closing.TheVariants.{Paren, Bracket, B
 use Rattle.mz_grammar.specs.Parts
 use Rattle.mz_grammar.specs.Parts.{Place, Value, Reading}
 use Rattle.mz_grammar.specs.Tests.{ItemKind, an_include, a_constraint, a_solve, an_output, a_predicate, a_test, a_function, an_annotation, an_enum, item_of, ident_of, text_of, begins_base, begins_type}
-use Rattle.mz_grammar.specs.Model.{Ruled, behind, rule, declaration_rule, declared_rule, value_rule, array_type, marked, type_rule, index_types_rule, element_rule, unmarked_rule, base_rule, params_rule, param_list_rule, param_rule, function_rule, by_expression, item_by, item_rule, goal_rule, cases_rule, case_names_rule, file_rule, more_items_rule}
-use Rattle.mz_include.specs.Trees.{IsSpot, OfTree, OfBases, OfWritten, OfDeclaration, OfItem}
+use Rattle.mz_grammar.specs.Model.{Ruled, behind, rule, declaration_rule, declared_rule, value_rule, type_rule, index_types_rule, element_rule, unmarked_rule, base_rule, params_rule, param_list_rule, param_rule, function_rule, by_expression, item_by, item_rule, goal_rule, cases_rule, case_names_rule, file_rule, more_items_rule}
+use Rattle.mz_tree.specs.Tree.{array_type, marked}
+use Rattle.mz_tree.specs.Kinds.{IsSpot, OfTree, OfBases, OfWritten, OfDeclaration, OfItem}
 use Rattle.mz_include.proofs.TokenParts as Generic
 use Rattle.mz_include.proofs.PartTrees as Of
 use Rattle.mz_include.proofs.ExpressionTrees as Expression

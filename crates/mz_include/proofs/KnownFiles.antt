@@ -5,14 +5,15 @@ use Rattle.std.proofs.lemmas.List.Elements.{All-nil, All-cons, All-head, All-tai
 use Rattle.std.proofs.lemmas.Option.{slice_get_within, slice_get-get_or}
 use Rattle.mz_base.specs.declared.fault.Span.{Span}
 use Rattle.mz_base.specs.Names.{Grows}
-use Rattle.mz_lexer.specs.Lexemes.{start_of, after}
+use Rattle.mz_base.specs.Faults.{start_of}
+use Rattle.mz_lexer.specs.Lexemes.{after}
 use Rattle.mz_tree.specs.declared.item.Item.{Item}
 use Rattle.mz_tree.specs.declared.source.SourceFile.{SourceFile}
 use Rattle.mz_tree.specs.Items.{ItemTree, item}
 use Rattle.mz_include.specs.Trees.{IsItemOf, IsItemKnown}
 use Rattle.mz_include.specs.Views.{IsFileOf, AreKnown}
 use Rattle.mz_include.proofs.Places.{after_file}
-use Rattle.mz_include.proofs.TreesLater.{item_later}
+use Rattle.mz_tree.proofs.Later.{item_later}
 use Rattle.mz_include.proofs.KnownItems.{item_known}
 
 -- where the table has grown from old to new

@@ -4,7 +4,6 @@ pub mod TokenParts
 pub mod PartTrees
 pub mod ExpressionTrees
 pub mod ItemTrees
-pub mod TreesLater
 pub mod Places
 pub mod KnownItems
 pub mod Later

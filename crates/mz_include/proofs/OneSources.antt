@@ -9,7 +9,8 @@ use Rattle.mz_base.specs.Names.{AreDistinct}
 use Rattle.mz_tree.specs.Items.{ItemTree}
 use Rattle.mz_include.specs.Naming.{Mention, File, next}
 use Rattle.mz_include.specs.Parsing.{IsParsed, IsUnparsed}
-use Rattle.mz_include.specs.Sources.{file_limit, IsReading, AreRead, none_yet, one_more, IsSources, Fails, missing, too_long, unparsed, IsFirstFailure}
+use Rattle.mz_base.specs.declared.limit.TheConstants.{FILE_LIMIT}
+use Rattle.mz_include.specs.Sources.{IsReading, AreRead, none_yet, one_more, IsSources, Fails, missing, too_long, unparsed, IsFirstFailure}
 use Rattle.mz_include.proofs.OneReading.{parsed_or_not, one_parsing, one_unparsed}
 
 longer : {A : Type 0} (xs : List A) (x : A) → length (xs ++ x ∷ []) ≡ length xs + 1
@@ -22,7 +23,7 @@ module _ (names : List (List ℕ)) (distinct : AreDistinct names) (texts : List 
   -- a file whose turn it is is read, or fails, in one way
   read_or_fails : (turn : ℕ) (m : Mention) (file : File) (f : Fault) (owner : List ℕ) → IsReading names (Some texts) turn m file → Fails names (Some texts) turn m f owner → ⊥
   read_or_fails turn m file f owner r (missing h) = let e : Some r.text ≡ None = sym r.fetched.told ∙ h in absurd (cc)
-  read_or_fails turn m file f owner r (too_long h) = let e = same_text m.name r.text h.0 r.fetched.told h.1 in let within : length r.text ≤ file_limit = r.fetched.within in let over : file_limit < length r.text = subst (λ t. file_limit < length t) (sym e) h.2 in absurd (omega arith)
+  read_or_fails turn m file f owner r (too_long h) = let e = same_text m.name r.text h.0 r.fetched.told h.1 in let within : length r.text ≤ FILE_LIMIT = r.fetched.within in let over : FILE_LIMIT < length r.text = subst (λ t. FILE_LIMIT < length t) (sym e) h.2 in absurd (omega arith)
   read_or_fails turn m file f owner r (unparsed {f = g} text fetched h) =
       parsed_or_not names distinct turn text file g (subst (λ t. IsParsed names turn t file) (same_text m.name r.text text r.fetched.told fetched.told) r.parsed) h
 
@@ -40,10 +41,10 @@ module _ (names : List (List ℕ)) (distinct : AreDistinct names) (texts : List 
   one_failure turn m f g owner other (too_long h) (missing k) = let e : Some h.0 ≡ None = sym h.1 ∙ k in absurd (cc)
   one_failure turn m f g owner other (too_long h) (too_long k) = (refl, refl)
   one_failure turn m f g owner other (too_long h) (unparsed text fetched k) =
-      let e = same_text m.name text h.0 fetched.told h.1 in let within : length text ≤ file_limit = fetched.within in let over : file_limit < length text = subst (λ t. file_limit < length t) (sym e) h.2 in absurd (omega arith)
+      let e = same_text m.name text h.0 fetched.told h.1 in let within : length text ≤ FILE_LIMIT = fetched.within in let over : FILE_LIMIT < length text = subst (λ t. FILE_LIMIT < length t) (sym e) h.2 in absurd (omega arith)
   one_failure turn m f g owner other (unparsed text fetched h) (missing k) = let e : Some text ≡ None = sym fetched.told ∙ k in absurd (cc)
   one_failure turn m f g owner other (unparsed text fetched h) (too_long k) =
-      let e = same_text m.name text k.0 fetched.told k.1 in let within : length text ≤ file_limit = fetched.within in let over : file_limit < length text = subst (λ t. file_limit < length t) (sym e) k.2 in absurd (omega arith)
+      let e = same_text m.name text k.0 fetched.told k.1 in let within : length text ≤ FILE_LIMIT = fetched.within in let over : FILE_LIMIT < length text = subst (λ t. FILE_LIMIT < length t) (sym e) k.2 in absurd (omega arith)
   one_failure turn m f g owner other (unparsed {f = f'} text fetched h) (unparsed {f = g'} text' fetched' k) =
       (one_unparsed names distinct turn text f' g' h (subst (λ t. IsUnparsed names turn t g') (same_text m.name text' text fetched'.told fetched.told) k), refl)
 

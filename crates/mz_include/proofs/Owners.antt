@@ -11,7 +11,7 @@ use Rattle.mz_base.specs.declared.fault.Span.{Span}
 use Rattle.mz_base.specs.Names.{text_of}
 use Rattle.mz_io.specs.Files.{Texts}
 use Rattle.mz_lexer.specs.declared.token.Token.{Token}
-use Rattle.mz_lexer.specs.Lexemes.{start_of}
+use Rattle.mz_base.specs.Faults.{start_of}
 use Rattle.mz_lexer.specs.Views.{lex}
 use Rattle.mz_tree.specs.Items.{ItemTree, include, declare, assign, constraint, solve, output, function, enum, annotation}
 use Rattle.mz_cursor.specs.Tokens.{place_or}

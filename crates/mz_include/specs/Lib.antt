@@ -7,3 +7,4 @@ pub mod Promise
 pub mod Parsing
 pub mod Views
 pub mod Ends
+pub mod Walks

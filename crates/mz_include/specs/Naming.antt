@@ -4,7 +4,7 @@ use Rattle.std.specs.List.{list_any, flat_map}
 use Rattle.std.specs.Str.{bytes_eq}
 use Rattle.mz_base.specs.declared.fault.Span.{Span}
 use Rattle.mz_base.specs.Names.{text_of}
-use Rattle.mz_lexer.specs.Lexemes.{start_of}
+use Rattle.mz_base.specs.Faults.{start_of}
 use Rattle.mz_tree.specs.Items.{ItemTree, include}
 use Rattle.mz_include.specs.Joining.{folder, joined}
 use Rattle.mz_include.specs.Library.{is_library}

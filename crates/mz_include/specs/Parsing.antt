@@ -3,7 +3,8 @@ use Rattle.std.specs.Prelude.{◌≡◌, ℕ, List, map, All}
 use Rattle.mz_base.specs.declared.fault.Fault.{Fault}
 use Rattle.mz_base.specs.declared.fault.Span.{Span}
 use Rattle.mz_lexer.specs.declared.token.Token.{Token}
-use Rattle.mz_lexer.specs.Lexemes.{after, start_of}
+use Rattle.mz_lexer.specs.Lexemes.{after}
+use Rattle.mz_base.specs.Faults.{start_of}
 use Rattle.mz_lexer.specs.Lexes.{Lexes, IsFirstFault}
 use Rattle.mz_lexer.specs.Views.{lex, HasName}
 use Rattle.mz_parser.specs.Model.{IsModel, IsRefused}

@@ -1,15 +1,12 @@
 -- A model with its included files, and the first file that fails.
 use Rattle.std.specs.Prelude.{◌≡◌, ◌≤◌, ◌<◌, ℕ, List, [], ◌∷◌, ◌++◌, length, slice_get, Some, None}
+use Rattle.mz_base.specs.declared.limit.TheConstants.{FILE_LIMIT}
 use Rattle.mz_base.specs.declared.fault.Fault.{Fault}
 use Rattle.mz_base.specs.declared.kind.Kind.TheVariants.{MissingFile, TooLong}
 use Rattle.mz_io.specs.Files.{Texts}
 use Rattle.mz_lexer.specs.Lexemes.{fault}
 use Rattle.mz_include.specs.Naming.{Mention, File, named, next}
 use Rattle.mz_include.specs.Parsing.{IsParsed, IsUnparsed}
-
--- the limit of a file, in bytes
-abbrev pub file_limit : ℕ
-file_limit = 67108864
 
 -- what the files tell of a name: its text, that there is none, that it is too long
 abbrev pub IsText : Texts → List ℕ → List ℕ → Type 0
@@ -22,12 +19,12 @@ IsMissing (Some texts) name = texts name ≡ None
 
 abbrev pub IsTooLong : Texts → List ℕ → Type 0
 IsTooLong None name = Unit {0}
-IsTooLong (Some texts) name = (text : List ℕ) × (texts name ≡ Some text) × (file_limit < length text)
+IsTooLong (Some texts) name = (text : List ℕ) × (texts name ≡ Some text) × (FILE_LIMIT < length text)
 
 -- a text within the limit that the files tell
 pub record IsFetched (texts : Texts) (name text : List ℕ) : Type 0 where
   pub told : IsText texts name text
-  pub within : length text ≤ file_limit
+  pub within : length text ≤ FILE_LIMIT
 
 -- the file whose turn it is, read
 pub record IsReading (names : List (List ℕ)) (texts : Texts) (turn : ℕ) (m : Mention) (file : File) : Type 0 where

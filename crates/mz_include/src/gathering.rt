@@ -11,8 +11,8 @@ ghost use Rattle.mz_io.specs.Counts.{Rose};
 use crate::end::GatherEnd;
 use crate::included::note_included;
 use crate::queue::{Mention, Queue};
-use crate::read::{read_file, start_of};
-use mz_base::{Memory, Names};
+use crate::read::read_file;
+use mz_base::{Memory, Names, Span};
 use mz_io::Files;
 use mz_tree::Sources;
 use std::alloc::Global;
@@ -27,7 +27,7 @@ fn begin(alloc: Global, first: &str, names: &mut Names) -> Result<Queue, Memory>
     let mut queue = Queue::new(alloc);
     queue.add(Mention {
         name,
-        span: start_of(0),
+        span: Span::start(0),
         owner: name,
     })?;
     Ok(queue)

@@ -9,8 +9,6 @@ mod law;
 mod library;
 mod queue;
 mod read;
-#[cfg(test)]
-mod tests;
 
 pub use end::GatherEnd;
 pub use gathering::gather;

@@ -1,9 +1,9 @@
 // One file, read.
 
-ghost use Rattle.std.specs.Prelude.{◌≡◌, ◌<◌, ◌≤◌, length, IfOk, IfErr, pos};
+ghost use Rattle.std.specs.Prelude.{◌≡◌, ◌<◌, ◌≤◌, length, IfOk, IfErr};
 ghost use Rattle.mz_base.specs.Names.{Grows, text_of};
-ghost use Rattle.mz_lexer.specs.Views.{IfRefused as IfStopped};
-ghost use Rattle.mz_lexer.specs.Lexemes.{start_of};
+ghost use Rattle.mz_base.specs.declared.limit.TheConstants.{FILE_LIMIT};
+ghost use Rattle.mz_base.specs.Faults.{IfRefused as IfStopped, fault_at};
 ghost use Rattle.mz_include.specs.Sources.{IsReading, Fails};
 ghost use Rattle.mz_include.specs.Parsing.{IsParsed, IsUnparsed};
 ghost use Rattle.mz_include.specs.Ends.{IfRefused, CountsFiles};
@@ -11,27 +11,12 @@ ghost use Rattle.mz_include.specs.Views.{mention, file, IsKnown, IsFileOf};
 
 use crate::end::GatherEnd;
 use crate::queue::Mention;
-use mz_base::{Fault, Kind, Name, Names, Span, Stop};
+use mz_base::{FILE_LIMIT, Fault, Kind, Name, Names, Span, Stop};
 use mz_io::{Fetched, Files};
 use mz_lexer::{after, tokens};
 use mz_parser::items;
 use mz_tree::SourceFile;
 use std::alloc::Global;
-
-/// The most bytes that a file may have.
-pub const FILE_LIMIT: u64 = 67_108_864;
-
-/// The place of a file's first byte.
-pub fn start_of(turn: u64) -> Span
-    ensures { result ≡ start_of turn }
-{
-    Span {
-        file: turn,
-        line: 1,
-        col: 1,
-        byte: 0,
-    }
-}
 
 /// The items of a file of this name and text: lexed whole, and then parsed.
 fn parse(
@@ -41,7 +26,7 @@ fn parse(
     text: &[u8],
     names: &mut Names,
 ) -> Result<SourceFile, Stop>
-    requires text { length text.now ≤ 67108864 }
+    requires text { length text.now ≤ FILE_LIMIT }
     requires name { name < length names.old }
     ensures parsed { IfOk result (λ f. IsParsed names.new turn text.now (file names.new f)) }
     ensures name { IfOk result (λ f. f.name ≡ name) }
@@ -50,21 +35,16 @@ fn parse(
     ensures grows { Grows names.old names.new }
 {
     let tokens = tokens(alloc, text, turn, names)?;
-    let end = after(start_of(turn), text);
+    let end = after(Span::start(turn), text);
     let items = items(alloc, tokens.as_slice(), end)?;
     Ok(SourceFile { name, items, end })
 }
 
 /// A refusal of the file itself, where it was first named.
 fn refused(kind: Kind, mention: Mention) -> GatherEnd
-    ensures { result ≡ GatherEnd.Refused (record { kind = kind; span = mention.span; number = pos 0 }) mention.owner }
+    ensures { result ≡ GatherEnd.Refused (fault_at kind mention.span) mention.owner }
 {
-    let fault = Fault {
-        kind,
-        span: mention.span,
-        number: 0,
-    };
-    GatherEnd::Refused(fault, mention.owner)
+    GatherEnd::Refused(Fault::at(kind, mention.span), mention.owner)
 }
 
 /// The file whose turn it is: fetched within the limit, lexed whole, and then parsed.

@@ -1,17 +1,18 @@
 -- The places of an array's elements, from the ranges of its indices.
-use Rattle.std.specs.Prelude.{ℕ, ℤ, pos, negsuc, ◌≡◌, ◌+◌, ◌*◌, ◌-◌, ◌^◌, ◌-ℤ◌, ◌≤ℤ◌, int_le, unsigned_abs, ◌&&◌, Bool, List, [], ◌∷◌, Option, Some, None, option_map, if◌then◌else◌}
+use Rattle.std.specs.Prelude.{ℕ, ℤ, pos, negsuc, neg_ℤ, ◌≡◌, ◌+◌, ◌*◌, ◌-◌, ◌^◌, ◌-ℤ◌, ◌≤ℤ◌, int_le, unsigned_abs, ◌&&◌, Bool, List, [], ◌∷◌, Option, Some, None, option_map, if◌then◌else◌}
 use Rattle.std.proofs.Common.{refl}
+use Rattle.mz_base.specs.declared.limit.TheConstants.{INTEGER_LIMIT}
 
 -- a lower and an upper end, both inclusive
 abbrev pub Range : Type 0
 Range = ℤ × ℤ
 
--- both ends lie in -2^61..2^61
+-- both ends lie in the limit of integers
 pub record IsInLimit (r : Range) : Type 0 where
-  pub least : negsuc (2 ^ 61 - 1) ≤ℤ r.0
-  pub low : r.0 ≤ℤ pos (2 ^ 61)
-  pub high : negsuc (2 ^ 61 - 1) ≤ℤ r.1
-  pub greatest : r.1 ≤ℤ pos (2 ^ 61)
+  pub least : neg_ℤ INTEGER_LIMIT ≤ℤ r.0
+  pub low : r.0 ≤ℤ INTEGER_LIMIT
+  pub high : neg_ℤ INTEGER_LIMIT ≤ℤ r.1
+  pub greatest : r.1 ≤ℤ INTEGER_LIMIT
 
 -- how many numbers a range has: none where its upper end lies below its lower one
 abbrev pub length_of : Range → ℕ

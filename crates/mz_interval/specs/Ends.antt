@@ -1,6 +1,7 @@
 -- Ranges of integers by their two ends, and the limit of all numbers.
-use Rattle.std.specs.Prelude.{◌≡◌, ◌+◌, ℤ, pos, negsuc, ◌-◌, ◌^◌, ◌≤ℤ◌, int_le, ◌&&◌, Bool, Option, Some, None, if◌then◌else◌}
+use Rattle.std.specs.Prelude.{◌≡◌, ◌+◌, ℤ, pos, negsuc, neg_ℤ, ◌-◌, ◌^◌, ◌≤ℤ◌, int_le, ◌&&◌, Bool, Option, Some, None, if◌then◌else◌}
 use Rattle.std.specs.Int.{int_min, int_max}
+use Rattle.mz_interval.specs.declared.limit.TheConstants.{LIMIT}
 use Rattle.std.proofs.Common.{refl}
 
 -- a lower and an upper end, both inclusive
@@ -14,10 +15,10 @@ pub record Encloses (e : Ends) (x : ℤ) : Type 0 where
 
 -- the least and the greatest number: -2^61 and 2^61
 abbrev pub least_number : ℤ
-least_number = negsuc (2 ^ 61 - 1)
+least_number = neg_ℤ LIMIT
 
 abbrev pub greatest_number : ℤ
-greatest_number = pos (2 ^ 61)
+greatest_number = LIMIT
 
 -- the limit of all numbers
 abbrev pub limit : Ends

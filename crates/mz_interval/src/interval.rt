@@ -3,8 +3,7 @@
 ghost use Rattle.std.specs.Prelude.{◌≤ℤ◌};
 ghost use Rattle.mz_interval.specs.Ends.{least_number, greatest_number};
 
-/// The magnitude that no number passes.
-const LIMIT: i64 = 1 << 61;
+use crate::limit::LIMIT;
 
 /// The integers from `lo` to `hi`, both inclusive: at least one. Both ends lie in -2^61..2^61.
 #[derive(Clone, Copy, Debug, PartialEq, Eq)]

@@ -2,6 +2,7 @@
 #![tactic(auto)]
 
 mod interval;
+mod limit;
 mod product;
 mod quotient;
 mod remainder;

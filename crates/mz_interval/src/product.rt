@@ -6,9 +6,10 @@ ghost use Rattle.mz_interval.specs.Rows.{product_of};
 ghost use Rattle.mz_interval.specs.Interval.{ends};
 
 use crate::interval::Interval;
+use crate::limit;
 
 /// The magnitude that no number passes.
-const LIMIT: i128 = 1 << 61;
+const LIMIT: i128 = limit::LIMIT as i128;
 
 impl Interval {
     /// The bounds of a product; `None` exactly where an end leaves the limit.

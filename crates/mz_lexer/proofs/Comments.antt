@@ -3,7 +3,7 @@ use Rattle.std.proofs.Common.{◌≡◌, ℕ, suc, ◌+◌, ◌<◌, ◌≤◌, 
 use Rattle.std.specs.Prelude.{Option, Some, None}
 use Rattle.std.specs.Option.{option_map}
 use Rattle.std.proofs.lemmas.List.{drop_all}
-use Rattle.mz_lexer.specs.Lexemes.{comment_len, ends_comment}
+use Rattle.mz_lexer.specs.Steps.{comment_len, ends_comment}
 use Rattle.mz_lexer.proofs.Contents.{at_place}
 
 -- so many bytes more

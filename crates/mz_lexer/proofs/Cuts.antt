@@ -11,7 +11,7 @@ use Rattle.std.proofs.lemmas.Bool.Decides.{nat_tests, Decides-eqb}
 use Rattle.mz_lexer.specs.Bytes.{front_byte}
 use Rattle.mz_lexer.specs.Texts.{is_plain, is_escape, escape_value, content_from}
 use Rattle.mz_lexer.specs.Lexes.{Means, nothing, a_byte, an_escape, IsStuck, at_the_end, at_newline, at_backslash}
-use Rattle.mz_lexer.proofs.Spellings.{pick}
+use Rattle.mz_base.proofs.Choices.{pick}
 use Rattle.mz_lexer.proofs.Meanings.{byte_utf8}
 
 and_false : (t : Bool) → (t && false) ≡ false

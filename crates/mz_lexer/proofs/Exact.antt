@@ -13,14 +13,17 @@ use Rattle.std.proofs.lemmas.Bool.{cases_lt}
 use Rattle.std.proofs.lemmas.Bool.Decides.{nat_tests, Decides-eqb}
 use Rattle.mz_base.specs.declared.kind.Kind.{Kind}
 use Rattle.mz_base.specs.declared.kind.Kind.TheVariants.{Lexical, LeftOut, Bounds}
-use Rattle.mz_lexer.specs.Bytes.{front_byte, second_byte, is_blank, is_newline, is_digit}
+use Rattle.mz_lexer.specs.Bytes.{front_byte, second_byte, is_blank, is_newline}
+use Rattle.mz_base.specs.Words.{is_digit}
 use Rattle.mz_lexer.specs.Numbers.{limit}
 use Rattle.mz_lexer.specs.Texts.{is_plain, is_escape, content_len, content_from, meaning}
 use Rattle.mz_lexer.specs.Lexemes as lx
-use Rattle.mz_lexer.specs.Lexemes.{Lexeme, Front, front_of, number_front, piece_front, piece_of, piece_end, comment_len, comment_of, ends_comment}
+use Rattle.mz_lexer.specs.Steps as steps
+use Rattle.mz_lexer.specs.Lexemes.{Lexeme}
+use Rattle.mz_lexer.specs.Steps.{Front, front_of, number_front, piece_front, piece_of, piece_end, comment_len, comment_of, ends_comment}
 use Rattle.mz_lexer.specs.Lexes.{Means, nothing, a_byte, an_escape, IsContent, Spells, EndsFirst, opens_piece, NothingBegins, IsStuck, at_the_end, at_newline, at_backslash, at_no_character, IsLineEnd}
 use Rattle.mz_lexer.proofs.Runs.{both}
-use Rattle.mz_lexer.proofs.Spellings.{pick}
+use Rattle.mz_base.proofs.Choices.{pick}
 use Rattle.mz_lexer.proofs.Fronts.{Covers, by_token, by_left_out, covers, raw_front, number_raw, raw_is_front, raw_is_number, front_is_number, front_is_blank, front_is_line, front_is_comment, front_is_text, front_is_later, piece_up_to, content_of}
 use Rattle.mz_lexer.proofs.LeftOuts.{left_front}
 use Rattle.mz_lexer.proofs.Cuts.{front_content}
@@ -30,12 +33,12 @@ use Rattle.mz_lexer.proofs.Shapes.{NumberShape, a_literal, no_literal, number_sh
 -- what stands in front, with the number of a literal past the limit
 pub data IsRaw (later : Bool) (bs : List ℕ) (f : Front) : Type 0 where
   raw_same : raw_front later bs ≡ f → IsRaw later bs f
-  raw_past : (m z : ℕ) → raw_front later bs ≡ lx.token (lx.int (pos z)) m → f ≡ lx.refusal Bounds 0 → IsRaw later bs f
+  raw_past : (m z : ℕ) → raw_front later bs ≡ steps.token (lx.int (pos z)) m → f ≡ steps.refusal Bounds 0 → IsRaw later bs f
 
 raw_literal : (later : Bool) (bs : List ℕ) (f g : Front) → raw_front later bs ≡ g → NumberShape bs g → limited g ≡ f → IsRaw later bs f
 raw_literal later bs f g raw (a_literal {z = z} {m = m} spells le) e = go (nat_le z limit) e
   where
-    go : (t : Bool) → cond t (lx.token (lx.int (pos z)) m) (lx.refusal Bounds 0) ≡ f → IsRaw later bs f
+    go : (t : Bool) → cond t (steps.token (lx.int (pos z)) m) (steps.refusal Bounds 0) ≡ f → IsRaw later bs f
     go true h = raw_same (raw ∙ h)
     go false h = raw_past m z raw (sym h)
 raw_literal later bs f g raw (no_literal is) e = raw_same (raw ∙ e)
@@ -52,42 +55,42 @@ pub record IsShorter (v : List ℕ) (y x : Lexeme) (m : ℕ) : Type 0 where
   pub le : length v ≤ m
   pub same : length v ≡ m → y ≡ x
 
-covered_at : {v : List ℕ} {y x : Lexeme} {m : ℕ} (f : Front) → Covers v y f → f ≡ lx.token x m → IsShorter v y x m
+covered_at : {v : List ℕ} {y x : Lexeme} {m : ℕ} (f : Front) → Covers v y f → f ≡ steps.token x m → IsShorter v y x m
 covered_at f (by_token le same) e = record { le = omega (arith, le, length_of e); same = λ h. same (h ∙ sym (length_of e)) ∙ lexeme_of e }
   where
-    length_of : {x y : Lexeme} {m n : ℕ} → lx.token x m ≡ lx.token y n → m ≡ n
+    length_of : {x y : Lexeme} {m n : ℕ} → steps.token x m ≡ steps.token y n → m ≡ n
     length_of h = cc
 
-    lexeme_of : {x y : Lexeme} {m n : ℕ} → lx.token x m ≡ lx.token y n → x ≡ y
+    lexeme_of : {x y : Lexeme} {m n : ℕ} → steps.token x m ≡ steps.token y n → x ≡ y
     lexeme_of h = cc
 covered_at f by_left_out e = cc
 
-pub shorter : {later : Bool} {v : List ℕ} {y x : Lexeme} {m : ℕ} → Spells later v y → (behind bs : List ℕ) → v ++ behind ≡ bs → raw_front later bs ≡ lx.token x m → IsShorter v y x m
+pub shorter : {later : Bool} {v : List ℕ} {y x : Lexeme} {m : ℕ} → Spells later v y → (behind bs : List ℕ) → v ++ behind ≡ bs → raw_front later bs ≡ steps.token x m → IsShorter v y x m
 shorter {later = later} spells behind bs split raw = covered_at _ (covers spells behind) (ap (raw_front later) split ∙ raw)
 
-covers_no_gap : {v : List ℕ} {y : Lexeme} {n : ℕ} (f : Front) → Covers v y f → f ≡ lx.gap n → ⊥
+covers_no_gap : {v : List ℕ} {y : Lexeme} {n : ℕ} (f : Front) → Covers v y f → f ≡ steps.gap n → ⊥
 covers_no_gap f (by_token le same) e = cc
 covers_no_gap f by_left_out e = cc
 
-covers_no_lexical : {v : List ℕ} {y : Lexeme} {n : ℕ} (f : Front) → Covers v y f → f ≡ lx.refusal Lexical n → ⊥
+covers_no_lexical : {v : List ℕ} {y : Lexeme} {n : ℕ} (f : Front) → Covers v y f → f ≡ steps.refusal Lexical n → ⊥
 covers_no_lexical f (by_token le same) e = cc
 covers_no_lexical f by_left_out e = cc
 
 -- no token begins where a blank or a comment does, or a text is stuck
-pub no_gap : {later : Bool} {v : List ℕ} {y : Lexeme} {n : ℕ} → Spells later v y → (behind bs : List ℕ) → v ++ behind ≡ bs → front_of later bs ≡ lx.gap n → ⊥
-no_gap {later = later} {n = n} spells behind bs split e = elim (raw_of later bs (lx.gap n) e) [
+pub no_gap : {later : Bool} {v : List ℕ} {y : Lexeme} {n : ℕ} → Spells later v y → (behind bs : List ℕ) → v ++ behind ≡ bs → front_of later bs ≡ steps.gap n → ⊥
+no_gap {later = later} {n = n} spells behind bs split e = elim (raw_of later bs (steps.gap n) e) [
   | raw_same raw ↦ covers_no_gap _ (covers spells behind) (ap (raw_front later) split ∙ raw)
   | raw_past m z raw past ↦ cc
 ]
 
-pub no_lexical : {later : Bool} {v : List ℕ} {y : Lexeme} {n : ℕ} → Spells later v y → (behind bs : List ℕ) → v ++ behind ≡ bs → front_of later bs ≡ lx.refusal Lexical n → ⊥
-no_lexical {later = later} {n = n} spells behind bs split e = elim (raw_of later bs (lx.refusal Lexical n) e) [
+pub no_lexical : {later : Bool} {v : List ℕ} {y : Lexeme} {n : ℕ} → Spells later v y → (behind bs : List ℕ) → v ++ behind ≡ bs → front_of later bs ≡ steps.refusal Lexical n → ⊥
+no_lexical {later = later} {n = n} spells behind bs split e = elim (raw_of later bs (steps.refusal Lexical n) e) [
   | raw_same raw ↦ covers_no_lexical _ (covers spells behind) (ap (raw_front later) split ∙ raw)
   | raw_past m z raw past ↦ cc
 ]
 
-pub raw_token : (later : Bool) (bs : List ℕ) (x : Lexeme) (m : ℕ) → front_of later bs ≡ lx.token x m → raw_front later bs ≡ lx.token x m
-raw_token later bs x m e = elim (raw_of later bs (lx.token x m) e) [ raw_same raw ↦ raw | raw_past k z raw past ↦ cc ]
+pub raw_token : (later : Bool) (bs : List ℕ) (x : Lexeme) (m : ℕ) → front_of later bs ≡ steps.token x m → raw_front later bs ≡ steps.token x m
+raw_token later bs x m e = elim (raw_of later bs (steps.token x m) e) [ raw_same raw ↦ raw | raw_past k z raw past ↦ cc ]
 
 -- lines
 line_byte : ℕ → Bool
@@ -188,7 +191,7 @@ plain_cons b bs is = rw is refl
 not_whole : (n m : ℕ) → n < m → nat_eq n m ≡ false
 not_whole n m less = grind (arith, nat_tests)
 
-no_character_exact : (later : Bool) (c v bs : List ℕ) → IsContent c v → ((n : ℕ) → 0 < n → IsUtf8 (take n bs) → ⊥) → piece_front later (c ++ bs) ≡ lx.refusal Lexical (length c + 1)
+no_character_exact : (later : Bool) (c v bs : List ℕ) → IsContent c v → ((n : ℕ) → 0 < n → IsUtf8 (take n bs) → ⊥) → piece_front later (c ++ bs) ≡ steps.refusal Lexical (length c + 1)
 no_character_exact later c v [] is none = absurd (none 1 (omega arith) IsUtf8-nil)
 no_character_exact later c v (b ∷ bs) is none =
     let f = front_content (b ∷ bs) in
@@ -198,7 +201,7 @@ no_character_exact later c v (b ∷ bs) is none =
     let len : content_len (all ++ f.rest) ≡ length all = content_of (joined is.means f.means) f.rest f.stops in
     let valid : utf8_valid_len all ≡ length c = valid_up_to c f.content f.rest is.utf8 (λ n some u. none n some (subst (λ us. IsUtf8 (take n us)) (sym f.split) u)) long in
     let isnt : nat_eq (utf8_valid_len all) (length all) ≡ false = not_whole _ _ (omega (arith, valid, length-append c f.content, long)) in
-    ap (piece_front later) split ∙ piece_parts later all f.rest len ∙ rw isnt (ap (λ (n : ℕ). lx.refusal Lexical (n + 1)) valid)
+    ap (piece_front later) split ∙ piece_parts later all f.rest len ∙ rw isnt (ap (λ (n : ℕ). steps.refusal Lexical (n + 1)) valid)
 
 stops_end : content_from false [] ≡ 0
 unfolding content_from
@@ -212,11 +215,11 @@ stops_backslash : (bs : List ℕ) → is_escape (front_byte bs) ≡ false → co
 unfolding content_from
 stops_backslash bs isnt = rw isnt refl
 
-backslash_end : (later : Bool) (v : List ℕ) (n : ℕ) (bs : List ℕ) → nat_eq (front_byte bs) 40 ≡ false → piece_end later v n (92 ∷ bs) ≡ lx.refusal Lexical (n + 1)
+backslash_end : (later : Bool) (v : List ℕ) (n : ℕ) (bs : List ℕ) → nat_eq (front_byte bs) 40 ≡ false → piece_end later v n (92 ∷ bs) ≡ steps.refusal Lexical (n + 1)
 backslash_end later v n bs isnt = rw isnt refl
 
 -- a stuck text is a fault there
-pub stuck_exact : (later : Bool) (c v bs : List ℕ) → IsContent c v → IsStuck bs → piece_front later (c ++ bs) ≡ lx.refusal Lexical (length c + 1)
+pub stuck_exact : (later : Bool) (c v bs : List ℕ) → IsContent c v → IsStuck bs → piece_front later (c ++ bs) ≡ steps.refusal Lexical (length c + 1)
 stuck_exact later c v bs is at_the_end = piece_up_to later c v [] is stops_end
 stuck_exact later c v bs is (at_newline us) = piece_up_to later c v (10 ∷ us) is (stops_newline us)
 stuck_exact later c v bs is (at_backslash us isnt no_inner) = piece_up_to later c v (92 ∷ us) is (stops_backslash us isnt) ∙ backslash_end later v (length c) us no_inner
@@ -240,13 +243,13 @@ piece_byte later b bs f opens is = go (nat_eq b 34) refl
         second_opens true e' h = cc
         second_opens false e' h = h
 
-pub stuck_front : (later : Bool) (b : ℕ) (c v bs : List ℕ) → opens_piece later b ≡ true → IsContent c v → IsStuck bs → front_of later (b ∷ (c ++ bs)) ≡ lx.refusal Lexical (length c + 1)
+pub stuck_front : (later : Bool) (b : ℕ) (c v bs : List ℕ) → opens_piece later b ≡ true → IsContent c v → IsStuck bs → front_of later (b ∷ (c ++ bs)) ≡ steps.refusal Lexical (length c + 1)
 stuck_front later b c v bs opens is st = piece_byte later b (c ++ bs) _ opens (λ opened. stuck_exact opened c v bs is st)
 
 -- no piece of a text is a fault at its own first byte
 data IsBehind : Front → Type 0 where
-  a_token : {x : Lexeme} {m : ℕ} → IsBehind (lx.token x m)
-  a_fault : {k : Kind} {n : ℕ} → 0 < n → IsBehind (lx.refusal k n)
+  a_token : {x : Lexeme} {m : ℕ} → IsBehind (steps.token x m)
+  a_fault : {k : Kind} {n : ℕ} → 0 < n → IsBehind (steps.refusal k n)
 
 end_behind : (later : Bool) (v : List ℕ) (n : ℕ) (bs : List ℕ) → IsBehind (piece_end later v n bs)
 end_behind later v n bs = pick IsBehind (nat_eq (front_byte bs) 34) _ _ (λ _. a_token) (λ _. pick IsBehind (nat_eq (front_byte bs) 92 && nat_eq (second_byte bs) 40) _ _ (λ _. a_token) (λ _. a_fault (omega arith)))
@@ -255,11 +258,11 @@ piece_behind : (later : Bool) (bs : List ℕ) → IsBehind (piece_front later bs
 unfolding piece_front
 piece_behind later bs = pick IsBehind (nat_eq (utf8_valid_len (take (content_len bs) bs)) (content_len bs)) _ _ (λ _. end_behind later (meaning (take (content_len bs) bs)) (content_len bs) (drop (content_len bs) bs)) (λ _. a_fault (omega arith))
 
-behind_not_first : (f : Front) → IsBehind f → f ≡ lx.refusal Lexical 0 → ⊥
+behind_not_first : (f : Front) → IsBehind f → f ≡ steps.refusal Lexical 0 → ⊥
 behind_not_first f a_token e = cc
 behind_not_first f (a_fault {n = n} some) e = let zero_is : n ≡ 0 = at_of e in absurd (omega arith)
   where
-    at_of : {k l : Kind} {m n : ℕ} → lx.refusal k m ≡ lx.refusal l n → m ≡ n
+    at_of : {k l : Kind} {m n : ℕ} → steps.refusal k m ≡ steps.refusal l n → m ≡ n
     at_of h = cc
 
 opens_behind : (later : Bool) (b : ℕ) (bs : List ℕ) → opens_piece later b ≡ true → IsBehind (front_of later (b ∷ bs))
@@ -282,7 +285,7 @@ yes_or_no true h = absurd (h refl)
 yes_or_no false h = refl
 
 -- where nothing can begin, nothing does
-pub nothing_there : (later : Bool) (b : ℕ) (bs : List ℕ) → front_of later (b ∷ bs) ≡ lx.refusal Lexical 0 → NothingBegins later (b ∷ bs)
+pub nothing_there : (later : Bool) (b : ℕ) (bs : List ℕ) → front_of later (b ∷ bs) ≡ steps.refusal Lexical 0 → NothingBegins later (b ∷ bs)
 nothing_there later b bs e = record {
   no_blank = yes_or_no (is_blank b) (λ is. gap_no (sym (front_is_blank later (b ∷ bs) is) ∙ e));
   no_line = yes_or_no (nat_eq b 37) (λ is. gap_no (sym (ap (λ x. front_of later (x ∷ bs)) ((Decides-eqb b 37).0 is) ∙ front_is_line later bs) ∙ e));
@@ -292,11 +295,11 @@ nothing_there later b bs e = record {
   no_left_out = λ l. kinds (sym (left_front l later) ∙ e);
 }
   where
-    gap_no : {n m : ℕ} {k : Kind} → lx.gap n ≡ lx.refusal k m → ⊥
+    gap_no : {n m : ℕ} {k : Kind} → steps.gap n ≡ steps.refusal k m → ⊥
     gap_no h = cc
 
-    comment_no : (o : Option ℕ) → HasEnd o → comment_of o ≡ lx.refusal Lexical 0 → ⊥
+    comment_no : (o : Option ℕ) → HasEnd o → comment_of o ≡ steps.refusal Lexical 0 → ⊥
     comment_no o (has_end n) h = cc
 
-    kinds : {n m : ℕ} → lx.refusal LeftOut n ≡ lx.refusal Lexical m → ⊥
+    kinds : {n m : ℕ} → steps.refusal LeftOut n ≡ steps.refusal Lexical m → ⊥
     kinds h = cc

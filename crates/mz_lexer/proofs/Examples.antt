@@ -4,13 +4,14 @@ use Rattle.std.specs.Prelude.{Ok, Err, pos, codes}
 use Rattle.mz_base.specs.declared.fault.Span.{Span}
 use Rattle.mz_base.specs.declared.kind.Kind.TheVariants.{Lexical, LeftOut, Bounds}
 use Rattle.mz_lexer.specs.declared.token.Symbol.TheVariants.{SRimp, SDots}
-use Rattle.mz_lexer.specs.Keywords.{keyword_of}
+use Rattle.mz_base.specs.Keywords.{keyword_of}
 use Rattle.mz_lexer.specs.Symbols.{symbol_at, less_at}
 use Rattle.mz_lexer.specs.Texts.{content_from, meaning_from}
 use Rattle.std.specs.Str.{is_utf8, chars}
 use Rattle.std.proofs.Math.Utf8.{encode}
 use Rattle.std.specs.Str.Lossy.{utf8_valid_len}
-use Rattle.mz_lexer.specs.Lexemes.{sym, ident, int, text_head, text_tail, fault, front_of, word_front, number_front, piece_front, comment_len, outcome_of, outcome_at, outcome_behind}
+use Rattle.mz_lexer.specs.Lexemes.{sym, ident, int, text_head, text_tail, fault}
+use Rattle.mz_lexer.specs.Steps.{front_of, word_front, number_front, piece_front, comment_len, outcome_of, outcome_at, outcome_behind}
 
 -- a place on the first line
 on_first : ℕ → ℕ → Span

@@ -6,24 +6,30 @@ use Rattle.std.proofs.lemmas.List.{take_at, drop_at}
 use Rattle.std.proofs.lemmas.Bool.{false≢true}
 use Rattle.std.proofs.lemmas.Bool.Decides.{nat_tests, Decides-eqb}
 use Rattle.mz_base.specs.declared.kind.Kind.TheVariants.{LeftOut}
-use Rattle.mz_lexer.specs.declared.token.Keyword.{Keyword}
+use Rattle.mz_base.specs.declared.keyword.Keyword.{Keyword}
 use Rattle.mz_lexer.specs.declared.token.Symbol.{Symbol}
 use Rattle.mz_lexer.specs.declared.token.Symbol.TheVariants.{SLParen, SRParen, SLBrack, SRBrack, SLBrace, SRBrace, SLRows, SRRows, SBar, SComma, SSemi, SColon, SColons, SDots, SEq, SEqEq, SNe, SLt, SLe, SGt, SGe, SRimp, SImp, SIff, SOr, SAnd, SPlus, SMinus, SStar, SCaret, SConcat, SAbsent}
-use Rattle.mz_lexer.specs.Bytes.{front_byte, second_byte, third_byte, is_blank, is_newline, is_letter, is_digit, is_hex_digit, is_octal_digit, is_word_byte}
-use Rattle.mz_lexer.specs.Keywords.{keyword_text, keyword_of, is_left_out_keyword}
+use Rattle.mz_lexer.specs.Bytes.{front_byte, second_byte, third_byte, is_blank, is_newline, is_hex_digit, is_octal_digit}
+use Rattle.mz_base.specs.Words.{is_letter, is_digit, is_word_byte}
+use Rattle.mz_base.specs.Keywords.{keyword_text, keyword_of}
+use Rattle.mz_lexer.specs.LeftOut.{is_left_out_keyword}
 use Rattle.mz_lexer.specs.Symbols.{symbol_text, symbol_at}
 use Rattle.mz_lexer.specs.Numbers.{number_of, goes_on}
 use Rattle.mz_lexer.specs.Texts.{is_plain, escape_value, content_len, content_from, meaning, meaning_from}
 use Rattle.mz_lexer.specs.Lexemes as lx
-use Rattle.mz_lexer.specs.Lexemes.{Lexeme, Front, front_of, word_front, keyword_or_name, number_front, literal, piece_front, piece_end, comment_len, comment_of, symbol_or_fault}
-use Rattle.mz_lexer.specs.Lexes.{is_word, are_digits, Means, nothing, a_byte, an_escape, IsContent, Spells, an_identifier, a_keyword, decimal, hexadecimal, octal, a_symbol, a_text, a_head, a_middle, a_tail}
+use Rattle.mz_lexer.specs.Steps as steps
+use Rattle.mz_lexer.specs.Lexemes.{Lexeme}
+use Rattle.mz_lexer.specs.Steps.{Front, front_of, word_front, keyword_or_name, number_front, literal, piece_front, piece_end, comment_len, comment_of, symbol_or_fault}
+use Rattle.mz_base.specs.Words.{is_word}
+use Rattle.mz_lexer.specs.Lexes.{are_digits, Means, nothing, a_byte, an_escape, IsContent, Spells, an_identifier, a_keyword, decimal, hexadecimal, octal, a_symbol, a_text, a_head, a_middle, a_tail}
 use Rattle.mz_lexer.proofs.Pieces.{valid_piece}
 use Rattle.mz_lexer.proofs.Runs.{both, run_holds}
-use Rattle.mz_lexer.proofs.Spellings.{pick, keyword_known, keyword_found, keyword_is_word, IsCovered, covered, symbol_is_covered}
+use Rattle.mz_base.proofs.Choices.{pick}
+use Rattle.mz_lexer.proofs.Spellings.{keyword_known, keyword_found, keyword_is_word, IsCovered, covered, symbol_is_covered}
 
 -- a token of a number, whatever the number
 abbrev pub number_token : ℕ → List ℕ → ℕ → Front
-number_token base ds n = lx.token (lx.int (pos (number_of base ds))) n
+number_token base ds n = steps.token (lx.int (pos (number_of base ds))) n
 
 -- the literal in front, whatever its number
 unfoldable pub number_raw : List ℕ → Front
@@ -32,7 +38,7 @@ number_raw bs =
     then number_token 16 (take_while is_hex_digit (drop 2 bs)) (2 + prefix_len is_hex_digit (drop 2 bs)) else
     if nat_eq (front_byte bs) 48 && (nat_eq (second_byte bs) 111 && is_octal_digit (third_byte bs))
     then number_token 8 (take_while is_octal_digit (drop 2 bs)) (2 + prefix_len is_octal_digit (drop 2 bs)) else
-    if goes_on (drop (prefix_len is_digit bs) bs) then lx.refusal LeftOut 0
+    if goes_on (drop (prefix_len is_digit bs) bs) then steps.refusal LeftOut 0
     else number_token 10 (take_while is_digit bs) (prefix_len is_digit bs)
 
 -- what stands in front, whatever the number of a literal
@@ -41,8 +47,8 @@ raw_front later bs = if is_digit (front_byte bs) then number_raw bs else front_o
 
 -- the token is in front, or a longer one, or a form that is left out
 pub data Covers (v : List ℕ) (y : Lexeme) : Front → Type 0 where
-  by_token : {x : Lexeme} {m : ℕ} → length v ≤ m → (length v ≡ m → y ≡ x) → Covers v y (lx.token x m)
-  by_left_out : Covers v y (lx.refusal LeftOut 0)
+  by_token : {x : Lexeme} {m : ℕ} → length v ≤ m → (length v ≡ m → y ≡ x) → Covers v y (steps.token x m)
+  by_left_out : Covers v y (steps.refusal LeftOut 0)
 
 letter_no_blank : (b : ℕ) → is_letter b ≡ true → is_blank b ≡ false
 letter_no_blank b is = grind (arith, nat_tests)
@@ -67,7 +73,7 @@ pub raw_is_number : (later : Bool) (bs : List ℕ) → is_digit (front_byte bs) 
 unfolding raw_front
 raw_is_number later bs is = rw is refl
 
-pub front_is_blank : (later : Bool) (bs : List ℕ) → is_blank (front_byte bs) ≡ true → front_of later bs ≡ lx.gap 1
+pub front_is_blank : (later : Bool) (bs : List ℕ) → is_blank (front_byte bs) ≡ true → front_of later bs ≡ steps.gap 1
 unfolding front_of
 front_is_blank later bs is = rw is refl
 
@@ -79,7 +85,7 @@ pub front_is_number : (later : Bool) (bs : List ℕ) → is_digit (front_byte bs
 unfolding front_of
 front_is_number later bs is = rw (digit_no_blank _ is, digit_no_letter _ is, is) refl
 
-pub front_is_line : (later : Bool) (bs : List ℕ) → front_of later (37 ∷ bs) ≡ lx.gap (1 + prefix_len (λ b. not (is_newline b)) bs)
+pub front_is_line : (later : Bool) (bs : List ℕ) → front_of later (37 ∷ bs) ≡ steps.gap (1 + prefix_len (λ b. not (is_newline b)) bs)
 unfolding front_of
 front_is_line true bs = refl
 front_is_line false bs = refl
@@ -161,7 +167,7 @@ one_digit d (e ∷ ds) after letter isnt all is =
     let digit = (both (is_digit e) (list_all is_digit ds) (both (is_digit d) (list_all is_digit (e ∷ ds)) all).1).0 in
     absurd (false≢true (sym isnt ∙ ap is_digit (sym ((Decides-eqb e letter).0 is)) ∙ digit))
 
-short_number : (d : ℕ) (ds : List ℕ) (y x : Lexeme) (n : ℕ) → ds ≡ [] → Covers (d ∷ ds) y (lx.token x (2 + n))
+short_number : (d : ℕ) (ds : List ℕ) (y x : Lexeme) (n : ℕ) → ds ≡ [] → Covers (d ∷ ds) y (steps.token x (2 + n))
 short_number d ds y x n none = by_token (omega (arith, ap length none)) (λ h. absurd (omega (arith, ap length none, h)))
 
 decimal_covered : (d : ℕ) (ds after : List ℕ) → list_all is_digit (d ∷ ds) ≡ true → Covers (d ∷ ds) (lx.int (pos (number_of 10 (d ∷ ds)))) (number_raw ((d ∷ ds) ++ after))
@@ -217,7 +223,7 @@ meaning_of nothing = refl
 meaning_of (a_byte {b = b} plain m) = rw (plain_no_backslash b plain) (ap (λ us. b ∷ us) (meaning_of m))
 meaning_of (an_escape {b = b} escape m) = rw (never (nat_eq b 92)) (ap (λ us. escape_value b ∷ us) (meaning_of m))
 
-piece_parts : (later : Bool) (bs : List ℕ) → piece_front later bs ≡ lx.piece_of later (take (content_len bs) bs) (content_len bs) (drop (content_len bs) bs)
+piece_parts : (later : Bool) (bs : List ℕ) → piece_front later bs ≡ steps.piece_of later (take (content_len bs) bs) (content_len bs) (drop (content_len bs) bs)
 unfolding piece_front
 piece_parts later bs = refl
 
@@ -225,9 +231,9 @@ piece_parts later bs = refl
 pub piece_up_to : (later : Bool) (c v rest : List ℕ) → IsContent c v → content_from false rest ≡ 0 → piece_front later (c ++ rest) ≡ piece_end later v (length c) rest
 piece_up_to later c v rest is stop =
     let len : content_len (c ++ rest) ≡ length c = content_of is.means rest stop in
-    let P : ℕ → Front = λ k. lx.piece_of later (take k (c ++ rest)) k (drop k (c ++ rest)) in
-    let Q : List ℕ → Front = λ us. lx.piece_of later us (length c) (drop (length c) (c ++ rest)) in
-    let R : List ℕ → Front = λ us. lx.piece_of later c (length c) us in
+    let P : ℕ → Front = λ k. steps.piece_of later (take k (c ++ rest)) k (drop k (c ++ rest)) in
+    let Q : List ℕ → Front = λ us. steps.piece_of later us (length c) (drop (length c) (c ++ rest)) in
+    let R : List ℕ → Front = λ us. steps.piece_of later c (length c) us in
     piece_parts later (c ++ rest) ∙ ap P len ∙ ap Q (take_at c rest (length c) refl) ∙ ap R (drop_at c rest (length c) refl)
     ∙ valid_piece later c rest (length c) is.utf8 refl ∙ ap (λ us. piece_end later us (length c) rest) (meaning_of is.means)
 
@@ -239,13 +245,13 @@ stops_inner : (bs : List ℕ) → content_from false (92 ∷ 40 ∷ bs) ≡ 0
 unfolding content_from
 stops_inner bs = refl
 
-last_end : (later : Bool) (v : List ℕ) (n : ℕ) (bs : List ℕ) → piece_end later v n (34 ∷ bs) ≡ lx.token (if later then lx.text_tail v else lx.text v) (n + 2)
+last_end : (later : Bool) (v : List ℕ) (n : ℕ) (bs : List ℕ) → piece_end later v n (34 ∷ bs) ≡ steps.token (if later then lx.text_tail v else lx.text v) (n + 2)
 last_end later v n bs = refl
 
-inner_end : (later : Bool) (v : List ℕ) (n : ℕ) (bs : List ℕ) → piece_end later v n (92 ∷ 40 ∷ bs) ≡ lx.token (if later then lx.text_mid v else lx.text_head v) (n + 3)
+inner_end : (later : Bool) (v : List ℕ) (n : ℕ) (bs : List ℕ) → piece_end later v n (92 ∷ 40 ∷ bs) ≡ steps.token (if later then lx.text_mid v else lx.text_head v) (n + 3)
 inner_end later v n bs = refl
 
-exactly : (v : List ℕ) (y : Lexeme) (n : ℕ) (f : Front) → length v ≡ n → f ≡ lx.token y n → Covers v y f
+exactly : (v : List ℕ) (y : Lexeme) (n : ℕ) (f : Front) → length v ≡ n → f ≡ steps.token y n → Covers v y f
 exactly v y n f len e = subst (Covers v y) (sym e) (by_token (omega (arith, len)) (λ _. refl))
 
 last_piece : (later : Bool) (o : ℕ) (c v after : List ℕ) (f : Front) → IsContent c v → f ≡ piece_front later ((c ++ 34 ∷ []) ++ after) → Covers (o ∷ (c ++ 34 ∷ [])) (if later then lx.text_tail v else lx.text v) f

@@ -6,13 +6,16 @@ use Rattle.std.proofs.lemmas.List.{take_at, drop_at}
 use Rattle.std.proofs.lemmas.Bool.{false≢true}
 use Rattle.std.proofs.lemmas.Bool.Decides.{nat_tests, Decides-eqb}
 use Rattle.mz_base.specs.declared.kind.Kind.TheVariants.{LeftOut}
-use Rattle.mz_lexer.specs.declared.token.Keyword.{Keyword}
-use Rattle.mz_lexer.specs.Bytes.{front_byte, second_byte, is_blank, is_letter, is_digit, is_hex_digit, is_octal_digit, is_word_byte, is_left_out_byte}
-use Rattle.mz_lexer.specs.Keywords.{keyword_text, keyword_of, is_left_out_keyword}
+use Rattle.mz_base.specs.declared.keyword.Keyword.{Keyword}
+use Rattle.mz_lexer.specs.Bytes.{front_byte, second_byte, is_blank, is_hex_digit, is_octal_digit, is_left_out_byte}
+use Rattle.mz_base.specs.Words.{is_letter, is_digit, is_word_byte}
+use Rattle.mz_base.specs.Keywords.{keyword_text, keyword_of}
+use Rattle.mz_lexer.specs.LeftOut.{is_left_out_keyword}
 use Rattle.mz_lexer.specs.Symbols.{symbol_at}
 use Rattle.mz_lexer.specs.Numbers.{goes_on}
-use Rattle.mz_lexer.specs.Lexemes.{Front, refusal, front_of, keyword_or_name, number_front}
-use Rattle.mz_lexer.specs.Lexes.{is_word, are_digits, IsLeftOut, left_byte, left_slash, left_number, left_keyword}
+use Rattle.mz_lexer.specs.Steps.{Front, refusal, front_of, keyword_or_name, number_front}
+use Rattle.mz_base.specs.Words.{is_word}
+use Rattle.mz_lexer.specs.Lexes.{are_digits, IsLeftOut, left_byte, left_slash, left_number, left_keyword}
 use Rattle.mz_lexer.proofs.Runs.{both, run_is}
 use Rattle.mz_lexer.proofs.Spellings.{keyword_found, keyword_is_word}
 use Rattle.mz_lexer.proofs.Fronts.{front_is_word, front_is_number, word_is, word_letters}

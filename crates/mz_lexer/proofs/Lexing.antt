@@ -9,13 +9,18 @@ use Rattle.mz_base.specs.declared.kind.Kind.TheVariants.{Lexical, LeftOut, Bound
 use Rattle.mz_lexer.specs.declared.opening.Opening.{Opening}
 use Rattle.mz_lexer.specs.declared.token.Symbol.{Symbol}
 use Rattle.mz_lexer.specs.declared.token.Symbol.TheVariants.{SLParen, SRParen, SLBrack, SRBrack, SLBrace, SRBrace, SLRows, SRRows, SBar, SComma, SSemi, SColon, SColons, SDots, SEq, SEqEq, SNe, SLt, SLe, SGt, SGe, SRimp, SImp, SIff, SOr, SAnd, SPlus, SMinus, SStar, SCaret, SConcat, SAbsent}
-use Rattle.mz_lexer.specs.Bytes.{is_blank, is_newline, is_digit}
+use Rattle.mz_lexer.specs.Bytes.{is_blank, is_newline}
+use Rattle.mz_base.specs.Words.{is_digit}
 use Rattle.mz_lexer.specs.Numbers.{limit}
-use Rattle.mz_lexer.specs.Keywords.{keyword_text}
+use Rattle.mz_base.specs.Keywords.{keyword_text}
 use Rattle.mz_lexer.specs.Symbols.{symbol_text}
 use Rattle.mz_lexer.specs.Lexemes as lx
-use Rattle.mz_lexer.specs.Lexemes.{Lexeme, Front, begins_piece, passed, after, fault, start_of, opens_behind, Outcome, with_token, front_of, comment_len, comment_of, outcome_at, outcome_of}
-use Rattle.mz_lexer.specs.Lexes.{is_word, are_digits, Spells, an_identifier, a_keyword, decimal, hexadecimal, octal, a_symbol, a_text, a_head, a_middle, a_tail, IsLongest, IsLeftOut, left_byte, left_slash, left_number, left_keyword, comment, EndsFirst, NothingBegins, IsLineEnd, IsInLimit, Lexed, no_bytes, a_blank, a_line_comment, a_comment, a_token, left_out, past_limit, nothing_begins, in_a_text, IsDetermined}
+use Rattle.mz_lexer.specs.Steps as steps
+use Rattle.mz_lexer.specs.Lexemes.{Lexeme, begins_piece, passed, after, fault, opens_behind, Outcome, with_token}
+use Rattle.mz_lexer.specs.Steps.{Front, front_of, comment_len, comment_of, outcome_at, outcome_of}
+use Rattle.mz_base.specs.Faults.{start_of}
+use Rattle.mz_base.specs.Words.{is_word}
+use Rattle.mz_lexer.specs.Lexes.{are_digits, Spells, an_identifier, a_keyword, decimal, hexadecimal, octal, a_symbol, a_text, a_head, a_middle, a_tail, IsLongest, IsLeftOut, left_byte, left_slash, left_number, left_keyword, comment, EndsFirst, NothingBegins, IsLineEnd, IsInLimit, Lexed, no_bytes, a_blank, a_line_comment, a_comment, a_token, left_out, past_limit, nothing_begins, in_a_text, IsDetermined}
 use Rattle.mz_lexer.proofs.Runs.{all_of_run}
 use Rattle.mz_lexer.proofs.Spellings.{keyword_is_word}
 use Rattle.mz_lexer.proofs.Fronts.{raw_front, front_is_blank, front_is_line, front_is_comment}
@@ -85,10 +90,10 @@ left_some (left_slash bs is isnt) = omega arith
 left_some (left_number ds bs is on) = omega (arith, digits_some is_digit ds is, length-append ds bs)
 left_some (left_keyword k bs is stop) = omega (arith, word_some (keyword_text k) (keyword_is_word k), length-append (keyword_text k) bs)
 
-token_no_left : {x : Lexeme} {m : ℕ} → lx.refusal LeftOut 0 ≡ lx.token x m → ⊥
+token_no_left : {x : Lexeme} {m : ℕ} → steps.refusal LeftOut 0 ≡ steps.token x m → ⊥
 token_no_left e = cc
 
-bounds_no_left : lx.refusal LeftOut 0 ≡ lx.refusal Bounds 0 → ⊥
+bounds_no_left : steps.refusal LeftOut 0 ≡ steps.refusal Bounds 0 → ⊥
 bounds_no_left e = cc
 
 -- what is known of the bytes behind, as far as they are few
@@ -101,15 +106,15 @@ fewer k n b bs some le = omega (arith, length-drop k (b ∷ bs))
 long_take : (m : ℕ) (bs : List ℕ) → m ≤ length bs → length (take m bs) ≡ m
 long_take m bs le = omega (arith, length-take m bs)
 
-longest_of : (later : Bool) (bs : List ℕ) (x : Lexeme) (m : ℕ) → m ≤ length bs → raw_front later bs ≡ lx.token x m → IsLongest later (take m bs) (drop m bs)
+longest_of : (later : Bool) (bs : List ℕ) (x : Lexeme) (m : ℕ) → m ≤ length bs → raw_front later bs ≡ steps.token x m → IsLongest later (take m bs) (drop m bs)
 longest_of later bs x m le raw v behind y split spells = omega (arith, long_take m bs le, (shorter spells behind bs (split ∙ take-append-drop m bs) raw).le)
 
-sound_gap : (n k b : ℕ) (bs : List ℕ) (opens : List Opening) (at : Span) → length (b ∷ bs) ≤ suc n → Behind n → 0 < k → front_of (begins_piece opens) (b ∷ bs) ≡ lx.gap k
+sound_gap : (n k b : ℕ) (bs : List ℕ) (opens : List Opening) (at : Span) → length (b ∷ bs) ≤ suc n → Behind n → 0 < k → front_of (begins_piece opens) (b ∷ bs) ≡ steps.gap k
     → (Lexed opens (after at (take k (b ∷ bs))) (drop k (b ∷ bs)) (outcome_at opens at (b ∷ bs)) → Lexed opens at (b ∷ bs) (outcome_at opens at (b ∷ bs))) → Lexed opens at (b ∷ bs) (outcome_at opens at (b ∷ bs))
 sound_gap n k b bs opens at few rest some e make =
     make (subst (Lexed opens (after at (take k (b ∷ bs))) (drop k (b ∷ bs))) (sym (step_gap opens at (b ∷ bs) k (omega arith) some e)) (rest opens (after at (take k (b ∷ bs))) (drop k (b ∷ bs)) (fewer k n b bs some few)))
 
-sound_line : (n b : ℕ) (bs : List ℕ) (opens : List Opening) (at : Span) → length (b ∷ bs) ≤ suc n → Behind n → b ≡ 37 → front_of (begins_piece opens) (b ∷ bs) ≡ lx.gap (1 + prefix_len (λ c. not (is_newline c)) bs) → Lexed opens at (b ∷ bs) (outcome_at opens at (b ∷ bs))
+sound_line : (n b : ℕ) (bs : List ℕ) (opens : List Opening) (at : Span) → length (b ∷ bs) ≤ suc n → Behind n → b ≡ 37 → front_of (begins_piece opens) (b ∷ bs) ≡ steps.gap (1 + prefix_len (λ c. not (is_newline c)) bs) → Lexed opens at (b ∷ bs) (outcome_at opens at (b ∷ bs))
 sound_line n b bs opens at few rest is e =
     let k : ℕ = prefix_len (λ c. not (is_newline c)) bs in
     let out : Outcome = outcome_at opens at (b ∷ bs) in
@@ -123,7 +128,7 @@ sound_line n b bs opens at few rest is e =
     one_add : {j : ℕ} → 1 + j ≡ suc j
     one_add = omega arith
 
-sound_noted : (n k b : ℕ) (bs : List ℕ) (opens : List Opening) (at : Span) → length (b ∷ bs) ≤ suc n → Behind n → (c r : List ℕ) → EndsFirst c → comment c ++ r ≡ b ∷ bs → k ≡ length (comment c) → front_of (begins_piece opens) (b ∷ bs) ≡ lx.gap k → Lexed opens at (b ∷ bs) (outcome_at opens at (b ∷ bs))
+sound_noted : (n k b : ℕ) (bs : List ℕ) (opens : List Opening) (at : Span) → length (b ∷ bs) ≤ suc n → Behind n → (c r : List ℕ) → EndsFirst c → comment c ++ r ≡ b ∷ bs → k ≡ length (comment c) → front_of (begins_piece opens) (b ∷ bs) ≡ steps.gap k → Lexed opens at (b ∷ bs) (outcome_at opens at (b ∷ bs))
 sound_noted n k b bs opens at few rest c r first split len e =
     let out : Outcome = outcome_at opens at (b ∷ bs) in
     let more : take k (b ∷ bs) ≡ comment c = ap (take k) (sym split) ∙ take_at (comment c) r k (sym len) in
@@ -132,7 +137,7 @@ sound_noted n k b bs opens at few rest c r first split len e =
     let inner : Lexed opens (after at (comment c)) r out = subst (λ us. Lexed opens (after at us) r out) more (subst (λ us. Lexed opens (after at (take k (b ∷ bs))) us out) less h) in
     subst (λ us. Lexed opens at us out) split (a_comment c first inner))
 
-sound_token : (n m b : ℕ) (bs : List ℕ) (opens : List Opening) (at : Span) → length (b ∷ bs) ≤ suc n → Behind n → (x : Lexeme) → Spells (begins_piece opens) (take m (b ∷ bs)) x → m ≤ length (b ∷ bs) → IsInLimit x → front_of (begins_piece opens) (b ∷ bs) ≡ lx.token x m → Lexed opens at (b ∷ bs) (outcome_at opens at (b ∷ bs))
+sound_token : (n m b : ℕ) (bs : List ℕ) (opens : List Opening) (at : Span) → length (b ∷ bs) ≤ suc n → Behind n → (x : Lexeme) → Spells (begins_piece opens) (take m (b ∷ bs)) x → m ≤ length (b ∷ bs) → IsInLimit x → front_of (begins_piece opens) (b ∷ bs) ≡ steps.token x m → Lexed opens at (b ∷ bs) (outcome_at opens at (b ∷ bs))
 sound_token n m b bs opens at few rest x spells le within e =
     let later : Bool = begins_piece opens in
     let all : List ℕ = b ∷ bs in
@@ -145,7 +150,7 @@ sound_token n m b bs opens at few rest x spells le within e =
     let len : with_token (record { lexeme = x; span = at; len = length (take m all) }) out ≡ with_token (record { lexeme = x; span = at; len = m }) out = ap (λ (j : ℕ). with_token (record { lexeme = x; span = at; len = j }) out) (long_take m all le) in
     subst (Lexed opens at all) (len ∙ sym (step_token opens at all x m (omega arith) some e)) (subst (λ us. Lexed opens at us (with_token (record { lexeme = x; span = at; len = length (take m all) }) out)) whole made)
 
-sound_great : (m z b : ℕ) (bs : List ℕ) (opens : List Opening) (at : Span) → Spells (begins_piece opens) (take m (b ∷ bs)) (lx.int (pos z)) → m ≤ length (b ∷ bs) → limit < z → raw_front (begins_piece opens) (b ∷ bs) ≡ lx.token (lx.int (pos z)) m → front_of (begins_piece opens) (b ∷ bs) ≡ lx.refusal Bounds 0 → Lexed opens at (b ∷ bs) (outcome_at opens at (b ∷ bs))
+sound_great : (m z b : ℕ) (bs : List ℕ) (opens : List Opening) (at : Span) → Spells (begins_piece opens) (take m (b ∷ bs)) (lx.int (pos z)) → m ≤ length (b ∷ bs) → limit < z → raw_front (begins_piece opens) (b ∷ bs) ≡ steps.token (lx.int (pos z)) m → front_of (begins_piece opens) (b ∷ bs) ≡ steps.refusal Bounds 0 → Lexed opens at (b ∷ bs) (outcome_at opens at (b ∷ bs))
 sound_great m z b bs opens at spells le past raw e =
     let later : Bool = begins_piece opens in
     let all : List ℕ = b ∷ bs in
@@ -178,7 +183,7 @@ pub sound : (file : ℕ) (bytes : List ℕ) → Lexed [] (start_of file) bytes (
 sound file bytes = subst (Lexed [] (start_of file) bytes) (sym (of_is file bytes)) (sound_within (length bytes) [] (start_of file) bytes (omega arith))
 
 -- a token of the relation is the one in front
-token_same : (later : Bool) (w bs : List ℕ) (x y : Lexeme) (m : ℕ) → Spells later w x → IsLongest later w bs → Spells later (take m (w ++ bs)) y → m ≤ length (w ++ bs) → raw_front later (w ++ bs) ≡ lx.token y m → (length w ≡ m) × (x ≡ y)
+token_same : (later : Bool) (w bs : List ℕ) (x y : Lexeme) (m : ℕ) → Spells later w x → IsLongest later w bs → Spells later (take m (w ++ bs)) y → m ≤ length (w ++ bs) → raw_front later (w ++ bs) ≡ steps.token y m → (length w ≡ m) × (x ≡ y)
 token_same later w bs x y m spells longest found le raw =
     let short = shorter spells bs (w ++ bs) refl raw in
     let back : length (take m (w ++ bs)) ≤ length w = longest (take m (w ++ bs)) (drop m (w ++ bs)) y (take-append-drop m (w ++ bs)) found in
@@ -188,20 +193,20 @@ token_same later w bs x y m spells longest found le raw =
 limit_of : (x : Lexeme) (z : ℕ) → x ≡ lx.int (pos z) → IsInLimit x → z ≤ limit
 limit_of x z e within = subst IsInLimit e within
 
-token_front : (later : Bool) (w bs : List ℕ) (x : Lexeme) → Spells later w x → IsLongest later w bs → IsInLimit x → (IsLeftOut (w ++ bs) → ⊥) → (f : Front) → front_of later (w ++ bs) ≡ f → Shape later (w ++ bs) f → f ≡ lx.token x (length w)
+token_front : (later : Bool) (w bs : List ℕ) (x : Lexeme) → Spells later w x → IsLongest later w bs → IsInLimit x → (IsLeftOut (w ++ bs) → ⊥) → (f : Front) → front_of later (w ++ bs) ≡ f → Shape later (w ++ bs) f → f ≡ steps.token x (length w)
 token_front later w bs x spells longest within isnt f e (blank is) = absurd (no_gap spells bs (w ++ bs) refl e)
 token_front later w bs x spells longest within isnt f e (line is) = absurd (no_gap spells bs (w ++ bs) refl e)
 token_front later w bs x spells longest within isnt f e (noted c r first split len) = absurd (no_gap spells bs (w ++ bs) refl e)
 token_front later w bs x spells longest within isnt f e (spelled {x = y} {m = m} found le within') =
     let h = token_same later w bs x y m spells longest found le (raw_token later (w ++ bs) y m e) in
-    ap (λ k. lx.token y k) (sym h.0) ∙ ap (λ z. lx.token z (length w)) (sym h.1)
+    ap (λ k. steps.token y k) (sym h.0) ∙ ap (λ z. steps.token z (length w)) (sym h.1)
 token_front later w bs x spells longest within isnt f e (great m z found le past raw) =
     let h = token_same later w bs x (lx.int (pos z)) m spells longest found le raw in absurd (omega (arith, past, limit_of x z h.1 within))
 token_front later w bs x spells longest within isnt f e (left is) = absurd (isnt is)
 token_front later w bs x spells longest within isnt f e lexical = absurd (no_lexical spells bs (w ++ bs) refl e)
 token_front later w bs x spells longest within isnt f e (stuck c r v opens is st split len) = absurd (no_lexical spells bs (w ++ bs) refl e)
 
-great_front : (later : Bool) (w bs : List ℕ) (n : ℕ) → Spells later w (lx.int (pos n)) → IsLongest later w bs → limit < n → (IsLeftOut (w ++ bs) → ⊥) → (f : Front) → front_of later (w ++ bs) ≡ f → Shape later (w ++ bs) f → f ≡ lx.refusal Bounds 0
+great_front : (later : Bool) (w bs : List ℕ) (n : ℕ) → Spells later w (lx.int (pos n)) → IsLongest later w bs → limit < n → (IsLeftOut (w ++ bs) → ⊥) → (f : Front) → front_of later (w ++ bs) ≡ f → Shape later (w ++ bs) f → f ≡ steps.refusal Bounds 0
 great_front later w bs n spells longest past isnt f e (blank is) = absurd (no_gap spells bs (w ++ bs) refl e)
 great_front later w bs n spells longest past isnt f e (line is) = absurd (no_gap spells bs (w ++ bs) refl e)
 great_front later w bs n spells longest past isnt f e (noted c r first split len) = absurd (no_gap spells bs (w ++ bs) refl e)
@@ -215,7 +220,7 @@ great_front later w bs n spells longest past isnt f e (stuck c r v opens is st s
 true_no_false : true ≡ false → ⊥
 true_no_false e = cc
 
-nothing_front : (later : Bool) (b : ℕ) (bs : List ℕ) → NothingBegins later (b ∷ bs) → (f : Front) → Shape later (b ∷ bs) f → f ≡ lx.refusal Lexical 0
+nothing_front : (later : Bool) (b : ℕ) (bs : List ℕ) → NothingBegins later (b ∷ bs) → (f : Front) → Shape later (b ∷ bs) f → f ≡ steps.refusal Lexical 0
 nothing_front later b bs none f (blank is) = absurd (true_no_false (sym is ∙ none.no_blank))
 nothing_front later b bs none f (line is) = absurd (true_no_false (sym ((Decides-eqb b 37).1 is) ∙ none.no_line))
 nothing_front later b bs none f (noted c r first split len) = absurd (none.no_comment c r split)
@@ -232,31 +237,31 @@ shape_some later (b ∷ bs) some = shape_cons later b bs
 append_some : (w bs : List ℕ) → 0 < length w → 0 < length (w ++ bs)
 append_some w bs some = omega (arith, some, length-append w bs)
 
-pass_gap : (opens : List Opening) (at : Span) (w bs : List ℕ) (out : Outcome) → 0 < length w → front_of (begins_piece opens) (w ++ bs) ≡ lx.gap (length w) → outcome_at opens (after at w) bs ≡ out → outcome_at opens at (w ++ bs) ≡ out
+pass_gap : (opens : List Opening) (at : Span) (w bs : List ℕ) (out : Outcome) → 0 < length w → front_of (begins_piece opens) (w ++ bs) ≡ steps.gap (length w) → outcome_at opens (after at w) bs ≡ out → outcome_at opens at (w ++ bs) ≡ out
 pass_gap opens at w bs out some e h =
     step_gap opens at (w ++ bs) (length w) (append_some w bs some) some e
     ∙ ap (λ us. outcome_at opens (after at us) (drop (length w) (w ++ bs))) (take_at w bs (length w) refl)
     ∙ ap (outcome_at opens (after at w)) (drop_at w bs (length w) refl) ∙ h
 
-pass_token : (opens : List Opening) (at : Span) (w bs : List ℕ) (x : Lexeme) (out : Outcome) → 0 < length w → front_of (begins_piece opens) (w ++ bs) ≡ lx.token x (length w) → outcome_at (opens_behind x opens) (after at w) bs ≡ out → outcome_at opens at (w ++ bs) ≡ with_token (record { lexeme = x; span = at; len = length w }) out
+pass_token : (opens : List Opening) (at : Span) (w bs : List ℕ) (x : Lexeme) (out : Outcome) → 0 < length w → front_of (begins_piece opens) (w ++ bs) ≡ steps.token x (length w) → outcome_at (opens_behind x opens) (after at w) bs ≡ out → outcome_at opens at (w ++ bs) ≡ with_token (record { lexeme = x; span = at; len = length w }) out
 pass_token opens at w bs x out some e h =
     step_token opens at (w ++ bs) x (length w) (append_some w bs some) some e
     ∙ ap (λ us. with_token (record { lexeme = x; span = at; len = length w }) (outcome_at (opens_behind x opens) (after at us) (drop (length w) (w ++ bs)))) (take_at w bs (length w) refl)
     ∙ ap (λ us. with_token (record { lexeme = x; span = at; len = length w }) (outcome_at (opens_behind x opens) (after at w) us)) (drop_at w bs (length w) refl)
     ∙ ap (with_token (record { lexeme = x; span = at; len = length w })) h
 
-blank_front : (later : Bool) (b : ℕ) (bs : List ℕ) → is_blank b ≡ true → front_of later ((b ∷ []) ++ bs) ≡ lx.gap 1
+blank_front : (later : Bool) (b : ℕ) (bs : List ℕ) → is_blank b ≡ true → front_of later ((b ∷ []) ++ bs) ≡ steps.gap 1
 blank_front later b bs is = front_is_blank later (b ∷ bs) is
 
-line_front : (later : Bool) (c bs : List ℕ) → list_all (λ b. not (is_newline b)) c ≡ true → IsLineEnd bs → front_of later ((37 ∷ c) ++ bs) ≡ lx.gap (length (37 ∷ c))
-line_front later c bs all end = front_is_line later (c ++ bs) ∙ ap (λ (k : ℕ). lx.gap (1 + k)) (line_run c bs all end) ∙ ap lx.gap (omega arith)
+line_front : (later : Bool) (c bs : List ℕ) → list_all (λ b. not (is_newline b)) c ≡ true → IsLineEnd bs → front_of later ((37 ∷ c) ++ bs) ≡ steps.gap (length (37 ∷ c))
+line_front later c bs all end = front_is_line later (c ++ bs) ∙ ap (λ (k : ℕ). steps.gap (1 + k)) (line_run c bs all end) ∙ ap steps.gap (omega arith)
 
-comment_front : (later : Bool) (c bs : List ℕ) → EndsFirst c → front_of later (comment c ++ bs) ≡ lx.gap (length (comment c))
+comment_front : (later : Bool) (c bs : List ℕ) → EndsFirst c → front_of later (comment c ++ bs) ≡ steps.gap (length (comment c))
 comment_front later c bs first =
     ap (λ us. front_of later (47 ∷ 42 ∷ us)) (append_assoc c (42 ∷ 47 ∷ []) bs) ∙ front_is_comment later (c ++ 42 ∷ 47 ∷ bs) ∙ ap comment_of (comment_exact c bs first)
-    ∙ ap lx.gap (omega (arith, length-append c (42 ∷ 47 ∷ [])))
+    ∙ ap steps.gap (omega (arith, length-append c (42 ∷ 47 ∷ [])))
 
-stuck_place : (opens : List Opening) (at : Span) (b : ℕ) (c bs : List ℕ) → front_of (begins_piece opens) ((b ∷ c) ++ bs) ≡ lx.refusal Lexical (length c + 1) → outcome_at opens at ((b ∷ c) ++ bs) ≡ Err (fault Lexical (after at (b ∷ c)))
+stuck_place : (opens : List Opening) (at : Span) (b : ℕ) (c bs : List ℕ) → front_of (begins_piece opens) ((b ∷ c) ++ bs) ≡ steps.refusal Lexical (length c + 1) → outcome_at opens at ((b ∷ c) ++ bs) ≡ Err (fault Lexical (after at (b ∷ c)))
 stuck_place opens at b c bs e =
     step_fault opens at ((b ∷ c) ++ bs) Lexical (length c + 1) (omega arith) e
     ∙ ap (λ us. Err (fault Lexical (after at us))) (take_at (b ∷ c) bs (length c + 1) (omega arith))

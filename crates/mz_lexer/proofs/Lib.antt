@@ -4,7 +4,6 @@ pub mod Contents
 pub mod Cuts
 pub mod Digits
 pub mod Exact
-pub mod FirstBytes
 pub mod Fronts
 pub mod LeftOuts
 pub mod Lexing

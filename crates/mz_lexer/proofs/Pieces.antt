@@ -6,7 +6,7 @@ use Rattle.std.specs.Str.Lossy.{utf8_valid_len}
 use Rattle.std.proofs.lemmas.Str.{utf8_valid_len-IsUtf8}
 use Rattle.std.proofs.lemmas.Bool.Decides.{nat_tests}
 use Rattle.mz_lexer.specs.Texts.{content_len, meaning}
-use Rattle.mz_lexer.specs.Lexemes.{Front, piece_end, piece_of, piece_front}
+use Rattle.mz_lexer.specs.Steps.{Front, piece_end, piece_of, piece_front}
 
 pub same_number : (n m : ℕ) → n ≡ m → nat_eq n m ≡ true
 same_number n m e = grind (arith, nat_tests)

@@ -10,31 +10,37 @@ use Rattle.std.proofs.lemmas.Str.{utf8_valid_len_le}
 use Rattle.std.proofs.lemmas.Bool.{cases_lt}
 use Rattle.std.proofs.lemmas.Bool.Decides.{nat_tests, Decides-eqb}
 use Rattle.mz_base.specs.declared.kind.Kind.TheVariants.{Lexical, LeftOut, Bounds}
-use Rattle.mz_lexer.specs.declared.token.Keyword.{Keyword}
+use Rattle.mz_base.specs.declared.keyword.Keyword.{Keyword}
 use Rattle.mz_lexer.specs.declared.token.Symbol.{Symbol}
 use Rattle.mz_lexer.specs.declared.token.Symbol.TheVariants.{SRParen, SAnd}
-use Rattle.mz_lexer.specs.Bytes.{front_byte, second_byte, third_byte, is_blank, is_newline, is_letter, is_digit, is_hex_digit, is_octal_digit, is_word_byte, is_left_out_byte}
-use Rattle.mz_lexer.specs.Keywords.{keyword_text, keyword_of, is_left_out_keyword}
+use Rattle.mz_lexer.specs.Bytes.{front_byte, second_byte, third_byte, is_blank, is_newline, is_hex_digit, is_octal_digit, is_left_out_byte}
+use Rattle.mz_base.specs.Words.{is_letter, is_digit, is_word_byte}
+use Rattle.mz_base.specs.Keywords.{keyword_text, keyword_of}
+use Rattle.mz_lexer.specs.LeftOut.{is_left_out_keyword}
 use Rattle.mz_lexer.specs.Symbols.{symbol_text, symbol_at}
 use Rattle.mz_lexer.specs.Numbers.{limit, number_of, goes_on}
 use Rattle.mz_lexer.specs.Texts.{is_plain, content_len, content_from}
 use Rattle.mz_lexer.specs.Lexemes as lx
-use Rattle.mz_lexer.specs.Lexemes.{Lexeme, Front, front_of, word_front, keyword_or_name, number_front, literal, piece_front, piece_of, piece_end, comment_len, comment_of, ends_comment, symbol_or_fault}
-use Rattle.mz_lexer.specs.Lexes.{is_word, are_digits, Means, IsContent, Spells, an_identifier, a_keyword, decimal, hexadecimal, octal, a_symbol, a_text, a_head, a_middle, a_tail, opens_piece, IsLeftOut, left_byte, left_slash, left_number, left_keyword, comment, EndsFirst, IsStuck, at_no_character, IsInLimit}
+use Rattle.mz_lexer.specs.Steps as steps
+use Rattle.mz_lexer.specs.Lexemes.{Lexeme}
+use Rattle.mz_lexer.specs.Steps.{Front, front_of, word_front, keyword_or_name, number_front, literal, piece_front, piece_of, piece_end, comment_len, comment_of, ends_comment, symbol_or_fault}
+use Rattle.mz_base.specs.Words.{is_word}
+use Rattle.mz_lexer.specs.Lexes.{are_digits, Means, IsContent, Spells, an_identifier, a_keyword, decimal, hexadecimal, octal, a_symbol, a_text, a_head, a_middle, a_tail, opens_piece, IsLeftOut, left_byte, left_slash, left_number, left_keyword, comment, EndsFirst, IsStuck, at_no_character, IsInLimit}
 use Rattle.mz_lexer.proofs.Runs.{both, stops_run, all_of_run}
-use Rattle.mz_lexer.proofs.Spellings.{pick, keyword_known, keyword_found, IsFound, none_found, one_found, symbol_is_found}
+use Rattle.mz_base.proofs.Choices.{pick}
+use Rattle.mz_lexer.proofs.Spellings.{keyword_known, keyword_found, IsFound, none_found, one_found, symbol_is_found}
 use Rattle.mz_lexer.proofs.Fronts.{number_raw, number_token, raw_front, raw_is_number, word_is, meaning_of}
 use Rattle.mz_lexer.proofs.Cuts.{front_content, stuck_at, valid_whole, cut_before, high_behind, no_character, valid_front, plain_cons}
 
 pub data Shape (later : Bool) (bs : List ℕ) : Front → Type 0 where
-  blank : is_blank (front_byte bs) ≡ true → Shape later bs (lx.gap 1)
-  line : front_byte bs ≡ 37 → Shape later bs (lx.gap (1 + prefix_len (λ b. not (is_newline b)) (drop 1 bs)))
-  noted : {n : ℕ} (c rest : List ℕ) → EndsFirst c → comment c ++ rest ≡ bs → n ≡ length (comment c) → Shape later bs (lx.gap n)
-  spelled : {x : Lexeme} {m : ℕ} → Spells later (take m bs) x → m ≤ length bs → IsInLimit x → Shape later bs (lx.token x m)
-  great : (m z : ℕ) → Spells later (take m bs) (lx.int (pos z)) → m ≤ length bs → limit < z → raw_front later bs ≡ lx.token (lx.int (pos z)) m → Shape later bs (lx.refusal Bounds 0)
-  left : IsLeftOut bs → Shape later bs (lx.refusal LeftOut 0)
-  lexical : Shape later bs (lx.refusal Lexical 0)
-  stuck : {n : ℕ} (c rest v : List ℕ) → opens_piece later (front_byte bs) ≡ true → IsContent c v → IsStuck rest → drop 1 bs ≡ c ++ rest → n ≡ length c + 1 → Shape later bs (lx.refusal Lexical n)
+  blank : is_blank (front_byte bs) ≡ true → Shape later bs (steps.gap 1)
+  line : front_byte bs ≡ 37 → Shape later bs (steps.gap (1 + prefix_len (λ b. not (is_newline b)) (drop 1 bs)))
+  noted : {n : ℕ} (c rest : List ℕ) → EndsFirst c → comment c ++ rest ≡ bs → n ≡ length (comment c) → Shape later bs (steps.gap n)
+  spelled : {x : Lexeme} {m : ℕ} → Spells later (take m bs) x → m ≤ length bs → IsInLimit x → Shape later bs (steps.token x m)
+  great : (m z : ℕ) → Spells later (take m bs) (lx.int (pos z)) → m ≤ length bs → limit < z → raw_front later bs ≡ steps.token (lx.int (pos z)) m → Shape later bs (steps.refusal Bounds 0)
+  left : IsLeftOut bs → Shape later bs (steps.refusal LeftOut 0)
+  lexical : Shape later bs (steps.refusal Lexical 0)
+  stuck : {n : ℕ} (c rest v : List ℕ) → opens_piece later (front_byte bs) ≡ true → IsContent c v → IsStuck rest → drop 1 bs ≡ c ++ rest → n ≡ length c + 1 → Shape later bs (steps.refusal Lexical n)
 
 some_none : {k : Keyword} → Some k ≡ None → ⊥
 some_none e = cc
@@ -62,8 +68,8 @@ word_shape later bs is = subst (Shape later bs) (sym (word_is bs)) (go (keyword_
 
 -- numbers
 pub data NumberShape (bs : List ℕ) : Front → Type 0 where
-  a_literal : {z m : ℕ} → ((later : Bool) → Spells later (take m bs) (lx.int (pos z))) → m ≤ length bs → NumberShape bs (lx.token (lx.int (pos z)) m)
-  no_literal : IsLeftOut bs → NumberShape bs (lx.refusal LeftOut 0)
+  a_literal : {z m : ℕ} → ((later : Bool) → Spells later (take m bs) (lx.int (pos z))) → m ≤ length bs → NumberShape bs (steps.token (lx.int (pos z)) m)
+  no_literal : IsLeftOut bs → NumberShape bs (steps.refusal LeftOut 0)
 
 run_digits : (p : ℕ → Bool) (bs : List ℕ) → p 0 ≡ false → p (front_byte bs) ≡ true → are_digits p (take_while p bs) ≡ true
 run_digits p [] never is = absurd (false_true (sym never ∙ is))
@@ -109,10 +115,10 @@ number_shape bs digit =
 
 -- a literal within the limit, or the fault of one past it
 abbrev pub limited : Front → Front
-limited (lx.token (lx.int (pos z)) n) = if nat_le z limit then lx.token (lx.int (pos z)) n else lx.refusal Bounds 0
+limited (steps.token (lx.int (pos z)) n) = if nat_le z limit then steps.token (lx.int (pos z)) n else steps.refusal Bounds 0
 limited f = f
 
-spread : (t u v : Bool) (xs ys zs : List ℕ) (n m k : ℕ) → cond t (literal 16 xs n) (cond u (literal 8 ys m) (cond v (lx.refusal LeftOut 0) (literal 10 zs k))) ≡ limited (cond t (number_token 16 xs n) (cond u (number_token 8 ys m) (cond v (lx.refusal LeftOut 0) (number_token 10 zs k))))
+spread : (t u v : Bool) (xs ys zs : List ℕ) (n m k : ℕ) → cond t (literal 16 xs n) (cond u (literal 8 ys m) (cond v (steps.refusal LeftOut 0) (literal 10 zs k))) ≡ limited (cond t (number_token 16 xs n) (cond u (number_token 8 ys m) (cond v (steps.refusal LeftOut 0) (number_token 10 zs k))))
 spread true u v xs ys zs n m k = refl
 spread false true v xs ys zs n m k = refl
 spread false false true xs ys zs n m k = refl
@@ -210,7 +216,7 @@ comment_ends [] n e = absurd (none_some (sym comment_none ∙ e))
 comment_ends (b ∷ bs) n e = end_cons b bs n (ends_comment (b ∷ bs)) (comment_len bs) refl refl (sym (comment_cons b bs) ∙ e) (comment_ends bs)
 
 -- pieces of texts
-token_shape : (later : Bool) (w r bs : List ℕ) (x : Lexeme) (m : ℕ) → w ++ r ≡ bs → length w ≡ m → Spells later w x → IsInLimit x → Shape later bs (lx.token x m)
+token_shape : (later : Bool) (w r bs : List ℕ) (x : Lexeme) (m : ℕ) → w ++ r ≡ bs → length w ≡ m → Spells later w x → IsInLimit x → Shape later bs (steps.token x m)
 token_shape later w r bs x m split len spells within =
     spelled (subst (λ u. Spells later u x) (sym (sym (ap (take m) split) ∙ take_at w r m len)) spells) (omega (arith, length-append w r, ap length split, len)) within
 
@@ -229,12 +235,12 @@ two_are bs k j some more e =
     drop_two [] = refl
     drop_two (b ∷ us) = refl
 
-last_shape : (later : Bool) (o : ℕ) (x : Lexeme) (c rest : List ℕ) → nat_eq (front_byte rest) 34 ≡ true → Spells later (o ∷ (c ++ 34 ∷ [])) x → IsInLimit x → Shape later (o ∷ (c ++ rest)) (lx.token x (length c + 2))
+last_shape : (later : Bool) (o : ℕ) (x : Lexeme) (c rest : List ℕ) → nat_eq (front_byte rest) 34 ≡ true → Spells later (o ∷ (c ++ 34 ∷ [])) x → IsInLimit x → Shape later (o ∷ (c ++ rest)) (steps.token x (length c + 2))
 last_shape later o x c rest q spells within =
     token_shape later (o ∷ (c ++ 34 ∷ [])) (drop 1 rest) (o ∷ (c ++ rest)) x (length c + 2)
     (ap (λ us. o ∷ us) (append_assoc c (34 ∷ []) (drop 1 rest) ∙ ap (λ us. c ++ us) (front_is rest 34 (omega arith) q))) (omega (arith, length-append c (34 ∷ []))) spells within
 
-inner_shape : (later : Bool) (o : ℕ) (x : Lexeme) (c rest : List ℕ) → (nat_eq (front_byte rest) 92 && nat_eq (second_byte rest) 40) ≡ true → Spells later (o ∷ (c ++ 92 ∷ 40 ∷ [])) x → IsInLimit x → Shape later (o ∷ (c ++ rest)) (lx.token x (length c + 3))
+inner_shape : (later : Bool) (o : ℕ) (x : Lexeme) (c rest : List ℕ) → (nat_eq (front_byte rest) 92 && nat_eq (second_byte rest) 40) ≡ true → Spells later (o ∷ (c ++ 92 ∷ 40 ∷ [])) x → IsInLimit x → Shape later (o ∷ (c ++ rest)) (steps.token x (length c + 3))
 inner_shape later o x c rest q spells within =
     token_shape later (o ∷ (c ++ 92 ∷ 40 ∷ [])) (drop 2 rest) (o ∷ (c ++ rest)) x (length c + 3)
     (ap (λ us. o ∷ us) (append_assoc c (92 ∷ 40 ∷ []) (drop 2 rest) ∙ ap (λ us. c ++ us) (two_are rest 92 40 (omega arith) (omega arith) q))) (omega (arith, length-append c (92 ∷ 40 ∷ []))) spells within
@@ -272,7 +278,7 @@ piece_parts later c rest len =
 not_same : (n m : ℕ) → nat_eq n m ≡ false → n ≤ m → n < m
 not_same n m e le = grind (arith, nat_tests)
 
-invalid_shape : (later : Bool) (o : ℕ) (c v rest : List ℕ) → opens_piece later o ≡ true → Means c v → content_from false rest ≡ 0 → nat_eq (utf8_valid_len c) (length c) ≡ false → Shape later (o ∷ (c ++ rest)) (lx.refusal Lexical (utf8_valid_len c + 1))
+invalid_shape : (later : Bool) (o : ℕ) (c v rest : List ℕ) → opens_piece later o ≡ true → Means c v → content_from false rest ≡ 0 → nat_eq (utf8_valid_len c) (length c) ≡ false → Shape later (o ∷ (c ++ rest)) (steps.refusal Lexical (utf8_valid_len c + 1))
 invalid_shape later o c v rest opens means stop isnt =
     let n : ℕ = utf8_valid_len c in
     let less : n < length c = not_same n (length c) isnt (utf8_valid_len_le c) in

@@ -10,7 +10,9 @@ use Rattle.mz_lexer.specs.declared.opening.Opening.{Opening}
 use Rattle.mz_lexer.specs.declared.token.Tok.{Tok}
 use Rattle.mz_lexer.specs.declared.token.Tok.TheVariants as tok
 use Rattle.mz_lexer.specs.declared.token.Token.{Token}
-use Rattle.mz_lexer.specs.Lexemes.{fault, Lexeme, ident, text, text_head, text_mid, text_tail, Lex, gap, token, refusal, begins_piece, passed, after, opens_behind, Outcome, with_token, front_of, front_then, outcome_behind, outcome_at, outcome_of, start_of}
+use Rattle.mz_lexer.specs.Lexemes.{fault, Lexeme, ident, text, text_head, text_mid, text_tail, Lex, begins_piece, passed, after, opens_behind, Outcome, with_token}
+use Rattle.mz_lexer.specs.Steps.{gap, token, refusal, front_of, front_then, outcome_behind, outcome_at, outcome_of}
+use Rattle.mz_base.specs.Faults.{start_of}
 use Rattle.mz_lexer.specs.Views.{lexeme, lex, IsNamed, HasName}
 
 pub outcome_end : (opens : List Opening) (at : Span) → outcome_at opens at [] ≡ Ok []

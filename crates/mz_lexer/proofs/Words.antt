@@ -5,7 +5,7 @@ use Rattle.std.specs.Str.{IsAscii, IsUtf8}
 use Rattle.std.proofs.lemmas.Str.{IsUtf8-from_ascii}
 use Rattle.std.proofs.lemmas.Str.Ascii.{IsAscii-nil, IsAscii-cons}
 use Rattle.std.proofs.lemmas.Bool.Decides.{nat_tests}
-use Rattle.mz_lexer.specs.Bytes.{is_word_byte}
+use Rattle.mz_base.specs.Words.{is_word_byte}
 use Rattle.mz_lexer.proofs.Runs.{both}
 
 low_word_byte : (b : ℕ) → is_word_byte b ≡ true → b < 128

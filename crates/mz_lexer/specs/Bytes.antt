@@ -1,5 +1,6 @@
 -- Which bytes begin and go on with what.
-use Rattle.std.specs.Prelude.{ℕ, List, [], ◌∷◌, Bool, ◌&&◌, ◌||◌, nat_eq, nat_le, drop}
+use Rattle.std.specs.Prelude.{ℕ, List, [], ◌∷◌, Bool, ◌||◌, nat_eq, nat_le, drop, codes}
+use Rattle.mz_base.specs.Words.{is_between, is_digit}
 
 -- the byte in front, 0 where there is none
 abbrev pub front_byte : List ℕ → ℕ
@@ -13,34 +14,35 @@ second_byte bs = front_byte (drop 1 bs)
 abbrev pub third_byte : List ℕ → ℕ
 third_byte bs = front_byte (drop 2 bs)
 
-abbrev pub is_between : ℕ → ℕ → ℕ → Bool
-is_between lo hi b = nat_le lo b && nat_le b hi
+-- b is the byte of a text of one byte
+abbrev pub is_byte : List ℕ → ℕ → Bool
+is_byte text b = nat_eq b (front_byte text)
+
+-- the bytes that a definition names
+abbrev pub quote : ℕ
+quote = 34
+
+abbrev pub newline : ℕ
+newline = 10
+
+abbrev pub backslash : ℕ
+backslash = 92
 
 -- space, tab, carriage return and newline
 abbrev pub is_blank : ℕ → Bool
-is_blank b = nat_eq b 32 || (nat_eq b 9 || (nat_eq b 13 || nat_eq b 10))
+is_blank b = is_byte (codes " ") b || (nat_eq b 9 || (nat_eq b 13 || nat_eq b newline))
 
 abbrev pub is_newline : ℕ → Bool
-is_newline b = nat_eq b 10
+is_newline b = nat_eq b newline
 
--- the ASCII letters
-abbrev pub is_letter : ℕ → Bool
-is_letter b = is_between 65 90 b || is_between 97 122 b
-
--- decimal, hexadecimal and octal digits
-abbrev pub is_digit : ℕ → Bool
-is_digit b = is_between 48 57 b
-
+-- hexadecimal and octal digits
 abbrev pub is_hex_digit : ℕ → Bool
 is_hex_digit b = is_digit b || (is_between 65 70 b || is_between 97 102 b)
 
 abbrev pub is_octal_digit : ℕ → Bool
 is_octal_digit b = is_between 48 55 b
 
--- a letter, a digit or `_`
-abbrev pub is_word_byte : ℕ → Bool
-is_word_byte b = is_letter b || (is_digit b || nat_eq b 95)
-
 -- the bytes that begin a form that is left out: `'`, a byte above 127, `~`, `$`, a backquote, `_`, and `/` where no symbol and no comment begins
 abbrev pub is_left_out_byte : ℕ → Bool
-is_left_out_byte b = nat_eq b 39 || (nat_le 128 b || (nat_eq b 126 || (nat_eq b 36 || (nat_eq b 96 || (nat_eq b 95 || nat_eq b 47)))))
+is_left_out_byte b =
+    is_byte (codes "'") b || (nat_le 128 b || (is_byte (codes "~") b || (is_byte (codes "$") b || (is_byte (codes "`") b || (is_byte (codes "_") b || is_byte (codes "/") b)))))

@@ -1,19 +1,23 @@
--- The tokens of a file's bytes, and the first fault.
-use Rattle.std.specs.Prelude.{ℕ, zero, suc, ◌+◌, ◌-◌, List, [], ◌∷◌, take, drop, Bool, true, false, ◌&&◌, not, nat_eq, nat_le, ℤ, pos, Option, Some, None, Result, Ok, Err, if◌then◌else◌, fold}
+-- What the tokens of a file's bytes are, and where they lie.
+use Rattle.std.specs.Prelude.{ℕ, zero, suc, ◌+◌, ◌-◌, ◌+ℤ◌, List, [], ◌∷◌, take, drop, Bool, true, false, ◌&&◌, not, nat_eq, nat_le, codes, ℤ, pos, Option, Some, None, Result, Ok, Err, if◌then◌else◌, fold}
 use Rattle.std.specs.Option.{option_map}
 use Rattle.std.specs.List.{take_while, prefix_len}
 use Rattle.std.specs.Str.Lossy.{utf8_valid_len}
+use Rattle.mz_base.specs.declared.limit.TheConstants.{INTEGER_LIMIT}
+use Rattle.mz_base.specs.Faults.{start_of}
 use Rattle.mz_base.specs.declared.fault.Span.{Span}
 use Rattle.mz_base.specs.declared.fault.Fault.{Fault}
 use Rattle.mz_base.specs.declared.kind.Kind.{Kind}
 use Rattle.mz_base.specs.declared.kind.Kind.TheVariants.{Lexical, LeftOut, Bounds}
-use Rattle.mz_lexer.specs.declared.token.Keyword.{Keyword}
+use Rattle.mz_base.specs.declared.keyword.Keyword.{Keyword}
 use Rattle.mz_lexer.specs.declared.token.Symbol.{Symbol}
 use Rattle.mz_lexer.specs.declared.token.Symbol.TheVariants.{SLParen, SRParen}
 use Rattle.mz_lexer.specs.declared.opening.Opening.{Opening}
 use Rattle.mz_lexer.specs.declared.opening.Opening.TheVariants as opening
-use Rattle.mz_lexer.specs.Bytes.{front_byte, second_byte, third_byte, is_blank, is_newline, is_letter, is_digit, is_hex_digit, is_octal_digit, is_word_byte, is_left_out_byte}
-use Rattle.mz_lexer.specs.Keywords.{keyword_of, is_left_out_keyword}
+use Rattle.mz_lexer.specs.Bytes.{is_byte, quote, backslash, front_byte, second_byte, third_byte, is_blank, is_newline, is_hex_digit, is_octal_digit, is_left_out_byte}
+use Rattle.mz_base.specs.Words.{is_letter, is_digit, is_word_byte}
+use Rattle.mz_base.specs.Keywords.{keyword_of}
+use Rattle.mz_lexer.specs.LeftOut.{is_left_out_keyword}
 use Rattle.mz_lexer.specs.Symbols.{symbol_at}
 use Rattle.mz_lexer.specs.Numbers.{limit, number_of, goes_on}
 use Rattle.mz_lexer.specs.Texts.{content_len, meaning}
@@ -52,93 +56,11 @@ after at bs = fold passed at bs
 
 -- the number of a fault: past the limit for a literal that leaves it
 abbrev pub fault_number : Kind → ℤ
-fault_number Bounds = pos 2305843009213693953
+fault_number Bounds = INTEGER_LIMIT +ℤ pos 1
 fault_number _ = pos 0
 
 abbrev pub fault : Kind → Span → Fault
 fault kind at = record { kind = kind; span = at; number = fault_number kind }
-
--- where a file begins
-abbrev pub start_of : ℕ → Span
-start_of file = record { file = file; line = 1; col = 1; byte = 0 }
-
--- what stands in front of some bytes
-pub data Front : Type 0 where
-  -- a blank or a comment, of so many bytes
-  gap : ℕ → Front
-  -- a token of so many bytes
-  token : Lexeme → ℕ → Front
-  -- a fault behind so many bytes
-  refusal : Kind → ℕ → Front
-
-abbrev pub keyword_or_name : List ℕ → ℕ → Option Keyword → Front
-keyword_or_name w n None = token (ident w) n
-keyword_or_name w n (Some k) = if is_left_out_keyword k then refusal LeftOut 0 else token (word k) n
-
--- the longest word in front of bytes that begin with a letter
-unfoldable pub word_front : List ℕ → Front
-word_front bs = keyword_or_name (take_while is_word_byte bs) (prefix_len is_word_byte bs) (keyword_of (take_while is_word_byte bs))
-
--- a literal of a base, with its length
-abbrev pub literal : ℕ → List ℕ → ℕ → Front
-literal base ds n = if nat_le (number_of base ds) limit then token (int (pos (number_of base ds))) n else refusal Bounds 0
-
--- the longest literal in front of bytes that begin with a digit
-unfoldable pub number_front : List ℕ → Front
-number_front bs =
-    if nat_eq (front_byte bs) 48 && (nat_eq (second_byte bs) 120 && is_hex_digit (third_byte bs))
-    then literal 16 (take_while is_hex_digit (drop 2 bs)) (2 + prefix_len is_hex_digit (drop 2 bs)) else
-    if nat_eq (front_byte bs) 48 && (nat_eq (second_byte bs) 111 && is_octal_digit (third_byte bs))
-    then literal 8 (take_while is_octal_digit (drop 2 bs)) (2 + prefix_len is_octal_digit (drop 2 bs)) else
-    if goes_on (drop (prefix_len is_digit bs) bs) then refusal LeftOut 0
-    else literal 10 (take_while is_digit bs) (prefix_len is_digit bs)
-
--- the piece of a text by its end: the flag says that it isn't the first, n is the length of its content
-abbrev pub piece_end : Bool → List ℕ → ℕ → List ℕ → Front
-piece_end later value n bs =
-    if nat_eq (front_byte bs) 34 then token (if later then text_tail value else text value) (n + 2) else
-    if nat_eq (front_byte bs) 92 && nat_eq (second_byte bs) 40 then token (if later then text_mid value else text_head value) (n + 3)
-    else refusal Lexical (n + 1)
-
--- the piece of a text with this content in front of these bytes
-abbrev pub piece_of : Bool → List ℕ → ℕ → List ℕ → Front
-piece_of later content n bs =
-    if nat_eq (utf8_valid_len content) n then piece_end later (meaning content) n bs
-    else refusal Lexical (utf8_valid_len content + 1)
-
--- the piece of a text behind the quote or the parenthesis that begins it
-unfoldable pub piece_front : Bool → List ℕ → Front
-piece_front later bs = piece_of later (take (content_len bs) bs) (content_len bs) (drop (content_len bs) bs)
-
--- `*/` stands in front
-abbrev pub ends_comment : List ℕ → Bool
-ends_comment bs = nat_eq (front_byte bs) 42 && nat_eq (second_byte bs) 47
-
--- how many bytes there are up to the end of a comment, if it has one
-unfoldable pub comment_len : List ℕ → Option ℕ
-comment_len [] = None
-comment_len (b ∷ bs) = if ends_comment (b ∷ bs) then Some 2 else option_map suc (comment_len bs)
-
--- a comment behind its first two bytes
-abbrev pub comment_of : Option ℕ → Front
-comment_of None = refusal Lexical 0
-comment_of (Some n) = gap (n + 2)
-
-abbrev pub symbol_or_fault : ℕ → Option (Symbol × ℕ) → Front
-symbol_or_fault b (Some s) = token (sym s.0) s.1
-symbol_or_fault b None = if is_left_out_byte b then refusal LeftOut 0 else refusal Lexical 0
-
--- what stands in front of some bytes; the flag says that a `)` begins a piece of a text
-unfoldable pub front_of : Bool → List ℕ → Front
-front_of later bs =
-    if is_blank (front_byte bs) then gap 1 else
-    if is_letter (front_byte bs) then word_front bs else
-    if is_digit (front_byte bs) then number_front bs else
-    if nat_eq (front_byte bs) 34 then piece_front false (drop 1 bs) else
-    if later && nat_eq (front_byte bs) 41 then piece_front true (drop 1 bs) else
-    if nat_eq (front_byte bs) 37 then gap (1 + prefix_len (λ b. not (is_newline b)) (drop 1 bs)) else
-    if nat_eq (front_byte bs) 47 && nat_eq (second_byte bs) 42 then comment_of (comment_len (drop 2 bs))
-    else symbol_or_fault (front_byte bs) (symbol_at (front_byte bs) (second_byte bs) (third_byte bs))
 
 abbrev pub closed : List Opening → List Opening
 closed [] = []
@@ -159,23 +81,3 @@ Outcome = Result (List Lex) Fault
 abbrev pub with_token : Lex → Outcome → Outcome
 with_token t (Ok ts) = Ok (t ∷ ts)
 with_token t (Err f) = Err f
-
--- the rest is given by how many bytes of it belong to what stands in front, and by what is open
-abbrev pub front_then : List Opening → Span → List ℕ → Front → (ℕ → List Opening → Outcome) → Outcome
-front_then opens at bs (gap n) rest = rest (n - 1) opens
-front_then opens at bs (token x n) rest = with_token (record { lexeme = x; span = at; len = n }) (rest (n - 1) (opens_behind x opens))
-front_then opens at bs (refusal kind n) rest = Err (fault kind (after at (take n bs)))
-
--- the outcome behind the first bytes, so many, which belong to what stands before
-unfoldable pub outcome_behind : ℕ → List Opening → Span → List ℕ → Outcome
-outcome_behind more opens at [] = Ok []
-outcome_behind (suc more) opens at (b ∷ bs) = outcome_behind more opens (passed at b) bs
-outcome_behind zero opens at (b ∷ bs) = front_then opens at (b ∷ bs) (front_of (begins_piece opens) (b ∷ bs)) (λ more opens'. outcome_behind more opens' (passed at b) bs)
-
--- the outcome of bytes at a place, where this is open
-unfoldable pub outcome_at : List Opening → Span → List ℕ → Outcome
-outcome_at opens at bs = outcome_behind 0 opens at bs
-
--- the outcome of a file's bytes
-unfoldable pub outcome_of : ℕ → List ℕ → Outcome
-outcome_of file bytes = outcome_at [] (start_of file) bytes

@@ -1,8 +1,9 @@
 pub mod Bytes
-pub mod Keywords
+pub mod LeftOut
 pub mod Lexemes
 pub mod Lexes
 pub mod Numbers
 pub mod Symbols
 pub mod Texts
 pub mod Views
+pub mod Steps

@@ -1,11 +1,13 @@
 -- Integer literals.
-use Rattle.std.specs.Prelude.{ℕ, ◌+◌, ◌*◌, ◌^◌, List, [], ◌∷◌, Bool, ◌&&◌, ◌||◌, nat_eq}
+use Rattle.std.specs.Prelude.{ℕ, ◌+◌, ◌*◌, List, [], ◌∷◌, Bool, ◌&&◌, ◌||◌, nat_abs, codes}
+use Rattle.mz_base.specs.declared.limit.TheConstants.{INTEGER_LIMIT}
 use Rattle.std.specs.Char.{digit_value}
-use Rattle.mz_lexer.specs.Bytes.{front_byte, second_byte, third_byte, is_digit}
+use Rattle.mz_lexer.specs.Bytes.{is_byte, front_byte, second_byte, third_byte}
+use Rattle.mz_base.specs.Words.{is_digit}
 
 -- the greatest number of a literal
 abbrev pub limit : ℕ
-limit = 2 ^ 61
+limit = nat_abs INTEGER_LIMIT
 
 -- the number that digits spell in a base, behind digits that spell a number
 abbrev pub number_from : ℕ → ℕ → List ℕ → ℕ
@@ -17,13 +19,13 @@ abbrev pub number_of : ℕ → List ℕ → ℕ
 number_of base ds = number_from base 0 ds
 
 abbrev pub is_exponent_letter : ℕ → Bool
-is_exponent_letter b = nat_eq b 101 || nat_eq b 69
+is_exponent_letter b = is_byte (codes "e") b || is_byte (codes "E") b
 
 abbrev pub is_sign : ℕ → Bool
-is_sign b = nat_eq b 43 || nat_eq b 45
+is_sign b = is_byte (codes "+") b || is_byte (codes "-") b
 
 -- behind decimal digits: a fraction or an exponent stands in front
 abbrev pub goes_on : List ℕ → Bool
 goes_on bs =
-    (nat_eq (front_byte bs) 46 && is_digit (second_byte bs))
+    (is_byte (codes ".") (front_byte bs) && is_digit (second_byte bs))
     || (is_exponent_letter (front_byte bs) && (is_digit (second_byte bs) || (is_sign (second_byte bs) && is_digit (third_byte bs))))

@@ -1,25 +1,25 @@
 -- The pieces of texts.
-use Rattle.std.specs.Prelude.{ℕ, suc, List, [], ◌∷◌, Bool, true, false, ◌&&◌, ◌||◌, not, nat_eq, Option, Some, None, if◌then◌else◌}
-use Rattle.mz_lexer.specs.Bytes.{front_byte, second_byte}
+use Rattle.std.specs.Prelude.{ℕ, suc, List, [], ◌∷◌, Bool, true, false, ◌&&◌, ◌||◌, not, nat_eq, codes, Option, Some, None, if◌then◌else◌}
+use Rattle.mz_lexer.specs.Bytes.{is_byte, newline, quote, backslash, front_byte, second_byte}
 
 -- a byte of a text that stands for itself: no newline, no quote and no backslash
 abbrev pub is_plain : ℕ → Bool
-is_plain b = not (nat_eq b 10 || (nat_eq b 34 || nat_eq b 92))
+is_plain b = not (nat_eq b newline || (nat_eq b quote || nat_eq b backslash))
 
 -- what may follow a backslash, but for the parenthesis: n, t, a quote and a backslash
 abbrev pub is_escape : ℕ → Bool
-is_escape b = nat_eq b 110 || (nat_eq b 116 || (nat_eq b 34 || nat_eq b 92))
+is_escape b = is_byte (codes "n") b || (is_byte (codes "t") b || (nat_eq b quote || nat_eq b backslash))
 
 -- what an escape means, by the byte behind its backslash
 abbrev pub escape_value : ℕ → ℕ
-escape_value b = if nat_eq b 110 then 10 else if nat_eq b 116 then 9 else b
+escape_value b = if is_byte (codes "n") b then newline else if is_byte (codes "t") b then 9 else b
 
 -- whether plain bytes and escapes go on with the byte in front, and then whether the next one is behind a backslash; the flag says that this one is
 abbrev pub content_step : Bool → List ℕ → Option Bool
 content_step true bs = Some false
 content_step false bs =
     if is_plain (front_byte bs) then Some false else
-    if nat_eq (front_byte bs) 92 && is_escape (second_byte bs) then Some true else None
+    if nat_eq (front_byte bs) backslash && is_escape (second_byte bs) then Some true else None
 
 abbrev pub one_more : Option Bool → (Bool → ℕ) → ℕ
 one_more None rest = 0
@@ -35,7 +35,7 @@ content_len bs = content_from false bs
 
 -- whether a backslash stands here that begins an escape
 abbrev pub begins_escape : Bool → ℕ → Bool
-begins_escape escaped b = nat_eq b 92 && not escaped
+begins_escape escaped b = nat_eq b backslash && not escaped
 
 -- what a byte means; the flag says that it is behind a backslash
 abbrev pub meant : Bool → ℕ → ℕ

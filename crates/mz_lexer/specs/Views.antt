@@ -1,15 +1,13 @@
 -- What a proof sees of tokens: each name as its text.
 use Rattle.std.specs.Prelude.{ℕ, ◌<◌, ◌≤◌, List, length}
-use Rattle.mz_base.specs.declared.fault.Fault.{Fault}
-use Rattle.mz_base.specs.declared.stop.Stop.{Stop}
-use Rattle.mz_base.specs.declared.stop.Stop.TheVariants as stop
 use Rattle.mz_base.specs.Names.{text_of}
 use Rattle.mz_lexer.specs.declared.token.Tok.{Tok}
 use Rattle.mz_lexer.specs.declared.token.Tok.TheVariants as tok
 use Rattle.mz_lexer.specs.declared.token.Token.{Token}
-use Rattle.mz_lexer.specs.declared.front.Front.{Front as CodeFront}
-use Rattle.mz_lexer.specs.declared.front.Front.TheVariants as shown
-use Rattle.mz_lexer.specs.Lexemes.{Lexeme, word, sym, ident, int, text, text_head, text_mid, text_tail, Lex, Front, gap, token, refusal}
+use Rattle.mz_lexer.specs.declared.found.Front.{Front as CodeFront}
+use Rattle.mz_lexer.specs.declared.found.Front.TheVariants as shown
+use Rattle.mz_lexer.specs.Lexemes.{Lexeme, word, sym, ident, int, text, text_head, text_mid, text_tail, Lex}
+use Rattle.mz_lexer.specs.Steps.{Front, gap, token, refusal}
 
 -- what a token is, where its name is one of this table
 abbrev pub lexeme : List (List ℕ) → Tok → Lexeme
@@ -61,8 +59,3 @@ Fits all (shown.Refusal kind n) = n ≤ all
 -- a symbol of so many bytes has these as its second and third one, 0 where there is none
 abbrev pub IsSpelled : ℕ → ℕ → ℕ → Type 0
 IsSpelled second third n = (0 < n) × (n ≤ 3) × (2 ≤ n → 0 < second) × (3 ≤ n → 0 < third)
-
--- a fact for a refusal
-abbrev pub IfRefused : Stop → (Fault → Type 0) → Type 0
-IfRefused (stop.Refused f) holds = holds f
-IfRefused stop.Memory holds = Unit {0}

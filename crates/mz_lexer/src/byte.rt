@@ -2,7 +2,10 @@
 
 ghost use Rattle.std.specs.Prelude.{◌≡◌, ◌≤◌, ◌<◌, not, length};
 ghost use Rattle.std.specs.List.{prefix_len};
-ghost use Rattle.mz_lexer.specs.Bytes.{front_byte, second_byte, third_byte, is_blank, is_newline, is_letter, is_digit, is_hex_digit, is_octal_digit, is_word_byte, is_left_out_byte};
+ghost use Rattle.mz_lexer.specs.Bytes.{front_byte, second_byte, third_byte, is_blank, is_newline, is_hex_digit, is_octal_digit, is_left_out_byte};
+ghost use Rattle.mz_base.specs.Words.{is_letter, is_digit, is_word_byte};
+
+use mz_base::{is_digit, is_word_byte};
 
 /// The byte in front, 0 where there is none.
 pub fn front_byte(bytes: &[u8]) -> u8
@@ -50,18 +53,6 @@ pub fn is_newline(byte: u8) -> bool
     byte == b'\n'
 }
 
-pub fn is_letter(byte: u8) -> bool
-    ensures { result ≡ is_letter byte }
-{
-    (65 <= byte && byte <= 90) || (97 <= byte && byte <= 122)
-}
-
-pub fn is_digit(byte: u8) -> bool
-    ensures { result ≡ is_digit byte }
-{
-    48 <= byte && byte <= 57
-}
-
 pub fn is_hex_digit(byte: u8) -> bool
     ensures { result ≡ is_hex_digit byte }
 {
@@ -72,12 +63,6 @@ pub fn is_octal_digit(byte: u8) -> bool
     ensures { result ≡ is_octal_digit byte }
 {
     48 <= byte && byte <= 55
-}
-
-fn is_word_byte(byte: u8) -> bool
-    ensures { result ≡ is_word_byte byte }
-{
-    is_letter(byte) || is_digit(byte) || byte == b'_'
 }
 
 /// Whether a form that is left out begins with this byte, where no symbol and no comment does.

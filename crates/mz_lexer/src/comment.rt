@@ -1,7 +1,7 @@
 // Comments between `/*` and `*/`.
 
 ghost use Rattle.std.specs.Prelude.{◌≡◌, ◌≤◌, length, IfSome, IsTrue};
-ghost use Rattle.mz_lexer.specs.Lexemes.{ends_comment, comment_len};
+ghost use Rattle.mz_lexer.specs.Steps.{ends_comment, comment_len};
 ghost use Rattle.mz_lexer.specs.Bytes.{front_byte, second_byte};
 
 use crate::byte::{front_byte, second_byte};

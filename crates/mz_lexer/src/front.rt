@@ -3,35 +3,25 @@
 ghost use Rattle.std.specs.Prelude.{ℕ, List, ◌≡◌, ◌+◌, ◌<◌, ◌≤◌, ◌^◌, length, true, IfOk, IfSome};
 ghost use Rattle.std.specs.List.{list_all};
 ghost use Rattle.mz_base.specs.Names.{Grows};
-ghost use Rattle.mz_lexer.specs.Bytes.{front_byte, second_byte, third_byte, is_letter, is_word_byte};
-ghost use Rattle.mz_lexer.specs.Lexemes.{word_front, symbol_or_fault, comment_len, comment_of, front_of};
+ghost use Rattle.mz_lexer.specs.Bytes.{front_byte, second_byte, third_byte};
+ghost use Rattle.mz_base.specs.Words.{is_letter, is_word_byte};
+ghost use Rattle.mz_lexer.specs.Steps.{word_front, symbol_or_fault, comment_len, comment_of, front_of};
 ghost use Rattle.mz_lexer.specs.Symbols.{symbol_at};
 ghost use Rattle.mz_lexer.specs.Views.{front, IsFrontNamed, Fits};
 
 use crate::byte::{
-    front_byte, is_blank, is_digit, is_left_out_byte, is_letter, line_len, second_byte, third_byte,
-    word_len,
+    front_byte, is_blank, is_left_out_byte, line_len, second_byte, third_byte, word_len,
 };
 use crate::comment::comment_len;
-use crate::keyword::{is_left_out, keyword_of};
+use crate::found::Front;
+use crate::left_out::is_left_out;
 use crate::number::number_front;
 use crate::piece::piece_front;
 use crate::symbol::symbol_at;
 use crate::token::Tok;
-use mz_base::{Kind, Memory, Names};
+use mz_base::{Kind, Memory, Names, is_digit, is_letter, keyword_of};
 use std::alloc::Global;
 use std::str::from_utf8;
-
-/// What stands in front of some bytes. Lengths are in bytes.
-#[derive(Clone, Copy, Debug)]
-pub enum Front {
-    /// A blank or a comment, with its length.
-    Gap(usize),
-    /// A token with its length.
-    Token(Tok, usize),
-    /// A fault, and how many bytes stand before it.
-    Refusal(Kind, usize),
-}
 
 /// A word as a text.
 fn word_text(word: &[u8]) -> &str
@@ -45,7 +35,7 @@ fn word_text(word: &[u8]) -> &str
 }
 
 /// The longest word in front of bytes that begin with a letter.
-#[tactic(auto, unfolding(crate::specs::Lexemes::word_front))]
+#[tactic(auto, unfolding(crate::specs::Steps::word_front))]
 fn word_front(bytes: &[u8], names: &mut Names) -> Result<Front, Memory>
     requires { is_letter (front_byte bytes.now) ≡ true }
     ensures shown { IfOk result (λ f. front names.new f ≡ word_front bytes.now) }
@@ -103,7 +93,7 @@ fn comment_front(bytes: &[u8]) -> Front
 }
 
 /// What stands in front of some bytes, where `later` says that a `)` begins a piece of a text.
-#[tactic(auto, unfolding(crate::specs::Lexemes::front_of))]
+#[tactic(auto, unfolding(crate::specs::Steps::front_of))]
 pub fn front_of(
     alloc: Global,
     later: bool,

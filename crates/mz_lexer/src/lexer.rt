@@ -1,16 +1,19 @@
 // The tokens of a file.
 
 ghost use Rattle.std.specs.Prelude.{◌≡◌, ◌+◌, ◌<◌, ◌≤◌, ◌^◌, length, map, take, drop, IfOk, IfErr, Ok, Err, All};
+ghost use Rattle.mz_base.specs.declared.limit.TheConstants.{FILE_LIMIT};
 ghost use Rattle.mz_base.specs.Names.{Grows};
 ghost use Rattle.mz_lexer.specs.Lexemes.{after, fault, fault_number};
 ghost use Rattle.mz_lexer.specs.Lexes.{Lexes, IsFirstFault, IsDetermined};
-ghost use Rattle.mz_lexer.specs.Views.{lex, HasName, IfRefused};
+ghost use Rattle.mz_lexer.specs.Views.{lex, HasName};
+ghost use Rattle.mz_base.specs.Faults.{IfRefused};
 
-use crate::front::{Front, front_of};
+use crate::found::Front;
+use crate::front::front_of;
 use crate::opening::Opens;
 use crate::place::after;
 use crate::token::Token;
-use mz_base::{Fault, Kind, Names, Span, Stop};
+use mz_base::{FILE_LIMIT, Fault, INTEGER_LIMIT, Kind, Names, Span, Stop};
 use std::alloc::Global;
 
 /// The number of a fault.
@@ -18,7 +21,7 @@ fn fault_number(kind: Kind) -> i128
     ensures { result ≡ fault_number kind }
 {
     match kind {
-        Kind::Bounds => 2305843009213693953,
+        Kind::Bounds => INTEGER_LIMIT as i128 + 1,
         _ => 0,
     }
 }
@@ -28,10 +31,10 @@ fn fault_number(kind: Kind) -> i128
 struct Cursor<'a> {
     rest: &'a [u8],
     at: Span,
-    ghost few: { length rest.now ≤ 67108864 },
-    ghost line: { at.line + length rest.now ≤ 67108865 },
-    ghost col: { at.col + length rest.now ≤ 67108865 },
-    ghost byte: { at.byte + length rest.now ≤ 67108864 },
+    ghost few: { length rest.now ≤ FILE_LIMIT },
+    ghost line: { at.line + length rest.now ≤ FILE_LIMIT + 1 },
+    ghost col: { at.col + length rest.now ≤ FILE_LIMIT + 1 },
+    ghost byte: { at.byte + length rest.now ≤ FILE_LIMIT },
 }
 
 impl Cursor<'_> {
@@ -64,19 +67,16 @@ impl Cursor<'_> {
 /// call. The first fault is Lexical, LeftOut or Bounds. After a fault or want of memory the table
 /// may hold more names.
 pub fn tokens(alloc: Global, bytes: &[u8], file: u64, names: &mut Names) -> Result<Vec<Token>, Stop>
-    requires { length bytes.now ≤ 67108864 }
+    requires { length bytes.now ≤ FILE_LIMIT }
     ensures read { IfOk result (λ v. Lexes file bytes.now (map (lex names.new) v.items)) }
     ensures named { IfOk result (λ v. All (HasName names.new) v.items) }
     ensures fault { IfErr result (λ s. IfRefused s (λ f. IsFirstFault file bytes.now f)) }
     ensures grows { Grows names.old names.new }
 {
-    let at = Span {
-        file,
-        line: 1,
-        col: 1,
-        byte: 0,
+    let mut cursor = Cursor {
+        rest: bytes,
+        at: Span::start(file),
     };
-    let mut cursor = Cursor { rest: bytes, at };
     let mut opens = Opens::new(alloc);
     let mut tokens = Vec::new(alloc);
     while !cursor.rest.is_empty() {

@@ -4,8 +4,9 @@
 mod byte;
 mod comment;
 mod content;
+mod found;
 mod front;
-mod keyword;
+mod left_out;
 mod lexer;
 mod number;
 mod opening;
@@ -16,7 +17,5 @@ mod token;
 
 pub use lexer::{one_outcome, tokens};
 pub use place::after;
-pub use token::{Keyword, Symbol, Tok, Token};
-
-#[cfg(test)]
-mod tests;
+pub use mz_base::Keyword;
+pub use token::{Symbol, Tok, Token};

@@ -3,21 +3,22 @@
 ghost use Rattle.std.specs.Prelude.{ℕ, List, true, IsTrue, nat_eq, ◌&&◌, ◌≡◌, ◌≤◌, ◌<◌, ◌+◌, ◌*◌, nat_le, length, drop, [], IfSome, Some, None, if◌then◌else◌};
 ghost use Rattle.std.specs.Char.{digit_value};
 ghost use Rattle.std.specs.List.{prefix_len, take_while};
-ghost use Rattle.mz_lexer.specs.Bytes.{is_digit, is_hex_digit, is_octal_digit, front_byte, second_byte, third_byte};
+ghost use Rattle.mz_base.specs.Words.{is_digit};
+ghost use Rattle.mz_lexer.specs.Bytes.{is_hex_digit, is_octal_digit, front_byte, second_byte, third_byte};
 ghost use Rattle.mz_lexer.specs.Numbers.{limit, number_of, goes_on, is_exponent_letter, is_sign};
-ghost use Rattle.mz_lexer.specs.Lexemes.{literal, number_front};
+ghost use Rattle.mz_lexer.specs.Steps.{literal, number_front};
 ghost use Rattle.mz_lexer.specs.Views.{front, IsFrontNamed, Fits};
 
 use crate::byte::{
-    digits_len, front_byte, hex_digits_len, is_digit, is_hex_digit, is_octal_digit,
-    octal_digits_len, second_byte, third_byte,
+    digits_len, front_byte, hex_digits_len, is_hex_digit, is_octal_digit, octal_digits_len,
+    second_byte, third_byte,
 };
-use crate::front::Front;
+use crate::found::Front;
 use crate::token::Tok;
-use mz_base::Kind;
+use mz_base::{INTEGER_LIMIT, Kind, is_digit};
 
 /// The greatest number of a literal.
-const LIMIT: u64 = 1 << 61;
+const LIMIT: u64 = INTEGER_LIMIT as u64;
 
 /// The value of a digit or a letter, 36 for other bytes.
 fn digit_value(byte: u8) -> u64
@@ -84,7 +85,7 @@ fn is_prefixed(bytes: &[u8], letter: u8, third_is_digit: bool) -> bool
 }
 
 /// The longest literal in front of bytes that begin with a digit.
-#[tactic(auto, unfolding(crate::specs::Lexemes::number_front))]
+#[tactic(auto, unfolding(crate::specs::Steps::number_front))]
 pub fn number_front(bytes: &[u8]) -> Front
     requires { is_digit (front_byte bytes.now) ≡ true }
     ensures shown { (names : List (List ℕ)) → front names result ≡ number_front bytes.now }

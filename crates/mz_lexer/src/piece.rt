@@ -2,13 +2,13 @@
 
 ghost use Rattle.std.specs.Prelude.{◌≡◌, ◌+◌, ◌<◌, ◌≤◌, ◌^◌, length, true, IfOk};
 ghost use Rattle.mz_base.specs.Names.{Grows};
-ghost use Rattle.mz_lexer.specs.Lexemes.{piece_end, piece_of, piece_front};
+ghost use Rattle.mz_lexer.specs.Steps.{piece_end, piece_of, piece_front};
 ghost use Rattle.mz_lexer.specs.Texts.{meaning, content_len};
 ghost use Rattle.mz_lexer.specs.Views.{front, lexeme, IsNamed, IsFrontNamed, Fits};
 
 use crate::byte::{front_byte, second_byte};
 use crate::content::{content_len, meaning};
-use crate::front::Front;
+use crate::found::Front;
 use crate::token::Tok;
 use mz_base::{Kind, Memory, Names};
 use std::alloc::Global;
@@ -68,7 +68,7 @@ fn meant_piece(
 }
 
 /// The piece of a text behind the quote or the parenthesis that begins it.
-#[tactic(auto, unfolding(crate::specs::Lexemes::piece_front))]
+#[tactic(auto, unfolding(crate::specs::Steps::piece_front))]
 pub fn piece_front(
     alloc: Global,
     later: bool,

@@ -14,7 +14,8 @@ use Rattle.mz_cursor.specs.Reading.{Read, Reader, on, stuck, listed, with_front,
 use Rattle.mz_cursor.proofs.Steps.{same_on, same_then, front_front}
 use Rattle.mz_grammar.specs.declared.list.Closing.TheVariants.{Paren}
 use Rattle.mz_grammar.specs.Parts
-use Rattle.mz_grammar.specs.Reading.{reads, separator_at}
+use Rattle.mz_grammar.specs.Reading.{reads}
+use Rattle.mz_grammar.specs.Steps.{separator_at}
 use Rattle.mz_grammar.proofs.ItemEquations.{param_list_reads, case_names_reads, file_reads, more_items_reads}
 use Rattle.mz_parser.specs.Model.{semicolon_at}
 

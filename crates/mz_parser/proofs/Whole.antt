@@ -1,6 +1,8 @@
 -- What a whole file is read to, from what its reader gives.
 use Rattle.std.proofs.Common.{◌≡◌, ℕ, List, [], ◌++◌, map, ◌≤◌, refl, sym, ap, ◌∙◌, append-nil, subst}
 use Rattle.std.specs.Prelude.{Ok, Err, Result, Vec, OnOk, IfOk}
+use Rattle.mz_base.specs.declared.limit.TheConstants.{OPEN_LIMIT}
+use Rattle.mz_tree.specs.declared.height.TheConstants.{HEIGHT_LIMIT}
 use Rattle.mz_base.specs.declared.fault.Span.{Span}
 use Rattle.mz_base.specs.declared.stop.Stop.{Stop}
 use Rattle.mz_base.specs.declared.stop.Stop.TheVariants.{Refused, Memory}
@@ -16,26 +18,26 @@ use Rattle.mz_grammar.proofs.ItemHeights.{items_are_bounded}
 use Rattle.mz_parser.specs.Model.{IsModel, IsRead}
 
 -- a front behind which nothing stands is the whole file
-all_tokens : (tokens new : List Token) (is : List ItemTree) → new ≡ [] → IsFront rule Parts.file 120 tokens new is → IsModel tokens is
+all_tokens : (tokens new : List Token) (is : List ItemTree) → new ≡ [] → IsFront rule Parts.file OPEN_LIMIT tokens new is → IsModel tokens is
 all_tokens tokens new is e f = subst (λ ts. IsModel ts is) (sym (f.split ∙ ap (λ l. f.front ++ l) e ∙ append-nil f.front)) f.reads
 
 -- the items that lie in memory
 abbrev trees : {Z : Type 0} → Vec Item Z → List ItemTree
 trees v = map item v.items
 
-answered : {Z : Type 0} (end : Span) (tokens new : List Token) (result : Result (Vec Item Z) Stop) → OnOk result (new ≡ []) → Gives trees end new result (reads Parts.file 120 tokens) → IsRead end tokens result
-answered {Z = Z} end tokens new (Ok items) e g = all_tokens tokens new (map item items.items) e (answers {X = Vec Item Z} Parts.file trees 120 end tokens new (Ok items) refl g)
-answered {Z = Z} end tokens new (Err (Refused f)) e g = answers {X = Vec Item Z} Parts.file trees 120 end tokens new (Err (Refused f)) refl g
+answered : {Z : Type 0} (end : Span) (tokens new : List Token) (result : Result (Vec Item Z) Stop) → OnOk result (new ≡ []) → Gives trees end new result (reads Parts.file OPEN_LIMIT tokens) → IsRead end tokens result
+answered {Z = Z} end tokens new (Ok items) e g = all_tokens tokens new (map item items.items) e (answers {X = Vec Item Z} Parts.file trees OPEN_LIMIT end tokens new (Ok items) refl g)
+answered {Z = Z} end tokens new (Err (Refused f)) e g = answers {X = Vec Item Z} Parts.file trees OPEN_LIMIT end tokens new (Err (Refused f)) refl g
 answered {Z = Z} end tokens new (Err Memory) e g = tt
 
 -- from the cursor before the first token
-pub whole : {Z : Type 0} (end at : Span) (tokens ts new : List Token) (room : ℕ) (result : Result (Vec Item Z) Stop) → at ≡ end → ts ≡ tokens → room ≡ 120 → OnOk result (new ≡ []) → Gives trees at new result (reads Parts.file room ts) → IsRead end tokens result
+pub whole : {Z : Type 0} (end at : Span) (tokens ts new : List Token) (room : ℕ) (result : Result (Vec Item Z) Stop) → at ≡ end → ts ≡ tokens → room ≡ OPEN_LIMIT → OnOk result (new ≡ []) → Gives trees at new result (reads Parts.file room ts) → IsRead end tokens result
 whole end at tokens ts new room result ea et er e g = answered end tokens new result e
     (subst (λ r. Gives trees end new result (reads Parts.file r tokens)) er
     (subst (λ l. Gives trees end new result (reads Parts.file room l)) et
     (subst (λ a. Gives trees a new result (reads Parts.file room ts)) ea g)))
 
 -- the items of a file are at most so high
-pub bounded : {Z : Type 0} (end : Span) (tokens : List Token) (result : Result (Vec Item Z) Stop) → IsRead end tokens result → IfOk result (λ items. items_height items.items ≤ 8833)
+pub bounded : {Z : Type 0} (end : Span) (tokens : List Token) (result : Result (Vec Item Z) Stop) → IsRead end tokens result → IfOk result (λ items. items_height items.items ≤ HEIGHT_LIMIT)
 bounded end tokens (Ok items) r = items_are_bounded items.items refl r
 bounded end tokens (Err s) r = tt

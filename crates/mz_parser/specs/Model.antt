@@ -1,5 +1,6 @@
 -- What reading a model's file answers.
 use Rattle.std.specs.Prelude.{◌≡◌, List, map, Vec, Result, Ok, Err, if◌then◌else◌}
+use Rattle.mz_base.specs.declared.limit.TheConstants.{OPEN_LIMIT}
 use Rattle.mz_base.specs.declared.fault.Span.{Span}
 use Rattle.mz_base.specs.declared.fault.Fault.{Fault}
 use Rattle.mz_base.specs.declared.stop.Stop.{Stop}
@@ -16,13 +17,13 @@ use Rattle.mz_cursor.specs.Promise.{IsWithin, IsFault, reason_of, fault_of}
 use Rattle.mz_grammar.specs.Parts.{file}
 use Rattle.mz_grammar.specs.Model.{rule}
 
--- these are the items of a file with these tokens, at most 120 of which are open at once
+-- these are the items of a file with these tokens, of which at most OPEN_LIMIT are open at once
 abbrev pub IsModel : List Token → List ItemTree → Type 0
-IsModel tokens items = IsWithin rule file 120 tokens items
+IsModel tokens items = IsWithin rule file OPEN_LIMIT tokens items
 
 -- the first token with which no file begins, and why
 abbrev pub IsRefused : Span → List Token → Fault → Type 0
-IsRefused end tokens f = (f ≡ fault_of (reason_of f.kind) f.span) × IsFault rule file 120 (reason_of f.kind) end tokens f.span
+IsRefused end tokens f = (f ≡ fault_of (reason_of f.kind) f.span) × IsFault rule file OPEN_LIMIT (reason_of f.kind) end tokens f.span
 
 abbrev pub IsRead : {Z : Type 0} → Span → List Token → Result (Vec Item Z) Stop → Type 0
 IsRead end tokens (Ok items) = IsModel tokens (map item items.items)

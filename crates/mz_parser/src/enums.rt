@@ -1,6 +1,7 @@
 // The cases of an enum.
 
-ghost use Rattle.std.specs.Prelude.{◌≡◌, ◌≤◌, ◌<◌, length, OnOk, Some};
+ghost use Rattle.std.specs.Prelude.{◌≡◌, Some};
+ghost use Rattle.mz_cursor.specs.Reads.{Passes, Reads};
 ghost use Rattle.mz_cursor.specs.Rules.{left_out, syntax};
 ghost use Rattle.mz_cursor.specs.Tokens.{tok_at, place_or};
 ghost use Rattle.mz_cursor.specs.Reading.{on};
@@ -8,7 +9,8 @@ ghost use Rattle.mz_grammar.specs.Tests.{ident_of};
 ghost use Rattle.std.specs.Option.{option_map};
 ghost use Rattle.mz_cursor.specs.Promise.{Gives, fault_of};
 ghost use Rattle.mz_grammar.specs.Parts as parts;
-ghost use Rattle.mz_grammar.specs.Reading.{reads, braced_at};
+ghost use Rattle.mz_grammar.specs.Reading.{reads};
+ghost use Rattle.mz_grammar.specs.Steps.{braced_at};
 
 use mz_base::{Name, Span, Stop};
 use mz_cursor::{Cursor, is_sym};
@@ -20,10 +22,7 @@ use std::alloc::Global;
 /// The cases behind the `=`, or None where no `=` stands here.
 #[tactic(auto, using(mz_grammar::proofs::ItemEquations::cases_reads))]
 pub fn cases(alloc: Global, cur: &mut Cursor<'_>) -> Result<Option<Vec<(Name, Span)>>, Stop>
-    ensures reads { Gives (λ cs. option_map (λ v. v.items) cs) cur.new.end cur.new.rest.now result (reads parts.cases cur.old.room cur.old.rest.now) }
-    ensures room { OnOk result (cur.new.room ≡ cur.old.room) }
-    ensures end { cur.new.end ≡ cur.old.end }
-    ensures shorter { OnOk result (length cur.new.rest.now ≤ length cur.old.rest.now) }
+    ensures { Passes (λ cs. option_map (λ v. v.items) cs) (reads parts.cases) cur.old cur.new result }
 {
     if !is_sym(Symbol::SEq, cur.tok()) {
         return Ok(None);
@@ -36,10 +35,7 @@ pub fn cases(alloc: Global, cur: &mut Cursor<'_>) -> Result<Option<Vec<(Name, Sp
 /// The cases in their braces. A name that isn't in braces, and what would make more cases behind them, is left out of the language.
 #[tactic(auto, using(mz_cursor::proofs::Steps::open_more, mz_cursor::proofs::Steps::open_none))]
 fn braced(alloc: Global, cur: &mut Cursor<'_>) -> Result<Vec<(Name, Span)>, Stop>
-    ensures reads { Gives (λ v. Some v.items) cur.new.end cur.new.rest.now result (braced_at cur.old.room cur.old.rest.now) }
-    ensures room { OnOk result (cur.new.room ≡ cur.old.room) }
-    ensures end { cur.new.end ≡ cur.old.end }
-    ensures shorter { OnOk result (length cur.new.rest.now < length cur.old.rest.now) }
+    ensures { Reads (λ v. Some v.items) braced_at cur.old cur.new result }
 {
     if !is_sym(Symbol::SLBrace, cur.tok()) {
         return Err(unbraced(cur));
@@ -67,10 +63,7 @@ fn unbraced(cur: &Cursor<'_>) -> Stop
 /// The names of the cases up to the closing brace.
 #[tactic(auto, using(mz_grammar::proofs::ItemEquations::case_names_reads, mz_cursor::proofs::Steps::front_front, mz_cursor::proofs::Steps::no_front))]
 fn case_names(alloc: Global, cur: &mut Cursor<'_>) -> Result<Vec<(Name, Span)>, Stop>
-    ensures reads { Gives (λ v. v.items) cur.new.end cur.new.rest.now result (reads parts.case_names cur.old.room cur.old.rest.now) }
-    ensures room { OnOk result (cur.new.room ≡ cur.old.room) }
-    ensures end { cur.new.end ≡ cur.old.end }
-    ensures shorter { OnOk result (length cur.new.rest.now < length cur.old.rest.now) }
+    ensures { Reads (λ v. v.items) (reads parts.case_names) cur.old cur.new result }
 {
     let mut all = Vec::new(alloc);
     while !is_sym(Symbol::SRBrace, cur.tok()) {

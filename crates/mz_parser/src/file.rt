@@ -1,6 +1,7 @@
 // The items of a file, each up to its semicolon.
 
-ghost use Rattle.std.specs.Prelude.{◌≡◌, ◌≤◌, length, map, [], OnOk};
+ghost use Rattle.std.specs.Prelude.{◌≡◌, map, [], OnOk};
+ghost use Rattle.mz_cursor.specs.Reads.{Passes};
 ghost use Rattle.mz_tree.specs.Items.{item};
 ghost use Rattle.mz_cursor.specs.Promise.{Gives};
 ghost use Rattle.mz_grammar.specs.Parts as parts;
@@ -33,10 +34,7 @@ pub fn all_items(alloc: Global, cur: &mut Cursor<'_>) -> Result<Vec<Item>, Stop>
 
 /// Passes the semicolon behind an item, which may be missing behind the last.
 fn semicolon(cur: &mut Cursor<'_>) -> Result<(), Stop>
-    ensures reads { Gives (λ u. tt) cur.new.end cur.new.rest.now result (semicolon_at cur.old.rest.now) }
-    ensures room { OnOk result (cur.new.room ≡ cur.old.room) }
-    ensures end { cur.new.end ≡ cur.old.end }
-    ensures shorter { OnOk result (length cur.new.rest.now ≤ length cur.old.rest.now) }
+    ensures { Passes (λ u. tt) (λ room ts. semicolon_at ts) cur.old cur.new result }
 {
     if cur.tok().is_none() {
         return Ok(());

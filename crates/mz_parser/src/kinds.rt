@@ -1,16 +1,17 @@
 // One item, by its kind.
 
-ghost use Rattle.std.specs.Prelude.{◌≡◌, ◌<◌, length, OnOk, Some, false};
+ghost use Rattle.std.specs.Prelude.{◌≡◌, ◌<◌, length, Some, false};
 ghost use Rattle.mz_tree.specs.Items.{item, goal};
 ghost use Rattle.mz_tree.specs.Tree as pure;
 ghost use Rattle.mz_tree.specs.Views.{written, based};
-ghost use Rattle.mz_cursor.specs.Promise.{Gives};
+ghost use Rattle.mz_cursor.specs.Reads.{Reads};
 ghost use Rattle.mz_cursor.specs.Reading.{on};
 ghost use Rattle.mz_cursor.specs.Tokens.{behind, place};
 ghost use Rattle.mz_expr.specs.Views.{reading};
 ghost use Rattle.mz_grammar.specs.Parts as parts;
 ghost use Rattle.mz_grammar.specs.Tests.{item_of, an_include, a_constraint, a_solve, an_output, a_predicate, a_test, a_function, an_annotation, an_enum};
-ghost use Rattle.mz_grammar.specs.Reading.{reads, declared_by, by_expression_at, function_at, item_at, other_item_at};
+ghost use Rattle.mz_grammar.specs.Reading.{reads};
+ghost use Rattle.mz_grammar.specs.Steps.{declared_by, by_expression_at, function_at, item_at, other_item_at};
 
 use crate::enums::cases;
 use crate::parameters::params;
@@ -22,16 +23,13 @@ use mz_expr::parser::{annotations, declaration, declared, expr, level, marks, ty
 use mz_expr::step::ident;
 use mz_grammar::Level;
 use mz_lexer::{Keyword, Symbol, Tok};
-use mz_tree::{Function, Goal, Item, TypeBase, TypeText};
+use mz_tree::{Function, Goal, Item, TypeText, make_bool_base, make_scalar, make_set_base};
 use std::alloc::Global;
 
 /// An item.
 #[tactic(auto, using(mz_grammar::proofs::ItemEquations::item_reads))]
 pub fn item(alloc: Global, cur: &mut Cursor<'_>) -> Result<Item, Stop>
-    ensures reads { Gives item cur.new.end cur.new.rest.now result (reads parts.item cur.old.room cur.old.rest.now) }
-    ensures room { OnOk result (cur.new.room ≡ cur.old.room) }
-    ensures end { cur.new.end ≡ cur.old.end }
-    ensures shorter { OnOk result (length cur.new.rest.now < length cur.old.rest.now) }
+    ensures { Reads item (reads parts.item) cur.old cur.new result }
 {
     match cur.tok() {
         None => other_item(alloc, cur),
@@ -42,10 +40,7 @@ pub fn item(alloc: Global, cur: &mut Cursor<'_>) -> Result<Item, Stop>
 /// An item that begins with this token.
 fn token_item(alloc: Global, cur: &mut Cursor<'_>, tok: Tok) -> Result<Item, Stop>
     requires some { 0 < length cur.old.rest.now }
-    ensures reads { Gives item cur.new.end cur.new.rest.now result (on (item_of (Some tok)) (other_item_at cur.old.room cur.old.rest.now) (λ k. item_at k (place cur.old.rest.now) cur.old.room (behind cur.old.rest.now))) }
-    ensures room { OnOk result (cur.new.room ≡ cur.old.room) }
-    ensures end { cur.new.end ≡ cur.old.end }
-    ensures shorter { OnOk result (length cur.new.rest.now < length cur.old.rest.now) }
+    ensures { Reads item (λ room ts. on (item_of (Some tok)) (other_item_at room ts) (λ k. item_at k (place ts) room (behind ts))) cur.old cur.new result }
 {
     match tok {
         Tok::Word(k) => word_item(alloc, cur, k),
@@ -56,10 +51,7 @@ fn token_item(alloc: Global, cur: &mut Cursor<'_>, tok: Tok) -> Result<Item, Sto
 /// An item that begins with this keyword.
 fn word_item(alloc: Global, cur: &mut Cursor<'_>, k: Keyword) -> Result<Item, Stop>
     requires some { 0 < length cur.old.rest.now }
-    ensures reads { Gives item cur.new.end cur.new.rest.now result (on (item_of (Some (Tok.Word k))) (other_item_at cur.old.room cur.old.rest.now) (λ k. item_at k (place cur.old.rest.now) cur.old.room (behind cur.old.rest.now))) }
-    ensures room { OnOk result (cur.new.room ≡ cur.old.room) }
-    ensures end { cur.new.end ≡ cur.old.end }
-    ensures shorter { OnOk result (length cur.new.rest.now < length cur.old.rest.now) }
+    ensures { Reads item (λ room ts. on (item_of (Some (Tok.Word k))) (other_item_at room ts) (λ k. item_at k (place ts) room (behind ts))) cur.old cur.new result }
 {
     match k {
         Keyword::KInclude => include(cur),
@@ -78,10 +70,7 @@ fn word_item(alloc: Global, cur: &mut Cursor<'_>, k: Keyword) -> Result<Item, St
 /// An include item.
 fn include(cur: &mut Cursor<'_>) -> Result<Item, Stop>
     requires some { 0 < length cur.old.rest.now }
-    ensures reads { Gives item cur.new.end cur.new.rest.now result (item_at an_include (place cur.old.rest.now) cur.old.room (behind cur.old.rest.now)) }
-    ensures room { OnOk result (cur.new.room ≡ cur.old.room) }
-    ensures end { cur.new.end ≡ cur.old.end }
-    ensures shorter { OnOk result (length cur.new.rest.now < length cur.old.rest.now) }
+    ensures { Reads item (λ room ts. item_at an_include (place ts) room (behind ts)) cur.old cur.new result }
 {
     cur.skip();
     match text_of(cur) {
@@ -93,10 +82,7 @@ fn include(cur: &mut Cursor<'_>) -> Result<Item, Stop>
 /// A constraint item. Its marks are dropped.
 fn constraint(alloc: Global, cur: &mut Cursor<'_>) -> Result<Item, Stop>
     requires some { 0 < length cur.old.rest.now }
-    ensures reads { Gives item cur.new.end cur.new.rest.now result (item_at a_constraint (place cur.old.rest.now) cur.old.room (behind cur.old.rest.now)) }
-    ensures room { OnOk result (cur.new.room ≡ cur.old.room) }
-    ensures end { cur.new.end ≡ cur.old.end }
-    ensures shorter { OnOk result (length cur.new.rest.now < length cur.old.rest.now) }
+    ensures { Reads item (λ room ts. item_at a_constraint (place ts) room (behind ts)) cur.old cur.new result }
 {
     cur.skip();
     marks(alloc, cur)?;
@@ -107,10 +93,7 @@ fn constraint(alloc: Global, cur: &mut Cursor<'_>) -> Result<Item, Stop>
 /// A solve item, with the place of its keyword. Its marks are dropped.
 fn solve(alloc: Global, cur: &mut Cursor<'_>) -> Result<Item, Stop>
     requires some { 0 < length cur.old.rest.now }
-    ensures reads { Gives item cur.new.end cur.new.rest.now result (item_at a_solve (place cur.old.rest.now) cur.old.room (behind cur.old.rest.now)) }
-    ensures room { OnOk result (cur.new.room ≡ cur.old.room) }
-    ensures end { cur.new.end ≡ cur.old.end }
-    ensures shorter { OnOk result (length cur.new.rest.now < length cur.old.rest.now) }
+    ensures { Reads item (λ room ts. item_at a_solve (place ts) room (behind ts)) cur.old cur.new result }
 {
     let at = cur.pass();
     marks(alloc, cur)?;
@@ -121,10 +104,7 @@ fn solve(alloc: Global, cur: &mut Cursor<'_>) -> Result<Item, Stop>
 /// What a solve item asks for.
 #[tactic(auto, using(mz_grammar::proofs::ItemEquations::goal_reads))]
 fn goal(alloc: Global, cur: &mut Cursor<'_>) -> Result<Goal, Stop>
-    ensures reads { Gives goal cur.new.end cur.new.rest.now result (reads parts.goal cur.old.room cur.old.rest.now) }
-    ensures room { OnOk result (cur.new.room ≡ cur.old.room) }
-    ensures end { cur.new.end ≡ cur.old.end }
-    ensures shorter { OnOk result (length cur.new.rest.now < length cur.old.rest.now) }
+    ensures { Reads goal (reads parts.goal) cur.old cur.new result }
 {
     if is_word(Keyword::KSatisfy, cur.tok()) {
         cur.skip();
@@ -146,10 +126,7 @@ fn goal(alloc: Global, cur: &mut Cursor<'_>) -> Result<Goal, Stop>
 /// An output item. Its marks are dropped.
 fn output(alloc: Global, cur: &mut Cursor<'_>) -> Result<Item, Stop>
     requires some { 0 < length cur.old.rest.now }
-    ensures reads { Gives item cur.new.end cur.new.rest.now result (item_at an_output (place cur.old.rest.now) cur.old.room (behind cur.old.rest.now)) }
-    ensures room { OnOk result (cur.new.room ≡ cur.old.room) }
-    ensures end { cur.new.end ≡ cur.old.end }
-    ensures shorter { OnOk result (length cur.new.rest.now < length cur.old.rest.now) }
+    ensures { Reads item (λ room ts. item_at an_output (place ts) room (behind ts)) cur.old cur.new result }
 {
     cur.skip();
     marks(alloc, cur)?;
@@ -160,48 +137,25 @@ fn output(alloc: Global, cur: &mut Cursor<'_>) -> Result<Item, Stop>
 /// A predicate: a function that gives a `var bool`, with the place of its keyword as that type's.
 fn predicate(alloc: Global, cur: &mut Cursor<'_>) -> Result<Item, Stop>
     requires some { 0 < length cur.old.rest.now }
-    ensures reads { Gives item cur.new.end cur.new.rest.now result (item_at a_predicate (place cur.old.rest.now) cur.old.room (behind cur.old.rest.now)) }
-    ensures room { OnOk result (cur.new.room ≡ cur.old.room) }
-    ensures end { cur.new.end ≡ cur.old.end }
-    ensures shorter { OnOk result (length cur.new.rest.now < length cur.old.rest.now) }
+    ensures { Reads item (λ room ts. item_at a_predicate (place ts) room (behind ts)) cur.old cur.new result }
 {
     let at = cur.pass();
-    function_body(alloc, cur, plain(at, true, TypeBase::Bool))
+    function_body(alloc, cur, make_scalar(at, true, false, false, make_bool_base()))
 }
 
 /// A test: a function that gives a `bool`, with the place of its keyword as that type's.
 fn test(alloc: Global, cur: &mut Cursor<'_>) -> Result<Item, Stop>
     requires some { 0 < length cur.old.rest.now }
-    ensures reads { Gives item cur.new.end cur.new.rest.now result (item_at a_test (place cur.old.rest.now) cur.old.room (behind cur.old.rest.now)) }
-    ensures room { OnOk result (cur.new.room ≡ cur.old.room) }
-    ensures end { cur.new.end ≡ cur.old.end }
-    ensures shorter { OnOk result (length cur.new.rest.now < length cur.old.rest.now) }
+    ensures { Reads item (λ room ts. item_at a_test (place ts) room (behind ts)) cur.old cur.new result }
 {
     let at = cur.pass();
-    function_body(alloc, cur, plain(at, false, TypeBase::Bool))
-}
-
-/// A type that is no array, no set and not optional.
-fn plain(span: Span, var: bool, base: TypeBase) -> TypeText
-    ensures { written result ≡ pure.written span pure.no_array var false false (based base) }
-{
-    TypeText {
-        span,
-        dims: None,
-        var,
-        opt: false,
-        set: false,
-        base,
-    }
+    function_body(alloc, cur, make_scalar(at, false, false, false, make_bool_base()))
 }
 
 /// A function item.
 fn function(alloc: Global, cur: &mut Cursor<'_>) -> Result<Item, Stop>
     requires some { 0 < length cur.old.rest.now }
-    ensures reads { Gives item cur.new.end cur.new.rest.now result (item_at a_function (place cur.old.rest.now) cur.old.room (behind cur.old.rest.now)) }
-    ensures room { OnOk result (cur.new.room ≡ cur.old.room) }
-    ensures end { cur.new.end ≡ cur.old.end }
-    ensures shorter { OnOk result (length cur.new.rest.now < length cur.old.rest.now) }
+    ensures { Reads item (λ room ts. item_at a_function (place ts) room (behind ts)) cur.old cur.new result }
 {
     cur.skip();
     let result_type = type_text(alloc, cur)?;
@@ -211,10 +165,7 @@ fn function(alloc: Global, cur: &mut Cursor<'_>) -> Result<Item, Stop>
 
 /// A function, behind the type of what it gives. Its annotations are dropped.
 fn function_body(alloc: Global, cur: &mut Cursor<'_>, gives: TypeText) -> Result<Item, Stop>
-    ensures reads { Gives item cur.new.end cur.new.rest.now result (function_at (written gives) cur.old.room cur.old.rest.now) }
-    ensures room { OnOk result (cur.new.room ≡ cur.old.room) }
-    ensures end { cur.new.end ≡ cur.old.end }
-    ensures shorter { OnOk result (length cur.new.rest.now < length cur.old.rest.now) }
+    ensures { Reads item (function_at (written gives)) cur.old cur.new result }
 {
     let (name, span) = ident(cur)?;
     let params = params(alloc, cur)?;
@@ -233,10 +184,7 @@ fn function_body(alloc: Global, cur: &mut Cursor<'_>, gives: TypeText) -> Result
 /// An annotation item. Its parameters are dropped.
 fn annotation(alloc: Global, cur: &mut Cursor<'_>) -> Result<Item, Stop>
     requires some { 0 < length cur.old.rest.now }
-    ensures reads { Gives item cur.new.end cur.new.rest.now result (item_at an_annotation (place cur.old.rest.now) cur.old.room (behind cur.old.rest.now)) }
-    ensures room { OnOk result (cur.new.room ≡ cur.old.room) }
-    ensures end { cur.new.end ≡ cur.old.end }
-    ensures shorter { OnOk result (length cur.new.rest.now < length cur.old.rest.now) }
+    ensures { Reads item (λ room ts. item_at an_annotation (place ts) room (behind ts)) cur.old cur.new result }
 {
     cur.skip();
     let (name, _) = ident(cur)?;
@@ -247,10 +195,7 @@ fn annotation(alloc: Global, cur: &mut Cursor<'_>) -> Result<Item, Stop>
 /// An enum item. Its annotations are dropped.
 fn enumeration(alloc: Global, cur: &mut Cursor<'_>) -> Result<Item, Stop>
     requires some { 0 < length cur.old.rest.now }
-    ensures reads { Gives item cur.new.end cur.new.rest.now result (item_at an_enum (place cur.old.rest.now) cur.old.room (behind cur.old.rest.now)) }
-    ensures room { OnOk result (cur.new.room ≡ cur.old.room) }
-    ensures end { cur.new.end ≡ cur.old.end }
-    ensures shorter { OnOk result (length cur.new.rest.now < length cur.old.rest.now) }
+    ensures { Reads item (λ room ts. item_at an_enum (place ts) room (behind ts)) cur.old cur.new result }
 {
     cur.skip();
     let (name, at) = ident(cur)?;
@@ -261,10 +206,7 @@ fn enumeration(alloc: Global, cur: &mut Cursor<'_>) -> Result<Item, Stop>
 
 /// An item that no keyword of its own begins: a declaration or an assignment.
 fn other_item(alloc: Global, cur: &mut Cursor<'_>) -> Result<Item, Stop>
-    ensures reads { Gives item cur.new.end cur.new.rest.now result (other_item_at cur.old.room cur.old.rest.now) }
-    ensures room { OnOk result (cur.new.room ≡ cur.old.room) }
-    ensures end { cur.new.end ≡ cur.old.end }
-    ensures shorter { OnOk result (length cur.new.rest.now < length cur.old.rest.now) }
+    ensures { Reads item other_item_at cur.old cur.new result }
 {
     if begins_type(cur) {
         let d = declaration(alloc, cur)?;
@@ -276,24 +218,17 @@ fn other_item(alloc: Global, cur: &mut Cursor<'_>) -> Result<Item, Stop>
 
 /// An item, behind the expression with which it begins.
 fn by_expression(alloc: Global, cur: &mut Cursor<'_>, x: Reading) -> Result<Item, Stop>
-    ensures reads { Gives item cur.new.end cur.new.rest.now result (by_expression_at (reading x) cur.old.room cur.old.rest.now) }
-    ensures room { OnOk result (cur.new.room ≡ cur.old.room) }
-    ensures end { cur.new.end ≡ cur.old.end }
-    ensures shorter { OnOk result (length cur.new.rest.now < length cur.old.rest.now) }
+    ensures { Reads item (by_expression_at (reading x)) cur.old cur.new result }
 {
     match x {
         Reading::Name(name, at) => by_name(alloc, cur, name, at),
-        Reading::Member(name, at, set) => of_type(alloc, cur, Reading::Member(name, at, set)),
-        Reading::Other(at, e) => of_type(alloc, cur, Reading::Other(at, e)),
+        other => of_type(alloc, cur, other),
     }
 }
 
 /// An item, behind the name with which it begins: an assignment, or a declaration whose type the name is.
 fn by_name(alloc: Global, cur: &mut Cursor<'_>, name: Name, at: Span) -> Result<Item, Stop>
-    ensures reads { Gives item cur.new.end cur.new.rest.now result (by_expression_at (parts.name name at) cur.old.room cur.old.rest.now) }
-    ensures room { OnOk result (cur.new.room ≡ cur.old.room) }
-    ensures end { cur.new.end ≡ cur.old.end }
-    ensures shorter { OnOk result (length cur.new.rest.now < length cur.old.rest.now) }
+    ensures { Reads item (by_expression_at (parts.name name at)) cur.old cur.new result }
 {
     if is_sym(Symbol::SEq, cur.tok()) {
         cur.skip();
@@ -305,14 +240,11 @@ fn by_name(alloc: Global, cur: &mut Cursor<'_>, name: Name, at: Span) -> Result<
 
 /// A declaration, behind the expression that is its type.
 fn of_type(alloc: Global, cur: &mut Cursor<'_>, x: Reading) -> Result<Item, Stop>
-    ensures reads { Gives item cur.new.end cur.new.rest.now result (declared_by (reading x) cur.old.room cur.old.rest.now) }
-    ensures room { OnOk result (cur.new.room ≡ cur.old.room) }
-    ensures end { cur.new.end ≡ cur.old.end }
-    ensures shorter { OnOk result (length cur.new.rest.now < length cur.old.rest.now) }
+    ensures { Reads item (declared_by (reading x)) cur.old cur.new result }
 {
     let at = x.at();
     let e = x.into_expr(alloc)?;
-    let base = TypeBase::Of(Box::new(alloc, e)?);
-    let d = declared(alloc, cur, plain(at, false, base))?;
+    let base = make_set_base(alloc, e)?;
+    let d = declared(alloc, cur, make_scalar(at, false, false, false, base))?;
     Ok(Item::Decl(d))
 }

@@ -2,6 +2,7 @@
 #![tactic(auto)]
 
 ghost use Rattle.std.specs.Prelude.{◌≤◌, IfOk};
+ghost use Rattle.mz_tree.specs.declared.height.TheConstants.{HEIGHT_LIMIT};
 ghost use Rattle.mz_tree.specs.Items.{items_height};
 ghost use Rattle.mz_parser.specs.Model.{IsRead};
 
@@ -22,16 +23,11 @@ use std::alloc::Global;
 ///
 /// Refused with Syntax, LeftOut or TooDeep, at the first token with which no file begins, or at `end` where the file isn't
 /// complete there. LeftOut where the token begins a form that is left out of the language, TooDeep where it would be one more
-/// open at once than 120. Memory where memory runs out.
+/// open at once than `OPEN_LIMIT`. Memory where memory runs out.
 pub fn items(alloc: Global, tokens: &[Token], end: Span) -> Result<Vec<Item>, Stop>
     ensures reads { IsRead end tokens.now result }
-    ensures bounded { IfOk result (λ items. items_height items.items ≤ 8833) }
+    ensures bounded { IfOk result (λ items. items_height items.items ≤ HEIGHT_LIMIT) }
 {
     let mut cur = Cursor::new(tokens, end);
     all_items(alloc, &mut cur)
 }
-
-#[cfg(test)]
-mod printer;
-#[cfg(test)]
-mod tests;

@@ -19,14 +19,15 @@ use Rattle.fz_program.specs.Flat.{Program, program}
 use Rattle.fz_text.specs.Spelling.{spelling}
 use Rattle.mz_first.specs.declared.building.Built.{Built}
 use Rattle.mz_first.specs.declared.building.Built.TheVariants as built
-use Rattle.mz_first.specs.Reading.{Where, formed}
+use Rattle.mz_include.specs.Walks.{Where}
+use Rattle.mz_first.specs.Reading.{formed}
 use Rattle.mz_first.specs.Promise.{IsBuilt, IsProgram, IsNotBuilt, IsNamedBuilt}
 use Rattle.mz_first.proofs.Later.{formed_later}
 use Rattle.mz_tool.specs.declared.compile.End.{End}
 use Rattle.mz_tool.specs.declared.compile.End.TheVariants as end
 use Rattle.mz_tool.specs.Headline.{Compiled}
 use Rattle.mz_tool.specs.Status.{not_built_at, IsRefusal, a_file_fails, not_built, IsOwner, IfRefused, CountsFiles, CountsOut, IsToldModel, IsDoneOrMemory}
-use Rattle.mz_tool.specs.Compiling.{status_of, file_of, IsWritable, Puts, Leaves, Fails, at_a_file, as_a_whole, StaysNotBuilt, Ends, IsNamedEnd}
+use Rattle.mz_tool.specs.StepsCompiling.{status_of, file_of, IsWritable, Puts, Leaves, Fails, at_a_file, as_a_whole, StaysNotBuilt, Ends, IsNamedEnd}
 
 compiled : (table : List Name) (files : List File) (p : Program) → IsProgram table files p → Compiled table files (spelling p)
 compiled table files p is = record { program = p; is_program = is; spelled = record { well_formed = is.well_formed; spelled = refl } }

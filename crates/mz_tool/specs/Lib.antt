@@ -1,4 +1,4 @@
 pub mod Words
 pub mod Headline
 pub mod Status
-pub mod Compiling
+pub mod StepsCompiling

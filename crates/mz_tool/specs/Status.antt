@@ -1,11 +1,12 @@
 -- What a run answers, and the line that it writes of it.
-use Rattle.std.specs.Prelude.{◌≡◌, ◌≤◌, ◌⊎◌, ℕ, ℤ, pos, List, [], ◌++◌, Option, Some, None, Ok, codes, decimal, if◌then◌else◌}
+use Rattle.std.specs.Prelude.{◌≡◌, ◌≤◌, ◌⊎◌, ℕ, ℤ, List, [], ◌++◌, Option, Some, None, Ok, codes, decimal, if◌then◌else◌}
 use Rattle.std.specs.Fmt.{signed_decimal}
 use Rattle.std.specs.Borrow.{Bor}
 use Rattle.mz_base.specs.declared.fault.Fault.{Fault}
 use Rattle.mz_base.specs.declared.fault.Span.{Span}
 use Rattle.mz_base.specs.declared.kind.Kind.{Kind}
 use Rattle.mz_base.specs.declared.kind.Kind.TheVariants.{NotBuilt}
+use Rattle.mz_base.specs.Faults.{fault_at}
 use Rattle.mz_base.specs.Kind.{name_of, shows_number}
 use Rattle.mz_base.specs.Names.{AreDistinct, Grows}
 use Rattle.mz_io.specs.Counts.{Rose}
@@ -54,7 +55,7 @@ IsLineNoted old new before after file status = Notes old new before after (line_
 
 -- what isn't built yet, at a place
 abbrev pub not_built_at : Span → Fault
-not_built_at place = record { kind = NotBuilt; span = place; number = pos 0 }
+not_built_at place = fault_at NotBuilt place
 
 -- Why the model of this name is refused, and the name of the file of the fault's place: a file fails, or the model
 -- isn't of the form that is built.

@@ -2,7 +2,7 @@
 
 ghost use Rattle.std.specs.Prelude.{◌≡◌, ◌<◌, map, length};
 ghost use Rattle.mz_include.specs.Views.{file, AreKnown};
-ghost use Rattle.mz_tool.specs.Compiling.{status_of, IsWritable, Puts, Leaves, unread, Ends, IsNamedEnd};
+ghost use Rattle.mz_tool.specs.StepsCompiling.{status_of, IsWritable, Puts, Leaves, unread, Ends, IsNamedEnd};
 ghost use Rattle.mz_tool.specs.Status.{CountsFiles, CountsOut};
 
 use crate::status::Status;
@@ -51,14 +51,7 @@ fn write_built<S: Sink>(alloc: Global, built: &Built, out: &mut S) -> End
             Wrote::Failed => End::WriteFault,
             Wrote::Memory => End::Memory,
         },
-        Built::NotBuilt(span, file) => {
-            let fault = Fault {
-                kind: Kind::NotBuilt,
-                span: *span,
-                number: 0,
-            };
-            End::Refused(fault, *file)
-        }
+        Built::NotBuilt(span, file) => End::Refused(Fault::at(Kind::NotBuilt, *span), *file),
     }
 }
 

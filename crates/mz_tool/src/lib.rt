@@ -8,6 +8,3 @@ mod top_call;
 
 pub use status::Status;
 pub use top_call::run;
-
-#[cfg(test)]
-mod run_tests;

@@ -5,7 +5,7 @@ ghost use Rattle.std.specs.Option.{option_copied};
 ghost use Rattle.mz_io.specs.Counts.{Rose};
 ghost use Rattle.mz_tool.specs.Words.{named_file};
 ghost use Rattle.mz_tool.specs.Headline.{Writes, WritesFront};
-ghost use Rattle.mz_tool.specs.Compiling.{file_of, IsNamedEnd};
+ghost use Rattle.mz_tool.specs.StepsCompiling.{file_of, IsNamedEnd};
 ghost use Rattle.mz_tool.specs.Status.{OnDone, IfRefused, OnReadFault, OnWriteFault, OnNothingWritten, IsRefusal, CountsFiles, CountsOut, IsComplete, IsNoted};
 
 use crate::compile::{End, compile};
@@ -51,7 +51,7 @@ fn file_of<'a>(end: &End, names: &'a Names) -> &'a str
 ///
 /// What is refused has the place of the first fault, in the order of the files, where each is
 /// fetched, lexed whole and parsed before the next one. `MissingFile` and `TooLong` (more than
-/// 67,108,864 bytes) stand where the file was first named, for MODEL at line 1, column 1;
+/// `FILE_LIMIT` bytes) stand where the file was first named, for MODEL at line 1, column 1;
 /// `Lexical`, `LeftOut`, `Bounds`, `Syntax` and `TooDeep` in the file itself. `NotBuilt` comes
 /// behind all of these, at the first item that isn't of the form that is built, or at the end of
 /// MODEL where only the solve item is missing (`mz_first::build` has the form).

@@ -1,1 +1,4 @@
+pub mod Collected
+pub mod Later
+pub mod Looks
 pub mod Maps

@@ -1,6 +1,8 @@
 -- How high a tree is: how many expressions stand one inside the other.
 use Rattle.std.specs.Prelude.{◌≡◌, ℕ, zero, suc, max, ◌+◌}
 use Rattle.std.proofs.Common.{refl}
+use Rattle.mz_base.specs.declared.limit.TheConstants.{OPEN_LIMIT}
+use Rattle.mz_tree.specs.declared.height.TheConstants.{HEIGHT_LIMIT}
 use Rattle.mz_tree.specs.Tree as pure
 use Rattle.mz_tree.specs.Tree.{Tree, Shape, Maybe, Trees, Links, Rows, Branches, Part, Parts, Generator, Gens, Let, Lets, Declaration, Written, Based, Dims, Bases}
 
@@ -100,6 +102,7 @@ unfoldable pub most : ℕ → ℕ
 most zero = 13
 most (suc room) = most room + 13 + suc room
 
-pub most_in_a_file : most 120 ≡ 8833
+-- the bound for a whole file
+pub most_in_a_file : most OPEN_LIMIT ≡ HEIGHT_LIMIT
 unfolding most
 most_in_a_file = refl

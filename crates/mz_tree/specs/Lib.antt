@@ -3,3 +3,5 @@ pub mod Views
 pub mod Height
 pub mod Items
 pub mod Data
+pub mod Kinds
+pub mod Names

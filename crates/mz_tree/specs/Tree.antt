@@ -140,3 +140,11 @@ bases (b ∷ bs) = a_base b (bases bs)
 abbrev pub dims : Option (List Based) → Dims
 dims None = no_array
 dims (Some bs) = array_of (bases bs)
+
+-- an array type with these index types, whose elements have this type
+abbrev pub array_type : Span → List Based → Written → Written
+array_type s bs (written t ds v o st b) = written s (array_of (bases bs)) v o st b
+
+-- this type behind `var` or `par`
+abbrev pub marked : Span → Bool → Written → Written
+marked s var (written t ds v o st b) = written s ds var o st b

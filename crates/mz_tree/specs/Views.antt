@@ -11,6 +11,7 @@ use Rattle.mz_tree.specs.declared.expr.Decl.{Decl, Decl-F, fold-Decl}
 use Rattle.mz_tree.specs.declared.expr.Gen.{Gen, Gen-F, fold-Gen}
 use Rattle.mz_tree.specs.declared.expr.TypeText.{TypeText, TypeText-F, fold-TypeText}
 use Rattle.mz_tree.specs.declared.expr.Form.TheOpen as open_form
+use Rattle.mz_tree.specs.declared.expr.Form.TheViews.{out-Form, out-LetItem, out-TextPart, out-TypeBase, out-Decl, out-Gen, out-TypeText}
 use Rattle.mz_tree.specs.Tree.{Tree, Shape, Part, Based, Declaration, Generator, Let, Written}
 use Rattle.mz_tree.specs.declared.expr.BinOp.{BinOp}
 use Rattle.mz_tree.specs.Tree as pure
@@ -63,28 +64,28 @@ abbrev pub type_step : TypeText-F Shape Let Part Based Declaration Tree Generato
 type_step t = pure.written t.span (pure.dims (option_map (λ v. v.items) t.dims)) t.var t.opt t.set t.base
 
 -- what each type of the code stands for
-abbrev pub tree : Expr → Tree
+unfoldable pub tree : Expr → Tree
 tree = fold-Expr Shape Let Part Based Declaration Tree Generator Written form_step let_step part_step base_step decl_step expr_step gen_step type_step
 
-abbrev pub shape : Form → Shape
+unfoldable pub shape : Form → Shape
 shape = fold-Form Shape Let Part Based Declaration Tree Generator Written form_step let_step part_step base_step decl_step expr_step gen_step type_step
 
-abbrev pub let_of : LetItem → Let
+unfoldable pub let_of : LetItem → Let
 let_of = fold-LetItem Shape Let Part Based Declaration Tree Generator Written form_step let_step part_step base_step decl_step expr_step gen_step type_step
 
-abbrev pub part : TextPart → Part
+unfoldable pub part : TextPart → Part
 part = fold-TextPart Shape Let Part Based Declaration Tree Generator Written form_step let_step part_step base_step decl_step expr_step gen_step type_step
 
-abbrev pub based : TypeBase → Based
+unfoldable pub based : TypeBase → Based
 based = fold-TypeBase Shape Let Part Based Declaration Tree Generator Written form_step let_step part_step base_step decl_step expr_step gen_step type_step
 
-abbrev pub declaration : Decl → Declaration
+unfoldable pub declaration : Decl → Declaration
 declaration = fold-Decl Shape Let Part Based Declaration Tree Generator Written form_step let_step part_step base_step decl_step expr_step gen_step type_step
 
-abbrev pub generator : Gen → Generator
+unfoldable pub generator : Gen → Generator
 generator = fold-Gen Shape Let Part Based Declaration Tree Generator Written form_step let_step part_step base_step decl_step expr_step gen_step type_step
 
-abbrev pub written : TypeText → Written
+unfoldable pub written : TypeText → Written
 written = fold-TypeText Shape Let Part Based Declaration Tree Generator Written form_step let_step part_step base_step decl_step expr_step gen_step type_step
 
 abbrev pub link : BinOp × Expr → BinOp × Tree
@@ -95,3 +96,38 @@ branch b = (tree b.0, tree b.1)
 
 abbrev pub tree_row : {Z : Type 0} → Vec Expr Z → List Tree
 tree_row r = map tree r.items
+
+-- one layer of each type, with what its parts stand for: by the equations of proofs/Looks
+abbrev pub form_seen : Form-F Form LetItem TextPart TypeBase Decl Expr Gen TypeText → Shape
+form_seen (open_form.Form::Int n) = pure.int n
+form_seen (open_form.Form::Bool b) = pure.bool b
+form_seen open_form.Absent = pure.absent
+form_seen (open_form.Text n) = pure.text n
+form_seen (open_form.Ident n) = pure.ident n
+form_seen (open_form.Interp ps) = pure.interp (pure.parts (map part ps.items))
+form_seen (open_form.Unary op e) = pure.unary op (tree e.value)
+form_seen (open_form.Chain e ls) = pure.chain (tree e.value) (pure.links (map link ls.items))
+form_seen (open_form.Call f es) = pure.call f (pure.trees (map tree es.items))
+form_seen (open_form.GenCall f gs e) = pure.gen_call f (pure.gens (map generator gs.items)) (tree e.value)
+form_seen (open_form.Access e es) = pure.access (tree e.value) (pure.trees (map tree es.items))
+form_seen (open_form.Array es) = pure.array (pure.trees (map tree es.items))
+form_seen (open_form.Rows rs) = pure.rows (pure.rows_of (map tree_row rs.items))
+form_seen (open_form.Set es) = pure.set (pure.trees (map tree es.items))
+form_seen (open_form.ArrayComp e gs) = pure.array_comp (tree e.value) (pure.gens (map generator gs.items))
+form_seen (open_form.SetComp e gs) = pure.set_comp (tree e.value) (pure.gens (map generator gs.items))
+form_seen (open_form.If bs e) = pure.choice (pure.branches (map branch bs.items)) (pure.maybe (option_map (λ x. tree x.value) e))
+form_seen (open_form.Let ls e) = pure.let_in (pure.lets (map let_of ls.items)) (tree e.value)
+form_seen open_form.Whole = pure.whole
+
+abbrev pub let_seen : LetItem-F Form LetItem TextPart TypeBase Decl Expr Gen TypeText → Let
+let_seen (open_form.Decl d) = pure.declared (declaration d)
+let_seen (open_form.Constraint e) = pure.constrained (tree e)
+
+abbrev pub part_seen : TextPart-F Form LetItem TextPart TypeBase Decl Expr Gen TypeText → Part
+part_seen (open_form.Plain n) = pure.plain n
+part_seen (open_form.Shown e) = pure.shown (tree e)
+
+abbrev pub base_seen : TypeBase-F Form LetItem TextPart TypeBase Decl Expr Gen TypeText → Based
+base_seen open_form.TypeBase::Bool = pure.base_bool
+base_seen open_form.TypeBase::Int = pure.base_int
+base_seen (open_form.Of e) = pure.base_of (tree e.value)

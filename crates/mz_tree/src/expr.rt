@@ -1,4 +1,13 @@
 // Expressions, with the declarations and types that they hold.
+//
+// Each struct is let go by a `drop` of its own, so that a value that is held while more is read costs one call at each
+// exit, and not a branch for each form.
+
+ghost use Rattle.std.specs.Prelude.{◌≡◌, map};
+ghost use Rattle.std.specs.Option.{option_map};
+ghost use Rattle.mz_tree.specs.Tree as pure;
+ghost use Rattle.mz_tree.specs.Tree.{array_type, marked};
+ghost use Rattle.mz_tree.specs.Views.{tree, generator, written, based};
 
 use mz_base::{Name, Span};
 
@@ -71,11 +80,18 @@ pub enum Form {
 }
 
 /// An expression, with the place of its first token.
-#[derive(Debug, Drop)]
+#[derive(Debug)]
 #[cycle(tree)]
 pub struct Expr {
     pub span: Span,
     pub form: Form,
+}
+
+impl Drop for Expr {
+    #[cycle(tree)]
+    fn drop(self) {
+        let Expr { span: _span, form: _form } = self;
+    }
 }
 
 /// A piece of a text with interpolation.
@@ -87,12 +103,30 @@ pub enum TextPart {
 }
 
 /// A generator: its names with their places, the set or array that they run over, and a `where`.
-#[derive(Debug, Drop)]
+#[derive(Debug)]
 #[cycle(tree)]
 pub struct Gen {
     pub names: Vec<(Name, Span)>,
     pub set: Expr,
     pub cond: Option<Expr>,
+}
+
+impl Drop for Gen {
+    #[cycle(tree)]
+    fn drop(self) {
+        let Gen { names: _names, set: _set, cond: _cond } = self;
+    }
+}
+
+impl Gen {
+    /// Its names with their places, the set or array that they run over, and its `where`.
+    #[tactic(auto, unfolding(crate::specs::Views::tree, crate::specs::Views::shape, crate::specs::Views::let_of, crate::specs::Views::part, crate::specs::Views::based, crate::specs::Views::declaration, crate::specs::Views::generator, crate::specs::Views::written))]
+    pub fn into_parts(self) -> (Vec<(Name, Span)>, Expr, Option<Expr>)
+        ensures { generator self ≡ pure.generator result.0.items (tree result.1) (pure.maybe (option_map tree result.2)) }
+    {
+        let Gen { names, set, cond } = self;
+        (names, set, cond)
+    }
 }
 
 /// An item of a `let`.
@@ -104,7 +138,7 @@ pub enum LetItem {
 }
 
 /// A declaration, with the place of its name.
-#[derive(Debug, Drop)]
+#[derive(Debug)]
 #[cycle(tree)]
 pub struct Decl {
     pub ty: TypeText,
@@ -113,8 +147,15 @@ pub struct Decl {
     pub value: Option<Expr>,
 }
 
+impl Drop for Decl {
+    #[cycle(tree)]
+    fn drop(self) {
+        let Decl { ty: _ty, name: _name, span: _span, value: _value } = self;
+    }
+}
+
 /// A written type: `dims` are the index types of an array, in their order.
-#[derive(Debug, Drop)]
+#[derive(Debug)]
 #[cycle(tree)]
 pub struct TypeText {
     pub span: Span,
@@ -123,6 +164,68 @@ pub struct TypeText {
     pub opt: bool,
     pub set: bool,
     pub base: TypeBase,
+}
+
+impl Drop for TypeText {
+    #[cycle(tree)]
+    fn drop(self) {
+        let TypeText {
+            span: _span,
+            dims: _dims,
+            var: _var,
+            opt: _opt,
+            set: _set,
+            base: _base,
+        } = self;
+    }
+}
+
+impl TypeText {
+    /// An array type with this place and these index types, whose elements have this type.
+    #[tactic(auto, unfolding(crate::specs::Views::tree, crate::specs::Views::shape, crate::specs::Views::let_of, crate::specs::Views::part, crate::specs::Views::based, crate::specs::Views::declaration, crate::specs::Views::generator, crate::specs::Views::written))]
+    pub fn into_array(self, span: Span, dims: Vec<TypeBase>) -> TypeText
+        ensures { written result ≡ array_type span (map based dims.items) (written self) }
+    {
+        let TypeText {
+            span: _span,
+            dims: _dims,
+            var,
+            opt,
+            set,
+            base,
+        } = self;
+        TypeText {
+            span,
+            dims: Some(dims),
+            var,
+            opt,
+            set,
+            base,
+        }
+    }
+
+    /// This type after `var` or `par`, with that word's place.
+    #[tactic(auto, unfolding(crate::specs::Views::tree, crate::specs::Views::shape, crate::specs::Views::let_of, crate::specs::Views::part, crate::specs::Views::based, crate::specs::Views::declaration, crate::specs::Views::generator, crate::specs::Views::written))]
+    pub fn marked(self, span: Span, var: bool) -> TypeText
+        ensures { written result ≡ marked span var (written self) }
+    {
+        let TypeText {
+            span: _span,
+            dims,
+            var: _var,
+            opt,
+            set,
+            base,
+        } = self;
+        TypeText {
+            span,
+            dims,
+            var,
+            opt,
+            set,
+            base,
+        }
+    }
 }
 
 /// What a type is of: `Of` is a set, given by an expression.

@@ -4,7 +4,7 @@ use Rattle.std.proofs.lemmas.Int.{ints, clamps, by_lt_z}
 use Rattle.std.specs.Prelude.{ℤ, pos, ◌+ℤ◌, ◌≤ℤ◌, ◌<ℤ◌}
 use Rattle.std.specs.Int.{int_max, int_min}
 use Rattle.mz_value.specs.Ranges.{Range, AreCanonical, IsIn, Has, AreInLimit, IsIntersection}
-use Rattle.mz_value.specs.Walks.{common}
+use Rattle.mz_value.specs.StepsWalks.{common}
 use Rattle.mz_value.proofs.Walking.{overlap, common_left, common_right, common_none_left, common_none_right}
 use Rattle.mz_value.proofs.Members.{Begins, has_behind, has_range, range_has, behind_range_has, begins_behind, begins_range, canonical_range, limit_range}
 

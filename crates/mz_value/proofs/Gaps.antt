@@ -4,7 +4,7 @@ use Rattle.std.proofs.lemmas.Int.{ints, by_lt_z}
 use Rattle.std.proofs.lemmas.List.{append-nil}
 use Rattle.std.specs.Prelude.{ℤ, pos, ◌+ℤ◌, ◌-ℤ◌, ◌≤ℤ◌}
 use Rattle.mz_value.specs.Ranges.{Range, AreCanonical, Has, AreInLimit, least, greatest, range_of, IsDifference}
-use Rattle.mz_value.specs.Walks.{common, gaps}
+use Rattle.mz_value.specs.StepsWalks.{common, gaps}
 use Rattle.mz_value.proofs.Members.{Begins, has_begins, has_range, range_has, behind_range_has, begins_behind, begins_range, begins_lower, canonical_range}
 use Rattle.mz_value.proofs.Common.{common_members}
 

@@ -4,7 +4,7 @@ use Rattle.std.proofs.lemmas.Int.{ints, clamps, by_lt_z}
 use Rattle.std.specs.Prelude.{ℤ, pos, ◌+ℤ◌, ◌≤ℤ◌, ◌<ℤ◌, ◌⊎◌, ◌↔◌}
 use Rattle.std.specs.Int.{int_max}
 use Rattle.mz_value.specs.Ranges.{Range, IsApart, AreCanonical, IsIn, Has, IsInLimit, AreInLimit, least, IsUnion}
-use Rattle.mz_value.specs.Walks.{merged, joined, joined_from}
+use Rattle.mz_value.specs.StepsWalks.{merged, joined, joined_from}
 use Rattle.mz_value.proofs.Walking.{merged_left, merged_right, merged_none_left, merged_none_right, joined_on, joined_apart, joined_end}
 use Rattle.mz_value.proofs.Members.{Begins, begins_behind}
 use Rattle.mz_value.proofs.Gaps.{begins_least}

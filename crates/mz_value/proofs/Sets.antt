@@ -1,7 +1,7 @@
 -- What a set's ranges are known to be.
 use Rattle.std.proofs.Common.{◌≡◌, List, subst, sym}
 use Rattle.mz_value.specs.Ranges.{Range, AreCanonical, AreInLimit, IsIntersection, IsDifference, IsUnion, least}
-use Rattle.mz_value.specs.Walks.{common, gaps, merged, joined}
+use Rattle.mz_value.specs.StepsWalks.{common, gaps, merged, joined}
 use Rattle.mz_value.proofs.Common.{common_members, common_canonical, common_limit}
 use Rattle.mz_value.proofs.Gaps.{gaps_canonical, begins_least, difference_members}
 use Rattle.mz_value.proofs.Joined.{union_members, union_canonical, union_limit}

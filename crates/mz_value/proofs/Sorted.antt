@@ -8,7 +8,7 @@ use Rattle.std.specs.List.{All, Contains}
 use Rattle.std.specs.List.Sorted.{IsSorted, IsPermutation}
 use Rattle.std.specs.Ordering.{int_cmp, is_lt}
 use Rattle.mz_value.specs.Ranges.{Range, AreCanonical, Has, IsInLimit, AreInLimit, IsSetOf}
-use Rattle.mz_value.specs.Walks.{joined}
+use Rattle.mz_value.specs.StepsWalks.{joined}
 use Rattle.mz_value.proofs.Comparisons.{int_lt_true}
 use Rattle.mz_value.proofs.Joined.{Ascends, joined_members, joined_canonical, joined_limit}
 

@@ -4,7 +4,7 @@ use Rattle.std.proofs.lemmas.List.{append-nil, drop_all, take_all, length-drop}
 use Rattle.std.specs.Prelude.{ℤ, pos, ◌+ℤ◌, ◌-ℤ◌, ◌≤ℤ◌, ◌<ℤ◌, ◌⊎◌}
 use Rattle.std.specs.Int.{int_max}
 use Rattle.mz_value.specs.Ranges.{Range, range_of, greatest}
-use Rattle.mz_value.specs.Walks.{merged, joined, joined_from, common, gaps}
+use Rattle.mz_value.specs.StepsWalks.{merged, joined, joined_from, common, gaps}
 use Rattle.mz_value.proofs.Walking.{merged_left, merged_right, merged_none_left, merged_none_right, joined_on, joined_apart, joined_end, common_left, common_right, common_none_left, common_none_right, overlap}
 use Rattle.mz_value.proofs.Gaps.{gaps_more}
 

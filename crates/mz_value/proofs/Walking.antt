@@ -3,7 +3,7 @@ use Rattle.std.proofs.Common.{◌≡◌, List, [], ◌∷◌, ◌++◌, refl, ap
 use Rattle.std.specs.Prelude.{ℤ, pos, ◌+ℤ◌, ◌≤ℤ◌, ◌<ℤ◌}
 use Rattle.std.specs.Int.{int_max, int_min}
 use Rattle.mz_value.specs.Ranges.{Range, range_of}
-use Rattle.mz_value.specs.Walks.{merged, merged_from, joined_from, common, common_from}
+use Rattle.mz_value.specs.StepsWalks.{merged, merged_from, joined_from, common, common_from}
 use Rattle.mz_value.proofs.Comparisons.{int_le_true, int_le_false, int_lt_true, int_lt_false}
 
 pub range_of_some : (lo hi : ℤ) → lo ≤ℤ hi → range_of lo hi ≡ (lo, hi) ∷ []

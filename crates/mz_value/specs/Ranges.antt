@@ -1,5 +1,6 @@
 -- Finite sets of integers, as lists of ranges.
 use Rattle.std.specs.Prelude.{◌≡◌, refl, ℕ, suc, ◌+◌, ◌^◌, ℤ, pos, negsuc, neg_ℤ, nat_abs, List, [], ◌∷◌, ◌⊎◌, ◌↔◌, ◌≤ℤ◌, ◌<ℤ◌, ◌+ℤ◌, ◌-ℤ◌, if◌then◌else◌, int_le, Contains}
+use Rattle.mz_value.specs.declared.range_set.TheConstants.{LEAST, GREATEST}
 
 -- a least and a greatest element, both inclusive
 abbrev pub Range : Type 0
@@ -26,10 +27,10 @@ Has (r ∷ rs) x = IsIn r x ⊎ Has rs x
 
 -- the integers that a model may speak of
 abbrev pub least : ℤ
-least = neg_ℤ (pos (2 ^ 61))
+least = LEAST
 
 abbrev pub greatest : ℤ
-greatest = pos (2 ^ 61)
+greatest = GREATEST
 
 abbrev pub IsInLimit : ℤ → Type 0
 IsInLimit x = (least ≤ℤ x) × (x ≤ℤ greatest)

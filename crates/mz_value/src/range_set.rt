@@ -7,9 +7,9 @@ use std::alloc::{AllocError, Global};
 use std::marker::Model;
 
 /// The least integer that a set may have, -2^61.
-pub const LEAST: i64 = -2_305_843_009_213_693_952;
+pub const LEAST: i64 = -GREATEST;
 /// The greatest integer that a set may have, 2^61.
-pub const GREATEST: i64 = 2_305_843_009_213_693_952;
+pub const GREATEST: i64 = 1 << 61;
 
 /// A finite set of integers of `LEAST` to `GREATEST`.
 ///

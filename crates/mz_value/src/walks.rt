@@ -3,7 +3,7 @@
 ghost use Rattle.std.specs.Prelude.{◌≡◌, ◌++◌, ◌↔◌, ◌∷◌, ◌≤ℤ◌, ◌+ℤ◌, pos, IfOk, OnOk, IsTrue, map};
 ghost use Rattle.std.specs.Int.{int_max, int_min};
 ghost use Rattle.mz_value.specs.Ranges.{AreCanonical, AreInLimit, Has, IsInLimit, cardinality, least, range_of, size};
-ghost use Rattle.mz_value.specs.Walks as walks;
+ghost use Rattle.mz_value.specs.StepsWalks as walks;
 
 use crate::range_set::{GREATEST, LEAST};
 use std::alloc::{AllocError, Global};

@@ -1,37 +1,32 @@
 // `if` and `let`.
 
-ghost use Rattle.std.specs.Prelude.{◌≡◌, ◌≤◌, ◌<◌, length, OnOk, map};
+ghost use Rattle.std.specs.Prelude.{◌<◌, length, map};
 ghost use Rattle.std.specs.Option.{option_map};
 ghost use Rattle.mz_tree.specs.Tree as pure;
 ghost use Rattle.mz_tree.specs.Views.{tree, branch, let_of};
-ghost use Rattle.mz_cursor.specs.Promise.{Gives};
+ghost use Rattle.mz_cursor.specs.Reads.{Reads};
 ghost use Rattle.mz_grammar.specs.Parts as parts;
-ghost use Rattle.mz_grammar.specs.Reading.{reads, head_word_at, let_at, with_branches};
+ghost use Rattle.mz_grammar.specs.Reading.{reads};
+ghost use Rattle.mz_grammar.specs.Steps.{head_word_at, let_at, with_branches};
 ghost use Rattle.mz_expr.specs.Views.{reading};
-ghost use Rattle.mz_expr.specs.Descent.{Descends};
+ghost use Rattle.mz_expr.specs.Descent.{MayOpen, MayRead};
 
-use crate::held::Held;
-use crate::make::{let_constrained, let_declared};
 use crate::parser::descent::{Descent, Entry};
 use crate::reading::{Reading, other};
 use crate::step::let_separator;
-use mz_base::Stop;
+use mz_base::{Held, Stop};
 use mz_cursor::{Cursor, is_sym, is_word};
 use mz_lexer::{Keyword, Symbol};
-use mz_tree::{Expr, LetItem, make_if, make_let};
+use mz_tree::{Expr, LetItem, make_if, make_let, make_let_constraint, make_let_declaration};
 use std::alloc::Global;
 
 impl<F: Fn(Global, &mut Cursor<'_>, Entry) -> Result<Reading, Stop>> Descent<F> {
     /// An `if`.
     #[tactic(auto, using(mz_cursor::proofs::Steps::open_more, mz_cursor::proofs::Steps::open_none))]
     pub fn choice(&self, cur: &mut Cursor<'_>) -> Result<Reading, Stop>
-        requires calls { Descends self.now.room self.now.entry (F.pre self.now.reader) (F.post self.now.reader) }
-        requires below { cur.old.room ≤ self.now.room }
+        requires may { MayOpen self.now.room self.now.entry (F.pre self.now.reader) (F.post self.now.reader) cur.old }
         requires some { 0 < length cur.old.rest.now }
-        ensures reads { Gives reading cur.new.end cur.new.rest.now result (head_word_at Keyword.KIf cur.old.room cur.old.rest.now) }
-        ensures room { OnOk result (cur.new.room ≡ cur.old.room) }
-        ensures end { cur.new.end ≡ cur.old.end }
-        ensures shorter { OnOk result (length cur.new.rest.now < length cur.old.rest.now) }
+        ensures { Reads reading (head_word_at Keyword.KIf) cur.old cur.new result }
     {
         cur.push()?;
         let at = cur.pass();
@@ -46,12 +41,8 @@ impl<F: Fn(Global, &mut Cursor<'_>, Entry) -> Result<Reading, Stop>> Descent<F> 
     /// A condition, and what stands behind its `then`.
     #[tactic(auto, using(mz_grammar::proofs::ListEquations::branch_reads))]
     fn branch(&self, cur: &mut Cursor<'_>) -> Result<(Expr, Expr), Stop>
-        requires calls { Descends self.now.room self.now.entry (F.pre self.now.reader) (F.post self.now.reader) }
-        requires below { cur.old.room < self.now.room }
-        ensures reads { Gives branch cur.new.end cur.new.rest.now result (reads parts.branch cur.old.room cur.old.rest.now) }
-        ensures room { OnOk result (cur.new.room ≡ cur.old.room) }
-        ensures end { cur.new.end ≡ cur.old.end }
-        ensures shorter { OnOk result (length cur.new.rest.now < length cur.old.rest.now) }
+        requires { MayRead self.now.room self.now.entry (F.pre self.now.reader) (F.post self.now.reader) cur.old }
+        ensures { Reads branch (reads parts.branch) cur.old cur.new result }
     {
         let condition = Held::new(self.expr(cur)?);
         cur.word(Keyword::KThen)?;
@@ -66,12 +57,8 @@ impl<F: Fn(Global, &mut Cursor<'_>, Entry) -> Result<Reading, Stop>> Descent<F> 
         cur: &mut Cursor<'_>,
         before: Vec<(Expr, Expr)>,
     ) -> Result<(Vec<(Expr, Expr)>, Option<Expr>), Stop>
-        requires calls { Descends self.now.room self.now.entry (F.pre self.now.reader) (F.post self.now.reader) }
-        requires below { cur.old.room < self.now.room }
-        ensures reads { Gives (λ r. (map branch r.0.items, pure.maybe (option_map tree r.1))) cur.new.end cur.new.rest.now result (with_branches (map branch before.items) (reads parts.branches cur.old.room cur.old.rest.now)) }
-        ensures room { OnOk result (cur.new.room ≡ cur.old.room) }
-        ensures end { cur.new.end ≡ cur.old.end }
-        ensures shorter { OnOk result (length cur.new.rest.now < length cur.old.rest.now) }
+        requires { MayRead self.now.room self.now.entry (F.pre self.now.reader) (F.post self.now.reader) cur.old }
+        ensures { Reads (λ r. (map branch r.0.items, pure.maybe (option_map tree r.1))) (λ room ts. with_branches (map branch before.items) (reads parts.branches room ts)) cur.old cur.new result }
     {
         let mut all = before;
         while is_word(Keyword::KElseif, cur.tok()) {
@@ -95,13 +82,9 @@ impl<F: Fn(Global, &mut Cursor<'_>, Entry) -> Result<Reading, Stop>> Descent<F> 
     /// A `let`.
     #[tactic(auto, using(mz_cursor::proofs::Steps::open_more, mz_cursor::proofs::Steps::open_none))]
     pub fn let_in(&self, cur: &mut Cursor<'_>) -> Result<Reading, Stop>
-        requires calls { Descends self.now.room self.now.entry (F.pre self.now.reader) (F.post self.now.reader) }
-        requires below { cur.old.room ≤ self.now.room }
+        requires may { MayOpen self.now.room self.now.entry (F.pre self.now.reader) (F.post self.now.reader) cur.old }
         requires some { 0 < length cur.old.rest.now }
-        ensures reads { Gives reading cur.new.end cur.new.rest.now result (let_at cur.old.room cur.old.rest.now) }
-        ensures room { OnOk result (cur.new.room ≡ cur.old.room) }
-        ensures end { cur.new.end ≡ cur.old.end }
-        ensures shorter { OnOk result (length cur.new.rest.now < length cur.old.rest.now) }
+        ensures { Reads reading let_at cur.old cur.new result }
     {
         cur.push()?;
         let at = cur.pass();
@@ -121,12 +104,8 @@ impl<F: Fn(Global, &mut Cursor<'_>, Entry) -> Result<Reading, Stop>> Descent<F> 
     /// The items of a `let`, and the closing brace.
     #[tactic(auto, using(mz_grammar::proofs::ListEquations::let_items_reads, mz_cursor::proofs::Steps::front_push, std::proofs::lemmas::List::map_push, mz_cursor::proofs::Steps::nothing_behind, mz_cursor::proofs::Steps::no_front))]
     fn let_items(&self, cur: &mut Cursor<'_>) -> Result<Vec<LetItem>, Stop>
-        requires calls { Descends self.now.room self.now.entry (F.pre self.now.reader) (F.post self.now.reader) }
-        requires below { cur.old.room < self.now.room }
-        ensures reads { Gives (λ v. map let_of v.items) cur.new.end cur.new.rest.now result (reads parts.let_items cur.old.room cur.old.rest.now) }
-        ensures room { OnOk result (cur.new.room ≡ cur.old.room) }
-        ensures end { cur.new.end ≡ cur.old.end }
-        ensures shorter { OnOk result (length cur.new.rest.now < length cur.old.rest.now) }
+        requires { MayRead self.now.room self.now.entry (F.pre self.now.reader) (F.post self.now.reader) cur.old }
+        ensures { Reads (λ v. map let_of v.items) (reads parts.let_items) cur.old cur.new result }
     {
         let mut all = Vec::new(self.alloc);
         while !is_sym(Symbol::SRBrace, cur.tok()) {
@@ -143,20 +122,16 @@ impl<F: Fn(Global, &mut Cursor<'_>, Entry) -> Result<Reading, Stop>> Descent<F> 
     /// An item of a `let`.
     #[tactic(auto, using(mz_grammar::proofs::ListEquations::let_item_reads))]
     fn let_item(&self, cur: &mut Cursor<'_>) -> Result<LetItem, Stop>
-        requires calls { Descends self.now.room self.now.entry (F.pre self.now.reader) (F.post self.now.reader) }
-        requires below { cur.old.room < self.now.room }
-        ensures reads { Gives let_of cur.new.end cur.new.rest.now result (reads parts.let_item cur.old.room cur.old.rest.now) }
-        ensures room { OnOk result (cur.new.room ≡ cur.old.room) }
-        ensures end { cur.new.end ≡ cur.old.end }
-        ensures shorter { OnOk result (length cur.new.rest.now < length cur.old.rest.now) }
+        requires { MayRead self.now.room self.now.entry (F.pre self.now.reader) (F.post self.now.reader) cur.old }
+        ensures { Reads let_of (reads parts.let_item) cur.old cur.new result }
     {
         if is_word(Keyword::KConstraint, cur.tok()) {
             cur.skip();
             self.marks(cur)?;
             let e = self.expr(cur)?;
-            return Ok(let_constrained(e));
+            return Ok(make_let_constraint(e));
         }
         let d = self.declaration(cur)?;
-        Ok(let_declared(d))
+        Ok(make_let_declaration(d))
     }
 }

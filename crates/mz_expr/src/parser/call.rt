@@ -1,41 +1,36 @@
 // Names and calls.
 
-ghost use Rattle.std.specs.Prelude.{◌≡◌, ◌≤◌, ◌<◌, length, OnOk, map, true};
+ghost use Rattle.std.specs.Prelude.{◌≡◌, ◌<◌, length, map, true};
 ghost use Rattle.mz_cursor.specs.Tokens.{tok_at};
 ghost use Rattle.mz_cursor.specs.Look.{is_sym};
-ghost use Rattle.mz_cursor.specs.Promise.{Gives};
+ghost use Rattle.mz_cursor.specs.Reads.{Passes, Reads};
 ghost use Rattle.mz_cursor.specs.Reading.{mapped, with_front};
 ghost use Rattle.mz_grammar.specs.Parts as parts;
-ghost use Rattle.mz_grammar.specs.Reading.{reads, called_at, guarded_at, waited_at};
+ghost use Rattle.mz_grammar.specs.Reading.{reads};
+ghost use Rattle.mz_grammar.specs.Steps.{called_at, guarded_at, waited_at};
 ghost use Rattle.mz_expr.specs.Views.{reading, argument};
-ghost use Rattle.mz_expr.specs.Descent.{Descends};
+ghost use Rattle.mz_expr.specs.Descent.{MayOpen, MayRead};
 
 use crate::argument::{
     Argument, exprs_of, generators_of, guarded_argument, strict_argument, takes_where, turn_by,
     waits,
 };
-use crate::held::Held;
-use crate::make::make_generator;
 use crate::parser::descent::{Descent, Entry};
 use crate::reading::{Reading, other};
 use crate::step::separator;
-use mz_base::{Name, Span, Stop};
+use mz_base::{Held, Name, Span, Stop};
 use mz_cursor::{Cursor, is_sym, is_word};
 use mz_grammar::{Closing, Level, Turn};
 use mz_lexer::{Keyword, Symbol};
-use mz_tree::{make_call, make_gen_call};
+use mz_tree::{make_call, make_gen_call, make_generator};
 use std::alloc::Global;
 
 impl<F: Fn(Global, &mut Cursor<'_>, Entry) -> Result<Reading, Stop>> Descent<F> {
     /// A name, or a call of it.
     #[tactic(auto, using(mz_grammar::proofs::Equations::named_reads, mz_cursor::proofs::Steps::open_more, mz_cursor::proofs::Steps::open_none))]
     pub fn named(&self, cur: &mut Cursor<'_>, name: Name, at: Span) -> Result<Reading, Stop>
-        requires calls { Descends self.now.room self.now.entry (F.pre self.now.reader) (F.post self.now.reader) }
-        requires below { cur.old.room ≤ self.now.room }
-        ensures reads { Gives reading cur.new.end cur.new.rest.now result (reads (parts.named name at) cur.old.room cur.old.rest.now) }
-        ensures room { OnOk result (cur.new.room ≡ cur.old.room) }
-        ensures end { cur.new.end ≡ cur.old.end }
-        ensures shorter { OnOk result (length cur.new.rest.now ≤ length cur.old.rest.now) }
+        requires { MayOpen self.now.room self.now.entry (F.pre self.now.reader) (F.post self.now.reader) cur.old }
+        ensures { Passes reading (reads (parts.named name at)) cur.old cur.new result }
     {
         if !is_sym(Symbol::SLParen, cur.tok()) {
             return Ok(Reading::Name(name, at));
@@ -55,12 +50,8 @@ impl<F: Fn(Global, &mut Cursor<'_>, Entry) -> Result<Reading, Stop>> Descent<F> 
         at: Span,
         args: Vec<Argument>,
     ) -> Result<Reading, Stop>
-        requires calls { Descends self.now.room self.now.entry (F.pre self.now.reader) (F.post self.now.reader) }
-        requires below { cur.old.room ≤ self.now.room }
-        ensures reads { Gives reading cur.new.end cur.new.rest.now result (called_at name at (map argument args.items) cur.old.room cur.old.rest.now) }
-        ensures room { OnOk result (cur.new.room ≡ cur.old.room) }
-        ensures end { cur.new.end ≡ cur.old.end }
-        ensures shorter { OnOk result (length cur.new.rest.now ≤ length cur.old.rest.now) }
+        requires { MayOpen self.now.room self.now.entry (F.pre self.now.reader) (F.post self.now.reader) cur.old }
+        ensures { Passes reading (called_at name at (map argument args.items)) cur.old cur.new result }
     {
         if is_sym(Symbol::SLParen, cur.tok()) {
             return self.generator_call(cur, name, at, args);
@@ -80,13 +71,9 @@ impl<F: Fn(Global, &mut Cursor<'_>, Entry) -> Result<Reading, Stop>> Descent<F> 
         at: Span,
         args: Vec<Argument>,
     ) -> Result<Reading, Stop>
-        requires calls { Descends self.now.room self.now.entry (F.pre self.now.reader) (F.post self.now.reader) }
-        requires below { cur.old.room ≤ self.now.room }
+        requires may { MayOpen self.now.room self.now.entry (F.pre self.now.reader) (F.post self.now.reader) cur.old }
         requires opens { is_sym Symbol.SLParen (tok_at cur.old.rest.now) ≡ true }
-        ensures reads { Gives reading cur.new.end cur.new.rest.now result (called_at name at (map argument args.items) cur.old.room cur.old.rest.now) }
-        ensures room { OnOk result (cur.new.room ≡ cur.old.room) }
-        ensures end { cur.new.end ≡ cur.old.end }
-        ensures shorter { OnOk result (length cur.new.rest.now ≤ length cur.old.rest.now) }
+        ensures { Passes reading (called_at name at (map argument args.items)) cur.old cur.new result }
     {
         match generators_of(self.alloc, args)? {
             None => Err(cur.unfit()),
@@ -104,12 +91,8 @@ impl<F: Fn(Global, &mut Cursor<'_>, Entry) -> Result<Reading, Stop>> Descent<F> 
     /// The arguments of a call, and the closing parenthesis.
     #[tactic(auto, using(mz_grammar::proofs::Equations::arguments_reads, mz_cursor::proofs::Steps::front_push, std::proofs::lemmas::List::map_push, mz_cursor::proofs::Steps::nothing_behind, mz_cursor::proofs::Steps::no_front))]
     fn arguments(&self, cur: &mut Cursor<'_>) -> Result<Vec<Argument>, Stop>
-        requires calls { Descends self.now.room self.now.entry (F.pre self.now.reader) (F.post self.now.reader) }
-        requires below { cur.old.room < self.now.room }
-        ensures reads { Gives (λ v. map argument v.items) cur.new.end cur.new.rest.now result (reads (parts.arguments Turn.Clear) cur.old.room cur.old.rest.now) }
-        ensures room { OnOk result (cur.new.room ≡ cur.old.room) }
-        ensures end { cur.new.end ≡ cur.old.end }
-        ensures shorter { OnOk result (length cur.new.rest.now < length cur.old.rest.now) }
+        requires { MayRead self.now.room self.now.entry (F.pre self.now.reader) (F.post self.now.reader) cur.old }
+        ensures { Reads (λ v. map argument v.items) (reads (parts.arguments Turn.Clear)) cur.old cur.new result }
     {
         let mut all = Vec::new(self.alloc);
         let mut turn = Turn::Clear;
@@ -137,13 +120,9 @@ impl<F: Fn(Global, &mut Cursor<'_>, Entry) -> Result<Reading, Stop>> Descent<F> 
     /// The set, behind its `in`, of names that end with a comma.
     #[tactic(auto)]
     fn waited(&self, cur: &mut Cursor<'_>) -> Result<Argument, Stop>
-        requires calls { Descends self.now.room self.now.entry (F.pre self.now.reader) (F.post self.now.reader) }
-        requires below { cur.old.room < self.now.room }
+        requires may { MayRead self.now.room self.now.entry (F.pre self.now.reader) (F.post self.now.reader) cur.old }
         requires some { 0 < length cur.old.rest.now }
-        ensures reads { Gives argument cur.new.end cur.new.rest.now result (waited_at cur.old.room cur.old.rest.now) }
-        ensures room { OnOk result (cur.new.room ≡ cur.old.room) }
-        ensures end { cur.new.end ≡ cur.old.end }
-        ensures shorter { OnOk result (length cur.new.rest.now < length cur.old.rest.now) }
+        ensures { Reads argument waited_at cur.old cur.new result }
     {
         cur.skip();
         let x = self.inside(cur, Entry::Level(Level::Union))?;
@@ -160,12 +139,8 @@ impl<F: Fn(Global, &mut Cursor<'_>, Entry) -> Result<Reading, Stop>> Descent<F> 
         all: Vec<Argument>,
         x: Argument,
     ) -> Result<Vec<Argument>, Stop>
-        requires calls { Descends self.now.room self.now.entry (F.pre self.now.reader) (F.post self.now.reader) }
-        requires below { cur.old.room < self.now.room }
-        ensures reads { Gives (λ v. map argument v.items) cur.new.end cur.new.rest.now result (with_front (map argument all.items) (guarded_at (argument x) cur.old.room cur.old.rest.now)) }
-        ensures room { OnOk result (cur.new.room ≡ cur.old.room) }
-        ensures end { cur.new.end ≡ cur.old.end }
-        ensures shorter { OnOk result (length cur.new.rest.now < length cur.old.rest.now) }
+        requires { MayRead self.now.room self.now.entry (F.pre self.now.reader) (F.post self.now.reader) cur.old }
+        ensures { Reads (λ v. map argument v.items) (λ room ts. with_front (map argument all.items) (guarded_at (argument x) room ts)) cur.old cur.new result }
     {
         let mut all = all;
         all.push(x)?;
@@ -178,12 +153,8 @@ impl<F: Fn(Global, &mut Cursor<'_>, Entry) -> Result<Reading, Stop>> Descent<F> 
     /// Generators up to the closing parenthesis.
     #[tactic(auto, using(mz_grammar::proofs::Equations::generators_reads, mz_cursor::proofs::Steps::front_push, std::proofs::lemmas::List::map_push, mz_cursor::proofs::Steps::nothing_behind, mz_cursor::proofs::Steps::mapped_front))]
     fn strict(&self, cur: &mut Cursor<'_>, before: Vec<Argument>) -> Result<Vec<Argument>, Stop>
-        requires calls { Descends self.now.room self.now.entry (F.pre self.now.reader) (F.post self.now.reader) }
-        requires below { cur.old.room < self.now.room }
-        ensures reads { Gives (λ v. map argument v.items) cur.new.end cur.new.rest.now result (with_front (map argument before.items) (mapped (λ gs. map parts.strict gs) (reads (parts.generators Closing.Paren) cur.old.room cur.old.rest.now))) }
-        ensures room { OnOk result (cur.new.room ≡ cur.old.room) }
-        ensures end { cur.new.end ≡ cur.old.end }
-        ensures shorter { OnOk result (length cur.new.rest.now < length cur.old.rest.now) }
+        requires { MayRead self.now.room self.now.entry (F.pre self.now.reader) (F.post self.now.reader) cur.old }
+        ensures { Reads (λ v. map argument v.items) (λ room ts. with_front (map argument before.items) (mapped (λ gs. map parts.strict gs) (reads (parts.generators Closing.Paren) room ts))) cur.old cur.new result }
     {
         let mut all = before;
         while !is_sym(Symbol::SRParen, cur.tok()) {

@@ -1,37 +1,32 @@
 // Generators.
 
-ghost use Rattle.std.specs.Prelude.{◌≡◌, ◌≤◌, ◌<◌, length, OnOk, map};
+ghost use Rattle.std.specs.Prelude.{map};
 ghost use Rattle.std.specs.Option.{option_map};
 ghost use Rattle.mz_tree.specs.Tree as pure;
 ghost use Rattle.mz_tree.specs.Views.{tree, generator};
-ghost use Rattle.mz_cursor.specs.Promise.{Gives};
+ghost use Rattle.mz_cursor.specs.Reads.{Passes, Reads};
 ghost use Rattle.mz_cursor.specs.Reading.{with_front};
 ghost use Rattle.mz_grammar.specs.Parts as parts;
-ghost use Rattle.mz_grammar.specs.Reading.{reads, generators_at};
-ghost use Rattle.mz_expr.specs.Descent.{Descends};
+ghost use Rattle.mz_grammar.specs.Reading.{reads};
+ghost use Rattle.mz_grammar.specs.Steps.{generators_at};
+ghost use Rattle.mz_expr.specs.Descent.{MayRead};
 
-use crate::held::Held;
-use crate::make::make_generator;
 use crate::parser::descent::{Descent, Entry};
 use crate::reading::Reading;
 use crate::step::{closes, ident, ident_of, separator};
-use mz_base::{Name, Span, Stop};
+use mz_base::{Held, Name, Span, Stop};
 use mz_cursor::{Cursor, is_sym, is_word};
 use mz_grammar::{Closing, Level};
 use mz_lexer::{Keyword, Symbol};
-use mz_tree::{Expr, Gen};
+use mz_tree::{Expr, Gen, make_generator};
 use std::alloc::Global;
 
 impl<F: Fn(Global, &mut Cursor<'_>, Entry) -> Result<Reading, Stop>> Descent<F> {
     /// A generator.
     #[tactic(auto, using(mz_grammar::proofs::ListEquations::generator_reads))]
     pub fn generator(&self, cur: &mut Cursor<'_>) -> Result<Gen, Stop>
-        requires calls { Descends self.now.room self.now.entry (F.pre self.now.reader) (F.post self.now.reader) }
-        requires below { cur.old.room < self.now.room }
-        ensures reads { Gives generator cur.new.end cur.new.rest.now result (reads parts.generator cur.old.room cur.old.rest.now) }
-        ensures room { OnOk result (cur.new.room ≡ cur.old.room) }
-        ensures end { cur.new.end ≡ cur.old.end }
-        ensures shorter { OnOk result (length cur.new.rest.now < length cur.old.rest.now) }
+        requires { MayRead self.now.room self.now.entry (F.pre self.now.reader) (F.post self.now.reader) cur.old }
+        ensures { Reads generator (reads parts.generator) cur.old cur.new result }
     {
         let first = ident(cur)?;
         let mut before = Vec::new(self.alloc);
@@ -47,12 +42,8 @@ impl<F: Fn(Global, &mut Cursor<'_>, Entry) -> Result<Reading, Stop>> Descent<F> 
     /// What a generator's `where` says, if there is one.
     #[tactic(auto, using(mz_grammar::proofs::ListEquations::filter_reads))]
     pub fn filter(&self, cur: &mut Cursor<'_>) -> Result<Option<Expr>, Stop>
-        requires calls { Descends self.now.room self.now.entry (F.pre self.now.reader) (F.post self.now.reader) }
-        requires below { cur.old.room < self.now.room }
-        ensures reads { Gives (λ e. pure.maybe (option_map tree e)) cur.new.end cur.new.rest.now result (reads parts.filter cur.old.room cur.old.rest.now) }
-        ensures room { OnOk result (cur.new.room ≡ cur.old.room) }
-        ensures end { cur.new.end ≡ cur.old.end }
-        ensures shorter { OnOk result (length cur.new.rest.now ≤ length cur.old.rest.now) }
+        requires { MayRead self.now.room self.now.entry (F.pre self.now.reader) (F.post self.now.reader) cur.old }
+        ensures { Passes (λ e. pure.maybe (option_map tree e)) (reads parts.filter) cur.old cur.new result }
     {
         if !is_word(Keyword::KWhere, cur.tok()) {
             return Ok(None);
@@ -65,12 +56,8 @@ impl<F: Fn(Global, &mut Cursor<'_>, Entry) -> Result<Reading, Stop>> Descent<F> 
     /// Generators, one at least, and the closing token.
     #[tactic(auto, using(mz_grammar::proofs::Equations::generators_reads, mz_cursor::proofs::Steps::front_push, std::proofs::lemmas::List::map_push, mz_cursor::proofs::Steps::nothing_behind, mz_cursor::proofs::Steps::no_front))]
     pub fn generators(&self, cur: &mut Cursor<'_>, c: Closing) -> Result<Vec<Gen>, Stop>
-        requires calls { Descends self.now.room self.now.entry (F.pre self.now.reader) (F.post self.now.reader) }
-        requires below { cur.old.room < self.now.room }
-        ensures reads { Gives (λ v. map generator v.items) cur.new.end cur.new.rest.now result (generators_at c cur.old.room cur.old.rest.now) }
-        ensures room { OnOk result (cur.new.room ≡ cur.old.room) }
-        ensures end { cur.new.end ≡ cur.old.end }
-        ensures shorter { OnOk result (length cur.new.rest.now < length cur.old.rest.now) }
+        requires { MayRead self.now.room self.now.entry (F.pre self.now.reader) (F.post self.now.reader) cur.old }
+        ensures { Reads (λ v. map generator v.items) (generators_at c) cur.old cur.new result }
     {
         let mut all = Vec::new(self.alloc);
         loop {
@@ -94,10 +81,7 @@ fn more_names(
     cur: &mut Cursor<'_>,
     before: Vec<(Name, Span)>,
 ) -> Result<Vec<(Name, Span)>, Stop>
-    ensures reads { Gives (λ v. v.items) cur.new.end cur.new.rest.now result (with_front before.items (reads parts.more_names cur.old.room cur.old.rest.now)) }
-    ensures room { OnOk result (cur.new.room ≡ cur.old.room) }
-    ensures end { cur.new.end ≡ cur.old.end }
-    ensures shorter { OnOk result (length cur.new.rest.now ≤ length cur.old.rest.now) }
+    ensures { Passes (λ v. v.items) (λ room ts. with_front before.items (reads parts.more_names room ts)) cur.old cur.new result }
 {
     let mut all = before;
     while is_sym(Symbol::SComma, cur.tok()) {

@@ -2,12 +2,13 @@
 //
 // So each method is proved by itself, and `descend` alone calls itself.
 
-ghost use Rattle.std.specs.Prelude.{◌≡◌, ◌≤◌, ◌<◌, suc, length, OnOk};
-ghost use Rattle.mz_cursor.specs.Promise.{Gives};
+ghost use Rattle.std.specs.Prelude.{◌≡◌, ◌≤◌, suc};
+ghost use Rattle.mz_base.specs.declared.limit.TheConstants.{OPEN_LIMIT};
+ghost use Rattle.mz_cursor.specs.Reads.{Reads};
 ghost use Rattle.mz_grammar.specs.Parts as parts;
 ghost use Rattle.mz_grammar.specs.Reading.{reads};
 ghost use Rattle.mz_expr.specs.Views.{reading};
-ghost use Rattle.mz_expr.specs.Descent.{Descends, extent, entry_at, tighter};
+ghost use Rattle.mz_expr.specs.Descent.{entry_at, tighter, MayBegin, MayRead};
 
 use crate::operator::tighter_level;
 use crate::reading::Reading;
@@ -50,7 +51,7 @@ fn tighter(l: Level) -> Entry
 impl<F: Fn(Global, &mut Cursor<'_>, Entry) -> Result<Reading, Stop>> Descent<F> {
     /// What reads all that stands where so many tokens may still be opened.
     pub fn outside(alloc: Global, room: u32, reader: F) -> Descent<F>
-        requires { room ≤ 120 }
+        requires { room ≤ OPEN_LIMIT }
         ensures { result ≡ record { alloc = alloc; room = suc room; entry = Entry.Unit; reader = reader } }
     {
         Descent {
@@ -64,12 +65,8 @@ impl<F: Fn(Global, &mut Cursor<'_>, Entry) -> Result<Reading, Stop>> Descent<F> 
     /// What is read behind a token that was opened.
     #[tactic(auto, using(crate::proofs::Descents::below_room))]
     pub fn inside(&self, cur: &mut Cursor<'_>, entry: Entry) -> Result<Reading, Stop>
-        requires calls { Descends self.now.room self.now.entry (F.pre self.now.reader) (F.post self.now.reader) }
-        requires below { cur.old.room < self.now.room }
-        ensures reads { Gives reading cur.new.end cur.new.rest.now result (entry_at entry cur.old.room cur.old.rest.now) }
-        ensures room { OnOk result (cur.new.room ≡ cur.old.room) }
-        ensures end { cur.new.end ≡ cur.old.end }
-        ensures shorter { OnOk result (length cur.new.rest.now < length cur.old.rest.now) }
+        requires { MayRead self.now.room self.now.entry (F.pre self.now.reader) (F.post self.now.reader) cur.old }
+        ensures { Reads reading (entry_at entry) cur.old cur.new result }
     {
         (self.reader)(self.alloc, cur, entry)
     }
@@ -77,12 +74,8 @@ impl<F: Fn(Global, &mut Cursor<'_>, Entry) -> Result<Reading, Stop>> Descent<F> 
     /// The head of an annotation.
     #[tactic(auto, using(crate::proofs::Descents::below_unit))]
     pub fn apart(&self, cur: &mut Cursor<'_>) -> Result<Reading, Stop>
-        requires calls { Descends self.now.room self.now.entry (F.pre self.now.reader) (F.post self.now.reader) }
-        requires below { extent cur.old.room Entry.Unit ≤ extent self.now.room self.now.entry }
-        ensures reads { Gives reading cur.new.end cur.new.rest.now result (reads parts.head cur.old.room cur.old.rest.now) }
-        ensures room { OnOk result (cur.new.room ≡ cur.old.room) }
-        ensures end { cur.new.end ≡ cur.old.end }
-        ensures shorter { OnOk result (length cur.new.rest.now < length cur.old.rest.now) }
+        requires { MayBegin Entry.Unit self.now.room self.now.entry (F.pre self.now.reader) (F.post self.now.reader) cur.old }
+        ensures { Reads reading (reads parts.head) cur.old cur.new result }
     {
         (self.reader)(self.alloc, cur, Entry::Head)
     }
@@ -90,12 +83,8 @@ impl<F: Fn(Global, &mut Cursor<'_>, Entry) -> Result<Reading, Stop>> Descent<F> 
     /// What stands on either side of an operator of this level.
     #[tactic(auto, using(crate::proofs::Descents::operand_entry, crate::proofs::Descents::below_level))]
     pub fn operand(&self, cur: &mut Cursor<'_>, l: Level) -> Result<Reading, Stop>
-        requires calls { Descends self.now.room self.now.entry (F.pre self.now.reader) (F.post self.now.reader) }
-        requires below { extent cur.old.room (Entry.Level l) ≤ extent self.now.room self.now.entry }
-        ensures reads { Gives reading cur.new.end cur.new.rest.now result (reads (parts.operand l) cur.old.room cur.old.rest.now) }
-        ensures room { OnOk result (cur.new.room ≡ cur.old.room) }
-        ensures end { cur.new.end ≡ cur.old.end }
-        ensures shorter { OnOk result (length cur.new.rest.now < length cur.old.rest.now) }
+        requires { MayBegin (Entry.Level l) self.now.room self.now.entry (F.pre self.now.reader) (F.post self.now.reader) cur.old }
+        ensures { Reads reading (reads (parts.operand l)) cur.old cur.new result }
     {
         (self.reader)(self.alloc, cur, tighter(l))
     }
@@ -103,10 +92,7 @@ impl<F: Fn(Global, &mut Cursor<'_>, Entry) -> Result<Reading, Stop>> Descent<F> 
 
 /// What the descent reads from this entry on.
 pub fn descend(alloc: Global, cur: &mut Cursor<'_>, entry: Entry) -> Result<Reading, Stop>
-    ensures reads { Gives reading cur.new.end cur.new.rest.now result (entry_at entry cur.old.room cur.old.rest.now) }
-    ensures room { OnOk result (cur.new.room ≡ cur.old.room) }
-    ensures end { cur.new.end ≡ cur.old.end }
-    ensures shorter { OnOk result (length cur.new.rest.now < length cur.old.rest.now) }
+    ensures { Reads reading (entry_at entry) cur.old cur.new result }
 {
     let descent = Descent {
         alloc,

@@ -1,13 +1,13 @@
 // Operators, atoms and annotations.
 
-ghost use Rattle.std.specs.Prelude.{◌≡◌, ◌≤◌, ◌<◌, length, OnOk, map};
+ghost use Rattle.std.specs.Prelude.{map};
 ghost use Rattle.mz_tree.specs.Views.{tree, link};
-ghost use Rattle.mz_cursor.specs.Promise.{Gives};
+ghost use Rattle.mz_cursor.specs.Reads.{Passes, Reads};
 ghost use Rattle.mz_grammar.specs.Parts as parts;
 ghost use Rattle.mz_grammar.specs.Reading.{reads};
 ghost use Rattle.mz_expr.specs.Views.{reading};
-ghost use Rattle.mz_expr.specs.Climb.{finished};
-ghost use Rattle.mz_expr.specs.Descent.{Descends, extent};
+ghost use Rattle.mz_expr.specs.StepsClimb.{finished};
+ghost use Rattle.mz_expr.specs.Descent.{MayBegin, MayOpen, MayRead};
 
 use crate::operator::{binary_of, is_single, level_number, next_level, prefix_of};
 use crate::parser::descent::{Descent, Entry};
@@ -24,12 +24,8 @@ impl<F: Fn(Global, &mut Cursor<'_>, Entry) -> Result<Reading, Stop>> Descent<F> 
     /// A whole expression.
     #[tactic(auto, using(mz_grammar::proofs::Equations::expr_reads))]
     pub fn expr(&self, cur: &mut Cursor<'_>) -> Result<Expr, Stop>
-        requires calls { Descends self.now.room self.now.entry (F.pre self.now.reader) (F.post self.now.reader) }
-        requires below { cur.old.room < self.now.room }
-        ensures reads { Gives tree cur.new.end cur.new.rest.now result (reads parts.expr cur.old.room cur.old.rest.now) }
-        ensures room { OnOk result (cur.new.room ≡ cur.old.room) }
-        ensures end { cur.new.end ≡ cur.old.end }
-        ensures shorter { OnOk result (length cur.new.rest.now < length cur.old.rest.now) }
+        requires { MayRead self.now.room self.now.entry (F.pre self.now.reader) (F.post self.now.reader) cur.old }
+        ensures { Reads tree (reads parts.expr) cur.old cur.new result }
     {
         let x = self.inside(cur, Entry::Level(Level::Iff))?;
         Ok(x.into_expr(self.alloc)?)
@@ -39,12 +35,8 @@ impl<F: Fn(Global, &mut Cursor<'_>, Entry) -> Result<Reading, Stop>> Descent<F> 
     /// stand there, each level looser than the last.
     #[tactic(auto, using(crate::proofs::Climbs::climbs))]
     pub fn level(&self, cur: &mut Cursor<'_>, l: Level) -> Result<Reading, Stop>
-        requires calls { Descends self.now.room self.now.entry (F.pre self.now.reader) (F.post self.now.reader) }
-        requires below { extent cur.old.room (Entry.Level l) ≤ extent self.now.room self.now.entry }
-        ensures reads { Gives reading cur.new.end cur.new.rest.now result (reads (parts.level l) cur.old.room cur.old.rest.now) }
-        ensures room { OnOk result (cur.new.room ≡ cur.old.room) }
-        ensures end { cur.new.end ≡ cur.old.end }
-        ensures shorter { OnOk result (length cur.new.rest.now < length cur.old.rest.now) }
+        requires { MayBegin (Entry.Level l) self.now.room self.now.entry (F.pre self.now.reader) (F.post self.now.reader) cur.old }
+        ensures { Reads reading (reads (parts.level l)) cur.old cur.new result }
     {
         let mut x = self.unit(cur)?;
         let mut done: u8 = 12;
@@ -57,12 +49,8 @@ impl<F: Fn(Global, &mut Cursor<'_>, Entry) -> Result<Reading, Stop>> Descent<F> 
 
     /// An operand with the operators of one level behind it.
     fn finished(&self, cur: &mut Cursor<'_>, l: Level, first: Reading) -> Result<Reading, Stop>
-        requires calls { Descends self.now.room self.now.entry (F.pre self.now.reader) (F.post self.now.reader) }
-        requires below { extent cur.old.room (Entry.Level l) ≤ extent self.now.room self.now.entry }
-        ensures reads { Gives reading cur.new.end cur.new.rest.now result (finished l (reading first) cur.old.room cur.old.rest.now) }
-        ensures room { OnOk result (cur.new.room ≡ cur.old.room) }
-        ensures end { cur.new.end ≡ cur.old.end }
-        ensures shorter { OnOk result (length cur.new.rest.now ≤ length cur.old.rest.now) }
+        requires { MayBegin (Entry.Level l) self.now.room self.now.entry (F.pre self.now.reader) (F.post self.now.reader) cur.old }
+        ensures { Passes reading (finished l (reading first)) cur.old cur.new result }
     {
         let links = self.operators(cur, l)?;
         Ok(chained(self.alloc, first, links)?)
@@ -71,12 +59,8 @@ impl<F: Fn(Global, &mut Cursor<'_>, Entry) -> Result<Reading, Stop>> Descent<F> 
     /// The operators of one level in a row, each with the operand behind it.
     #[tactic(auto, using(mz_grammar::proofs::Equations::operators_reads, mz_cursor::proofs::Steps::front_push, std::proofs::lemmas::List::map_push, mz_cursor::proofs::Steps::nothing_behind, mz_cursor::proofs::Steps::no_front))]
     fn operators(&self, cur: &mut Cursor<'_>, l: Level) -> Result<Vec<(BinOp, Expr)>, Stop>
-        requires calls { Descends self.now.room self.now.entry (F.pre self.now.reader) (F.post self.now.reader) }
-        requires below { extent cur.old.room (Entry.Level l) ≤ extent self.now.room self.now.entry }
-        ensures reads { Gives (λ v. map link v.items) cur.new.end cur.new.rest.now result (reads (parts.operators l) cur.old.room cur.old.rest.now) }
-        ensures room { OnOk result (cur.new.room ≡ cur.old.room) }
-        ensures end { cur.new.end ≡ cur.old.end }
-        ensures shorter { OnOk result (length cur.new.rest.now ≤ length cur.old.rest.now) }
+        requires { MayBegin (Entry.Level l) self.now.room self.now.entry (F.pre self.now.reader) (F.post self.now.reader) cur.old }
+        ensures { Passes (λ v. map link v.items) (reads (parts.operators l)) cur.old cur.new result }
     {
         let mut all = Vec::new(self.alloc);
         while let Some(op) = binary_of(l, cur.tok()) {
@@ -93,12 +77,8 @@ impl<F: Fn(Global, &mut Cursor<'_>, Entry) -> Result<Reading, Stop>> Descent<F> 
     /// An atom, or a prefix operator and what it applies to.
     #[tactic(auto, using(mz_grammar::proofs::Equations::unit_reads, mz_cursor::proofs::Steps::open_more, mz_cursor::proofs::Steps::open_none))]
     pub fn unit(&self, cur: &mut Cursor<'_>) -> Result<Reading, Stop>
-        requires calls { Descends self.now.room self.now.entry (F.pre self.now.reader) (F.post self.now.reader) }
-        requires below { extent cur.old.room Entry.Unit ≤ extent self.now.room self.now.entry }
-        ensures reads { Gives reading cur.new.end cur.new.rest.now result (reads parts.unit cur.old.room cur.old.rest.now) }
-        ensures room { OnOk result (cur.new.room ≡ cur.old.room) }
-        ensures end { cur.new.end ≡ cur.old.end }
-        ensures shorter { OnOk result (length cur.new.rest.now < length cur.old.rest.now) }
+        requires { MayBegin Entry.Unit self.now.room self.now.entry (F.pre self.now.reader) (F.post self.now.reader) cur.old }
+        ensures { Reads reading (reads parts.unit) cur.old cur.new result }
     {
         match prefix_of(cur.tok()) {
             None => self.atom(cur),
@@ -116,12 +96,8 @@ impl<F: Fn(Global, &mut Cursor<'_>, Entry) -> Result<Reading, Stop>> Descent<F> 
     /// A head with its accesses and annotations.
     #[tactic(auto, using(mz_grammar::proofs::Equations::atom_reads))]
     fn atom(&self, cur: &mut Cursor<'_>) -> Result<Reading, Stop>
-        requires calls { Descends self.now.room self.now.entry (F.pre self.now.reader) (F.post self.now.reader) }
-        requires below { extent cur.old.room Entry.Unit ≤ extent self.now.room self.now.entry }
-        ensures reads { Gives reading cur.new.end cur.new.rest.now result (reads parts.atom cur.old.room cur.old.rest.now) }
-        ensures room { OnOk result (cur.new.room ≡ cur.old.room) }
-        ensures end { cur.new.end ≡ cur.old.end }
-        ensures shorter { OnOk result (length cur.new.rest.now < length cur.old.rest.now) }
+        requires { MayBegin Entry.Unit self.now.room self.now.entry (F.pre self.now.reader) (F.post self.now.reader) cur.old }
+        ensures { Reads reading (reads parts.atom) cur.old cur.new result }
     {
         let first = self.head(cur)?;
         let x = self.accesses(cur, first)?;
@@ -132,12 +108,8 @@ impl<F: Fn(Global, &mut Cursor<'_>, Entry) -> Result<Reading, Stop>> Descent<F> 
     /// The accesses behind a head. Each `[` stays open up to the last `]`.
     #[tactic(auto, using(mz_grammar::proofs::Equations::accesses_reads, mz_cursor::proofs::Steps::open_more, mz_cursor::proofs::Steps::open_none))]
     fn accesses(&self, cur: &mut Cursor<'_>, first: Reading) -> Result<Reading, Stop>
-        requires calls { Descends self.now.room self.now.entry (F.pre self.now.reader) (F.post self.now.reader) }
-        requires below { cur.old.room ≤ self.now.room }
-        ensures reads { Gives reading cur.new.end cur.new.rest.now result (reads (parts.accesses (reading first)) cur.old.room cur.old.rest.now) }
-        ensures room { OnOk result (cur.new.room ≡ cur.old.room) }
-        ensures end { cur.new.end ≡ cur.old.end }
-        ensures shorter { OnOk result (length cur.new.rest.now ≤ length cur.old.rest.now) }
+        requires { MayOpen self.now.room self.now.entry (F.pre self.now.reader) (F.post self.now.reader) cur.old }
+        ensures { Passes reading (reads (parts.accesses (reading first))) cur.old cur.new result }
     {
         let room = cur.room;
         let mut x = first;
@@ -154,12 +126,8 @@ impl<F: Fn(Global, &mut Cursor<'_>, Entry) -> Result<Reading, Stop>> Descent<F> 
     /// The indices of an access, one at least, and the closing bracket.
     #[tactic(auto, using(mz_grammar::proofs::Equations::indices_reads, mz_grammar::proofs::Equations::more_indices_reads, mz_cursor::proofs::Steps::front_push, std::proofs::lemmas::List::map_push, mz_cursor::proofs::Steps::nothing_behind, mz_cursor::proofs::Steps::no_front))]
     fn indices(&self, cur: &mut Cursor<'_>) -> Result<Vec<Expr>, Stop>
-        requires calls { Descends self.now.room self.now.entry (F.pre self.now.reader) (F.post self.now.reader) }
-        requires below { cur.old.room < self.now.room }
-        ensures reads { Gives (λ v. map tree v.items) cur.new.end cur.new.rest.now result (reads parts.indices cur.old.room cur.old.rest.now) }
-        ensures room { OnOk result (cur.new.room ≡ cur.old.room) }
-        ensures end { cur.new.end ≡ cur.old.end }
-        ensures shorter { OnOk result (length cur.new.rest.now < length cur.old.rest.now) }
+        requires { MayRead self.now.room self.now.entry (F.pre self.now.reader) (F.post self.now.reader) cur.old }
+        ensures { Reads (λ v. map tree v.items) (reads parts.indices) cur.old cur.new result }
     {
         let mut all = Vec::new(self.alloc);
         loop {
@@ -181,12 +149,8 @@ impl<F: Fn(Global, &mut Cursor<'_>, Entry) -> Result<Reading, Stop>> Descent<F> 
     /// Annotations, which are dropped: whether there are any.
     #[tactic(auto, using(mz_grammar::proofs::Equations::annotations_reads, crate::proofs::Loops::annotated_step))]
     pub fn annotations(&self, cur: &mut Cursor<'_>) -> Result<bool, Stop>
-        requires calls { Descends self.now.room self.now.entry (F.pre self.now.reader) (F.post self.now.reader) }
-        requires below { extent cur.old.room Entry.Unit ≤ extent self.now.room self.now.entry }
-        ensures reads { Gives (λ b. b) cur.new.end cur.new.rest.now result (reads parts.annotations cur.old.room cur.old.rest.now) }
-        ensures room { OnOk result (cur.new.room ≡ cur.old.room) }
-        ensures end { cur.new.end ≡ cur.old.end }
-        ensures shorter { OnOk result (length cur.new.rest.now ≤ length cur.old.rest.now) }
+        requires { MayBegin Entry.Unit self.now.room self.now.entry (F.pre self.now.reader) (F.post self.now.reader) cur.old }
+        ensures { Passes (λ b. b) (reads parts.annotations) cur.old cur.new result }
     {
         let mut any = false;
         while is_sym(Symbol::SColons, cur.tok()) {
@@ -201,12 +165,8 @@ impl<F: Fn(Global, &mut Cursor<'_>, Entry) -> Result<Reading, Stop>> Descent<F> 
     /// Marks, which are dropped.
     #[tactic(auto, using(mz_grammar::proofs::Equations::marks_reads))]
     pub fn marks(&self, cur: &mut Cursor<'_>) -> Result<(), Stop>
-        requires calls { Descends self.now.room self.now.entry (F.pre self.now.reader) (F.post self.now.reader) }
-        requires below { extent cur.old.room Entry.Unit ≤ extent self.now.room self.now.entry }
-        ensures reads { Gives (λ u. tt) cur.new.end cur.new.rest.now result (reads parts.marks cur.old.room cur.old.rest.now) }
-        ensures room { OnOk result (cur.new.room ≡ cur.old.room) }
-        ensures end { cur.new.end ≡ cur.old.end }
-        ensures shorter { OnOk result (length cur.new.rest.now ≤ length cur.old.rest.now) }
+        requires { MayBegin Entry.Unit self.now.room self.now.entry (F.pre self.now.reader) (F.post self.now.reader) cur.old }
+        ensures { Passes (λ u. tt) (reads parts.marks) cur.old cur.new result }
     {
         while is_sym(Symbol::SColons, cur.tok()) {
             cur.skip();

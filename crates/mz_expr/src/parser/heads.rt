@@ -1,31 +1,27 @@
 // Heads: what an atom begins with.
 
-ghost use Rattle.std.specs.Prelude.{◌≡◌, ◌≤◌, ◌<◌, length, OnOk, Some};
-ghost use Rattle.mz_cursor.specs.Promise.{Gives};
+ghost use Rattle.std.specs.Prelude.{◌<◌, length, Some};
+ghost use Rattle.mz_cursor.specs.Reads.{Reads};
 ghost use Rattle.mz_grammar.specs.Parts as parts;
-ghost use Rattle.mz_grammar.specs.Reading.{reads, head_at, head_word_at, head_symbol_at, parenthesised_at};
+ghost use Rattle.mz_grammar.specs.Reading.{reads};
+ghost use Rattle.mz_grammar.specs.Steps.{head_at, head_word_at, head_symbol_at, parenthesised_at};
 ghost use Rattle.mz_expr.specs.Views.{reading};
-ghost use Rattle.mz_expr.specs.Descent.{Descends};
+ghost use Rattle.mz_expr.specs.Descent.{MayOpen};
 
-use crate::held::Held;
 use crate::parser::descent::{Descent, Entry};
 use crate::reading::{Reading, other};
-use mz_base::{Name, Stop};
+use mz_base::{Held, Name, Stop};
 use mz_cursor::{Cursor, is_sym};
 use mz_lexer::{Keyword, Symbol, Tok};
-use mz_tree::{TextPart, make_absent, make_bool, make_int, make_interp, make_rows, make_text};
+use mz_tree::{make_absent, make_bool, make_int, make_interp, make_plain, make_rows, make_text};
 use std::alloc::Global;
 
 impl<F: Fn(Global, &mut Cursor<'_>, Entry) -> Result<Reading, Stop>> Descent<F> {
     /// A head.
     #[tactic(auto, using(mz_grammar::proofs::Equations::head_reads))]
     pub fn head(&self, cur: &mut Cursor<'_>) -> Result<Reading, Stop>
-        requires calls { Descends self.now.room self.now.entry (F.pre self.now.reader) (F.post self.now.reader) }
-        requires below { cur.old.room ≤ self.now.room }
-        ensures reads { Gives reading cur.new.end cur.new.rest.now result (reads parts.head cur.old.room cur.old.rest.now) }
-        ensures room { OnOk result (cur.new.room ≡ cur.old.room) }
-        ensures end { cur.new.end ≡ cur.old.end }
-        ensures shorter { OnOk result (length cur.new.rest.now < length cur.old.rest.now) }
+        requires { MayOpen self.now.room self.now.entry (F.pre self.now.reader) (F.post self.now.reader) cur.old }
+        ensures { Reads reading (reads parts.head) cur.old cur.new result }
     {
         match cur.tok() {
             None => Err(cur.unfit()),
@@ -35,13 +31,9 @@ impl<F: Fn(Global, &mut Cursor<'_>, Entry) -> Result<Reading, Stop>> Descent<F> 
 
     /// A head that begins with this token.
     fn head_token(&self, cur: &mut Cursor<'_>, tok: Tok) -> Result<Reading, Stop>
-        requires calls { Descends self.now.room self.now.entry (F.pre self.now.reader) (F.post self.now.reader) }
-        requires below { cur.old.room ≤ self.now.room }
+        requires may { MayOpen self.now.room self.now.entry (F.pre self.now.reader) (F.post self.now.reader) cur.old }
         requires some { 0 < length cur.old.rest.now }
-        ensures reads { Gives reading cur.new.end cur.new.rest.now result (head_at (Some tok) cur.old.room cur.old.rest.now) }
-        ensures room { OnOk result (cur.new.room ≡ cur.old.room) }
-        ensures end { cur.new.end ≡ cur.old.end }
-        ensures shorter { OnOk result (length cur.new.rest.now < length cur.old.rest.now) }
+        ensures { Reads reading (head_at (Some tok)) cur.old cur.new result }
     {
         match tok {
             Tok::Int(n) => {
@@ -66,13 +58,9 @@ impl<F: Fn(Global, &mut Cursor<'_>, Entry) -> Result<Reading, Stop>> Descent<F> 
 
     /// A head that begins with this keyword.
     fn head_word(&self, cur: &mut Cursor<'_>, k: Keyword) -> Result<Reading, Stop>
-        requires calls { Descends self.now.room self.now.entry (F.pre self.now.reader) (F.post self.now.reader) }
-        requires below { cur.old.room ≤ self.now.room }
+        requires may { MayOpen self.now.room self.now.entry (F.pre self.now.reader) (F.post self.now.reader) cur.old }
         requires some { 0 < length cur.old.rest.now }
-        ensures reads { Gives reading cur.new.end cur.new.rest.now result (head_word_at k cur.old.room cur.old.rest.now) }
-        ensures room { OnOk result (cur.new.room ≡ cur.old.room) }
-        ensures end { cur.new.end ≡ cur.old.end }
-        ensures shorter { OnOk result (length cur.new.rest.now < length cur.old.rest.now) }
+        ensures { Reads reading (head_word_at k) cur.old cur.new result }
     {
         match k {
             Keyword::KTrue => {
@@ -91,13 +79,9 @@ impl<F: Fn(Global, &mut Cursor<'_>, Entry) -> Result<Reading, Stop>> Descent<F> 
 
     /// A head that begins with this symbol.
     fn head_symbol(&self, cur: &mut Cursor<'_>, s: Symbol) -> Result<Reading, Stop>
-        requires calls { Descends self.now.room self.now.entry (F.pre self.now.reader) (F.post self.now.reader) }
-        requires below { cur.old.room ≤ self.now.room }
+        requires may { MayOpen self.now.room self.now.entry (F.pre self.now.reader) (F.post self.now.reader) cur.old }
         requires some { 0 < length cur.old.rest.now }
-        ensures reads { Gives reading cur.new.end cur.new.rest.now result (head_symbol_at s cur.old.room cur.old.rest.now) }
-        ensures room { OnOk result (cur.new.room ≡ cur.old.room) }
-        ensures end { cur.new.end ≡ cur.old.end }
-        ensures shorter { OnOk result (length cur.new.rest.now < length cur.old.rest.now) }
+        ensures { Reads reading (head_symbol_at s) cur.old cur.new result }
     {
         match s {
             Symbol::SAbsent => {
@@ -115,18 +99,14 @@ impl<F: Fn(Global, &mut Cursor<'_>, Entry) -> Result<Reading, Stop>> Descent<F> 
     /// A text with interpolation, whose first piece is this one.
     #[tactic(auto, using(mz_cursor::proofs::Steps::open_more, mz_cursor::proofs::Steps::open_none))]
     fn interpolated(&self, cur: &mut Cursor<'_>, content: Name) -> Result<Reading, Stop>
-        requires calls { Descends self.now.room self.now.entry (F.pre self.now.reader) (F.post self.now.reader) }
-        requires below { cur.old.room ≤ self.now.room }
+        requires may { MayOpen self.now.room self.now.entry (F.pre self.now.reader) (F.post self.now.reader) cur.old }
         requires some { 0 < length cur.old.rest.now }
-        ensures reads { Gives reading cur.new.end cur.new.rest.now result (head_at (Some (Tok.TextHead content)) cur.old.room cur.old.rest.now) }
-        ensures room { OnOk result (cur.new.room ≡ cur.old.room) }
-        ensures end { cur.new.end ≡ cur.old.end }
-        ensures shorter { OnOk result (length cur.new.rest.now < length cur.old.rest.now) }
+        ensures { Reads reading (head_at (Some (Tok.TextHead content))) cur.old cur.new result }
     {
         cur.push()?;
         let at = cur.pass();
         let mut pieces = Vec::new(self.alloc);
-        pieces.push(TextPart::Plain(content))?;
+        pieces.push(make_plain(content))?;
         let all = self.text_rest(cur, pieces)?;
         cur.pop();
         Ok(other(at, make_interp(at, all)))
@@ -135,13 +115,9 @@ impl<F: Fn(Global, &mut Cursor<'_>, Entry) -> Result<Reading, Stop>> Descent<F> 
     /// An expression in parentheses, which make no node.
     #[tactic(auto, using(mz_cursor::proofs::Steps::open_more, mz_cursor::proofs::Steps::open_none))]
     fn parenthesised(&self, cur: &mut Cursor<'_>) -> Result<Reading, Stop>
-        requires calls { Descends self.now.room self.now.entry (F.pre self.now.reader) (F.post self.now.reader) }
-        requires below { cur.old.room ≤ self.now.room }
+        requires may { MayOpen self.now.room self.now.entry (F.pre self.now.reader) (F.post self.now.reader) cur.old }
         requires some { 0 < length cur.old.rest.now }
-        ensures reads { Gives reading cur.new.end cur.new.rest.now result (parenthesised_at cur.old.room cur.old.rest.now) }
-        ensures room { OnOk result (cur.new.room ≡ cur.old.room) }
-        ensures end { cur.new.end ≡ cur.old.end }
-        ensures shorter { OnOk result (length cur.new.rest.now < length cur.old.rest.now) }
+        ensures { Reads reading parenthesised_at cur.old cur.new result }
     {
         cur.push()?;
         let at = cur.pass();
@@ -160,13 +136,9 @@ impl<F: Fn(Global, &mut Cursor<'_>, Entry) -> Result<Reading, Stop>> Descent<F> 
     /// An array literal or an array comprehension.
     #[tactic(auto, using(mz_cursor::proofs::Steps::open_more, mz_cursor::proofs::Steps::open_none))]
     fn array(&self, cur: &mut Cursor<'_>) -> Result<Reading, Stop>
-        requires calls { Descends self.now.room self.now.entry (F.pre self.now.reader) (F.post self.now.reader) }
-        requires below { cur.old.room ≤ self.now.room }
+        requires may { MayOpen self.now.room self.now.entry (F.pre self.now.reader) (F.post self.now.reader) cur.old }
         requires some { 0 < length cur.old.rest.now }
-        ensures reads { Gives reading cur.new.end cur.new.rest.now result (head_symbol_at Symbol.SLBrack cur.old.room cur.old.rest.now) }
-        ensures room { OnOk result (cur.new.room ≡ cur.old.room) }
-        ensures end { cur.new.end ≡ cur.old.end }
-        ensures shorter { OnOk result (length cur.new.rest.now < length cur.old.rest.now) }
+        ensures { Reads reading (head_symbol_at Symbol.SLBrack) cur.old cur.new result }
     {
         cur.push()?;
         let at = cur.pass();
@@ -178,13 +150,9 @@ impl<F: Fn(Global, &mut Cursor<'_>, Entry) -> Result<Reading, Stop>> Descent<F> 
     /// An array literal of two dimensions.
     #[tactic(auto, using(mz_cursor::proofs::Steps::open_more, mz_cursor::proofs::Steps::open_none))]
     fn rows(&self, cur: &mut Cursor<'_>) -> Result<Reading, Stop>
-        requires calls { Descends self.now.room self.now.entry (F.pre self.now.reader) (F.post self.now.reader) }
-        requires below { cur.old.room ≤ self.now.room }
+        requires may { MayOpen self.now.room self.now.entry (F.pre self.now.reader) (F.post self.now.reader) cur.old }
         requires some { 0 < length cur.old.rest.now }
-        ensures reads { Gives reading cur.new.end cur.new.rest.now result (head_symbol_at Symbol.SLRows cur.old.room cur.old.rest.now) }
-        ensures room { OnOk result (cur.new.room ≡ cur.old.room) }
-        ensures end { cur.new.end ≡ cur.old.end }
-        ensures shorter { OnOk result (length cur.new.rest.now < length cur.old.rest.now) }
+        ensures { Reads reading (head_symbol_at Symbol.SLRows) cur.old cur.new result }
     {
         cur.push()?;
         let at = cur.pass();
@@ -196,13 +164,9 @@ impl<F: Fn(Global, &mut Cursor<'_>, Entry) -> Result<Reading, Stop>> Descent<F> 
     /// A set literal or a set comprehension.
     #[tactic(auto, using(mz_cursor::proofs::Steps::open_more, mz_cursor::proofs::Steps::open_none))]
     fn set(&self, cur: &mut Cursor<'_>) -> Result<Reading, Stop>
-        requires calls { Descends self.now.room self.now.entry (F.pre self.now.reader) (F.post self.now.reader) }
-        requires below { cur.old.room ≤ self.now.room }
+        requires may { MayOpen self.now.room self.now.entry (F.pre self.now.reader) (F.post self.now.reader) cur.old }
         requires some { 0 < length cur.old.rest.now }
-        ensures reads { Gives reading cur.new.end cur.new.rest.now result (head_symbol_at Symbol.SLBrace cur.old.room cur.old.rest.now) }
-        ensures room { OnOk result (cur.new.room ≡ cur.old.room) }
-        ensures end { cur.new.end ≡ cur.old.end }
-        ensures shorter { OnOk result (length cur.new.rest.now < length cur.old.rest.now) }
+        ensures { Reads reading (head_symbol_at Symbol.SLBrace) cur.old cur.new result }
     {
         cur.push()?;
         let at = cur.pass();

@@ -1,6 +1,7 @@
 // Arrays, sets, rows and the pieces of texts.
 
-ghost use Rattle.std.specs.Prelude.{◌≡◌, ◌≤◌, ◌<◌, length, OnOk, map, [], ◌∷◌, ◌++◌, Ok};
+ghost use Rattle.std.specs.Prelude.{◌≡◌, ◌<◌, length, OnOk, map, [], ◌∷◌, ◌++◌, Ok};
+ghost use Rattle.mz_cursor.specs.Reads.{Passes, Reads};
 ghost use Rattle.mz_tree.specs.Tree as pure;
 ghost use Rattle.mz_tree.specs.Views.{tree, tree_row, part};
 ghost use Rattle.mz_cursor.specs.Rules.{syntax};
@@ -9,19 +10,18 @@ ghost use Rattle.mz_grammar.specs.Tests.{tail_of};
 ghost use Rattle.mz_cursor.specs.Promise.{Gives};
 ghost use Rattle.mz_cursor.specs.Reading.{mapped, with_front, listed, on, stuck};
 ghost use Rattle.mz_grammar.specs.Parts as parts;
-ghost use Rattle.mz_grammar.specs.Reading.{reads, separator_at};
-ghost use Rattle.mz_expr.specs.Descent.{Descends};
+ghost use Rattle.mz_grammar.specs.Reading.{reads};
+ghost use Rattle.mz_grammar.specs.Steps.{separator_at};
+ghost use Rattle.mz_expr.specs.Descent.{MayRead};
 
-use crate::held::Held;
-use crate::make::{plain, shown};
 use crate::parser::descent::{Descent, Entry};
 use crate::reading::Reading;
 use crate::step::{closes, ends_row, middle_of, separator, tail_of};
-use mz_base::{Span, Stop};
+use mz_base::{Held, Span, Stop};
 use mz_cursor::{Cursor, is_sym};
 use mz_grammar::Closing;
 use mz_lexer::Symbol;
-use mz_tree::{Expr, TextPart, make_array, make_array_comp, make_set, make_set_comp};
+use mz_tree::{Expr, TextPart, make_array, make_array_comp, make_plain, make_set, make_set_comp, make_shown};
 use std::alloc::Global;
 
 impl<F: Fn(Global, &mut Cursor<'_>, Entry) -> Result<Reading, Stop>> Descent<F> {
@@ -32,22 +32,18 @@ impl<F: Fn(Global, &mut Cursor<'_>, Entry) -> Result<Reading, Stop>> Descent<F> 
         cur: &mut Cursor<'_>,
         before: Vec<TextPart>,
     ) -> Result<Vec<TextPart>, Stop>
-        requires calls { Descends self.now.room self.now.entry (F.pre self.now.reader) (F.post self.now.reader) }
-        requires below { cur.old.room < self.now.room }
-        ensures reads { Gives (λ v. map part v.items) cur.new.end cur.new.rest.now result (with_front (map part before.items) (reads parts.text_rest cur.old.room cur.old.rest.now)) }
-        ensures room { OnOk result (cur.new.room ≡ cur.old.room) }
-        ensures end { cur.new.end ≡ cur.old.end }
-        ensures shorter { OnOk result (length cur.new.rest.now < length cur.old.rest.now) }
+        requires { MayRead self.now.room self.now.entry (F.pre self.now.reader) (F.post self.now.reader) cur.old }
+        ensures { Reads (λ v. map part v.items) (λ room ts. with_front (map part before.items) (reads parts.text_rest room ts)) cur.old cur.new result }
     {
         let mut all = before;
         loop {
             let e = self.expr(cur)?;
-            all.push(shown(e))?;
+            all.push(make_shown(e))?;
             match middle_of(cur) {
                 None => return last_piece(cur, all),
                 Some(piece) => {
                     cur.skip();
-                    all.push(plain(piece))?;
+                    all.push(make_plain(piece))?;
                 }
             }
         }
@@ -61,12 +57,8 @@ impl<F: Fn(Global, &mut Cursor<'_>, Entry) -> Result<Reading, Stop>> Descent<F> 
         c: Closing,
         before: Vec<Expr>,
     ) -> Result<Vec<Expr>, Stop>
-        requires calls { Descends self.now.room self.now.entry (F.pre self.now.reader) (F.post self.now.reader) }
-        requires below { cur.old.room < self.now.room }
-        ensures reads { Gives (λ v. map tree v.items) cur.new.end cur.new.rest.now result (with_front (map tree before.items) (reads (parts.elements c) cur.old.room cur.old.rest.now)) }
-        ensures room { OnOk result (cur.new.room ≡ cur.old.room) }
-        ensures end { cur.new.end ≡ cur.old.end }
-        ensures shorter { OnOk result (length cur.new.rest.now < length cur.old.rest.now) }
+        requires { MayRead self.now.room self.now.entry (F.pre self.now.reader) (F.post self.now.reader) cur.old }
+        ensures { Reads (λ v. map tree v.items) (λ room ts. with_front (map tree before.items) (reads (parts.elements c) room ts)) cur.old cur.new result }
     {
         let mut all = before;
         while !closes(c, cur.tok()) {
@@ -83,12 +75,8 @@ impl<F: Fn(Global, &mut Cursor<'_>, Entry) -> Result<Reading, Stop>> Descent<F> 
     /// An element that was read, and those behind it up to the closing token.
     #[tactic(auto, using(mz_cursor::proofs::Steps::front_push, std::proofs::lemmas::List::map_push, mz_cursor::proofs::Steps::nothing_behind))]
     fn elements_behind(&self, cur: &mut Cursor<'_>, c: Closing, e: Expr) -> Result<Vec<Expr>, Stop>
-        requires calls { Descends self.now.room self.now.entry (F.pre self.now.reader) (F.post self.now.reader) }
-        requires below { cur.old.room < self.now.room }
-        ensures reads { Gives (λ v. map tree v.items) cur.new.end cur.new.rest.now result (listed (separator_at c) (reads (parts.elements c) cur.old.room) (tree e) cur.old.rest.now) }
-        ensures room { OnOk result (cur.new.room ≡ cur.old.room) }
-        ensures end { cur.new.end ≡ cur.old.end }
-        ensures shorter { OnOk result (length cur.new.rest.now < length cur.old.rest.now) }
+        requires { MayRead self.now.room self.now.entry (F.pre self.now.reader) (F.post self.now.reader) cur.old }
+        ensures { Reads (λ v. map tree v.items) (λ room ts. listed (separator_at c) (reads (parts.elements c) room) (tree e) ts) cur.old cur.new result }
     {
         let mut all = Vec::new(self.alloc);
         all.push(e)?;
@@ -102,12 +90,8 @@ impl<F: Fn(Global, &mut Cursor<'_>, Entry) -> Result<Reading, Stop>> Descent<F> 
     /// What stands in the brackets of an array, and the closing one.
     #[tactic(auto, using(mz_grammar::proofs::ListEquations::array_body_reads))]
     pub fn array_body(&self, cur: &mut Cursor<'_>, at: Span) -> Result<Expr, Stop>
-        requires calls { Descends self.now.room self.now.entry (F.pre self.now.reader) (F.post self.now.reader) }
-        requires below { cur.old.room < self.now.room }
-        ensures reads { Gives tree cur.new.end cur.new.rest.now result (mapped (λ f. pure.node at f) (reads parts.array_body cur.old.room cur.old.rest.now)) }
-        ensures room { OnOk result (cur.new.room ≡ cur.old.room) }
-        ensures end { cur.new.end ≡ cur.old.end }
-        ensures shorter { OnOk result (length cur.new.rest.now < length cur.old.rest.now) }
+        requires { MayRead self.now.room self.now.entry (F.pre self.now.reader) (F.post self.now.reader) cur.old }
+        ensures { Reads tree (λ room ts. mapped (λ f. pure.node at f) (reads parts.array_body room ts)) cur.old cur.new result }
     {
         if is_sym(Symbol::SRBrack, cur.tok()) {
             cur.skip();
@@ -126,12 +110,8 @@ impl<F: Fn(Global, &mut Cursor<'_>, Entry) -> Result<Reading, Stop>> Descent<F> 
     /// What stands in the braces of a set, and the closing one.
     #[tactic(auto, using(mz_grammar::proofs::ListEquations::set_body_reads))]
     pub fn set_body(&self, cur: &mut Cursor<'_>, at: Span) -> Result<Expr, Stop>
-        requires calls { Descends self.now.room self.now.entry (F.pre self.now.reader) (F.post self.now.reader) }
-        requires below { cur.old.room < self.now.room }
-        ensures reads { Gives tree cur.new.end cur.new.rest.now result (mapped (λ f. pure.node at f) (reads parts.set_body cur.old.room cur.old.rest.now)) }
-        ensures room { OnOk result (cur.new.room ≡ cur.old.room) }
-        ensures end { cur.new.end ≡ cur.old.end }
-        ensures shorter { OnOk result (length cur.new.rest.now < length cur.old.rest.now) }
+        requires { MayRead self.now.room self.now.entry (F.pre self.now.reader) (F.post self.now.reader) cur.old }
+        ensures { Reads tree (λ room ts. mapped (λ f. pure.node at f) (reads parts.set_body room ts)) cur.old cur.new result }
     {
         if is_sym(Symbol::SRBrace, cur.tok()) {
             cur.skip();
@@ -150,12 +130,8 @@ impl<F: Fn(Global, &mut Cursor<'_>, Entry) -> Result<Reading, Stop>> Descent<F> 
     /// What stands between `[|` and `|]`, and the latter.
     #[tactic(auto, using(mz_grammar::proofs::ListEquations::rows_body_reads, mz_cursor::proofs::Steps::front_push, std::proofs::lemmas::List::map_push, mz_cursor::proofs::Steps::nothing_behind))]
     pub fn rows_body(&self, cur: &mut Cursor<'_>) -> Result<Vec<Vec<Expr>>, Stop>
-        requires calls { Descends self.now.room self.now.entry (F.pre self.now.reader) (F.post self.now.reader) }
-        requires below { cur.old.room < self.now.room }
-        ensures reads { Gives (λ v. map tree_row v.items) cur.new.end cur.new.rest.now result (reads parts.rows_body cur.old.room cur.old.rest.now) }
-        ensures room { OnOk result (cur.new.room ≡ cur.old.room) }
-        ensures end { cur.new.end ≡ cur.old.end }
-        ensures shorter { OnOk result (length cur.new.rest.now < length cur.old.rest.now) }
+        requires { MayRead self.now.room self.now.entry (F.pre self.now.reader) (F.post self.now.reader) cur.old }
+        ensures { Reads (λ v. map tree_row v.items) (reads parts.rows_body) cur.old cur.new result }
     {
         let mut all = Vec::new(self.alloc);
         if is_sym(Symbol::SRRows, cur.tok()) {
@@ -177,12 +153,8 @@ impl<F: Fn(Global, &mut Cursor<'_>, Entry) -> Result<Reading, Stop>> Descent<F> 
         cur: &mut Cursor<'_>,
         before: Vec<Vec<Expr>>,
     ) -> Result<Vec<Vec<Expr>>, Stop>
-        requires calls { Descends self.now.room self.now.entry (F.pre self.now.reader) (F.post self.now.reader) }
-        requires below { cur.old.room < self.now.room }
-        ensures reads { Gives (λ v. map tree_row v.items) cur.new.end cur.new.rest.now result (with_front (map tree_row before.items) (reads parts.more_rows cur.old.room cur.old.rest.now)) }
-        ensures room { OnOk result (cur.new.room ≡ cur.old.room) }
-        ensures end { cur.new.end ≡ cur.old.end }
-        ensures shorter { OnOk result (length cur.new.rest.now < length cur.old.rest.now) }
+        requires { MayRead self.now.room self.now.entry (F.pre self.now.reader) (F.post self.now.reader) cur.old }
+        ensures { Reads (λ v. map tree_row v.items) (λ room ts. with_front (map tree_row before.items) (reads parts.more_rows room ts)) cur.old cur.new result }
     {
         let mut all = before;
         while !is_sym(Symbol::SRRows, cur.tok()) {
@@ -204,12 +176,8 @@ impl<F: Fn(Global, &mut Cursor<'_>, Entry) -> Result<Reading, Stop>> Descent<F> 
     /// A row.
     #[tactic(auto, using(mz_grammar::proofs::ListEquations::row_reads, mz_cursor::proofs::Steps::front_push, std::proofs::lemmas::List::map_push, mz_cursor::proofs::Steps::nothing_behind))]
     fn row(&self, cur: &mut Cursor<'_>) -> Result<Vec<Expr>, Stop>
-        requires calls { Descends self.now.room self.now.entry (F.pre self.now.reader) (F.post self.now.reader) }
-        requires below { cur.old.room < self.now.room }
-        ensures reads { Gives (λ v. map tree v.items) cur.new.end cur.new.rest.now result (reads parts.row cur.old.room cur.old.rest.now) }
-        ensures room { OnOk result (cur.new.room ≡ cur.old.room) }
-        ensures end { cur.new.end ≡ cur.old.end }
-        ensures shorter { OnOk result (length cur.new.rest.now < length cur.old.rest.now) }
+        requires { MayRead self.now.room self.now.entry (F.pre self.now.reader) (F.post self.now.reader) cur.old }
+        ensures { Reads (λ v. map tree v.items) (reads parts.row) cur.old cur.new result }
     {
         let mut all = Vec::new(self.alloc);
         let e = self.expr(cur)?;
@@ -220,12 +188,8 @@ impl<F: Fn(Global, &mut Cursor<'_>, Entry) -> Result<Reading, Stop>> Descent<F> 
     /// The elements of a row, each behind a comma, behind those that were read.
     #[tactic(auto, using(mz_grammar::proofs::ListEquations::cells_reads, mz_cursor::proofs::Steps::front_push, std::proofs::lemmas::List::map_push, mz_cursor::proofs::Steps::nothing_behind))]
     fn cells(&self, cur: &mut Cursor<'_>, before: Vec<Expr>) -> Result<Vec<Expr>, Stop>
-        requires calls { Descends self.now.room self.now.entry (F.pre self.now.reader) (F.post self.now.reader) }
-        requires below { cur.old.room < self.now.room }
-        ensures reads { Gives (λ v. map tree v.items) cur.new.end cur.new.rest.now result (with_front (map tree before.items) (reads parts.cells cur.old.room cur.old.rest.now)) }
-        ensures room { OnOk result (cur.new.room ≡ cur.old.room) }
-        ensures end { cur.new.end ≡ cur.old.end }
-        ensures shorter { OnOk result (length cur.new.rest.now ≤ length cur.old.rest.now) }
+        requires { MayRead self.now.room self.now.entry (F.pre self.now.reader) (F.post self.now.reader) cur.old }
+        ensures { Passes (λ v. map tree v.items) (λ room ts. with_front (map tree before.items) (reads parts.cells room ts)) cur.old cur.new result }
     {
         let mut all = before;
         while is_sym(Symbol::SComma, cur.tok()) {
@@ -253,7 +217,7 @@ fn last_piece(cur: &mut Cursor<'_>, before: Vec<TextPart>) -> Result<Vec<TextPar
         Some(piece) => {
             cur.skip();
             let mut all = before;
-            all.push(TextPart::Plain(piece))?;
+            all.push(make_plain(piece))?;
             Ok(all)
         }
     }

@@ -1,13 +1,13 @@
 // Types.
 
-ghost use Rattle.std.specs.Prelude.{◌≡◌, ◌<◌, length, OnOk, map};
+ghost use Rattle.std.specs.Prelude.{map};
 ghost use Rattle.mz_tree.specs.Views.{written, based};
-ghost use Rattle.mz_cursor.specs.Promise.{Gives};
+ghost use Rattle.mz_cursor.specs.Reads.{Reads};
 ghost use Rattle.mz_grammar.specs.Parts as parts;
-ghost use Rattle.mz_grammar.specs.Reading.{reads, dimensions_at};
-ghost use Rattle.mz_expr.specs.Descent.{Descends};
+ghost use Rattle.mz_grammar.specs.Reading.{reads};
+ghost use Rattle.mz_grammar.specs.Steps.{dimensions_at};
+ghost use Rattle.mz_expr.specs.Descent.{MayRead};
 
-use crate::make::{array_of, base_bool, base_int, base_of, marked, scalar};
 use crate::parser::descent::{Descent, Entry};
 use crate::reading::Reading;
 use crate::step::{begins_base, separator};
@@ -15,33 +15,29 @@ use mz_base::{Span, Stop};
 use mz_cursor::{Cursor, is_sym, is_word};
 use mz_grammar::{Closing, Level};
 use mz_lexer::{Keyword, Symbol};
-use mz_tree::{TypeBase, TypeText};
+use mz_tree::{TypeBase, TypeText, make_bool_base, make_int_base, make_scalar, make_set_base};
 use std::alloc::Global;
 
 impl<F: Fn(Global, &mut Cursor<'_>, Entry) -> Result<Reading, Stop>> Descent<F> {
     /// A type.
     #[tactic(auto, using(mz_grammar::proofs::ItemEquations::type_reads))]
     pub fn type_text(&self, cur: &mut Cursor<'_>) -> Result<TypeText, Stop>
-        requires calls { Descends self.now.room self.now.entry (F.pre self.now.reader) (F.post self.now.reader) }
-        requires below { cur.old.room < self.now.room }
-        ensures reads { Gives written cur.new.end cur.new.rest.now result (reads parts.type cur.old.room cur.old.rest.now) }
-        ensures room { OnOk result (cur.new.room ≡ cur.old.room) }
-        ensures end { cur.new.end ≡ cur.old.end }
-        ensures shorter { OnOk result (length cur.new.rest.now < length cur.old.rest.now) }
+        requires { MayRead self.now.room self.now.entry (F.pre self.now.reader) (F.post self.now.reader) cur.old }
+        ensures { Reads written (reads parts.type) cur.old cur.new result }
     {
         if is_word(Keyword::KArray, cur.tok()) {
             let span = cur.pass();
             let dims = self.dimensions(cur)?;
             let element = self.element(cur)?;
-            return Ok(array_of(span, dims, element));
+            return Ok(element.into_array(span, dims));
         }
         if is_word(Keyword::KList, cur.tok()) {
             let span = cur.pass();
             cur.word(Keyword::KOf)?;
             let element = self.element(cur)?;
             let mut dims = Vec::with_capacity(self.alloc, 1)?;
-            dims.push(base_int())?;
-            return Ok(array_of(span, dims, element));
+            dims.push(make_int_base())?;
+            return Ok(element.into_array(span, dims));
         }
         self.element(cur)
     }
@@ -49,12 +45,8 @@ impl<F: Fn(Global, &mut Cursor<'_>, Entry) -> Result<Reading, Stop>> Descent<F> 
     /// The index types of an array type in their brackets, and the `of`.
     #[tactic(auto, using(mz_cursor::proofs::Steps::open_more, mz_cursor::proofs::Steps::open_none))]
     fn dimensions(&self, cur: &mut Cursor<'_>) -> Result<Vec<TypeBase>, Stop>
-        requires calls { Descends self.now.room self.now.entry (F.pre self.now.reader) (F.post self.now.reader) }
-        requires below { cur.old.room < self.now.room }
-        ensures reads { Gives (λ v. map based v.items) cur.new.end cur.new.rest.now result (dimensions_at cur.old.room cur.old.rest.now) }
-        ensures room { OnOk result (cur.new.room ≡ cur.old.room) }
-        ensures end { cur.new.end ≡ cur.old.end }
-        ensures shorter { OnOk result (length cur.new.rest.now < length cur.old.rest.now) }
+        requires { MayRead self.now.room self.now.entry (F.pre self.now.reader) (F.post self.now.reader) cur.old }
+        ensures { Reads (λ v. map based v.items) dimensions_at cur.old cur.new result }
     {
         if !is_sym(Symbol::SLBrack, cur.tok()) {
             return Err(cur.unfit());
@@ -73,12 +65,8 @@ impl<F: Fn(Global, &mut Cursor<'_>, Entry) -> Result<Reading, Stop>> Descent<F> 
     /// At most six index types, and the closing bracket.
     #[tactic(auto, using(mz_grammar::proofs::ItemEquations::index_types_more, mz_grammar::proofs::ItemEquations::index_types_none, mz_cursor::proofs::Steps::front_push, std::proofs::lemmas::List::map_push, mz_cursor::proofs::Steps::nothing_behind, mz_cursor::proofs::Steps::no_front))]
     fn index_types(&self, cur: &mut Cursor<'_>) -> Result<Vec<TypeBase>, Stop>
-        requires calls { Descends self.now.room self.now.entry (F.pre self.now.reader) (F.post self.now.reader) }
-        requires below { cur.old.room < self.now.room }
-        ensures reads { Gives (λ v. map based v.items) cur.new.end cur.new.rest.now result (reads (parts.index_types 6) cur.old.room cur.old.rest.now) }
-        ensures room { OnOk result (cur.new.room ≡ cur.old.room) }
-        ensures end { cur.new.end ≡ cur.old.end }
-        ensures shorter { OnOk result (length cur.new.rest.now < length cur.old.rest.now) }
+        requires { MayRead self.now.room self.now.entry (F.pre self.now.reader) (F.post self.now.reader) cur.old }
+        ensures { Reads (λ v. map based v.items) (reads (parts.index_types 6)) cur.old cur.new result }
     {
         let mut all = Vec::new(self.alloc);
         let mut left: u8 = 6;
@@ -103,22 +91,18 @@ impl<F: Fn(Global, &mut Cursor<'_>, Entry) -> Result<Reading, Stop>> Descent<F> 
     /// A type that is no array.
     #[tactic(auto, using(mz_grammar::proofs::ItemEquations::element_reads))]
     fn element(&self, cur: &mut Cursor<'_>) -> Result<TypeText, Stop>
-        requires calls { Descends self.now.room self.now.entry (F.pre self.now.reader) (F.post self.now.reader) }
-        requires below { cur.old.room < self.now.room }
-        ensures reads { Gives written cur.new.end cur.new.rest.now result (reads parts.element cur.old.room cur.old.rest.now) }
-        ensures room { OnOk result (cur.new.room ≡ cur.old.room) }
-        ensures end { cur.new.end ≡ cur.old.end }
-        ensures shorter { OnOk result (length cur.new.rest.now < length cur.old.rest.now) }
+        requires { MayRead self.now.room self.now.entry (F.pre self.now.reader) (F.post self.now.reader) cur.old }
+        ensures { Reads written (reads parts.element) cur.old cur.new result }
     {
         if is_word(Keyword::KVar, cur.tok()) {
             let span = cur.pass();
             let ty = self.unmarked(cur)?;
-            return Ok(marked(span, true, ty));
+            return Ok(ty.marked(span, true));
         }
         if is_word(Keyword::KPar, cur.tok()) {
             let span = cur.pass();
             let ty = self.unmarked(cur)?;
-            return Ok(marked(span, false, ty));
+            return Ok(ty.marked(span, false));
         }
         self.unmarked(cur)
     }
@@ -126,12 +110,8 @@ impl<F: Fn(Global, &mut Cursor<'_>, Entry) -> Result<Reading, Stop>> Descent<F> 
     /// A type without `var` or `par`.
     #[tactic(auto, using(mz_grammar::proofs::ItemEquations::unmarked_reads))]
     fn unmarked(&self, cur: &mut Cursor<'_>) -> Result<TypeText, Stop>
-        requires calls { Descends self.now.room self.now.entry (F.pre self.now.reader) (F.post self.now.reader) }
-        requires below { cur.old.room < self.now.room }
-        ensures reads { Gives written cur.new.end cur.new.rest.now result (reads parts.unmarked cur.old.room cur.old.rest.now) }
-        ensures room { OnOk result (cur.new.room ≡ cur.old.room) }
-        ensures end { cur.new.end ≡ cur.old.end }
-        ensures shorter { OnOk result (length cur.new.rest.now < length cur.old.rest.now) }
+        requires { MayRead self.now.room self.now.entry (F.pre self.now.reader) (F.post self.now.reader) cur.old }
+        ensures { Reads written (reads parts.unmarked) cur.old cur.new result }
     {
         if is_word(Keyword::KOpt, cur.tok()) {
             let span = cur.pass();
@@ -139,39 +119,35 @@ impl<F: Fn(Global, &mut Cursor<'_>, Entry) -> Result<Reading, Stop>> Descent<F> 
                 return Err(cur.left_out());
             }
             let (_, base) = self.base(cur)?;
-            return Ok(scalar(span, true, false, base));
+            return Ok(make_scalar(span, false, true, false, base));
         }
         if is_word(Keyword::KSet, cur.tok()) {
             let span = cur.pass();
             cur.word(Keyword::KOf)?;
             let (_, base) = self.base(cur)?;
-            return Ok(scalar(span, false, true, base));
+            return Ok(make_scalar(span, false, false, true, base));
         }
         let (span, base) = self.base(cur)?;
-        Ok(scalar(span, false, false, base))
+        Ok(make_scalar(span, false, false, false, base))
     }
 
     /// What a type is of, with its place.
     #[tactic(auto, using(mz_grammar::proofs::ItemEquations::base_reads))]
     fn base(&self, cur: &mut Cursor<'_>) -> Result<(Span, TypeBase), Stop>
-        requires calls { Descends self.now.room self.now.entry (F.pre self.now.reader) (F.post self.now.reader) }
-        requires below { cur.old.room < self.now.room }
-        ensures reads { Gives (λ b. (b.0, based b.1)) cur.new.end cur.new.rest.now result (reads parts.base cur.old.room cur.old.rest.now) }
-        ensures room { OnOk result (cur.new.room ≡ cur.old.room) }
-        ensures end { cur.new.end ≡ cur.old.end }
-        ensures shorter { OnOk result (length cur.new.rest.now < length cur.old.rest.now) }
+        requires { MayRead self.now.room self.now.entry (F.pre self.now.reader) (F.post self.now.reader) cur.old }
+        ensures { Reads (λ b. (b.0, based b.1)) (reads parts.base) cur.old cur.new result }
     {
         if is_word(Keyword::KBool, cur.tok()) {
             let at = cur.pass();
-            return Ok((at, base_bool()));
+            return Ok((at, make_bool_base()));
         }
         if is_word(Keyword::KInt, cur.tok()) {
             let at = cur.pass();
-            return Ok((at, base_int()));
+            return Ok((at, make_int_base()));
         }
         let x = self.inside(cur, Entry::Level(Level::Union))?;
         let at = x.at();
         let e = x.into_expr(self.alloc)?;
-        Ok((at, base_of(self.alloc, e)?))
+        Ok((at, make_set_base(self.alloc, e)?))
     }
 }

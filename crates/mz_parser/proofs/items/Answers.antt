@@ -4,7 +4,7 @@ use Rattle.mz_parser.proofs.Whole.{whole, bounded}
 use Rattle.mz_parser.proofs.items.Goals as goal
 
 pub returns-clause-reads : goal.returns-clause-reads
-returns-clause-reads c = whole _ _ _ _ _ _ _ (c.all_items.ensures.end ∙ c.new-cur.ensures.1) c.new-cur.ensures.0 c.new-cur.ensures.2 c.all_items.ensures.whole c.all_items.ensures.reads
+returns-clause-reads c = whole _ _ _ _ _ _ _ (c.all_items.ensures.end ∙ c.new-cur.ensures.end) c.new-cur.ensures.rest c.new-cur.ensures.room c.all_items.ensures.whole c.all_items.ensures.reads
 
 pub returns-clause-bounded : goal.returns-clause-bounded
 returns-clause-bounded c = bounded _ _ _ (returns-clause-reads c)

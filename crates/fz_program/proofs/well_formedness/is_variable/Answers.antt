@@ -1,6 +1,6 @@
 use Rattle.std.proofs.Common.{◌∙◌, ap, sym}
 use Rattle.std.proofs.lemmas.Bool.{false≢true}
-use Rattle.fz_program.specs.Names.{is_identifier}
+use Rattle.mz_base.specs.Words.{is_identifier}
 use Rattle.fz_program.proofs.well_formedness.is_variable.Goals as goal
 use Rattle.fz_program.proofs.well_formedness.is_variable.Goals.{then-is_identifier, else-is_identifier}
 

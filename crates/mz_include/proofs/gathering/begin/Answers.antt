@@ -15,14 +15,14 @@ alone m q qs none put = put ∙ ap (λ p. with_name p m) none
 pub returns-clause-named : goal.returns-clause-named
 returns-clause-named c =
     let new = c.intern.new.self in
-    let m : CodeMention = record { name = c.in_ok-name.name; span = c.start_of.result; owner = c.in_ok-name.name } in
+    let m : CodeMention = record { name = c.in_ok-name.name; span = c.start.result; owner = c.in_ok-name.name } in
     ap (map (mention new)) (alone m c.new-queue.result c.add.new.self c.new-queue.ensures c.in_ok-add.ensures.added)
-    ∙ ap (λ (t : List ℕ). let v : Mention = record { name = t; span = c.start_of.result; owner = t } in v ∷ []) c.in_ok-name.ensures.named
-    ∙ ap (λ (s : Span). let v : Mention = record { name = c.args.first.now; span = s; owner = c.args.first.now } in v ∷ []) c.start_of.ensures
+    ∙ ap (λ (t : List ℕ). let v : Mention = record { name = t; span = c.start.result; owner = t } in v ∷ []) c.in_ok-name.ensures.named
+    ∙ ap (λ (s : Span). let v : Mention = record { name = c.args.first.now; span = s; owner = c.args.first.now } in v ∷ []) c.start.ensures
 
 pub returns-clause-known : goal.returns-clause-known
 returns-clause-known c =
     let new = c.intern.new.self in
-    let m : CodeMention = record { name = c.in_ok-name.name; span = c.start_of.result; owner = c.in_ok-name.name } in
+    let m : CodeMention = record { name = c.in_ok-name.name; span = c.start.result; owner = c.in_ok-name.name } in
     subst (λ q. All (IsKnown new) q) (sym (c.in_ok-add.ensures.added ∙ ap (λ q. with_name q m) c.new-queue.ensures))
     (known_with new [] m (All-nil (IsKnown new)) (record { name = c.in_ok-name.ensures.within; owner = c.in_ok-name.ensures.within }))

@@ -18,7 +18,7 @@ returns-in_err-items-clause-refused c =
     let tokens = c.in_ok-tokens.tokens.items in
     stop_then (IsRefused c.after-end.result c.as_slice.result.now) (IsUnparsed _ c.args.turn c.args.text.now) c.from_residual-in_err-items.result c.in_err-items.field-0.0 c.from_residual-in_err-items.ensures.1
     (λ f h. by_its_tokens c.as_slice.result.now (record { lexes = rw c.as_slice.ensures.value c.in_ok-tokens.ensures.read; known = rw c.as_slice.ensures.value c.in_ok-tokens.ensures.named })
-    (subst (λ e. IsRefused e c.as_slice.result.now f) (c.after-end.ensures.place ∙ ap (λ s. after s c.args.text.now) c.start_of.ensures) h))
+    (subst (λ e. IsRefused e c.as_slice.result.now f) (c.after-end.ensures.place ∙ ap (λ s. after s c.args.text.now) c.start.ensures) h))
     (refused_stop Global c.after-end.result c.as_slice.result.now c.in_err-items.field-0.0 c.in_err-items.ensures.reads)
 
 pub returns-clause-known : goal.returns-clause-known
@@ -28,5 +28,5 @@ returns-clause-known c =
       name = (c.in_ok-tokens.ensures.grows c.args.name c.requires.name).0;
       items = each_item names c.args.turn c.in_ok-items.items.items (items_of names c.args.turn c.args.text.now c.as_slice.result.now (map tree_of c.in_ok-items.items.items)
           (record { lexes = rw c.as_slice.ensures.value c.in_ok-tokens.ensures.read; known = rw c.as_slice.ensures.value c.in_ok-tokens.ensures.named }) c.in_ok-items.ensures.reads);
-      end = end_in c.args.turn c.args.text.now c.start_of.result c.after-end.result c.start_of.ensures c.after-end.ensures.place;
+      end = end_in c.args.turn c.args.text.now c.start.result c.after-end.result c.start.ensures c.after-end.ensures.place;
     }

@@ -1,5 +1,5 @@
 use Rattle.std.proofs.Common.{sym, ap, ◌∙◌, arith}
-use Rattle.mz_lexer.specs.Lexemes.{ends_comment, comment_len}
+use Rattle.mz_lexer.specs.Steps.{ends_comment, comment_len}
 use Rattle.mz_lexer.proofs.Contents.{past}
 use Rattle.mz_lexer.proofs.Comments.{no_farther, ends_at, goes_on_at, no_end}
 use Rattle.mz_lexer.proofs.comment.comment_len.Goals as goal

@@ -1,5 +1,5 @@
 use Rattle.std.proofs.Common.{◌≡◌, drop}
-use Rattle.mz_lexer.specs.Lexemes.{comment_len}
+use Rattle.mz_lexer.specs.Steps.{comment_len}
 use Rattle.mz_lexer.proofs.Comments.{farther}
 use Rattle.mz_lexer.proofs.comment.comment_len.Given as goal
 

@@ -1,6 +1,6 @@
 use Rattle.std.proofs.Common.{take, ap, ◌∙◌}
 use Rattle.std.specs.List.{list_all}
-use Rattle.mz_lexer.specs.Bytes.{is_word_byte}
+use Rattle.mz_base.specs.Words.{is_word_byte}
 use Rattle.mz_lexer.proofs.Runs.{all_of_run}
 use Rattle.mz_lexer.proofs.front.word_front.Goals as goal
 

@@ -3,9 +3,11 @@ use Rattle.std.specs.Prelude.{Err, ◌==◌, true, false}
 use Rattle.std.proofs.lemmas.List.Elements.{All-push, All-nil, All-same}
 use Rattle.std.proofs.lemmas.Bool.Decides.{nat_tests}
 use Rattle.mz_lexer.specs.declared.token.Token.{Token}
-use Rattle.mz_lexer.specs.declared.front.Front.TheVariants as shown
+use Rattle.mz_lexer.specs.declared.found.Front.TheVariants as shown
 use Rattle.mz_base.proofs.Tables.{grows_on}
-use Rattle.mz_lexer.specs.Lexemes.{gap, token, refusal, begins_piece, front_of, outcome_of, opens_behind, start_of}
+use Rattle.mz_lexer.specs.Steps.{gap, token, refusal, front_of, outcome_of}
+use Rattle.mz_lexer.specs.Lexemes.{begins_piece, opens_behind}
+use Rattle.mz_base.specs.Faults.{start_of}
 use Rattle.mz_lexer.specs.Views.{lexeme, front, Fits, HasName, IsNamed, IsFrontNamed}
 use Rattle.mz_lexer.specs.Lexes.{Lexed}
 use Rattle.mz_lexer.proofs.Lexing.{sound}
@@ -22,7 +24,7 @@ none_left (b ∷ bs) e = grind (arith, nat_tests)
 
 pub loop-cursor-init : goal.loop-cursor-init
 loop-cursor-init c = record {
-  reads = rw (c.new-tokens.ensures.items, c.new-opens.ensures) (reads_start c.args.file c.args.bytes.now);
+  reads = rw (c.start.ensures, c.new-tokens.ensures.items, c.new-opens.ensures) (reads_start c.args.file c.args.bytes.now);
   named = All-same (HasName c.args.names.now) _ [] c.new-tokens.ensures.items (All-nil (HasName c.args.names.now));
   grows = λ n below. (below, refl);
 }

@@ -1,7 +1,7 @@
 use Rattle.std.proofs.Common.{◌≡◌, map, length}
 use Rattle.std.specs.Prelude.{All}
 use Rattle.mz_base.specs.Names.{Grows}
-use Rattle.mz_lexer.specs.Lexemes.{outcome_at, outcome_of}
+use Rattle.mz_lexer.specs.Steps.{outcome_at, outcome_of}
 use Rattle.mz_lexer.specs.Views.{lex, HasName}
 use Rattle.mz_lexer.proofs.Steps.{with_tokens}
 use Rattle.mz_lexer.proofs.lexer.tokens.Given as goal

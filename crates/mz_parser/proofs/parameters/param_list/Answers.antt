@@ -1,13 +1,18 @@
-use Rattle.std.proofs.Common.{arith, sym, ◌∙◌}
+use Rattle.std.proofs.Common.{rules, arith, sym, ◌∙◌}
 use Rattle.mz_tree.specs.Views.{declaration}
 use Rattle.mz_parser.proofs.Lists.{more_front, last_front, front_alone, param_more, param_last, no_param}
 use Rattle.mz_parser.proofs.parameters.param_list.Goals as goal
 
 -- the parameter that was read is the last one
-pub returns-then-not-branch-clause-reads : goal.returns-then-not-branch-clause-reads
-returns-then-not-branch-clause-reads c = sym c.loop-alloc.invariant.reads
+pub returns-then-not-branch : goal.returns-then-not-branch
+returns-then-not-branch c = record {
+  reads = sym c.loop-alloc.invariant.reads
     ∙ last_front declaration _ _ c.in_ok-d.d _ _ c.in_ok-push.ensures.items
-    (param_last _ _ _ _ _ _ _ _ c.tok.ensures c.is_sym.ensures c.loop-alloc-test.true c.in_ok-d.ensures.reads c.in_ok-separator.ensures.reads c.if-not-branch.true)
+    (param_last _ _ _ _ _ _ _ _ c.tok.ensures c.is_sym.ensures c.loop-alloc-test.true c.in_ok-d.ensures.reads c.in_ok-separator.ensures.reads c.if-not-branch.true);
+  room = search rules;
+  end = search rules;
+  shorter = search rules;
+}
 
 pub loop-alloc-preserved : goal.loop-alloc-preserved
 loop-alloc-preserved c = record {
@@ -20,5 +25,10 @@ loop-alloc-preserved c = record {
 }
 
 -- no parameter stands behind a comma, or none at all
-pub returns-clause-reads : goal.returns-clause-reads
-returns-clause-reads c = sym c.loop-alloc.invariant.reads ∙ front_alone _ _ _ (no_param _ _ _ _ _ c.tok.ensures c.is_sym.ensures c.loop-alloc-test.false c.skip.ensures.rest)
+pub returns : goal.returns
+returns c = record {
+  reads = sym c.loop-alloc.invariant.reads ∙ front_alone _ _ _ (no_param _ _ _ _ _ c.tok.ensures c.is_sym.ensures c.loop-alloc-test.false c.skip.ensures.rest);
+  room = search rules;
+  end = search rules;
+  shorter = search rules;
+}

@@ -6,4 +6,5 @@ use Rattle.mz_tree.proofs.Maps.{map_map}
 use Rattle.mz_tree.proofs.make.make_rows.Goals as goal
 
 pub returns : goal.returns
+unfolding tree
 returns c = simp the_lemmas (ap (λ (ls : List (List Tree)). node c.args.span (rows (rows_of ls))) (map_map _ _ c.args.lines.items))

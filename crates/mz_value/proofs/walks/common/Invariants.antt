@@ -1,5 +1,5 @@
 use Rattle.std.proofs.Common.{◌≡◌, ◌++◌, ◌+◌, ◌-◌, ◌≤◌, length, drop}
-use Rattle.mz_value.specs.Walks as walks
+use Rattle.mz_value.specs.StepsWalks as walks
 use Rattle.mz_value.proofs.walks.common.Given as goal
 
 abbrev pub invariant-loop-i : goal.invariant-loop-i

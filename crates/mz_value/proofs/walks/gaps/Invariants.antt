@@ -1,7 +1,7 @@
 use Rattle.std.proofs.Common.{◌≡◌, ◌++◌, drop}
 use Rattle.std.specs.Prelude.{pos, ◌+ℤ◌, ◌≤ℤ◌}
 use Rattle.mz_value.specs.Ranges.{least, greatest}
-use Rattle.mz_value.specs.Walks as walks
+use Rattle.mz_value.specs.StepsWalks as walks
 use Rattle.mz_value.proofs.walks.gaps.Given as goal
 
 abbrev pub invariant-loop-r : goal.invariant-loop-r

@@ -1,6 +1,6 @@
 use Rattle.std.proofs.Common.{◌≡◌, ◌++◌, drop}
 use Rattle.mz_value.specs.Ranges.{IsInLimit}
-use Rattle.mz_value.specs.Walks as walks
+use Rattle.mz_value.specs.StepsWalks as walks
 use Rattle.mz_value.proofs.walks.joined_from.Given as goal
 
 abbrev pub invariant-loop-next : goal.invariant-loop-next

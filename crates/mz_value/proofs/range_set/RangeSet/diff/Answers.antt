@@ -1,6 +1,6 @@
 use Rattle.std.proofs.Common.{◌≡◌, ap, ◌∙◌}
 use Rattle.mz_value.specs.Ranges.{IsDifference, least}
-use Rattle.mz_value.specs.Walks.{common, gaps}
+use Rattle.mz_value.specs.StepsWalks.{common, gaps}
 use Rattle.mz_value.proofs.Sets.{IsSound, Makes, makes_difference, sound_same}
 use Rattle.mz_value.proofs.range_set.RangeSet.diff.Goals as goal
 use Rattle.mz_value.proofs.range_set.RangeSet.diff.Goals.{In_ok-ranges}

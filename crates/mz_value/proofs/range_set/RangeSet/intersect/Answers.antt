@@ -1,6 +1,6 @@
 use Rattle.std.proofs.Common.{◌≡◌, ap, ◌∙◌}
 use Rattle.mz_value.specs.Ranges.{IsIntersection}
-use Rattle.mz_value.specs.Walks.{common}
+use Rattle.mz_value.specs.StepsWalks.{common}
 use Rattle.mz_value.proofs.Sets.{IsSound, Makes, makes_intersection, sound_same}
 use Rattle.mz_value.proofs.range_set.RangeSet.intersect.Goals as goal
 use Rattle.mz_value.proofs.range_set.RangeSet.intersect.Goals.{In_ok-ranges}

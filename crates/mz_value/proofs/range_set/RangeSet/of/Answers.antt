@@ -2,7 +2,7 @@ use Rattle.std.proofs.Common.{◌≡◌, ap, ◌∙◌, sym, subst, List}
 use Rattle.std.specs.Prelude.{ℤ}
 use Rattle.std.specs.List.Sorted.{IsPermutation}
 use Rattle.mz_value.specs.Ranges.{Range, AreInLimit}
-use Rattle.mz_value.specs.Walks.{joined}
+use Rattle.mz_value.specs.StepsWalks.{joined}
 use Rattle.mz_value.proofs.Sorted.{MakesSet, makes_set, limit_sorted, singles}
 use Rattle.mz_value.proofs.range_set.RangeSet.of.Goals as goal
 use Rattle.mz_value.proofs.range_set.RangeSet.of.Goals.{In_ok-ranges, After-deref-2}

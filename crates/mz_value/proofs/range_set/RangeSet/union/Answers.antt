@@ -1,6 +1,6 @@
 use Rattle.std.proofs.Common.{◌≡◌, ap, ◌∙◌, sym, subst, List}
 use Rattle.mz_value.specs.Ranges.{Range, IsUnion, AreInLimit}
-use Rattle.mz_value.specs.Walks.{merged, joined}
+use Rattle.mz_value.specs.StepsWalks.{merged, joined}
 use Rattle.mz_value.proofs.Joined.{merged_limit}
 use Rattle.mz_value.proofs.Sets.{IsSound, Makes, makes_union, sound_same}
 use Rattle.mz_value.proofs.range_set.RangeSet.union.Goals as goal

@@ -3,10 +3,10 @@ use Rattle.mz_expr.specs.declared.parser.descent.Entry.TheVariants as entry_is
 use Rattle.mz_expr.proofs.Descents.{room_bound}
 use Rattle.mz_expr.proofs.parser.descent.Descent.atom.Goals as goal
 
-pub head-requires-clause-below : goal.head-requires-clause-below
-head-requires-clause-below g c = room_bound c.args.cur.now.room c.args.self.now.room entry_is.Unit c.args.self.now.entry c.requires.below
+pub head-requires : goal.head-requires
+head-requires g c = record { calls = c.requires.calls; below = room_bound c.args.cur.now.room c.args.self.now.room entry_is.Unit c.args.self.now.entry c.requires.below; }
 
-pub accesses-requires-clause-below : goal.accesses-requires-clause-below
-accesses-requires-clause-below g c =
+pub accesses-requires : goal.accesses-requires
+accesses-requires g c =
     let bound = room_bound c.args.cur.now.room c.args.self.now.room entry_is.Unit c.args.self.now.entry c.requires.below in
-    omega (arith, bound, c.in_ok-first.ensures.room)
+    record { calls = c.requires.calls; below = omega (arith, bound, c.in_ok-first.ensures.room); }

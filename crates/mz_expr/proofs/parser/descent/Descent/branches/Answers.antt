@@ -1,6 +1,6 @@
 use Rattle.std.proofs.Common.{◌≡◌, ◌++◌, ◌∷◌, [], map, sym, ap, ◌∙◌, arith, true}
 use Rattle.std.proofs.lemmas.List.{map_push}
-use Rattle.mz_lexer.specs.declared.token.Keyword.TheVariants.{KElseif}
+use Rattle.mz_base.specs.declared.keyword.Keyword.TheVariants.{KElseif}
 use Rattle.mz_tree.specs.Views.{branch}
 use Rattle.mz_cursor.specs.Tokens.{tok_at}
 use Rattle.mz_cursor.specs.Look.{is_word}

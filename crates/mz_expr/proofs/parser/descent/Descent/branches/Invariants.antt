@@ -1,7 +1,8 @@
 use Rattle.std.proofs.Common.{◌≡◌, ◌≤◌, length, map}
 use Rattle.mz_tree.specs.Views.{branch}
 use Rattle.mz_grammar.specs.Parts as parts
-use Rattle.mz_grammar.specs.Reading.{reads, with_branches}
+use Rattle.mz_grammar.specs.Reading.{reads}
+use Rattle.mz_grammar.specs.Steps.{with_branches}
 use Rattle.mz_expr.proofs.parser.descent.Descent.branches.Given as goal
 
 abbrev pub invariant-loop-cur : goal.invariant-loop-cur

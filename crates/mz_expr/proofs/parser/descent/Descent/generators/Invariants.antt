@@ -1,7 +1,7 @@
 use Rattle.std.proofs.Common.{◌≡◌, ◌≤◌, length, map}
 use Rattle.mz_tree.specs.Views.{generator}
 use Rattle.mz_cursor.specs.Reading.{with_front}
-use Rattle.mz_grammar.specs.Reading.{generators_at}
+use Rattle.mz_grammar.specs.Steps.{generators_at}
 use Rattle.mz_expr.proofs.parser.descent.Descent.generators.Given as goal
 
 abbrev pub invariant-loop-all : goal.invariant-loop-all

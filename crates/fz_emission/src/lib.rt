@@ -1,0 +1,6 @@
+// What the solutions of a FlatZinc program are to those of the model that it was made of.
+#![tactic(auto)]
+
+mod law;
+
+pub use law::read_off_by_names;

@@ -1,0 +1,38 @@
+-- Mirror of src/parser/expression.rt; private clauses only. How an expression goes on after its first operand: level by level,
+-- from the tightest to the loosest that it may have.
+use Rattle.std.specs.Prelude.{ℕ, zero, suc, List, [], ◌∷◌, Option, Some, None, Ok, if◌then◌else◌, ◌&&◌, nat_lt, nat_le, slice_index_or}
+use Rattle.mz_lexer.specs.declared.token.Tok.{Tok}
+use Rattle.mz_tree.specs.declared.expr.BinOp.{BinOp}
+use Rattle.mz_cursor.specs.Reading.{Reader, ◌>>=◌}
+use Rattle.mz_grammar.specs.declared.level.Level.{Level}
+use Rattle.mz_grammar.specs.declared.level.Level.TheVariants as level
+use Rattle.mz_grammar.specs.Operators.{operator_of, level_number}
+use Rattle.mz_grammar.specs.Parts as parts
+use Rattle.mz_grammar.specs.Parts.{Reading, chained}
+use Rattle.mz_grammar.specs.Reading.{reads}
+
+abbrev pub if_within : Level → ℕ → Option (Level × BinOp) → Option Level
+if_within l done None = None
+if_within l done (Some o) = if nat_le (level_number l) (level_number o.0) && nat_lt (level_number o.0) done then Some o.0 else None
+
+-- the level of the operator that the token is, where that is l or tighter, with a number below done
+abbrev pub next_level : Level → ℕ → Option Tok → Option Level
+next_level l done tok = if_within l done (operator_of tok)
+
+-- the level with this number
+abbrev pub numbered : ℕ → Level
+numbered n = slice_index_or (level.Iff ∷ level.Imp ∷ level.Or ∷ level.And ∷ level.Compare ∷ level.Member ∷ level.Union ∷ level.Range ∷ level.Sum ∷ level.Product ∷ level.Power ∷ []) n level.Concat
+
+-- the levels with numbers below done, tightest first, down to the one numbered last
+unfoldable pub levels : ℕ → ℕ → List Level
+levels zero last = []
+levels (suc n) last = if nat_le last n then numbered n ∷ levels n last else []
+
+-- an operand x with the operators of this level behind it
+abbrev pub finished : Level → Reading → ℕ → Reader Reading
+finished l x room ts = reads (parts.operators l) room ts >>= λ ls. Ok (chained x ls.0, ls.1)
+
+-- x with the operators of these levels behind it, one level after the other
+unfoldable pub climbing : List Level → Reading → ℕ → Reader Reading
+climbing [] x room ts = Ok (x, ts)
+climbing (l ∷ ls) x room ts = finished l x room ts >>= λ y. climbing ls y.0 room y.1

@@ -1,0 +1,15 @@
+// What stands in front of some bytes, as it is found.
+
+use crate::token::Tok;
+use mz_base::Kind;
+
+/// What stands in front of some bytes. Lengths are in bytes.
+#[derive(Clone, Copy, Debug)]
+pub enum Front {
+    /// A blank or a comment, with its length.
+    Gap(usize),
+    /// A token with its length.
+    Token(Tok, usize),
+    /// A fault, and how many bytes stand before it.
+    Refusal(Kind, usize),
+}
