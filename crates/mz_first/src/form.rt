@@ -13,8 +13,8 @@ ghost use Rattle.mz_first.specs.Views.{operand, item as item_of, given as given_
 
 use crate::item::{Comparison, Item, Operand};
 use mz_base::{Names, Span, is_identifier};
-use mz_value::{GREATEST, LEAST};
 use mz_tree::{BinOp, Decl, Expr, Form, Goal, Item as TreeItem, TypeBase, TypeText, UnOp};
+use mz_value::{GREATEST, LEAST};
 
 /// What an item of a file gives, with its place: nothing, an item of the model, or it isn't of the
 /// form.
