@@ -6,7 +6,7 @@ use Rattle.mz_builtin.specs.Table.{built_ins, globals, table}
 use Rattle.mz_builtin.specs.Readings.{with_number, with_base, with_indices, enums_from, index_enums_from, with_rank, ranks_from, choices, cases, sets_of_cases, scalars, sets, meanings, readings_of, result_var, opt_of, base_of, type_of, types_with, types_of_rank, array_types, joined, products, index_lists, index_sets, param_types, given_indices, array_indices, result_type, numbered, all_params, with_mark, with_meaning, of_entry}
 use Rattle.mz_builtin.specs.Signatures.{has_name, of_named, made, signatures}
 use Rattle.mz_builtin.specs.Readings.{Numbered}
-use Rattle.mz_builtin.proofs.ExampleTypes.{b, n, e, se, sf, sn, va, op, li}
+use Rattle.mz_builtin.proofs.ExampleTypes.{b, n, e, se, sf, sn, va, li}
 
 abbrev signed : ℕ → List PlainType → PlainType → Numbered
 signed number params result = (number, record { params = params; result = result })
