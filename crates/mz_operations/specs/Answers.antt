@@ -1,5 +1,5 @@
 -- What a row answers: the first of its faults, or its value.
-use Rattle.std.specs.Prelude.{ℕ, length, ℤ, pos, int_lt, Bool, true, false, not, ◌||◌, Option, Some, None, unwrap_or, is_some, if◌then◌else◌}
+use Rattle.std.specs.Prelude.{ℕ, length, ℤ, pos, int_lt, Bool, false, not, Option, Some, None, unwrap_or, if◌then◌else◌}
 use Rattle.mz_base.specs.declared.kind.Kind.{Kind}
 use Rattle.mz_base.specs.declared.kind.Kind.TheVariants.{IndexMismatch, NegativeArgument, AssertFailed, Bounds}
 use Rattle.mz_value.specs.Contents.{Content, int}

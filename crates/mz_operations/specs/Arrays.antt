@@ -1,7 +1,7 @@
 -- The elements of arrays, folds over them, and index sets.
 use Rattle.std.specs.Prelude.{ℕ, zero, suc, ◌+◌, ◌*◌, length, ℤ, pos, nat_eq, nat_le, List, [], ◌∷◌, ◌++◌, Bool, true, false, ◌&&◌, Option, Some, None, unwrap_or, if◌then◌else◌}
 use Rattle.mz_value.specs.Ranges.{Range, range_of, cardinality}
-use Rattle.mz_value.specs.Contents.{Content, bool, int, case, array, contents}
+use Rattle.mz_value.specs.Contents.{Content, int, case, array, contents}
 use Rattle.mz_operations.specs.declared.row.Fold.{Fold}
 use Rattle.mz_operations.specs.declared.row.Fold.TheVariants.{Sum, SumOfOptions, Product}
 use Rattle.mz_operations.specs.declared.row.Quantifier.{Quantifier}

@@ -1,6 +1,6 @@
 -- The bounds of values and of operations, in the order of the rules: a number has an interval, a set a least and a greatest set.
-use Rattle.std.specs.Prelude.{ℕ, zero, suc, length, ℤ, pos, neg_ℤ, List, [], ◌∷◌, Bool, true, false, ◌&&◌, Option, Some, None, unwrap_or, replicate, map, filter, zip, flat_map, if◌then◌else◌}
-use Rattle.std.specs.Int.{int_min, int_max}
+use Rattle.std.specs.Prelude.{ℕ, zero, suc, ℤ, pos, neg_ℤ, List, [], ◌∷◌, Bool, true, false, ◌&&◌, unwrap_or, replicate, map, filter, zip, flat_map, if◌then◌else◌}
+use Rattle.std.specs.Int.{int_max}
 use Rattle.std.specs.Ordering.{int_eq}
 use Rattle.mz_value.specs.Ranges.{Range, cardinality, range_of}
 use Rattle.mz_value.specs.Contents.{Content, bool, int, case, set, absent, text, array}

@@ -8,4 +8,6 @@ pub mod Answers
 pub mod Costs
 pub mod Bounds
 pub mod RowBounds
+pub mod Laws
 mod ValueExamples
+mod BoundExamples

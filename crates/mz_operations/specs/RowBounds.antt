@@ -1,6 +1,5 @@
 -- The bounds of each row's value, a line a row, from the bounds of its arguments; and what the rows give that read bounds alone.
-use Rattle.std.specs.Prelude.{ℕ, zero, suc, ◌+◌, length, ℤ, pos, negsuc, nat_eq, int_le, List, [], ◌∷◌, ◌++◌, Bool, Option, Some, None, map, slice_get, if◌then◌else◌}
-use Rattle.std.specs.Option.{option_and_then}
+use Rattle.std.specs.Prelude.{ℕ, zero, suc, length, ℤ, pos, negsuc, nat_eq, List, [], ◌∷◌, ◌++◌, Option, Some, None, map, slice_get, if◌then◌else◌}
 use Rattle.mz_value.specs.Ranges.{Range}
 use Rattle.mz_value.specs.Contents.{Content, bool, int, set}
 use Rattle.mz_interval.specs.Ends.{Ends}
@@ -8,7 +7,6 @@ use Rattle.mz_operations.specs.declared.row.ScalarRow.{ScalarRow}
 use Rattle.mz_operations.specs.declared.row.ScalarRow.TheVariants.{Logic, Not, Order, Equal, Unequal, SetEqual, SetUnequal, In, Arith, Sign, Power, Fold, Extreme, SetExtreme, Quantified, Count, Clause, Ordinal, Card, Length, Occurs, Absent, Beside, Assert}
 use Rattle.mz_operations.specs.declared.row.MadeRow.{MadeRow}
 use Rattle.mz_operations.specs.declared.row.MadeRow.TheVariants.{SetOf, Subset, Superset, IndexSet, Line, Shaped, Concat, ArrayUnion, ArrayIntersect, Deopt, AssertValue, AssertArray}
-use Rattle.mz_operations.specs.declared.row.BoundingRow.{BoundingRow}
 use Rattle.mz_operations.specs.declared.row.BoundingRow.TheVariants.{Lb, Ub, Dom, LbArray, UbArray, IsFixed, Fix}
 use Rattle.mz_operations.specs.declared.row.Row.{Row}
 use Rattle.mz_operations.specs.declared.row.Row.TheVariants.{Scalar, Made, Bounding}
@@ -77,7 +75,7 @@ exponent (negsuc n) = 0
 abbrev pub line_of : List Bound → Bounds
 line_of bs = many ((pos 1, pos (length bs)) ∷ []) bs
 
--- ---- the table. None stands where the value is always par, so that its bounds are the value's, and where the arguments are of no typed tree
+-- ---- the table. None is given where the value is always par, so that its bounds are the value's, and where the arguments are of no typed tree. A node of type bool that is no option and is neither par, nor a coercion, nor a name has the bounds 0..1, whatever its row says: the type is known where the node is
 
 unfoldable pub scalar_bounds : ScalarRow → List Bounds → Option Bounds
 scalar_bounds (Arith op) bs = do

@@ -1,5 +1,5 @@
 -- Worked examples of what the rows answer.
-use Rattle.std.specs.Prelude.{◌≡◌, refl, ℕ, ◌^◌, ℤ, pos, negsuc, List, [], ◌∷◌, Bool, true, false, Option, Some, None, codes}
+use Rattle.std.specs.Prelude.{◌≡◌, refl, ℕ, pos, negsuc, List, [], ◌∷◌, true, false, Option, Some, None, codes}
 use Rattle.std.specs.Fmt.{digits}
 use Rattle.mz_base.specs.declared.kind.Kind.TheVariants.{IndexMismatch, NegativeArgument, AssertFailed, Bounds}
 use Rattle.mz_value.specs.Ranges.{Range}

@@ -3,8 +3,8 @@ use Rattle.std.specs.Prelude.{ℕ, length, ℤ, pos, nat_abs, int_lt, nat_eq, Li
 use Rattle.std.specs.Option.{option_or, option_map}
 use Rattle.std.specs.Ordering.{int_eq}
 use Rattle.std.specs.Fmt.{signed_decimal}
-use Rattle.mz_value.specs.Ranges.{Range, cardinality, range_of}
-use Rattle.mz_value.specs.Contents.{Content, bool, int, case, set, absent, text, array, contents}
+use Rattle.mz_value.specs.Ranges.{Range, cardinality}
+use Rattle.mz_value.specs.Contents.{Content, bool, int, case, set, text, array, contents}
 use Rattle.mz_value.specs.Shown.{Names, padded, join, elements, shown}
 use Rattle.mz_operations.specs.declared.row.ScalarRow.{ScalarRow}
 use Rattle.mz_operations.specs.declared.row.ScalarRow.TheVariants.{Logic, Not, Order, Equal, Unequal, SetEqual, SetUnequal, In, Arith, Sign, Power, Fold, Extreme, SetExtreme, Quantified, Count, Clause, Ordinal, Card, Length, Occurs, Absent, Beside, Assert}
@@ -15,7 +15,6 @@ use Rattle.mz_operations.specs.declared.row.BoundingRow.TheVariants.{Lb, Ub, Dom
 use Rattle.mz_operations.specs.declared.row.Row.{Row}
 use Rattle.mz_operations.specs.declared.row.Row.TheVariants.{Scalar, Made, Bounding, Show, ShowArray}
 use Rattle.mz_operations.specs.declared.row.Quantifier.TheVariants.{Forall, Exists}
-use Rattle.mz_operations.specs.declared.row.Side.{Side}
 use Rattle.mz_operations.specs.declared.row.Side.TheVariants.{Least, Greatest}
 use Rattle.mz_operations.specs.Views.{◌>>=◌, as_bool, as_int, as_set, as_text, as_pair, is_absent, is_single}
 use Rattle.mz_operations.specs.Arguments.{Arguments, at, bool_at, int_at, case_at, ordinal_at, element_at, option_at, set_at, enum_at, text_at, items_at, row_at, index_at, pair}
