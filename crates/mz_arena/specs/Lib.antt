@@ -1,0 +1,6 @@
+pub mod Entries
+pub mod Values
+pub mod Terms
+pub mod Extents
+pub mod Charges
+pub mod Arenas

@@ -1,0 +1,10 @@
+// Terms over variables: nodes with numbers, shared by all that speak of them, each with its meaning and its bounds.
+#![tactic(auto)]
+
+
+mod law;
+mod node;
+
+
+pub use law::growth_is_transitive;
+pub use node::{Id, Node, NodeKind, charge};
