@@ -1,5 +1,5 @@
 -- Arenas that go on from another, and the node that was made last.
-use Rattle.std.proofs.Common.{◌≡◌, ℕ, zero, suc, ◌+◌, ◌<◌, ◌≤◌, List, [], ◌∷◌, ◌++◌, length, map, Bool, true, false, cond, Option, Some, None, ◌⊎◌, inl, inr, IsSome, slice_get, refl, sym, ap, subst, ◌∙◌, arith, length-append}
+use Rattle.std.proofs.Common.{◌≡◌, ℕ, zero, suc, ◌+◌, ◌<◌, ◌≤◌, List, [], ◌∷◌, ◌++◌, length, map, Bool, true, false, cond, Option, Some, None, ◌⊎◌, inl, inr, IsSome, slice_get, refl, sym, ap, subst, ◌∙◌, arith, length-append, append-nil}
 use Rattle.std.proofs.lemmas.Bool.{cases_lt}
 use Rattle.mz_arena.specs.declared.node.Node.{Node}
 use Rattle.mz_arena.specs.Entries.{Entry, entry, children, AllBelow, at, folded, is_free, is_local}
@@ -7,7 +7,8 @@ use Rattle.mz_arena.specs.Values.{Values, Term}
 use Rattle.mz_arena.specs.Terms.{node_term, terms, term, own_id}
 use Rattle.mz_arena.specs.Extents.{node_extent, extents, extent}
 use Rattle.mz_arena.specs.Charges.{charge_of, charges}
-use Rattle.mz_arena.specs.Arenas.{Grew, Extends, Made, IsArena, local_count}
+use Rattle.mz_arena.specs.Numbering.{local_ids_from, local_ids, IsChoice, Numbered}
+use Rattle.mz_arena.specs.Arenas.{Grew, Extends, Made, IsArena}
 use Rattle.mz_arena.proofs.Folds.{get-append, get-last, get-below, below_more, length-folded, folded-append, keep, unroll, at-past}
 
 pub grew_append : (es fs : List Entry) → Grew es (es ++ fs)
@@ -79,6 +80,56 @@ made es e id h below = record {
 pub made_last : (es : List Entry) (e : Entry) → AllBelow (length es) (children e.node) → Made (es ++ e ∷ []) e (length es)
 made_last es e below = made (es ++ e ∷ []) e (length es) (get-last es e) below
 
+-- ---- choices
+
+local_ids_from-push : (k : ℕ) (es : List Entry) (e : Entry) → local_ids_from k (es ++ e ∷ []) ≡ local_ids_from k es ++ cond (is_local e.node.kind) ((k + length es) ∷ []) []
+unfolding local_ids_from
+local_ids_from-push k [] e = let place : k ≡ k + 0 = omega arith in ap (λ j. cond (is_local e.node.kind) (j ∷ []) []) place
+local_ids_from-push k (d ∷ es) e = by (is_local d.node.kind) (local_ids_from-push (k + 1) es e)
+  where
+    by : (b : Bool) → local_ids_from (k + 1) (es ++ e ∷ []) ≡ local_ids_from (k + 1) es ++ cond (is_local e.node.kind) ((k + 1 + length es) ∷ []) [] → cond b (k ∷ local_ids_from (k + 1) (es ++ e ∷ [])) (local_ids_from (k + 1) (es ++ e ∷ [])) ≡ cond b (k ∷ local_ids_from (k + 1) es) (local_ids_from (k + 1) es) ++ cond (is_local e.node.kind) ((k + length (d ∷ es)) ∷ []) []
+    by true h = let place : k + 1 + length es ≡ k + length (d ∷ es) = omega arith in ap (λ is. k ∷ is) (h ∙ ap (λ j. local_ids_from (k + 1) es ++ cond (is_local e.node.kind) (j ∷ []) []) place)
+    by false h = let place : k + 1 + length es ≡ k + length (d ∷ es) = omega arith in h ∙ ap (λ j. local_ids_from (k + 1) es ++ cond (is_local e.node.kind) (j ∷ []) []) place
+
+pub local_ids-push : (es : List Entry) (e : Entry) → local_ids (es ++ e ∷ []) ≡ local_ids es ++ cond (is_local e.node.kind) (length es ∷ []) []
+unfolding local_ids
+local_ids-push es e = let place : 0 + length es ≡ length es = omega arith in local_ids_from-push 0 es e ∙ ap (λ j. local_ids_from 0 es ++ cond (is_local e.node.kind) (j ∷ []) []) place
+
+choice_later : (es : List Entry) (e : Entry) (k id : ℕ) → IsChoice es k id → IsChoice (es ++ e ∷ []) k id
+choice_later es e k id c = record { there = c.there; stands = get-append es (e ∷ []) id (get-below es id c.there c.stands) ∙ c.stands; local = c.local; number = c.number }
+
+last_choice : (es : List Entry) (e : Entry) (b : Bool) (k id : ℕ) → is_local e.node.kind ≡ b → (b ≡ true → e.node.b ≡ length (local_ids es)) → ((k id : ℕ) → slice_get (local_ids es) k ≡ Some id → IsChoice es k id) → slice_get (local_ids es ++ cond b (length es ∷ []) []) k ≡ Some id → IsChoice (es ++ e ∷ []) k id
+last_choice es e false k id l next there h = choice_later es e k id (there k id (subst (λ is. slice_get is k ≡ Some id) (append-nil (local_ids es)) h))
+last_choice es e true k id l next there h = elim (cases_lt k (length (local_ids es))) [
+  | inl o ↦ choice_later es e k id (there k id (sym (get-append (local_ids es) (length es ∷ []) k o) ∙ h))
+  | inr g ↦
+    let below = get-below (local_ids es ++ length es ∷ []) k id h in
+    let last : k ≡ length (local_ids es) = omega (arith, length-append (local_ids es) (length es ∷ [])) in
+    let place : length es ≡ id = some_place (ap (slice_get (local_ids es ++ length es ∷ [])) (sym last) ∙ h) in
+    record { there = e; stands = ap (slice_get (es ++ e ∷ [])) (sym place) ∙ get-last es e; local = l; number = next refl ∙ sym last }
+]
+  where
+    some_place : slice_get (local_ids es ++ length es ∷ []) (length (local_ids es)) ≡ Some id → length es ≡ id
+    some_place p = let q = get-last (local_ids es) (length es) in cc
+
+numbered_push : (es : List Entry) (e : Entry) → Numbered es → (is_local e.node.kind ≡ true → e.node.b ≡ length (local_ids es)) → Numbered (es ++ e ∷ [])
+numbered_push es e n next = record {
+  there = λ k id h. last_choice es e (is_local e.node.kind) k id refl next n.there (subst (λ is. slice_get is k ≡ Some id) (local_ids-push es e) h);
+  all = λ id d h l. elim (old_or_last es e d id h) [
+    | inl o ↦
+      let place = n.all id d o.1 l in
+      ap (λ is. slice_get is d.node.b) (local_ids-push es e) ∙ get-append (local_ids es) (cond (is_local e.node.kind) (length es ∷ []) []) d.node.b (get-below (local_ids es) d.node.b id place) ∙ place
+    | inr m ↦
+      let local : is_local e.node.kind ≡ true = subst (λ (z : Entry). is_local z.node.kind ≡ true) m.1 l in
+      let number : d.node.b ≡ length (local_ids es) = ap (λ (z : Entry). z.node.b) m.1 ∙ next local in
+      ap (λ is. slice_get is d.node.b) (local_ids-push es e ∙ ap (λ b. local_ids es ++ cond b (length es ∷ []) []) local) ∙ ap (slice_get (local_ids es ++ length es ∷ [])) number ∙ get-last (local_ids es) (length es) ∙ ap (λ j. Some j) (sym m.0)
+  ];
+}
+
+numbered_empty : Numbered []
+unfolding local_ids local_ids_from
+numbered_empty = record { there = λ k id h. cc; all = λ id e h l. cc }
+
 -- ---- what holds of each arena
 
 some_same : {A : Type 0} {p q : Option A} → p ≡ q → IsSome q → IsSome p
@@ -94,8 +145,8 @@ extent_last es e below =
     let new = es ++ e ∷ [] in
     (made_last es e below).bounds new (grew_same new) ∙ ap (node_extent e) (extents_kept es new (children e.node) (grew_append es (e ∷ [])) below)
 
-pub arena_push : (es : List Entry) (e : Entry) → IsArena es → AllBelow (length es) (children e.node) → IsSome (node_extent e (map (extent es) (children e.node))) → (is_free e.node.kind ≡ true → own_id e.node ≡ length es) → IsArena (es ++ e ∷ [])
-arena_push es e a below some free =
+pub arena_push : (es : List Entry) (e : Entry) → IsArena es → AllBelow (length es) (children e.node) → IsSome (node_extent e (map (extent es) (children e.node))) → (is_free e.node.kind ≡ true → own_id e.node ≡ length es) → (is_local e.node.kind ≡ true → e.node.b ≡ length (local_ids es)) → IsArena (es ++ e ∷ [])
+arena_push es e a below some free next =
     let new = es ++ e ∷ [] in
     let g = grew_append es (e ∷ []) in
     record {
@@ -111,10 +162,11 @@ arena_push es e a below some free =
         | inl o ↦ a.own id d o.1 f
         | inr n ↦ ap (λ (z : Entry). own_id z.node) n.1 ∙ free (subst (λ (z : Entry). is_free z.node.kind ≡ true) n.1 f) ∙ sym n.0
       ];
+      numbered = numbered_push es e a.numbered next;
     }
 
 pub arena_empty : IsArena []
-arena_empty = record { ordered = λ id e h. cc; bounded = λ id e h. cc; own = λ id e h f. cc }
+arena_empty = record { ordered = λ id e h. cc; bounded = λ id e h. cc; own = λ id e h f. cc; numbered = numbered_empty }
 
 -- ---- counts
 
@@ -123,7 +175,3 @@ unfolding charges
 charges-push [] e = omega arith
 charges-push (d ∷ es) e = omega (arith, charges-push es e)
 
-pub local_count-push : (es : List Entry) (e : Entry) → local_count (es ++ e ∷ []) ≡ local_count es + cond (is_local e.node.kind) 1 0
-unfolding local_count
-local_count-push [] e = omega arith
-local_count-push (d ∷ es) e = omega (arith, local_count-push es e)

@@ -6,14 +6,10 @@ use Rattle.mz_arena.specs.declared.node.NodeKind.{NodeKind}
 use Rattle.mz_arena.specs.Entries.{Entry, entry, children, AllBelow, is_set_const, is_local, is_free, at}
 use Rattle.mz_arena.specs.Values.{Values, Term}
 use Rattle.mz_arena.specs.Terms.{node_term, term, own_id}
-use Rattle.mz_arena.specs.Extents.{Extent, Known, node_extent, extent}
+use Rattle.mz_arena.specs.Extents.{node_extent, extent}
+use Rattle.mz_arena.specs.Numbering.{local_ids, Numbered}
 
--- how many choices there are
-unfoldable pub local_count : List Entry → ℕ
-local_count [] = 0
-local_count (e ∷ es) = (if is_local e.node.kind then 1 else 0) + local_count es
-
--- a node whose set is not empty only where it is a SetConst stands at a place
+-- the node at this id is a SetConst
 pub record IsSetConst (es : List Entry) (id : ℕ) : Type 0 where
   pub there : Entry
   pub stands : slice_get es id ≡ Some there
@@ -23,7 +19,7 @@ pub record IsSetConst (es : List Entry) (id : ℕ) : Type 0 where
 pub record IsFreeNode (es : List Entry) (id : ℕ) (n : Node) : Type 0 where
   pub own : n.number ≡ pos id
   pub domain : IsSetConst es n.a
-  pub next : is_local n.kind ≡ true → n.b ≡ local_count es
+  pub next : is_local n.kind ≡ true → n.b ≡ length (local_ids es)
 
 -- a node that may be made: its children are in the arena, it has bounds over theirs (so they are of the sorts that its kind needs, and its own bounds are in the limit), and it is no SetConst
 pub record IsAsked (es : List Entry) (n : Node) : Type 0 where
@@ -62,6 +58,7 @@ pub record IsArena (es : List Entry) : Type 0 where
   pub ordered : (id : ℕ) (e : Entry) → slice_get es id ≡ Some e → AllBelow id (children e.node)
   pub bounded : (id : ℕ) (e : Entry) → slice_get es id ≡ Some e → IsSome (extent es id)
   pub own : (id : ℕ) (e : Entry) → slice_get es id ≡ Some e → is_free e.node.kind ≡ true → own_id e.node ≡ id
+  pub numbered : Numbered es
 
 -- ---- laws
 

@@ -3,4 +3,6 @@ pub mod Values
 pub mod Terms
 pub mod Extents
 pub mod Charges
+pub mod Numbering
 pub mod Arenas
+pub mod Tables

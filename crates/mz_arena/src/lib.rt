@@ -4,6 +4,7 @@
 
 mod law;
 mod node;
+mod table;
 
 
 pub use law::growth_is_transitive;
