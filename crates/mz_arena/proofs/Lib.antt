@@ -1,3 +1,4 @@
 pub mod Folds
 pub mod Growing
+pub mod Intervals
 pub mod Telling

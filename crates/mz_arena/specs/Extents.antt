@@ -97,21 +97,21 @@ set_variable_extent x = do
 
 -- ---- integers
 
-unfoldable pub arith_extent : ArithRow → Known → Known → Known
-arith_extent op x y = do
-  e ← as_whole x
-  f ← as_whole y
-  in_limit (arith_ends op e f)
+abbrev pub arith_bounds : ArithRow → Option Ends → Option Ends → Option Ends
+arith_bounds op x y = x >>= λ e. y >>= λ f. if_in_limit (arith_ends op e f)
 
-unfoldable pub abs_extent : Known → Known
-abs_extent x = do
-  e ← as_whole x
-  in_limit (sign_ends sign_row.Abs e)
+abbrev pub arith_extent : ArithRow → Known → Known → Known
+arith_extent op x y = option_map whole (arith_bounds op (as_whole x) (as_whole y))
 
-unfoldable pub extreme_extent : Side → Known → Known
-extreme_extent side x = do
-  es ← as_wholes x
-  in_limit (extreme_ends side es)
+abbrev pub abs_bounds : Option Ends → Option Ends
+abs_bounds x = x >>= λ e. if_in_limit (sign_ends sign_row.Abs e)
+
+abbrev pub abs_extent : Known → Known
+abs_extent x = option_map whole (abs_bounds (as_whole x))
+
+-- of no element 0..0
+abbrev pub extreme_extent : Side → Known → Known
+extreme_extent side x = option_map (λ es. whole (extreme_ends side es)) (as_wholes x)
 
 unfoldable pub to_int_extent : Known → Known
 to_int_extent x = do
@@ -180,9 +180,13 @@ abbrev pub not_negative : ℤ → ℕ
 not_negative (pos n) = n
 not_negative (negsuc n) = 0
 
--- the elements at the places that a number between the ends reaches, from 1
+-- how many elements stand before the first place that a number between the ends reaches, where the places are numbered from 1
+abbrev pub skipped : Ends → ℕ
+skipped e = not_negative e.0 - 1
+
+-- the elements at the places that are reached
 abbrev pub reached : {A : Type 0} → Ends → List A → List A
-reached e xs = drop (not_negative e.0 - 1) (take (not_negative e.1) xs)
+reached e xs = take (not_negative e.1 - skipped e) (drop (skipped e) xs)
 
 abbrev pub element_extent : Ends → Extent → Known
 element_extent e (wholes es) = Some (whole (hull_of_all (reached e es)))
@@ -216,10 +220,11 @@ set_extent op x y = do
   w ← as_subset y
   Some (subset (combined_upper op u w))
 
-unfoldable pub card_extent : Known → Known
-card_extent x = do
-  u ← as_subset x
-  in_limit (card_ends u)
+abbrev pub card_bounds : Option (List Range) → Option Ends
+card_bounds x = x >>= λ u. if_in_limit (card_ends u)
+
+abbrev pub card_extent : Known → Known
+card_extent x = option_map whole (card_bounds (as_subset x))
 
 -- ---- the table: a node of a kind, from its children's bounds
 

@@ -3,7 +3,7 @@ use Rattle.std.specs.Prelude.{◌≡◌, ℕ, ◌<◌, ◌≤◌, List, [], ◌�
 use Rattle.mz_value.specs.Ranges.{Range, AreCanonical, AreInLimit}
 use Rattle.mz_interval.specs.Ends.{Ends}
 use Rattle.mz_interval.specs.Interval.{ends}
-use Rattle.mz_operations.specs.Bounds.{hull_of_all}
+use Rattle.mz_interval.specs.declared.interval.Interval.{Interval}
 use Rattle.mz_arena.specs.declared.node.Node.{Node}
 use Rattle.mz_arena.specs.declared.node.NodeKind.{NodeKind}
 use Rattle.mz_arena.specs.declared.node.NodeKind.TheVariants.{Cons}
@@ -11,7 +11,7 @@ use Rattle.mz_arena.specs.declared.table.Reach.{Reach}
 use Rattle.mz_arena.specs.declared.table.Reach.TheVariants.{Whole, Truth, Subset, Wholes, Truths, Subsets, Empty}
 use Rattle.mz_arena.specs.declared.table.Stored.{Stored}
 use Rattle.mz_arena.specs.Entries.{Entry, is_set_const}
-use Rattle.mz_arena.specs.Extents.{Extent, Known, whole, truth, subset, wholes, truths, subsets, empty, as_wholes, as_subsets, extent}
+use Rattle.mz_arena.specs.Extents.{Extent, Known, whole, truth, subset, wholes, truths, subsets, empty, as_whole, as_subset, extent}
 use Rattle.mz_arena.specs.Arenas.{IsArena}
 
 -- the arena's sets
@@ -43,18 +43,6 @@ abbrev pub subsets_in : Known → List (List Range)
 subsets_in (Some (subsets us)) = us
 subsets_in _ = []
 
--- a list of so many integers, with the hull of all
-pub record AreWholes (count : ℕ) (hull : Ends) (x : Known) : Type 0 where
-  pub is : x ≡ Some (wholes (wholes_in x))
-  pub counted : length (wholes_in x) ≡ count
-  pub some : 0 < count
-  pub hulled : hull_of_all (wholes_in x) ≡ hull
-
-pub record AreSubsets (count : ℕ) (x : Known) : Type 0 where
-  pub is : x ≡ Some (subsets (subsets_in x))
-  pub counted : length (subsets_in x) ≡ count
-  pub some : 0 < count
-
 -- the set at a place of the table
 pub record IsSubset (sets : Sets) (place : ℕ) (x : Known) : Type 0 where
   pub within : place < length sets
@@ -65,9 +53,9 @@ abbrev pub Tells : Sets → Reach → Known → Type 0
 Tells sets (Whole i) x = x ≡ Some (whole (ends i))
 Tells sets (Truth i) x = x ≡ Some (truth (ends i))
 Tells sets (Subset k) x = IsSubset sets k x
-Tells sets (Wholes count hull) x = AreWholes count (ends hull) x
+Tells sets Wholes x = x ≡ Some (wholes (wholes_in x))
 Tells sets Truths x = x ≡ Some truths
-Tells sets (Subsets count) x = AreSubsets count x
+Tells sets Subsets x = x ≡ Some (subsets (subsets_in x))
 Tells sets Empty x = x ≡ Some empty
 
 abbrev pub TellsAny : Sets → Option Reach → Known → Type 0
@@ -76,8 +64,8 @@ TellsAny sets (Some r) x = Tells sets r x
 
 -- a list with an element
 abbrev pub is_long : Reach → Bool
-is_long (Wholes count hull) = true
-is_long (Subsets count) = true
+is_long Wholes = true
+is_long Subsets = true
 is_long _ = false
 
 abbrev pub IsSetList : List Range → Type 0
@@ -113,3 +101,57 @@ subset_place _ = None
 abbrev pub IsPlaced : Sets → Option ℕ → Option (List Range) → Type 0
 IsPlaced sets None u = u ≡ None
 IsPlaced sets (Some k) u = (k < length sets) × (u ≡ Some (set_at sets k))
+
+-- the elements of a list of integers with this id
+abbrev pub wholes_at : Sets → List Stored → ℕ → List Ends
+wholes_at sets stored id = wholes_in (extent (entries sets stored) id)
+
+abbrev pub subsets_at : Sets → List Stored → ℕ → List (List Range)
+subsets_at sets stored id = subsets_in (extent (entries sets stored) id)
+
+-- the first element of a list and the rest, where there is one
+abbrev pub SplitsWholes : Sets → List Stored → ℕ → Option (Interval × ℕ) → Type 0
+SplitsWholes sets stored id None = wholes_at sets stored id ≡ []
+SplitsWholes sets stored id (Some p) = wholes_at sets stored id ≡ ends p.0 ∷ wholes_at sets stored p.1
+
+abbrev pub SplitsSubsets : Sets → List Stored → ℕ → Option (ℕ × ℕ) → Type 0
+SplitsSubsets sets stored id None = subsets_at sets stored id ≡ []
+SplitsSubsets sets stored id (Some p) = (p.0 < length sets) × (subsets_at sets stored id ≡ set_at sets p.0 ∷ subsets_at sets stored p.1)
+
+-- a list of integers, of Booleans, of sets; the empty list is each of these
+abbrev pub is_whole_list : Option Reach → Bool
+is_whole_list (Some Wholes) = true
+is_whole_list (Some Empty) = true
+is_whole_list _ = false
+
+abbrev pub is_truth_list : Option Reach → Bool
+is_truth_list (Some Truths) = true
+is_truth_list (Some Empty) = true
+is_truth_list _ = false
+
+abbrev pub is_subset_list : Option Reach → Bool
+is_subset_list (Some Subsets) = true
+is_subset_list (Some Empty) = true
+is_subset_list _ = false
+
+-- a list of integers with an element, of sets with an element
+abbrev pub has_wholes : Reach → Bool
+has_wholes Wholes = true
+has_wholes _ = false
+
+abbrev pub has_subsets : Reach → Bool
+has_subsets Subsets = true
+has_subsets _ = false
+
+-- the node of a list with an element: a Cons, with the bounds of its first element and of the rest
+pub record HasWholes (sets : Sets) (stored : List Stored) (id : ℕ) (n : Node) : Type 0 where
+  pub smaller : n.b < id
+  pub head : Ends
+  pub is_head : as_whole (extent (entries sets stored) n.a) ≡ Some head
+  pub all : wholes_at sets stored id ≡ head ∷ wholes_at sets stored n.b
+
+pub record HasSubsets (sets : Sets) (stored : List Stored) (id : ℕ) (n : Node) : Type 0 where
+  pub smaller : n.b < id
+  pub head : List Range
+  pub is_head : as_subset (extent (entries sets stored) n.a) ≡ Some head
+  pub all : subsets_at sets stored id ≡ head ∷ subsets_at sets stored n.b

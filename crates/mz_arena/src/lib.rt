@@ -4,6 +4,7 @@
 
 mod law;
 mod node;
+mod number;
 mod table;
 
 

@@ -16,10 +16,10 @@ pub(crate) enum Reach {
     Truth(Interval),
     /// The place of the greatest set.
     Subset(u64),
-    /// How many elements there are, at least one, and the hull of all.
-    Wholes(u64, Interval),
+    /// A list of integers, of Booleans, of sets, with an element.
+    Wholes,
     Truths,
-    Subsets(u64),
+    Subsets,
     Empty,
 }
 
