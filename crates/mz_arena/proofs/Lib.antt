@@ -1,4 +1,5 @@
 pub mod Folds
 pub mod Growing
 pub mod Intervals
+pub mod Lists
 pub mod Telling

@@ -1,5 +1,5 @@
 -- What is kept of nodes tells their bounds.
-use Rattle.std.proofs.Common.{◌≡◌, ℕ, zero, suc, ◌<◌, ◌≤◌, List, [], ◌∷◌, ◌++◌, length, map, Bool, true, false, cond, Option, Some, None, option_map, slice_get, refl, sym, ap, subst, ◌∙◌, arith}
+use Rattle.std.proofs.Common.{◌≡◌, ℕ, zero, suc, ◌<◌, ◌≤◌, List, [], ◌∷◌, ◌++◌, length, map, take, Bool, true, false, cond, Option, Some, None, option_map, slice_get, refl, sym, ap, subst, ◌∙◌, arith}
 use Rattle.std.specs.Option.{option_and_then}
 use Rattle.mz_value.specs.Ranges.{Range}
 use Rattle.mz_interval.specs.Ends.{Ends}
@@ -7,10 +7,13 @@ use Rattle.mz_interval.specs.Interval.{ends}
 use Rattle.mz_arena.specs.declared.table.Reach.{Reach}
 use Rattle.mz_arena.specs.declared.table.Reach.TheVariants.{Whole, Truth, Subset, Wholes, Truths, Subsets, Empty}
 use Rattle.mz_arena.specs.declared.table.Stored.{Stored}
-use Rattle.mz_arena.specs.Entries.{Entry}
-use Rattle.mz_arena.specs.Extents.{Known, whole, truth, subset, wholes, truths, subsets, empty, as_whole, as_truth, as_subset, as_wholes, is_truths, as_subsets, cons_extent, node_extent, extents, extent}
-use Rattle.mz_arena.specs.Tables.{Sets, set_at, seen, entries, wholes_in, TellsAny, whole_in, truth_in, subset_place, IsPlaced}
-use Rattle.mz_arena.proofs.Folds.{at-past}
+use Rattle.mz_arena.specs.declared.node.Node.{Node}
+use Rattle.mz_arena.specs.declared.node.NodeKind.{NodeKind}
+use Rattle.mz_arena.specs.declared.node.NodeKind.TheVariants.{Cons}
+use Rattle.mz_arena.specs.Entries.{Entry, arity, children, AllBelow}
+use Rattle.mz_arena.specs.Extents.{Known, whole, truth, subset, wholes, truths, subsets, empty, as_whole, as_truth, as_subset, as_wholes, is_truths, as_subsets, cons_extent, kind_extent, node_extent, extents, extent}
+use Rattle.mz_arena.specs.Tables.{Sets, set_at, seen, entries, wholes_in, subsets_in, wholes_at, subsets_at, HasWholes, HasSubsets, has_wholes, has_subsets, is_long, IsSound, Tells, TellsAny, whole_in, truth_in, subset_place, IsPlaced}
+use Rattle.mz_arena.proofs.Folds.{at-past, unroll}
 
 pub length-entries : (sets : Sets) (stored : List Stored) → length (entries sets stored) ≡ length stored
 unfolding entries
@@ -101,3 +104,117 @@ whole_parts (Some (wholes fs)) y es h = cc
 whole_parts (Some truths) y es h = cc
 whole_parts (Some (subsets us)) y es h = cc
 whole_parts (Some empty) y es h = cc
+
+-- a list of sets
+pub record SubsetParts (x y : Known) (us : List (List Range)) : Type 0 where
+  pub head : List Range
+  pub is_head : as_subset x ≡ Some head
+  pub all : us ≡ head ∷ subsets_in y
+
+as_subsets_in : (y : Known) (us : List (List Range)) → as_subsets y ≡ Some us → us ≡ subsets_in y
+as_subsets_in (Some (subsets vs)) us h = cc
+as_subsets_in (Some empty) us h = cc
+as_subsets_in None us h = cc
+as_subsets_in (Some (whole e)) us h = cc
+as_subsets_in (Some (truth e)) us h = cc
+as_subsets_in (Some (subset u)) us h = cc
+as_subsets_in (Some truths) us h = cc
+as_subsets_in (Some (wholes es)) us h = cc
+
+with_subset : (u : List Range) (y : Known) (o : Option (List (List Range))) (us : List (List Range)) → as_subsets y ≡ o → option_and_then (λ vs. Some (subsets (u ∷ vs))) o ≡ Some (subsets us) → SubsetParts (Some (subset u)) y us
+with_subset u y None us h k = cc
+with_subset u y (Some vs) us h k =
+    let tail : vs ≡ subsets_in y = as_subsets_in y vs h in
+    let all : u ∷ vs ≡ us = cc in
+    record { head = u; is_head = refl; all = sym all ∙ ap (λ ws. u ∷ ws) tail }
+
+truths_no_subsets : (b : Bool) (us : List (List Range)) → cond b (Some truths) None ≡ Some (subsets us) → ⊥
+truths_no_subsets true us h = cc
+truths_no_subsets false us h = cc
+
+wholes_no_subsets : (e : Ends) (o : Option (List Ends)) (us : List (List Range)) → option_and_then (λ es. Some (wholes (e ∷ es))) o ≡ Some (subsets us) → ⊥
+wholes_no_subsets e None us h = cc
+wholes_no_subsets e (Some es) us h = cc
+
+pub subset_parts : (x y : Known) (us : List (List Range)) → cons_extent x y ≡ Some (subsets us) → SubsetParts x y us
+unfolding cons_extent
+subset_parts None y us h = cc
+subset_parts (Some (whole e)) y us h = absurd (wholes_no_subsets e (as_wholes y) us h)
+subset_parts (Some (truth e)) y us h = absurd (truths_no_subsets (is_truths y) us h)
+subset_parts (Some (subset u)) y us h = with_subset u y (as_subsets y) us refl h
+subset_parts (Some (wholes fs)) y us h = cc
+subset_parts (Some truths) y us h = cc
+subset_parts (Some (subsets vs)) y us h = cc
+subset_parts (Some empty) y us h = cc
+
+-- ---- a node by its kind
+
+pub by_kind : (f : ℕ → Known) (e : Entry) (k : NodeKind) → e.node.kind ≡ k → node_extent e (map f (children e.node)) ≡ kind_extent e k (map f (take (arity k) (e.node.a ∷ e.node.b ∷ e.node.c ∷ [])))
+by_kind f e k h = ap (λ (j : NodeKind). kind_extent e j (map f (take (arity j) (e.node.a ∷ e.node.b ∷ e.node.c ∷ [])))) h
+
+below_kind : (id : ℕ) (n : Node) (k : NodeKind) → n.kind ≡ k → AllBelow id (children n) → AllBelow id (take (arity k) (n.a ∷ n.b ∷ n.c ∷ []))
+below_kind id n k h all = subst (λ (j : NodeKind). AllBelow id (take (arity j) (n.a ∷ n.b ∷ n.c ∷ []))) h all
+
+-- a Cons over its children's bounds
+module _ (sets : Sets) (stored : List Stored) (id : ℕ) (s : Stored) (sound : IsSound sets stored) (there : slice_get stored id ≡ Some s) (cons : s.node.kind ≡ Cons) where
+  there_entry : slice_get (entries sets stored) id ≡ Some (seen sets s)
+  there_entry = get-entries sets stored id ∙ ap (option_map (seen sets)) there
+
+  cons_below : AllBelow id (s.node.a ∷ s.node.b ∷ [])
+  cons_below = below_kind id s.node Cons cons (sound.arena.ordered id (seen sets s) there_entry)
+
+  cons_is : extent (entries sets stored) id ≡ cons_extent (extent (entries sets stored) s.node.a) (extent (entries sets stored) s.node.b)
+  unfolding extents
+  cons_is = unroll node_extent (entries sets stored) id (seen sets s) there_entry (sound.arena.ordered id (seen sets s) there_entry) ∙ by_kind (extent (entries sets stored)) (seen sets s) Cons cons
+
+is_wholes : (r : Reach) → has_wholes r ≡ true → r ≡ Wholes
+is_wholes (Whole i) h = cc
+is_wholes (Truth i) h = cc
+is_wholes (Subset k) h = cc
+is_wholes Wholes h = refl
+is_wholes Truths h = cc
+is_wholes Subsets h = cc
+is_wholes Empty h = cc
+
+is_subsets : (r : Reach) → has_subsets r ≡ true → r ≡ Subsets
+is_subsets (Whole i) h = cc
+is_subsets (Truth i) h = cc
+is_subsets (Subset k) h = cc
+is_subsets Wholes h = cc
+is_subsets Truths h = cc
+is_subsets Subsets h = refl
+is_subsets Empty h = cc
+
+pub long_wholes : (sets : Sets) (stored : List Stored) (id : ℕ) (s : Stored) → IsSound sets stored → slice_get stored id ≡ Some s → has_wholes s.reach ≡ true → HasWholes sets stored id s.node
+long_wholes sets stored id s sound there h =
+    let r : s.reach ≡ Wholes = is_wholes s.reach h in
+    let cons : s.node.kind ≡ Cons = sound.long id s there (ap is_long r) in
+    let told : Tells sets Wholes (extent (entries sets stored) id) = subst (λ (q : Reach). Tells sets q (extent (entries sets stored) id)) r (sound.tells id s there) in
+    let parts = whole_parts _ _ (wholes_at sets stored id) (sym (cons_is sets stored id s sound there cons) ∙ told) in
+    record { smaller = (cons_below sets stored id s sound there cons).1.0; head = parts.head; is_head = parts.is_head; all = parts.all }
+
+pub long_subsets : (sets : Sets) (stored : List Stored) (id : ℕ) (s : Stored) → IsSound sets stored → slice_get stored id ≡ Some s → has_subsets s.reach ≡ true → HasSubsets sets stored id s.node
+long_subsets sets stored id s sound there h =
+    let r : s.reach ≡ Subsets = is_subsets s.reach h in
+    let cons : s.node.kind ≡ Cons = sound.long id s there (ap is_long r) in
+    let told : Tells sets Subsets (extent (entries sets stored) id) = subst (λ (q : Reach). Tells sets q (extent (entries sets stored) id)) r (sound.tells id s there) in
+    let parts = subset_parts _ _ (subsets_at sets stored id) (sym (cons_is sets stored id s sound there cons) ∙ told) in
+    record { smaller = (cons_below sets stored id s sound there cons).1.0; head = parts.head; is_head = parts.is_head; all = parts.all }
+
+pub no_wholes : (sets : Sets) (r : Reach) (x : Known) → Tells sets r x → has_wholes r ≡ false → wholes_in x ≡ []
+no_wholes sets (Whole i) x t h = ap wholes_in t
+no_wholes sets (Truth i) x t h = ap wholes_in t
+no_wholes sets (Subset k) x t h = ap wholes_in t.is
+no_wholes sets Wholes x t h = cc
+no_wholes sets Truths x t h = ap wholes_in t
+no_wholes sets Subsets x t h = ap wholes_in t
+no_wholes sets Empty x t h = ap wholes_in t
+
+pub no_subset_list : (sets : Sets) (r : Reach) (x : Known) → Tells sets r x → has_subsets r ≡ false → subsets_in x ≡ []
+no_subset_list sets (Whole i) x t h = ap subsets_in t
+no_subset_list sets (Truth i) x t h = ap subsets_in t
+no_subset_list sets (Subset k) x t h = ap subsets_in t.is
+no_subset_list sets Wholes x t h = ap subsets_in t
+no_subset_list sets Truths x t h = ap subsets_in t
+no_subset_list sets Subsets x t h = cc
+no_subset_list sets Empty x t h = ap subsets_in t

@@ -6,12 +6,13 @@ use Rattle.mz_interval.specs.Interval.{ends}
 use Rattle.mz_interval.specs.declared.interval.Interval.{Interval}
 use Rattle.mz_arena.specs.declared.node.Node.{Node}
 use Rattle.mz_arena.specs.declared.node.NodeKind.{NodeKind}
-use Rattle.mz_arena.specs.declared.node.NodeKind.TheVariants.{Cons}
+use Rattle.mz_arena.specs.declared.node.NodeKind.TheVariants.{Cons, If, Access, Union, Intersect, Symdiff}
 use Rattle.mz_arena.specs.declared.table.Reach.{Reach}
 use Rattle.mz_arena.specs.declared.table.Reach.TheVariants.{Whole, Truth, Subset, Wholes, Truths, Subsets, Empty}
 use Rattle.mz_arena.specs.declared.table.Stored.{Stored}
-use Rattle.mz_arena.specs.Entries.{Entry, is_set_const}
-use Rattle.mz_arena.specs.Extents.{Extent, Known, whole, truth, subset, wholes, truths, subsets, empty, as_whole, as_subset, extent}
+use Rattle.mz_arena.specs.declared.table.Table.{Table}
+use Rattle.mz_arena.specs.Entries.{Entry, entry, children, is_set_const}
+use Rattle.mz_arena.specs.Extents.{Extent, Known, whole, truth, subset, wholes, truths, subsets, empty, as_whole, as_subset, node_extent, extent}
 use Rattle.mz_arena.specs.Arenas.{IsArena}
 
 -- the arena's sets
@@ -155,3 +156,39 @@ pub record HasSubsets (sets : Sets) (stored : List Stored) (id : ℕ) (n : Node)
   pub head : List Range
   pub is_head : as_subset (extent (entries sets stored) n.a) ≡ Some head
   pub all : subsets_at sets stored id ≡ head ∷ subsets_at sets stored n.b
+
+-- ---- of a table
+
+abbrev pub known : Table → ℕ → Known
+known t id = extent (entries t.sets.items t.stored.items) id
+
+abbrev pub IsSoundTable : Table → Type 0
+IsSoundTable t = IsSound t.sets.items t.stored.items
+
+abbrev pub TellsIn : Table → Option Reach → Known → Type 0
+TellsIn t r x = TellsAny t.sets.items r x
+
+abbrev pub wholes_of : Table → ℕ → List Ends
+wholes_of t id = wholes_at t.sets.items t.stored.items id
+
+abbrev pub subsets_of : Table → ℕ → List (List Range)
+subsets_of t id = subsets_at t.sets.items t.stored.items id
+
+-- a node over the bounds of its children
+abbrev pub asked : Table → Node → Known
+asked t n = node_extent (entry n) (map (known t) (children n))
+
+-- a set that was put into a table, of which all else stays
+pub record IsKept (old new : Table) : Type 0 where
+  pub stored : new.stored.items ≡ old.stored.items
+  pub entries : entries new.sets.items new.stored.items ≡ entries old.sets.items old.stored.items
+  pub sound : IsSoundTable new
+
+-- the kinds whose nodes may need a new set
+abbrev pub is_plain : NodeKind → Bool
+is_plain If = false
+is_plain Access = false
+is_plain Union = false
+is_plain Intersect = false
+is_plain Symdiff = false
+is_plain _ = true

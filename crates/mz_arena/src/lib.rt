@@ -3,9 +3,11 @@
 
 
 mod law;
+mod list;
 mod node;
 mod number;
 mod table;
+mod truth;
 
 
 pub use law::growth_is_transitive;
