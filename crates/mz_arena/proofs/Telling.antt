@@ -7,12 +7,14 @@ use Rattle.mz_interval.specs.Interval.{ends}
 use Rattle.mz_arena.specs.declared.table.Reach.{Reach}
 use Rattle.mz_arena.specs.declared.table.Reach.TheVariants.{Whole, Truth, Subset, Wholes, Truths, Subsets, Empty}
 use Rattle.mz_arena.specs.declared.table.Stored.{Stored}
+use Rattle.mz_arena.specs.declared.table.Table.{Table}
+use Rattle.mz_interval.specs.declared.interval.Interval.{Interval}
 use Rattle.mz_arena.specs.declared.node.Node.{Node}
 use Rattle.mz_arena.specs.declared.node.NodeKind.{NodeKind}
 use Rattle.mz_arena.specs.declared.node.NodeKind.TheVariants.{Cons}
 use Rattle.mz_arena.specs.Entries.{Entry, arity, children, AllBelow}
-use Rattle.mz_arena.specs.Extents.{Known, whole, truth, subset, wholes, truths, subsets, empty, as_whole, as_truth, as_subset, as_wholes, is_truths, as_subsets, cons_extent, kind_extent, node_extent, extents, extent}
-use Rattle.mz_arena.specs.Tables.{Sets, set_at, seen, entries, wholes_in, subsets_in, wholes_at, subsets_at, HasWholes, HasSubsets, has_wholes, has_subsets, is_long, IsSound, Tells, TellsAny, whole_in, truth_in, subset_place, IsPlaced}
+use Rattle.mz_arena.specs.Extents.{Known, whole, truth, subset, wholes, truths, subsets, empty, as_whole, as_truth, as_subset, as_wholes, is_truths, as_subsets, as_single, as_list, before_extent, cons_extent, kind_extent, node_extent, extents, extent}
+use Rattle.mz_arena.specs.Tables.{Sets, set_at, seen, entries, wholes_in, subsets_in, wholes_at, subsets_at, HasWholes, HasSubsets, has_wholes, has_subsets, is_long, IsSound, Tells, TellsAny, TellsSingle, TellsRow, single_in, row_in, is_whole_list, is_truth_list, is_subset_list, whole_in, truth_in, subset_place, IsPlaced}
 use Rattle.mz_arena.proofs.Folds.{at-past, unroll}
 
 pub length-entries : (sets : Sets) (stored : List Stored) → length (entries sets stored) ≡ length stored
@@ -218,3 +220,70 @@ no_subset_list sets Wholes x t h = ap subsets_in t
 no_subset_list sets Truths x t h = ap subsets_in t
 no_subset_list sets Subsets x t h = cc
 no_subset_list sets Empty x t h = ap subsets_in t
+
+pub single_told : (t : Table) (r : Option Reach) (x : Known) → TellsAny t.sets.items r x → TellsSingle t (single_in r) x
+single_told t None x h = ap as_single h
+single_told t (Some (Whole i)) x h = h
+single_told t (Some (Truth i)) x h = h
+single_told t (Some (Subset k)) x h = h
+single_told t (Some Wholes) x h = ap as_single h
+single_told t (Some Truths) x h = ap as_single h
+single_told t (Some Subsets) x h = ap as_single h
+single_told t (Some Empty) x h = ap as_single h
+
+pub row_told : (t : Table) (r : Option Reach) (x : Known) → TellsAny t.sets.items r x → TellsRow (row_in r) x
+row_told t None x h = ap as_list h
+row_told t (Some (Whole i)) x h = ap as_list h
+row_told t (Some (Truth i)) x h = ap as_list h
+row_told t (Some (Subset k)) x h = ap as_list h.is
+row_told t (Some Wholes) x h = h
+row_told t (Some Truths) x h = h
+row_told t (Some Subsets) x h = h
+row_told t (Some Empty) x h = h
+
+pub wholes_told : (t : Table) (r : Option Reach) (x : Known) → TellsAny t.sets.items r x → cond (is_whole_list r) (Some (wholes_in x)) None ≡ as_wholes x
+wholes_told t None x h = sym (ap as_wholes h)
+wholes_told t (Some (Whole i)) x h = sym (ap as_wholes h)
+wholes_told t (Some (Truth i)) x h = sym (ap as_wholes h)
+wholes_told t (Some (Subset k)) x h = sym (ap as_wholes h.is)
+wholes_told t (Some Wholes) x h = sym (ap as_wholes h)
+wholes_told t (Some Truths) x h = sym (ap as_wholes h)
+wholes_told t (Some Subsets) x h = sym (ap as_wholes h)
+wholes_told t (Some Empty) x h = ap (λ y. Some (wholes_in y)) h ∙ sym (ap as_wholes h)
+
+pub truths_told : (t : Table) (r : Option Reach) (x : Known) → TellsAny t.sets.items r x → is_truth_list r ≡ is_truths x
+truths_told t None x h = sym (ap is_truths h)
+truths_told t (Some (Whole i)) x h = sym (ap is_truths h)
+truths_told t (Some (Truth i)) x h = sym (ap is_truths h)
+truths_told t (Some (Subset k)) x h = sym (ap is_truths h.is)
+truths_told t (Some Wholes) x h = sym (ap is_truths h)
+truths_told t (Some Truths) x h = sym (ap is_truths h)
+truths_told t (Some Subsets) x h = sym (ap is_truths h)
+truths_told t (Some Empty) x h = sym (ap is_truths h)
+
+pub subsets_told : (t : Table) (r : Option Reach) (x : Known) → TellsAny t.sets.items r x → cond (is_subset_list r) (Some (subsets_in x)) None ≡ as_subsets x
+subsets_told t None x h = sym (ap as_subsets h)
+subsets_told t (Some (Whole i)) x h = sym (ap as_subsets h)
+subsets_told t (Some (Truth i)) x h = sym (ap as_subsets h)
+subsets_told t (Some (Subset k)) x h = sym (ap as_subsets h.is)
+subsets_told t (Some Wholes) x h = sym (ap as_subsets h)
+subsets_told t (Some Truths) x h = sym (ap as_subsets h)
+subsets_told t (Some Subsets) x h = sym (ap as_subsets h)
+subsets_told t (Some Empty) x h = ap (λ y. Some (subsets_in y)) h ∙ sym (ap as_subsets h)
+
+-- a list with an element more
+pub wholes_before : (t : Table) (b : Bool) (i : Interval) (y : Known) → cond b (Some (wholes_in y)) None ≡ as_wholes y → TellsAny t.sets.items (cond b (Some Wholes) None) (before_extent (whole (ends i)) y)
+wholes_before t true i y h =
+    let x : before_extent (whole (ends i)) y ≡ Some (wholes (ends i ∷ wholes_in y)) = ap (λ o. option_and_then (λ es. Some (wholes (ends i ∷ es))) o) (sym h) in
+    x ∙ sym (ap (λ z. Some (wholes (wholes_in z))) x)
+wholes_before t false i y h = ap (λ o. option_and_then (λ es. Some (wholes (ends i ∷ es))) o) (sym h)
+
+pub truths_before : (t : Table) (b : Bool) (i : Interval) (y : Known) → b ≡ is_truths y → TellsAny t.sets.items (cond b (Some Truths) None) (before_extent (truth (ends i)) y)
+truths_before t true i y h = ap (λ c. cond c (Some truths) None) (sym h)
+truths_before t false i y h = ap (λ c. cond c (Some truths) None) (sym h)
+
+pub subsets_before : (t : Table) (b : Bool) (u : List Range) (y : Known) → cond b (Some (subsets_in y)) None ≡ as_subsets y → TellsAny t.sets.items (cond b (Some Subsets) None) (before_extent (subset u) y)
+subsets_before t true u y h =
+    let x : before_extent (subset u) y ≡ Some (subsets (u ∷ subsets_in y)) = ap (λ o. option_and_then (λ us. Some (subsets (u ∷ us))) o) (sym h) in
+    x ∙ sym (ap (λ z. Some (subsets (subsets_in z))) x)
+subsets_before t false u y h = ap (λ o. option_and_then (λ us. Some (subsets (u ∷ us))) o) (sym h)

@@ -151,6 +151,21 @@ set_comparison_extent x y = do
 
 -- ---- branches, guards, lists
 
+-- a node that is no list
+abbrev pub as_single : Known → Known
+as_single (Some (whole e)) = Some (whole e)
+as_single (Some (truth e)) = Some (truth e)
+as_single (Some (subset u)) = Some (subset u)
+as_single _ = None
+
+-- a list
+abbrev pub as_list : Known → Known
+as_list (Some (wholes es)) = Some (wholes es)
+as_list (Some truths) = Some truths
+as_list (Some (subsets us)) = Some (subsets us)
+as_list (Some empty) = Some empty
+as_list _ = None
+
 abbrev pub branch_extent : Extent → Known → Known
 branch_extent (whole e) z = as_whole z >>= λ f. Some (whole (hull_of e f))
 branch_extent (truth e) z = as_truth z >>= λ f. open_truth
@@ -160,7 +175,7 @@ branch_extent _ z = None
 unfoldable pub if_extent : Known → Known → Known → Known
 if_extent x y z = do
   _c ← as_truth x
-  b ← y
+  b ← as_single y
   branch_extent b z
 
 abbrev pub guarded_extent : Extent → Known
@@ -172,7 +187,7 @@ guarded_extent _ = None
 unfoldable pub guard_extent : Known → Known → Known
 guard_extent x y = do
   _c ← as_truth x
-  b ← y
+  b ← as_single y
   guarded_extent b
 
 -- 0 of a negative number
@@ -198,7 +213,7 @@ element_extent e _ = None
 unfoldable pub access_extent : Known → Known → Known
 access_extent x y = do
   e ← as_whole x
-  list ← y
+  list ← as_list y
   element_extent e list
 
 abbrev pub before_extent : Extent → Known → Known
@@ -209,7 +224,7 @@ before_extent _ y = None
 
 unfoldable pub cons_extent : Known → Known → Known
 cons_extent x y = do
-  b ← x
+  b ← as_single x
   before_extent b y
 
 -- ---- sets

@@ -9,10 +9,14 @@ use Rattle.mz_arena.specs.declared.node.NodeKind.{NodeKind}
 use Rattle.mz_arena.specs.declared.node.NodeKind.TheVariants.{Cons, If, Access, Union, Intersect, Symdiff}
 use Rattle.mz_arena.specs.declared.table.Reach.{Reach}
 use Rattle.mz_arena.specs.declared.table.Reach.TheVariants.{Whole, Truth, Subset, Wholes, Truths, Subsets, Empty}
+use Rattle.mz_arena.specs.declared.table.Single.{Single}
+use Rattle.mz_arena.specs.declared.table.Single.TheVariants as single
+use Rattle.mz_arena.specs.declared.table.Row.{Row}
+use Rattle.mz_arena.specs.declared.table.Row.TheVariants as row
 use Rattle.mz_arena.specs.declared.table.Stored.{Stored}
 use Rattle.mz_arena.specs.declared.table.Table.{Table}
 use Rattle.mz_arena.specs.Entries.{Entry, entry, children, is_set_const}
-use Rattle.mz_arena.specs.Extents.{Extent, Known, whole, truth, subset, wholes, truths, subsets, empty, as_whole, as_subset, node_extent, extent}
+use Rattle.mz_arena.specs.Extents.{Extent, Known, whole, truth, subset, wholes, truths, subsets, empty, as_whole, as_subset, as_single, as_list, node_extent, extent}
 use Rattle.mz_arena.specs.Arenas.{IsArena}
 
 -- the arena's sets
@@ -192,3 +196,41 @@ is_plain Union = false
 is_plain Intersect = false
 is_plain Symdiff = false
 is_plain _ = true
+
+-- ---- a node that is no list, and a list
+
+abbrev pub single_in : Option Reach → Option Single
+single_in (Some (Whole i)) = Some (single.Whole i)
+single_in (Some (Truth i)) = Some (single.Truth i)
+single_in (Some (Subset k)) = Some (single.Subset k)
+single_in _ = None
+
+abbrev pub row_in : Option Reach → Option Row
+row_in (Some Wholes) = Some row.Wholes
+row_in (Some Truths) = Some row.Truths
+row_in (Some Subsets) = Some row.Subsets
+row_in (Some Empty) = Some row.Empty
+row_in _ = None
+
+abbrev pub TellsSingle : Table → Option Single → Known → Type 0
+TellsSingle t None x = as_single x ≡ None
+TellsSingle t (Some (single.Whole i)) x = x ≡ Some (whole (ends i))
+TellsSingle t (Some (single.Truth i)) x = x ≡ Some (truth (ends i))
+TellsSingle t (Some (single.Subset k)) x = IsSubset t.sets.items k x
+
+abbrev pub TellsRow : Option Row → Known → Type 0
+TellsRow None x = as_list x ≡ None
+TellsRow (Some row.Wholes) x = x ≡ Some (wholes (wholes_in x))
+TellsRow (Some row.Truths) x = x ≡ Some truths
+TellsRow (Some row.Subsets) x = x ≡ Some (subsets (subsets_in x))
+TellsRow (Some row.Empty) x = x ≡ Some empty
+
+-- what is kept is no list with an element
+abbrev pub IsShort : Option Reach → Type 0
+IsShort None = Unit {0}
+IsShort (Some r) = is_long r ≡ false
+
+-- a list with an element is a Cons
+abbrev pub IsLongCons : NodeKind → Option Reach → Type 0
+IsLongCons k None = Unit {0}
+IsLongCons k (Some r) = is_long r ≡ true → k ≡ Cons

@@ -2,7 +2,7 @@
 
 ghost use Rattle.std.specs.Prelude.{◌≡◌};
 ghost use Rattle.mz_arena.specs.Extents.{bool_extent, comparison_extent, connective_extent, not_extent, member_extent, set_comparison_extent, to_int_extent, open_truth as any_truth};
-ghost use Rattle.mz_arena.specs.Tables.{Sets, TellsAny, known, IsSoundTable, TellsIn};
+ghost use Rattle.mz_arena.specs.Tables.{Sets, IsShort, TellsAny, known, IsSoundTable, TellsIn};
 
 use crate::node::Id;
 use crate::table::{Reach, Table};
@@ -10,7 +10,8 @@ use mz_interval::Interval;
 
 /// A Boolean of which nothing is known.
 fn open_truth() -> Option<Reach>
-    ensures { (sets : Sets) → TellsAny sets result any_truth }
+    ensures short { IsShort result }
+    ensures told { (sets : Sets) → TellsAny sets result any_truth }
 {
     Some(Reach::Truth(Interval { lo: 0, hi: 1 }))
 }
@@ -20,7 +21,8 @@ impl Table {
     #[tactic(auto, unfolding(crate::specs::Extents::comparison_extent))]
     pub(crate) fn comparison(&self, a: Id, b: Id) -> Option<Reach>
         requires { IsSoundTable self.now }
-        ensures { TellsIn self.now result (comparison_extent (known self.now a) (known self.now b)) }
+        ensures short { IsShort result }
+        ensures told { TellsIn self.now result (comparison_extent (known self.now a) (known self.now b)) }
     {
         let _x = self.whole(a)?;
         let _y = self.whole(b)?;
@@ -31,7 +33,8 @@ impl Table {
     #[tactic(auto, unfolding(crate::specs::Extents::connective_extent))]
     pub(crate) fn connective(&self, a: Id, b: Id) -> Option<Reach>
         requires { IsSoundTable self.now }
-        ensures { TellsIn self.now result (connective_extent (known self.now a) (known self.now b)) }
+        ensures short { IsShort result }
+        ensures told { TellsIn self.now result (connective_extent (known self.now a) (known self.now b)) }
     {
         let _x = self.truth(a)?;
         let _y = self.truth(b)?;
@@ -42,7 +45,8 @@ impl Table {
     #[tactic(auto, unfolding(crate::specs::Extents::not_extent))]
     pub(crate) fn negation(&self, a: Id) -> Option<Reach>
         requires { IsSoundTable self.now }
-        ensures { TellsIn self.now result (not_extent (known self.now a)) }
+        ensures short { IsShort result }
+        ensures told { TellsIn self.now result (not_extent (known self.now a)) }
     {
         let _x = self.truth(a)?;
         open_truth()
@@ -52,7 +56,8 @@ impl Table {
     #[tactic(auto, unfolding(crate::specs::Extents::member_extent))]
     pub(crate) fn member(&self, a: Id, b: Id) -> Option<Reach>
         requires { IsSoundTable self.now }
-        ensures { TellsIn self.now result (member_extent (known self.now a) (known self.now b)) }
+        ensures short { IsShort result }
+        ensures told { TellsIn self.now result (member_extent (known self.now a) (known self.now b)) }
     {
         let _x = self.whole(a)?;
         let _s = self.subset(b)?;
@@ -63,7 +68,8 @@ impl Table {
     #[tactic(auto, unfolding(crate::specs::Extents::set_comparison_extent))]
     pub(crate) fn set_comparison(&self, a: Id, b: Id) -> Option<Reach>
         requires { IsSoundTable self.now }
-        ensures { TellsIn self.now result (set_comparison_extent (known self.now a) (known self.now b)) }
+        ensures short { IsShort result }
+        ensures told { TellsIn self.now result (set_comparison_extent (known self.now a) (known self.now b)) }
     {
         let _s = self.subset(a)?;
         let _t = self.subset(b)?;
@@ -74,7 +80,8 @@ impl Table {
     #[tactic(auto, unfolding(crate::specs::Extents::to_int_extent))]
     pub(crate) fn to_int(&self, a: Id) -> Option<Reach>
         requires { IsSoundTable self.now }
-        ensures { TellsIn self.now result (to_int_extent (known self.now a)) }
+        ensures short { IsShort result }
+        ensures told { TellsIn self.now result (to_int_extent (known self.now a)) }
     {
         let x = self.truth(a)?;
         Some(Reach::Whole(x))
@@ -84,7 +91,8 @@ impl Table {
 /// A constant.
 #[tactic(auto, unfolding(crate::specs::Extents::bool_extent))]
 pub(crate) fn constant_truth(n: &i64) -> Option<Reach>
-    ensures { (sets : Sets) → TellsAny sets result (bool_extent n.now) }
+    ensures short { IsShort result }
+    ensures told { (sets : Sets) → TellsAny sets result (bool_extent n.now) }
 {
     if 0 <= *n && *n <= 1 {
         Some(Reach::Truth(Interval { lo: *n, hi: *n }))
