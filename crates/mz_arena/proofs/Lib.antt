@@ -3,3 +3,4 @@ pub mod Growing
 pub mod Intervals
 pub mod Lists
 pub mod Telling
+pub mod Kept

@@ -234,3 +234,8 @@ IsShort (Some r) = is_long r ≡ false
 abbrev pub IsLongCons : NodeKind → Option Reach → Type 0
 IsLongCons k None = Unit {0}
 IsLongCons k (Some r) = is_long r ≡ true → k ≡ Cons
+
+-- a set at a place of a table
+pub record IsPut (t : Table) (k : ℕ) (s : List Range) : Type 0 where
+  pub within : k < length t.sets.items
+  pub is : set_at t.sets.items k ≡ s

@@ -6,6 +6,7 @@ mod law;
 mod list;
 mod node;
 mod number;
+mod set;
 mod table;
 mod truth;
 
