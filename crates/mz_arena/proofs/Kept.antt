@@ -5,6 +5,9 @@ use Rattle.mz_value.specs.Ranges.{Range, AreCanonical, AreInLimit, Has, IsUnion,
 use Rattle.mz_value.proofs.Common.{common_members}
 use Rattle.mz_value.proofs.Joined.{union_members}
 use Rattle.mz_value.proofs.Determined.{determined}
+use Rattle.std.specs.Option.{option_and_then}
+use Rattle.mz_operations.specs.declared.row.SetOp.{SetOp}
+use Rattle.mz_operations.specs.Bounds.{combined_upper, hull_of_set}
 use Rattle.mz_operations.specs.Sets.{union, intersection}
 use Rattle.mz_operations.proofs.SetBounds.{union_set, intersection_set}
 use Rattle.mz_arena.specs.declared.table.Reach.{Reach}
@@ -12,7 +15,7 @@ use Rattle.mz_arena.specs.declared.table.Reach.TheVariants.{Whole, Truth, Subset
 use Rattle.mz_arena.specs.declared.table.Stored.{Stored}
 use Rattle.mz_arena.specs.declared.table.Table.{Table}
 use Rattle.mz_arena.specs.Entries.{Entry, is_set_const}
-use Rattle.mz_arena.specs.Extents.{Known, subset, extent}
+use Rattle.mz_arena.specs.Extents.{Known, subset, as_subset, marked, variable_extent, set_variable_extent, set_extent, extent}
 use Rattle.mz_arena.specs.Arenas.{IsArena}
 use Rattle.mz_arena.specs.Tables.{Sets, set_at, set_place, set_in, seen, entries, Tells, IsSubset, IsSetList, IsSound, IsSoundTable, IsKept, IsPut}
 use Rattle.mz_arena.proofs.Folds.{get-append, get-last, get-below}
@@ -96,7 +99,7 @@ sound_kept sets s stored h p =
 pub set_there : (sets : Sets) (stored : List Stored) (k : ℕ) → IsSound sets stored → k < length sets → IsSetList (set_at sets k)
 set_there sets stored k h l = h.canonical k (set_at sets k) (slice_get-get_or sets k [] l)
 
-set_read : (sets : Sets) (k : ℕ) (x : List Range) → k < length sets → x ≡ get_or sets k x → x ≡ set_at sets k
+pub set_read : (sets : Sets) (k : ℕ) (x : List Range) → k < length sets → x ≡ get_or sets k x → x ≡ set_at sets k
 set_read [] k x l h = absurd (omega arith)
 set_read (s ∷ sets) zero x l h = h
 set_read (s ∷ sets) (suc k) x l h = set_read sets k x (omega arith) h
@@ -130,3 +133,42 @@ is_put t old s k p q = record {
 
 pub same_kept : (t : Table) → IsSoundTable t → IsKept t t
 same_kept t h = record { stored = refl; entries = refl; sound = h }
+
+-- ---- bounds of sets
+
+pub set_extent_of : (op : SetOp) (x y : Known) (u w : List Range) → as_subset x ≡ Some u → as_subset y ≡ Some w → set_extent op x y ≡ Some (subset (combined_upper op u w))
+unfolding set_extent
+set_extent_of op x y u w h k = ap (λ o. option_and_then (λ a. option_and_then (λ b. Some (subset (combined_upper op a b))) (as_subset y)) o) h ∙ ap (λ o. option_and_then (λ b. Some (subset (combined_upper op u b))) o) k
+
+pub no_first : (op : SetOp) (x y : Known) → as_subset x ≡ None → set_extent op x y ≡ None
+unfolding set_extent
+no_first op x y h = ap (λ o. option_and_then (λ a. option_and_then (λ b. Some (subset (combined_upper op a b))) (as_subset y)) o) h
+
+pub no_second : (op : SetOp) (x y : Known) (u : List Range) → as_subset x ≡ Some u → as_subset y ≡ None → set_extent op x y ≡ None
+unfolding set_extent
+no_second op x y u h k = ap (λ o. option_and_then (λ a. option_and_then (λ b. Some (subset (combined_upper op a b))) (as_subset y)) o) h ∙ ap (λ o. option_and_then (λ b. Some (subset (combined_upper op u b))) o) k
+
+pub put_told : (t : Table) (place : ℕ) (s : List Range) (x : Known) → IsPut t place s → x ≡ Some (subset s) → IsSubset t.sets.items place x
+put_told t place s x p h = record { within = p.within; is = h ∙ ap (λ u. Some (subset u)) (sym p.is) }
+
+pub same_put : (t : Table) (k m : ℕ) → IsSoundTable t → k < length t.sets.items → k ≡ m → IsPut t k (union (set_at t.sets.items k) (set_at t.sets.items m))
+same_put t k m h l e = record {
+  within = l;
+  is = sym (ap (λ j. union (set_at t.sets.items k) (set_at t.sets.items j)) (sym e) ∙ union_self (set_at t.sets.items k) (set_there t.sets.items t.stored.items k h l));
+}
+
+pub variable_extent_of : (mark : ℕ) (x : Known) (u : List Range) → as_subset x ≡ Some u → variable_extent mark x ≡ marked mark (hull_of_set u)
+unfolding variable_extent
+variable_extent_of mark x u h = ap (λ o. option_and_then (λ v. marked mark (hull_of_set v)) o) h
+
+pub no_variable : (mark : ℕ) (x : Known) → as_subset x ≡ None → variable_extent mark x ≡ None
+unfolding variable_extent
+no_variable mark x h = ap (λ o. option_and_then (λ v. marked mark (hull_of_set v)) o) h
+
+pub set_variable_of : (x : Known) (u : List Range) → as_subset x ≡ Some u → set_variable_extent x ≡ Some (subset u)
+unfolding set_variable_extent
+set_variable_of x u h = ap (λ o. option_and_then (λ v. Some (subset v)) o) h
+
+pub no_set_variable : (x : Known) → as_subset x ≡ None → set_variable_extent x ≡ None
+unfolding set_variable_extent
+no_set_variable x h = ap (λ o. option_and_then (λ v. Some (subset v)) o) h

@@ -4,6 +4,7 @@ use Rattle.mz_value.specs.Ranges.{Range, AreCanonical, AreInLimit}
 use Rattle.mz_interval.specs.Ends.{Ends}
 use Rattle.mz_interval.specs.Interval.{ends}
 use Rattle.mz_interval.specs.declared.interval.Interval.{Interval}
+use Rattle.mz_operations.specs.declared.row.SetOp.{SetOp}
 use Rattle.mz_arena.specs.declared.node.Node.{Node}
 use Rattle.mz_arena.specs.declared.node.NodeKind.{NodeKind}
 use Rattle.mz_arena.specs.declared.node.NodeKind.TheVariants.{Cons, If, Access, Union, Intersect, Symdiff}
@@ -16,7 +17,7 @@ use Rattle.mz_arena.specs.declared.table.Row.TheVariants as row
 use Rattle.mz_arena.specs.declared.table.Stored.{Stored}
 use Rattle.mz_arena.specs.declared.table.Table.{Table}
 use Rattle.mz_arena.specs.Entries.{Entry, entry, children, is_set_const}
-use Rattle.mz_arena.specs.Extents.{Extent, Known, whole, truth, subset, wholes, truths, subsets, empty, as_whole, as_subset, as_single, as_list, node_extent, extent}
+use Rattle.mz_arena.specs.Extents.{Extent, Known, whole, truth, subset, wholes, truths, subsets, empty, as_whole, as_subset, as_single, as_list, set_extent, node_extent, extent}
 use Rattle.mz_arena.specs.Arenas.{IsArena}
 
 -- the arena's sets
@@ -239,3 +240,14 @@ IsLongCons k (Some r) = is_long r ≡ true → k ≡ Cons
 pub record IsPut (t : Table) (k : ℕ) (s : List Range) : Type 0 where
   pub within : k < length t.sets.items
   pub is : set_at t.sets.items k ≡ s
+
+-- the greatest sets of two sets
+pub record ArePlaced (t : Table) (k m : ℕ) (x y : Known) : Type 0 where
+  pub first : k < length t.sets.items
+  pub second : m < length t.sets.items
+  pub is_first : as_subset x ≡ Some (set_at t.sets.items k)
+  pub is_second : as_subset y ≡ Some (set_at t.sets.items m)
+
+abbrev pub IsPair : Table → Option (ℕ × ℕ) → Known → Known → Type 0
+IsPair t None x y = (op : SetOp) → set_extent op x y ≡ None
+IsPair t (Some p) x y = ArePlaced t p.0 p.1 x y

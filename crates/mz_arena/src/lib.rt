@@ -2,6 +2,8 @@
 #![tactic(auto)]
 
 
+mod access;
+mod choice;
 mod law;
 mod list;
 mod node;

@@ -9,7 +9,7 @@ use crate::table::{Reach, Table};
 use mz_interval::Interval;
 
 /// A Boolean of which nothing is known.
-fn open_truth() -> Option<Reach>
+pub(crate) fn open_truth() -> Option<Reach>
     ensures short { IsShort result }
     ensures told { (sets : Sets) → TellsAny sets result any_truth }
 {
