@@ -1,9 +1,9 @@
 // The bounds of accesses to lists.
 
-ghost use Rattle.std.specs.Prelude.{◌≡◌, ◌-◌, [], IfOk, MatchOption, drop, take};
+ghost use Rattle.std.specs.Prelude.{◌≡◌, Some, ◌-◌, [], IfOk, MatchOption, drop, take};
 ghost use Rattle.mz_interval.specs.Interval.{ends};
-ghost use Rattle.mz_operations.specs.Bounds.{hull_of_all, union_from};
-ghost use Rattle.mz_arena.specs.Extents.{access_extent, not_negative, skipped, reached};
+ghost use Rattle.mz_operations.specs.Bounds.{hull_of_all, union_from, union_of_all};
+ghost use Rattle.mz_arena.specs.Extents.{subset, access_extent, not_negative, skipped, reached};
 ghost use Rattle.mz_arena.specs.Tables.{known, has_subsets, set_at, wholes_of, subsets_of, HasSubsets, SplitsSubsets, IsKept, IsSetList, IsSoundTable, IsShort, TellsIn};
 
 use crate::node::{Id, Node};
@@ -120,5 +120,38 @@ impl Table {
             left -= 1;
         }
         Ok(acc)
+    }
+
+    /// An access to a list.
+    #[tactic(auto, unfolding(crate::specs::Extents::access_extent))]
+    pub(crate) fn access(&mut self, alloc: Global, a: Id, b: Id) -> Result<Option<Reach>, AllocError>
+        requires sound { IsSoundTable self.old }
+        ensures kept { IsKept self.old self.new }
+        ensures short { IfOk result IsShort }
+        ensures told { IfOk result (λ r. TellsIn self.new r (access_extent (known self.old a) (known self.old b))) }
+    {
+        let Some(index) = self.whole(a) else {
+            return Ok(None);
+        };
+        match self.row(b) {
+            None => Ok(None),
+            Some(Row::Wholes) => Ok(Some(Reach::Whole(self.reached_hull(&index, b)))),
+            Some(Row::Truths) => Ok(open_truth()),
+            Some(Row::Subsets) => self.reached_subset(alloc, &index, b),
+            Some(Row::Empty) => Ok(Some(Reach::Whole(Interval { lo: 0, hi: 0 }))),
+        }
+    }
+
+    /// The union of the greatest sets that an index reaches.
+    fn reached_subset(&mut self, alloc: Global, index: &Interval, list: Id) -> Result<Option<Reach>, AllocError>
+        requires sound { IsSoundTable self.old }
+        ensures kept { IsKept self.old self.new }
+        ensures short { IfOk result IsShort }
+        ensures told { IfOk result (λ r. TellsIn self.new r (Some (subset (union_of_all (reached (ends index.now) (subsets_of self.old list)))))) }
+    {
+        let start = self.skip_subsets(list, skipped(index));
+        let set = self.union_of_first(alloc, start, count(index))?;
+        let place = self.keep(set)?;
+        Ok(Some(Reach::Subset(place)))
     }
 }

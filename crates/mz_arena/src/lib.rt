@@ -8,6 +8,7 @@ mod law;
 mod list;
 mod node;
 mod number;
+mod reach;
 mod set;
 mod table;
 mod truth;
