@@ -4,3 +4,4 @@ pub mod Intervals
 pub mod Lists
 pub mod Telling
 pub mod Kept
+pub mod Pushed

@@ -16,7 +16,9 @@ use Rattle.mz_arena.specs.declared.table.Row.{Row}
 use Rattle.mz_arena.specs.declared.table.Row.TheVariants as row
 use Rattle.mz_arena.specs.declared.table.Stored.{Stored}
 use Rattle.mz_arena.specs.declared.table.Table.{Table}
-use Rattle.mz_arena.specs.Entries.{Entry, entry, children, is_set_const}
+use Rattle.mz_arena.specs.Entries.{Entry, entry, children, AllBelow, is_set_const, is_free, is_local}
+use Rattle.mz_arena.specs.Terms.{own_id}
+use Rattle.mz_arena.specs.Numbering.{local_ids}
 use Rattle.mz_arena.specs.Extents.{Extent, Known, whole, truth, subset, wholes, truths, subsets, empty, as_whole, as_subset, as_single, as_list, set_extent, node_extent, extent}
 use Rattle.mz_arena.specs.Arenas.{IsArena}
 
@@ -251,3 +253,17 @@ pub record ArePlaced (t : Table) (k m : ℕ) (x y : Known) : Type 0 where
 abbrev pub IsPair : Table → Option (ℕ × ℕ) → Known → Known → Type 0
 IsPair t None x y = (op : SetOp) → set_extent op x y ≡ None
 IsPair t (Some p) x y = ArePlaced t p.0 p.1 x y
+
+-- a node with its bounds that may be put into a table
+pub record IsReady (sets : Sets) (stored : List Stored) (s : Stored) : Type 0 where
+  pub below : AllBelow (length (entries sets stored)) (children s.node)
+  pub told : Tells sets s.reach (node_extent (seen sets s) (map (extent (entries sets stored)) (children s.node)))
+  pub long : is_long s.reach ≡ true → s.node.kind ≡ Cons
+  pub const : is_set_const s.node.kind ≡ true → set_place s.node < length sets
+  pub own : is_free s.node.kind ≡ true → own_id s.node ≡ length (entries sets stored)
+  pub next : is_local s.node.kind ≡ true → s.node.b ≡ length (local_ids (entries sets stored))
+
+-- a node that was put into a table, last
+pub record IsPushed (old new : Table) (s : Stored) (id : ℕ) : Type 0 where
+  pub place : id ≡ length (entries old.sets.items old.stored.items)
+  pub entries : entries new.sets.items new.stored.items ≡ entries old.sets.items old.stored.items ++ seen old.sets.items s ∷ []

@@ -98,4 +98,26 @@ impl Table {
             NodeKind::Symdiff => None,
         }
     }
+
+    /// The bounds of a node over the nodes of the table; `None` where it has none. A new greatest
+    /// set is put into the table.
+    pub(crate) fn reach_of(&mut self, alloc: Global, n: &Node) -> Result<Option<Reach>, AllocError>
+        requires sound { IsSoundTable self.old }
+        requires other { is_set_const n.now.kind ≡ false }
+        ensures kept { IsKept self.old self.new }
+        ensures long { IfOk result (IsLongCons n.now.kind) }
+        ensures told { IfOk result (λ r. TellsIn self.new r (asked self.old n.now)) }
+    {
+        if is_plain(n.kind) {
+            return Ok(self.plain(n));
+        }
+        match n.kind {
+            NodeKind::If => self.branches(alloc, n.a, n.b, n.c),
+            NodeKind::Access => self.access(alloc, n.a, n.b),
+            NodeKind::Union => self.united(alloc, n.a, n.b),
+            NodeKind::Intersect => self.intersected(alloc, n.a, n.b),
+            NodeKind::Symdiff => self.united(alloc, n.a, n.b),
+            _ => unreachable!(),
+        }
+    }
 }

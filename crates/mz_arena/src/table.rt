@@ -1,13 +1,14 @@
 // What is kept of the nodes: each with its bounds, and the sets that they speak of.
 
-ghost use Rattle.std.specs.Prelude.{◌≡◌, option_map, slice_get, if◌then◌else◌, Some, None};
+ghost use Rattle.std.specs.Prelude.{◌≡◌, IfOk, OnErr, option_map, slice_get, if◌then◌else◌, Some, None};
 ghost use Rattle.mz_interval.specs.Interval.{ends};
 ghost use Rattle.mz_arena.specs.Extents.{as_whole, as_truth, as_subset, as_wholes, is_truths, as_subsets, extent};
-ghost use Rattle.mz_arena.specs.Tables.{entries, whole_in, truth_in, subset_place, single_in, row_in, is_whole_list, is_truth_list, is_subset_list, IsPlaced, IsSound, TellsAny, IsSoundTable, TellsSingle, TellsRow, known, wholes_of, subsets_of};
+ghost use Rattle.mz_arena.specs.Tables.{entries, whole_in, truth_in, subset_place, single_in, row_in, is_whole_list, is_truth_list, is_subset_list, IsPlaced, IsSound, TellsAny, IsSoundTable, TellsSingle, TellsRow, known, wholes_of, subsets_of, IsReady, IsPushed};
 
 use crate::node::{Id, Node};
 use mz_interval::Interval;
 use mz_value::RangeSet;
+use std::alloc::AllocError;
 
 /// The bounds of a node.
 #[derive(Clone, Copy)]
@@ -136,6 +137,19 @@ impl Table {
     {
         let reach = self.reach(id);
         is_subset_list(reach)
+    }
+
+    /// Puts a node into the table, last, and gives its id.
+    pub(crate) fn push(&mut self, stored: &Stored) -> Result<Id, AllocError>
+        requires sound { IsSoundTable self.old }
+        requires ready { IsReady self.old.sets.items self.old.stored.items stored.now }
+        ensures sound { IsSoundTable self.new }
+        ensures pushed { IfOk result (IsPushed self.old self.new stored.now) }
+        ensures err { OnErr result (entries self.new.sets.items self.new.stored.items ≡ entries self.old.sets.items self.old.stored.items) }
+    {
+        let id = self.stored.len() as u64;
+        self.stored.push(*stored)?;
+        Ok(id)
     }
 }
 
