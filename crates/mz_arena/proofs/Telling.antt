@@ -13,8 +13,8 @@ use Rattle.mz_arena.specs.declared.node.Node.{Node}
 use Rattle.mz_arena.specs.declared.node.NodeKind.{NodeKind}
 use Rattle.mz_arena.specs.declared.node.NodeKind.TheVariants.{Cons}
 use Rattle.mz_arena.specs.Entries.{Entry, arity, children, AllBelow}
-use Rattle.mz_arena.specs.Extents.{Known, whole, truth, subset, wholes, truths, subsets, empty, as_whole, as_truth, as_subset, as_wholes, is_truths, as_subsets, as_single, as_list, before_extent, cons_extent, kind_extent, node_extent, extents, extent}
-use Rattle.mz_arena.specs.Tables.{Sets, set_at, seen, entries, wholes_in, subsets_in, wholes_at, subsets_at, HasWholes, HasSubsets, has_wholes, has_subsets, is_long, IsSound, Tells, TellsAny, TellsSingle, TellsRow, single_in, row_in, is_whole_list, is_truth_list, is_subset_list, whole_in, truth_in, subset_place, IsPlaced}
+use Rattle.mz_arena.specs.Extents.{Known, whole, truth, subset, wholes, truths, subsets, empty, as_whole, as_truth, as_subset, as_wholes, is_truths, as_subsets, as_single, as_list, before_extent, ends_in, cons_extent, kind_extent, node_extent, extents, extent}
+use Rattle.mz_arena.specs.Tables.{Sets, set_at, seen, entries, wholes_in, subsets_in, wholes_at, subsets_at, HasWholes, HasSubsets, has_wholes, has_subsets, is_long, IsSound, Tells, TellsAny, TellsSingle, TellsRow, single_in, row_in, interval_in, is_whole_list, is_truth_list, is_subset_list, whole_in, truth_in, subset_place, IsPlaced}
 use Rattle.mz_arena.proofs.Folds.{at-past, unroll}
 
 pub length-entries : (sets : Sets) (stored : List Stored) → length (entries sets stored) ≡ length stored
@@ -287,3 +287,13 @@ subsets_before t true u y h =
     let x : before_extent (subset u) y ≡ Some (subsets (u ∷ subsets_in y)) = ap (λ o. option_and_then (λ us. Some (subsets (u ∷ us))) o) (sym h) in
     x ∙ sym (ap (λ z. Some (subsets (subsets_in z))) x)
 subsets_before t false u y h = ap (λ o. option_and_then (λ us. Some (subsets (u ∷ us))) o) (sym h)
+
+pub interval_told : (t : Table) (r : Option Reach) (x : Known) → TellsAny t.sets.items r x → interval_in r ≡ ends_in x
+interval_told t None x h = sym (ap ends_in h)
+interval_told t (Some (Whole i)) x h = sym (ap ends_in h)
+interval_told t (Some (Truth i)) x h = sym (ap ends_in h)
+interval_told t (Some (Subset k)) x h = sym (ap ends_in h.is)
+interval_told t (Some Wholes) x h = sym (ap ends_in h)
+interval_told t (Some Truths) x h = sym (ap ends_in h)
+interval_told t (Some Subsets) x h = sym (ap ends_in h)
+interval_told t (Some Empty) x h = sym (ap ends_in h)

@@ -53,6 +53,12 @@ pub record MadeAnew (old new : List Entry) (n : Node) (id : ℕ) : Type 0 where
   pub last : id ≡ length old
   pub items : new ≡ old ++ entry n ∷ []
 
+-- an id that is a SetConst with this set
+pub record IsConst (new : List Entry) (s : List Range) (id : ℕ) : Type 0 where
+  pub node : Node
+  pub const : is_set_const node.kind ≡ true
+  pub made : Made new (record { node = node; set = s }) id
+
 -- what holds of each arena
 pub record IsArena (es : List Entry) : Type 0 where
   pub ordered : (id : ℕ) (e : Entry) → slice_get es id ≡ Some e → AllBelow id (children e.node)

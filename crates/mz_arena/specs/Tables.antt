@@ -1,5 +1,5 @@
 -- What the code keeps of the nodes. Private clauses only.
-use Rattle.std.specs.Prelude.{◌≡◌, ℕ, ◌<◌, ◌≤◌, List, [], ◌∷◌, ◌++◌, map, length, slice_get, slice_index_or, Bool, true, false, Option, Some, None, option_map, nat_abs, if◌then◌else◌}
+use Rattle.std.specs.Prelude.{◌≡◌, ℕ, ◌<◌, ◌≤◌, List, [], ◌∷◌, ◌++◌, map, length, slice_get, slice_index_or, Bool, true, false, Option, Some, None, option_map, nat_abs, pos, if◌then◌else◌}
 use Rattle.mz_value.specs.Ranges.{Range, AreCanonical, AreInLimit}
 use Rattle.mz_interval.specs.Ends.{Ends}
 use Rattle.mz_interval.specs.Interval.{ends}
@@ -7,7 +7,7 @@ use Rattle.mz_interval.specs.declared.interval.Interval.{Interval}
 use Rattle.mz_operations.specs.declared.row.SetOp.{SetOp}
 use Rattle.mz_arena.specs.declared.node.Node.{Node}
 use Rattle.mz_arena.specs.declared.node.NodeKind.{NodeKind}
-use Rattle.mz_arena.specs.declared.node.NodeKind.TheVariants.{Cons, If, Access, Union, Intersect, Symdiff}
+use Rattle.mz_arena.specs.declared.node.NodeKind.TheVariants.{Cons, SetConst, If, Access, Union, Intersect, Symdiff}
 use Rattle.mz_arena.specs.declared.table.Reach.{Reach}
 use Rattle.mz_arena.specs.declared.table.Reach.TheVariants.{Whole, Truth, Subset, Wholes, Truths, Subsets, Empty}
 use Rattle.mz_arena.specs.declared.table.Single.{Single}
@@ -267,3 +267,16 @@ pub record IsReady (sets : Sets) (stored : List Stored) (s : Stored) : Type 0 wh
 pub record IsPushed (old new : Table) (s : Stored) (id : ℕ) : Type 0 where
   pub place : id ≡ length (entries old.sets.items old.stored.items)
   pub entries : entries new.sets.items new.stored.items ≡ entries old.sets.items old.stored.items ++ seen old.sets.items s ∷ []
+
+abbrev pub interval_in : Option Reach → Option Ends
+interval_in (Some (Whole i)) = Some (ends i)
+interval_in (Some (Truth i)) = Some (ends i)
+interval_in _ = None
+
+-- the SetConst of a set of the table
+abbrev pub const_node : ℕ → Node
+const_node place = record { kind = SetConst; a = 0; b = 0; c = 0; number = pos place }
+
+pub record IsPushedConst (old new : Table) (place id : ℕ) : Type 0 where
+  pub last : id ≡ length (entries old.sets.items old.stored.items)
+  pub pushed : entries new.sets.items new.stored.items ≡ entries old.sets.items old.stored.items ++ record { node = const_node place; set = set_at old.sets.items place } ∷ []

@@ -3,6 +3,7 @@
 
 
 mod access;
+mod arena;
 mod choice;
 mod law;
 mod list;
@@ -14,5 +15,6 @@ mod table;
 mod truth;
 
 
+pub use arena::Arena;
 pub use law::growth_is_transitive;
 pub use node::{Id, Node, NodeKind, charge};

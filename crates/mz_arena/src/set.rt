@@ -1,15 +1,16 @@
 // The greatest sets of sets.
 
-ghost use Rattle.std.specs.Prelude.{◌≡◌, ◌<◌, IfOk, length, option_map};
+ghost use Rattle.std.specs.Prelude.{◌≡◌, ◌<◌, IfOk, OnErr, length, option_map};
 ghost use Rattle.mz_interval.specs.Interval.{ends};
 ghost use Rattle.mz_operations.specs.Sets.{union, intersection};
-ghost use Rattle.mz_operations.specs.declared.row.SetOp.TheVariants.{Union, Intersect, Diff};
-ghost use Rattle.mz_arena.specs.Extents.{as_subset, card_bounds, marked, truth_within, set_extent, set_variable_extent, variable_extent};
-ghost use Rattle.mz_arena.specs.Tables.{Sets, set_at, known, TellsAny, IsPair, IsKept, IsPut, IsSetList, IsSoundTable, IsShort, TellsIn};
+ghost use Rattle.mz_operations.specs.declared.row.SetOp.TheVariants.{Union, Intersect, Diff, Symdiff};
+ghost use Rattle.mz_arena.specs.Extents.{as_subset, ends_in, card_bounds, marked, truth_within, set_extent, set_variable_extent, variable_extent};
+ghost use Rattle.mz_arena.specs.Tables.{Sets, set_at, entries, interval_in, IsPushedConst, known, TellsAny, IsPair, IsKept, IsPut, IsSetList, IsSoundTable, IsShort, TellsIn};
 
-use crate::node::Id;
+use crate::node::{Id, Node, NodeKind};
 use crate::number::{hull, size};
-use crate::table::{Reach, Table};
+use crate::table::{Reach, Stored, Table};
+use mz_base::Memory;
 use mz_interval::Interval;
 use mz_value::RangeSet;
 use std::alloc::{AllocError, Global};
@@ -101,6 +102,7 @@ impl Table {
         ensures kept { IsKept self.old self.new }
         ensures short { IfOk result IsShort }
         ensures told { IfOk result (λ r. TellsIn self.new r (set_extent Union (known self.old a) (known self.old b))) }
+        ensures symdiff { IfOk result (λ r. TellsIn self.new r (set_extent Symdiff (known self.old a) (known self.old b))) }
     {
         let Some((k, m)) = self.pair(a, b) else {
             return Ok(None);
@@ -151,6 +153,57 @@ impl Table {
     {
         let k = self.subset(a)?;
         Some(Reach::Subset(k))
+    }
+
+    /// Puts the set of a SetConst into the table, and gives its place.
+    pub(crate) fn keep_const(&mut self, set: RangeSet) -> Result<u64, AllocError>
+        requires { IsSoundTable self.old }
+        ensures kept { IsKept self.old self.new }
+        ensures put { IfOk result (λ k. IsPut self.new k set) }
+    {
+        let _ranges = set.ranges();
+        self.keep(set)
+    }
+
+    /// Puts a SetConst with this set of the table into it.
+    pub(crate) fn push_const(&mut self, place: u64) -> Result<Id, Memory>
+        requires sound { IsSoundTable self.old }
+        requires within { place < length self.old.sets.items }
+        ensures sound { IsSoundTable self.new }
+        ensures pushed { IfOk result (IsPushedConst self.old self.new place) }
+        ensures err { OnErr result (entries self.new.sets.items self.new.stored.items ≡ entries self.old.sets.items self.old.stored.items) }
+    {
+        if place >= 1 << 62 {
+            return Err(Memory);
+        }
+        let node = Node {
+            kind: NodeKind::SetConst,
+            a: 0,
+            b: 0,
+            c: 0,
+            number: place as i64,
+        };
+        let id = self.push(&Stored { node, reach: Reach::Subset(place) })?;
+        Ok(id)
+    }
+
+    /// The bounds of an integer or a Boolean; `None` where the node is none.
+    pub(crate) fn interval(&self, id: Id) -> Option<Interval>
+        requires { IsSoundTable self.now }
+        ensures { option_map ends result ≡ ends_in (known self.now id) }
+    {
+        let reach = self.reach(id);
+        interval_in(reach)
+    }
+}
+
+fn interval_in(reach: Option<Reach>) -> Option<Interval>
+    ensures { option_map ends result ≡ interval_in reach }
+{
+    match reach {
+        Some(Reach::Whole(i)) => Some(i),
+        Some(Reach::Truth(i)) => Some(i),
+        _ => None,
     }
 }
 
