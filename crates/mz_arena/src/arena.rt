@@ -130,7 +130,9 @@ impl Arena {
         requires { IsSetConst self.now id }
         ensures { option_map (λ e. e.set) (slice_get self.now id) ≡ Some result.now }
     {
-        let node = self.table.stored[id as usize].node;
-        &self.table.sets[node.number.unsigned_abs() as usize]
+        match self.table.subset(id) {
+            Some(place) => &self.table.sets[place as usize],
+            None => unreachable!(),
+        }
     }
 }
