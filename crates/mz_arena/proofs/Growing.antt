@@ -1,15 +1,13 @@
 -- Arenas that go on from another, and the node that was made last.
-use Rattle.std.proofs.Common.{◌≡◌, ℕ, zero, suc, ◌+◌, ◌<◌, ◌≤◌, List, [], ◌∷◌, ◌++◌, length, map, Bool, true, false, cond, Option, Some, None, ◌⊎◌, inl, inr, IsSome, slice_get, refl, sym, ap, subst, ◌∙◌, arith, length-append, append-nil}
+use Rattle.std.proofs.Common.{◌≡◌, ℕ, ◌+◌, ◌<◌, List, [], ◌∷◌, ◌++◌, length, map, Bool, true, false, cond, Option, Some, ◌⊎◌, inl, inr, IsSome, slice_get, refl, sym, ap, subst, ◌∙◌, arith, length-append, append-nil}
 use Rattle.std.proofs.lemmas.Bool.{cases_lt}
-use Rattle.mz_arena.specs.declared.node.Node.{Node}
-use Rattle.mz_arena.specs.Entries.{Entry, entry, children, AllBelow, at, folded, is_free, is_local}
-use Rattle.mz_arena.specs.Values.{Values, Term}
-use Rattle.mz_arena.specs.Terms.{node_term, terms, term, own_id}
+use Rattle.mz_arena.specs.Entries.{Entry, children, AllBelow, at, folded, is_free, is_local}
+use Rattle.mz_arena.specs.Terms.{node_term, terms, own_id}
 use Rattle.mz_arena.specs.Extents.{node_extent, extents, extent}
 use Rattle.mz_arena.specs.Charges.{charge_of, charges}
 use Rattle.mz_arena.specs.Numbering.{local_ids_from, local_ids, IsChoice, Numbered}
 use Rattle.mz_arena.specs.Arenas.{Grew, Extends, Made, IsArena}
-use Rattle.mz_arena.proofs.Folds.{get-append, get-last, get-below, below_more, length-folded, folded-append, keep, unroll, at-past}
+use Rattle.mz_arena.proofs.Folds.{get-append, get-last, get-below, length-folded, folded-append, keep, unroll}
 
 pub grew_append : (es fs : List Entry) → Grew es (es ++ fs)
 unfolding terms extents
@@ -47,8 +45,8 @@ old_or_last es e d id h =
     elim (cases_lt id (length es)) [
       | inl l ↦ inl (l, sym (get-append es (e ∷ []) id l) ∙ h)
       | inr g ↦
-        let last : id ≡ length es = omega (arith, length-append es (e ∷ [])) in
-        inr (last, same_entry (ap (slice_get (es ++ e ∷ [])) last) h (get-last es e))
+          let last : id ≡ length es = omega (arith, length-append es (e ∷ [])) in
+          inr (last, same_entry (ap (slice_get (es ++ e ∷ [])) last) h (get-last es e))
     ]
   where
     same_entry : {p q : Option Entry} → p ≡ q → p ≡ Some d → q ≡ Some e → d ≡ e
@@ -103,10 +101,10 @@ last_choice es e false k id l next there h = choice_later es e k id (there k id 
 last_choice es e true k id l next there h = elim (cases_lt k (length (local_ids es))) [
   | inl o ↦ choice_later es e k id (there k id (sym (get-append (local_ids es) (length es ∷ []) k o) ∙ h))
   | inr g ↦
-    let below = get-below (local_ids es ++ length es ∷ []) k id h in
-    let last : k ≡ length (local_ids es) = omega (arith, length-append (local_ids es) (length es ∷ [])) in
-    let place : length es ≡ id = some_place (ap (slice_get (local_ids es ++ length es ∷ [])) (sym last) ∙ h) in
-    record { there = e; stands = ap (slice_get (es ++ e ∷ [])) (sym place) ∙ get-last es e; local = l; number = next refl ∙ sym last }
+      let below = get-below (local_ids es ++ length es ∷ []) k id h in
+      let last : k ≡ length (local_ids es) = omega (arith, length-append (local_ids es) (length es ∷ [])) in
+      let place : length es ≡ id = some_place (ap (slice_get (local_ids es ++ length es ∷ [])) (sym last) ∙ h) in
+      record { there = e; stands = ap (slice_get (es ++ e ∷ [])) (sym place) ∙ get-last es e; local = l; number = next refl ∙ sym last }
 ]
   where
     some_place : slice_get (local_ids es ++ length es ∷ []) (length (local_ids es)) ≡ Some id → length es ≡ id
@@ -117,12 +115,12 @@ numbered_push es e n next = record {
   there = λ k id h. last_choice es e (is_local e.node.kind) k id refl next n.there (subst (λ is. slice_get is k ≡ Some id) (local_ids-push es e) h);
   all = λ id d h l. elim (old_or_last es e d id h) [
     | inl o ↦
-      let place = n.all id d o.1 l in
-      ap (λ is. slice_get is d.node.b) (local_ids-push es e) ∙ get-append (local_ids es) (cond (is_local e.node.kind) (length es ∷ []) []) d.node.b (get-below (local_ids es) d.node.b id place) ∙ place
+        let place = n.all id d o.1 l in
+        ap (λ is. slice_get is d.node.b) (local_ids-push es e) ∙ get-append (local_ids es) (cond (is_local e.node.kind) (length es ∷ []) []) d.node.b (get-below (local_ids es) d.node.b id place) ∙ place
     | inr m ↦
-      let local : is_local e.node.kind ≡ true = subst (λ (z : Entry). is_local z.node.kind ≡ true) m.1 l in
-      let number : d.node.b ≡ length (local_ids es) = ap (λ (z : Entry). z.node.b) m.1 ∙ next local in
-      ap (λ is. slice_get is d.node.b) (local_ids-push es e ∙ ap (λ b. local_ids es ++ cond b (length es ∷ []) []) local) ∙ ap (slice_get (local_ids es ++ length es ∷ [])) number ∙ get-last (local_ids es) (length es) ∙ ap (λ j. Some j) (sym m.0)
+        let local : is_local e.node.kind ≡ true = subst (λ (z : Entry). is_local z.node.kind ≡ true) m.1 l in
+        let number : d.node.b ≡ length (local_ids es) = ap (λ (z : Entry). z.node.b) m.1 ∙ next local in
+        ap (λ is. slice_get is d.node.b) (local_ids-push es e ∙ ap (λ b. local_ids es ++ cond b (length es ∷ []) []) local) ∙ ap (slice_get (local_ids es ++ length es ∷ [])) number ∙ get-last (local_ids es) (length es) ∙ ap (λ j. Some j) (sym m.0)
   ];
 }
 
@@ -174,4 +172,3 @@ pub charges-push : (es : List Entry) (e : Entry) → charges (es ++ e ∷ []) �
 unfolding charges
 charges-push [] e = omega arith
 charges-push (d ∷ es) e = omega (arith, charges-push es e)
-

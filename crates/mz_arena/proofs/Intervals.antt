@@ -1,16 +1,15 @@
 -- Intervals that are made.
-use Rattle.std.proofs.Common.{◌≡◌, ℕ, ◌-◌, ◌<◌, ◌≤◌, List, [], ◌∷◌, length, get_or, slice_get, unwrap_or, inl, sym, ap, ℤ, pos, neg_ℤ, ◌≤ℤ◌, Option, Some, None, option_map, arith, refl, ◌∙◌}
-use Rattle.std.specs.Int.{int_min, int_max}
+use Rattle.std.proofs.Common.{◌≡◌, ◌-◌, ◌<◌, List, [], ◌∷◌, length, get_or, unwrap_or, inl, ap, ℤ, pos, neg_ℤ, ◌≤ℤ◌, Option, option_map, arith, refl, ◌∙◌}
+use Rattle.std.specs.Int.{int_max}
 use Rattle.std.proofs.lemmas.Int.{ints, clamps}
 use Rattle.std.proofs.lemmas.Option.{slice_get-get_or}
-use Rattle.mz_value.specs.Ranges.{Range, AreCanonical, AreInLimit, Has, IsInLimit}
+use Rattle.mz_value.specs.Ranges.{Range, AreCanonical, AreInLimit, Has}
 use Rattle.mz_value.proofs.Sizes.{limit_at}
 use Rattle.mz_interval.specs.Ends.{Ends, least_number, greatest_number, if_in_limit, if_interval}
 use Rattle.mz_interval.specs.Interval.{ends}
 use Rattle.mz_interval.specs.declared.interval.Interval.{Interval}
 use Rattle.mz_interval.proofs.Limits.{some_row}
 use Rattle.mz_operations.specs.declared.row.Sign.TheVariants.{Abs}
-use Rattle.mz_operations.specs.declared.row.Side.TheVariants.{Least, Greatest}
 use Rattle.mz_operations.specs.Sets.{end_of}
 use Rattle.mz_operations.specs.Bounds.{sign_ends, hull_of_set}
 use Rattle.mz_operations.proofs.SetBounds.{hull_of_set-has}

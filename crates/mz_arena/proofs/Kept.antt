@@ -1,7 +1,7 @@
 -- A set that was put into the table, and sets that are made.
-use Rattle.std.proofs.Common.{◌≡◌, ℕ, zero, suc, ◌+◌, ◌<◌, ◌≤◌, List, [], ◌∷◌, ◌++◌, length, map, Bool, true, false, cond, Option, Some, None, slice_get, get_or, refl, sym, ap, subst, ◌∙◌, inl, inr, ⊎_elim, arith, length-append, Result, Ok, Err, IfOk}
+use Rattle.std.proofs.Common.{◌≡◌, ℕ, zero, suc, ◌<◌, List, [], ◌∷◌, ◌++◌, length, Bool, true, false, cond, Some, None, slice_get, get_or, refl, sym, ap, subst, ◌∙◌, inl, ⊎_elim, arith, length-append, Result, Ok, Err, IfOk}
 use Rattle.std.proofs.lemmas.Option.{slice_get-get_or}
-use Rattle.mz_value.specs.Ranges.{Range, AreCanonical, AreInLimit, Has, IsUnion, IsIntersection}
+use Rattle.mz_value.specs.Ranges.{Range, AreCanonical, IsUnion, IsIntersection}
 use Rattle.mz_value.proofs.Common.{common_members}
 use Rattle.mz_value.proofs.Joined.{union_members}
 use Rattle.mz_value.proofs.Determined.{determined}
@@ -17,8 +17,7 @@ use Rattle.mz_arena.specs.declared.table.Table.{Table}
 use Rattle.mz_arena.specs.Entries.{Entry, is_set_const}
 use Rattle.mz_arena.specs.Extents.{Known, subset, as_subset, marked, variable_extent, set_variable_extent, set_extent, extent}
 use Rattle.mz_arena.specs.Arenas.{IsArena}
-use Rattle.mz_arena.specs.Tables.{Sets, set_at, set_place, set_in, seen, entries, Tells, IsSubset, IsSetList, IsSound, IsSoundTable, IsKept, IsPut}
-use Rattle.mz_arena.proofs.Folds.{get-append, get-last, get-below}
+use Rattle.mz_arena.specs.Tables.{Sets, set_at, set_place, seen, entries, Tells, IsSubset, IsSetList, IsSound, IsSoundTable, IsKept, IsPut}
 
 -- ---- sets by their members
 

@@ -1,5 +1,5 @@
 -- A node that was put into the table.
-use Rattle.std.proofs.Common.{◌≡◌, ℕ, zero, suc, ◌+◌, ◌<◌, ◌≤◌, List, [], ◌∷◌, ◌++◌, length, map, Bool, true, false, cond, Option, Some, None, IsSome, option_map, ◌⊎◌, inl, inr, slice_get, get_or, refl, sym, ap, subst, ◌∙◌, arith, length-append}
+use Rattle.std.proofs.Common.{◌≡◌, ℕ, ◌+◌, ◌<◌, List, [], ◌∷◌, ◌++◌, length, Bool, true, false, cond, Option, Some, None, IsSome, option_map, ◌⊎◌, inl, inr, slice_get, get_or, refl, sym, ap, subst, ◌∙◌, arith, length-append}
 use Rattle.std.proofs.lemmas.Bool.{cases_lt}
 use Rattle.mz_value.specs.Ranges.{Range}
 use Rattle.mz_arena.specs.declared.node.NodeKind.{NodeKind}
@@ -32,8 +32,8 @@ old_or_new stored s t id h =
     elim (cases_lt id (length stored)) [
       | inl l ↦ inl (l, sym (get-append stored (s ∷ []) id l) ∙ h)
       | inr g ↦
-        let last : id ≡ length stored = omega (arith, length-append stored (s ∷ [])) in
-        inr (last, same (ap (slice_get (stored ++ s ∷ [])) last) h (get-last stored s))
+          let last : id ≡ length stored = omega (arith, length-append stored (s ∷ [])) in
+          inr (last, same (ap (slice_get (stored ++ s ∷ [])) last) h (get-last stored s))
     ]
   where
     same : {p q : Option Stored} → p ≡ q → p ≡ Some t → q ≡ Some s → t ≡ s
@@ -59,8 +59,8 @@ sound_push sets stored s h r =
       tells = λ id t g. subst (λ (fs : List Entry). Tells sets t.reach (extent fs id)) (sym same) (elim (old_or_new stored s t id g) [
         | inl o ↦ subst (Tells sets t.reach) (sym ((grew_append es (e ∷ [])).extents id (omega (arith, o.0, length-entries sets stored)))) (h.tells id t o.1)
         | inr n ↦
-          let place : id ≡ length es = n.0 ∙ sym (length-entries sets stored) in
-          subst (λ (u : Stored). Tells sets u.reach (extent new id)) (sym n.1) (subst (Tells sets s.reach) (sym (ap (extent new) place ∙ extent_last es e r.below)) r.told)
+            let place : id ≡ length es = n.0 ∙ sym (length-entries sets stored) in
+            subst (λ (u : Stored). Tells sets u.reach (extent new id)) (sym n.1) (subst (Tells sets s.reach) (sym (ap (extent new) place ∙ extent_last es e r.below)) r.told)
       ]);
       long = λ id t g l. elim (old_or_new stored s t id g) [
         | inl o ↦ h.long id t o.1 l

@@ -1,10 +1,9 @@
 -- Arenas, what is asked of a node, and what there is after it was made.
-use Rattle.std.specs.Prelude.{◌≡◌, ℕ, ◌+◌, ◌<◌, ◌≤◌, ℤ, pos, List, [], ◌∷◌, ◌++◌, length, map, slice_get, Bool, true, false, Option, Some, None, IsSome, if◌then◌else◌}
+use Rattle.std.specs.Prelude.{◌≡◌, ℕ, ◌<◌, ◌≤◌, pos, List, [], ◌∷◌, ◌++◌, length, map, slice_get, true, false, Some, IsSome}
 use Rattle.mz_value.specs.Ranges.{Range}
 use Rattle.mz_arena.specs.declared.node.Node.{Node}
-use Rattle.mz_arena.specs.declared.node.NodeKind.{NodeKind}
-use Rattle.mz_arena.specs.Entries.{Entry, entry, children, AllBelow, is_set_const, is_local, is_free, at}
-use Rattle.mz_arena.specs.Values.{Values, Term}
+use Rattle.mz_arena.specs.Entries.{Entry, entry, children, AllBelow, is_set_const, is_local, is_free}
+use Rattle.mz_arena.specs.Values.{Values}
 use Rattle.mz_arena.specs.Terms.{node_term, term, own_id}
 use Rattle.mz_arena.specs.Extents.{node_extent, extent}
 use Rattle.mz_arena.specs.Numbering.{local_ids, Numbered}

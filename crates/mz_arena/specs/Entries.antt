@@ -1,5 +1,5 @@
 -- The nodes of an arena, and what is computed of them from the first to the last.
-use Rattle.std.specs.Prelude.{◌≡◌, ℕ, ◌<◌, List, [], ◌∷◌, ◌++◌, map, take, slice_get, Bool, true, false, Option, Some, None}
+use Rattle.std.specs.Prelude.{ℕ, ◌<◌, List, [], ◌∷◌, ◌++◌, map, take, slice_get, Bool, true, false, Option, None}
 use Rattle.std.specs.Option.{option_flatten}
 use Rattle.mz_value.specs.Ranges.{Range}
 use Rattle.mz_arena.specs.declared.node.Node.{Node}

@@ -1,5 +1,5 @@
 -- The bounds of nodes, and with them their sorts.
-use Rattle.std.specs.Prelude.{◌≡◌, ℕ, zero, suc, ◌-◌, ℤ, pos, negsuc, int_le, nat_eq, List, [], ◌∷◌, drop, take, Bool, true, false, ◌&&◌, Option, Some, None, if◌then◌else◌}
+use Rattle.std.specs.Prelude.{ℕ, zero, suc, ◌-◌, ℤ, pos, negsuc, int_le, List, [], ◌∷◌, drop, take, Bool, true, false, ◌&&◌, Option, Some, None, if◌then◌else◌}
 use Rattle.std.specs.Option.{option_map}
 use Rattle.mz_value.specs.Ranges.{Range}
 use Rattle.mz_interval.specs.Ends.{Ends, hull_of, if_in_limit}

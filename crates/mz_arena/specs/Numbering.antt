@@ -1,5 +1,5 @@
 -- The choices of an arena in their order, and values by the numbers of variables and choices.
-use Rattle.std.specs.Prelude.{◌≡◌, refl, ℕ, ◌+◌, ℤ, pos, List, [], ◌∷◌, slice_get, true, Option, Some, None, if◌then◌else◌}
+use Rattle.std.specs.Prelude.{◌≡◌, ℕ, ◌+◌, ℤ, pos, List, [], ◌∷◌, slice_get, true, Option, Some, None, if◌then◌else◌}
 use Rattle.mz_value.specs.Ranges.{Range}
 use Rattle.mz_arena.specs.Entries.{Entry, is_local}
 use Rattle.mz_arena.specs.Values.{Values}

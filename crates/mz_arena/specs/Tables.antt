@@ -1,5 +1,5 @@
 -- What the code keeps of the nodes. Private clauses only.
-use Rattle.std.specs.Prelude.{◌≡◌, ℕ, ◌<◌, ◌≤◌, List, [], ◌∷◌, ◌++◌, map, length, slice_get, slice_index_or, Bool, true, false, Option, Some, None, option_map, nat_abs, pos, if◌then◌else◌}
+use Rattle.std.specs.Prelude.{◌≡◌, ℕ, ◌<◌, ◌≤◌, List, [], ◌∷◌, ◌++◌, map, length, slice_get, slice_index_or, Bool, true, false, Option, Some, None, nat_abs, pos, if◌then◌else◌}
 use Rattle.mz_value.specs.Ranges.{Range, AreCanonical, AreInLimit}
 use Rattle.mz_interval.specs.Ends.{Ends}
 use Rattle.mz_interval.specs.Interval.{ends}
@@ -19,7 +19,7 @@ use Rattle.mz_arena.specs.declared.table.Table.{Table}
 use Rattle.mz_arena.specs.Entries.{Entry, entry, children, AllBelow, is_set_const, is_free, is_local}
 use Rattle.mz_arena.specs.Terms.{own_id}
 use Rattle.mz_arena.specs.Numbering.{local_ids}
-use Rattle.mz_arena.specs.Extents.{Extent, Known, whole, truth, subset, wholes, truths, subsets, empty, as_whole, as_subset, as_single, as_list, set_extent, node_extent, extent}
+use Rattle.mz_arena.specs.Extents.{Known, whole, truth, subset, wholes, truths, subsets, empty, as_whole, as_subset, as_single, as_list, set_extent, node_extent, extent}
 use Rattle.mz_arena.specs.Arenas.{IsArena}
 
 -- the arena's sets

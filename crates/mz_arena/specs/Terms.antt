@@ -1,5 +1,5 @@
 -- The meaning of nodes under values of the variables and the choices.
-use Rattle.std.specs.Prelude.{◌≡◌, ℕ, ℤ, nat_abs, List, [], ◌∷◌, Option, Some, None, int_le, int_lt, not, refl, pos, negsuc, true, false}
+use Rattle.std.specs.Prelude.{ℕ, nat_abs, List, [], Some, int_le, int_lt, not}
 use Rattle.std.specs.Ordering.{int_eq}
 use Rattle.mz_operations.specs.declared.row.Arith.TheVariants as arith_row
 use Rattle.mz_operations.specs.declared.row.Sign.TheVariants as sign_row
@@ -10,7 +10,7 @@ use Rattle.mz_arena.specs.declared.node.Node.{Node}
 use Rattle.mz_arena.specs.declared.node.NodeKind.{NodeKind}
 use Rattle.mz_arena.specs.declared.node.NodeKind.TheVariants.{Int, Bool as BoolNode, Var, Local, Add, Mul, Div, Mod, Min, Max, Abs, ToInt, Eq, Ne, Le, Lt, And, Or, Not, Iff, If, Access, Guard, Nil, Cons, SetConst, SetVar, SetLocal, Member, Union, Intersect, Diff, Symdiff, Card, SetEq, Subset}
 use Rattle.mz_arena.specs.Entries.{Entry, at, folded, of_one, of_two, of_three}
-use Rattle.mz_arena.specs.Values.{Val, number, set, empty, Term, Values, arith_term, sign_term, extreme_term, comparison_term, set_comparison_term, member_term, and_term, or_term, not_term, iff_term, to_int_term, if_term, guard_term, access_term, cons_term, set_term, card_term}
+use Rattle.mz_arena.specs.Values.{number, set, empty, Term, Values, arith_term, sign_term, extreme_term, comparison_term, set_comparison_term, member_term, and_term, or_term, not_term, iff_term, to_int_term, if_term, guard_term, access_term, cons_term, set_term, card_term}
 
 -- the id that a variable or a choice has as its number
 abbrev pub own_id : Node → ℕ

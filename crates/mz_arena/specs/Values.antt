@@ -1,5 +1,5 @@
 -- The values of terms.
-use Rattle.std.specs.Prelude.{◌≡◌, ℕ, zero, suc, ℤ, pos, negsuc, List, [], ◌∷◌, Bool, true, false, not, ◌&&◌, ◌||◌, Option, Some, None, int_le, slice_get, if◌then◌else◌}
+use Rattle.std.specs.Prelude.{ℕ, zero, suc, ℤ, pos, negsuc, List, [], ◌∷◌, Bool, false, not, ◌&&◌, ◌||◌, Option, Some, None, slice_get, if◌then◌else◌}
 use Rattle.std.specs.Option.{option_map}
 use Rattle.std.specs.Ordering.{int_eq}
 use Rattle.mz_value.specs.Ranges.{Range, cardinality}
@@ -8,7 +8,7 @@ use Rattle.mz_operations.specs.declared.row.Sign.{Sign as SignRow}
 use Rattle.mz_operations.specs.declared.row.SetOp.{SetOp as SetRow}
 use Rattle.mz_operations.specs.declared.row.Side.{Side}
 use Rattle.mz_operations.specs.Views.{◌>>=◌, number_of_bool}
-use Rattle.mz_operations.specs.Sets.{combined, contains, is_subset, same_set}
+use Rattle.mz_operations.specs.Sets.{combined, contains}
 use Rattle.mz_operations.specs.Numbers.{computed, signed, same, toward}
 
 -- an integer, or a Boolean as 0 or 1; a set; a list of numbers, of sets, or with no element

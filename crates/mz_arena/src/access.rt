@@ -124,7 +124,12 @@ impl Table {
 
     /// An access to a list.
     #[tactic(auto, unfolding(crate::specs::Extents::access_extent))]
-    pub(crate) fn access(&mut self, alloc: Global, a: Id, b: Id) -> Result<Option<Reach>, AllocError>
+    pub(crate) fn access(
+        &mut self,
+        alloc: Global,
+        a: Id,
+        b: Id,
+    ) -> Result<Option<Reach>, AllocError>
         requires sound { IsSoundTable self.old }
         ensures kept { IsKept self.old self.new }
         ensures short { IfOk result IsShort }
@@ -143,7 +148,12 @@ impl Table {
     }
 
     /// The union of the greatest sets that an index reaches.
-    fn reached_subset(&mut self, alloc: Global, index: &Interval, list: Id) -> Result<Option<Reach>, AllocError>
+    fn reached_subset(
+        &mut self,
+        alloc: Global,
+        index: &Interval,
+        list: Id,
+    ) -> Result<Option<Reach>, AllocError>
         requires sound { IsSoundTable self.old }
         ensures kept { IsKept self.old self.new }
         ensures short { IfOk result IsShort }

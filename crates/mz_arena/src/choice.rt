@@ -62,7 +62,13 @@ impl Table {
 
     /// The branches of an `if`.
     #[tactic(auto, unfolding(crate::specs::Extents::if_extent))]
-    pub(crate) fn branches(&mut self, alloc: Global, a: Id, b: Id, c: Id) -> Result<Option<Reach>, AllocError>
+    pub(crate) fn branches(
+        &mut self,
+        alloc: Global,
+        a: Id,
+        b: Id,
+        c: Id,
+    ) -> Result<Option<Reach>, AllocError>
         requires sound { IsSoundTable self.old }
         ensures kept { IsKept self.old self.new }
         ensures short { IfOk result IsShort }

@@ -1,7 +1,6 @@
 // Terms over variables: nodes with numbers, shared by all that speak of them, each with its meaning and its bounds.
 #![tactic(auto)]
 
-
 mod access;
 mod arena;
 mod choice;
@@ -13,7 +12,6 @@ mod reach;
 mod set;
 mod table;
 mod truth;
-
 
 pub use arena::Arena;
 pub use law::growth_is_transitive;

@@ -40,7 +40,12 @@ impl Table {
     }
 
     /// What both of two sets of the table have.
-    pub(crate) fn intersection_at(&self, alloc: Global, k: u64, m: u64) -> Result<RangeSet, AllocError>
+    pub(crate) fn intersection_at(
+        &self,
+        alloc: Global,
+        k: u64,
+        m: u64,
+    ) -> Result<RangeSet, AllocError>
         requires sound { IsSoundTable self.now }
         requires first { k < length self.now.sets.items }
         requires second { m < length self.now.sets.items }
@@ -97,7 +102,12 @@ impl Table {
     }
 
     /// A union or a symmetric difference of sets.
-    pub(crate) fn united(&mut self, alloc: Global, a: Id, b: Id) -> Result<Option<Reach>, AllocError>
+    pub(crate) fn united(
+        &mut self,
+        alloc: Global,
+        a: Id,
+        b: Id,
+    ) -> Result<Option<Reach>, AllocError>
         requires sound { IsSoundTable self.old }
         ensures kept { IsKept self.old self.new }
         ensures short { IfOk result IsShort }
@@ -112,7 +122,12 @@ impl Table {
     }
 
     /// An intersection of sets.
-    pub(crate) fn intersected(&mut self, alloc: Global, a: Id, b: Id) -> Result<Option<Reach>, AllocError>
+    pub(crate) fn intersected(
+        &mut self,
+        alloc: Global,
+        a: Id,
+        b: Id,
+    ) -> Result<Option<Reach>, AllocError>
         requires sound { IsSoundTable self.old }
         ensures kept { IsKept self.old self.new }
         ensures short { IfOk result IsShort }
@@ -183,7 +198,10 @@ impl Table {
             c: 0,
             number: place as i64,
         };
-        let id = self.push(&Stored { node, reach: Reach::Subset(place) })?;
+        let id = self.push(&Stored {
+            node,
+            reach: Reach::Subset(place),
+        })?;
         Ok(id)
     }
 

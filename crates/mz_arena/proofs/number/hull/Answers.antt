@@ -1,4 +1,4 @@
-use Rattle.std.proofs.Common.{◌≡◌, ◌<◌, List, length, ℤ, pos, to_z, of_z, w64, arith, refl, sym, ap, subst, ◌∙◌}
+use Rattle.std.proofs.Common.{◌≡◌, ◌<◌, List, length, pos, arith, sym, ap, subst, ◌∙◌}
 use Rattle.std.proofs.lemmas.Int.{ints}
 use Rattle.mz_value.specs.Ranges.{Range, AreCanonical, AreInLimit}
 use Rattle.mz_operations.specs.Bounds.{hull_of_set}

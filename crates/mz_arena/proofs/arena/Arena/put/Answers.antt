@@ -1,5 +1,4 @@
 use Rattle.std.proofs.Common.{◌≡◌, ◌++◌, ◌∷◌, [], length, ap, ◌∙◌, arith}
-use Rattle.mz_arena.specs.declared.table.Stored.{Stored}
 use Rattle.mz_arena.specs.Entries.{entry}
 use Rattle.mz_arena.specs.Tables.{entries}
 use Rattle.mz_arena.proofs.Pushed.{put_is, pushed_grew, pushed_extends, pushed_made, pushed_charges}

@@ -1,5 +1,4 @@
 use Rattle.std.proofs.Common.{◌≡◌, ◌++◌, ◌∷◌, [], length, refl, ap, ◌∙◌}
-use Rattle.mz_arena.specs.Entries.{Entry}
 use Rattle.mz_arena.specs.Tables.{entries, const_node}
 use Rattle.mz_arena.proofs.Pushed.{with_set, const_is, const_made, same_charges, pushed_extends}
 use Rattle.mz_arena.proofs.arena.Arena.set_const.Goals as goal

@@ -1,4 +1,4 @@
-use Rattle.std.proofs.Common.{◌≡◌, ℕ}
+use Rattle.std.proofs.Common.{◌≡◌}
 use Rattle.mz_interval.specs.Interval.{ends}
 use Rattle.mz_operations.specs.Bounds.{extreme_ends, extreme_from}
 use Rattle.mz_arena.specs.Tables.{wholes_of}

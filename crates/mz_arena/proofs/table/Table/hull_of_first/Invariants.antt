@@ -1,4 +1,4 @@
-use Rattle.std.proofs.Common.{◌≡◌, ℕ, take}
+use Rattle.std.proofs.Common.{◌≡◌, take}
 use Rattle.mz_interval.specs.Interval.{ends}
 use Rattle.mz_operations.specs.Bounds.{hull_from, hull_of_all}
 use Rattle.mz_arena.specs.Tables.{wholes_of}

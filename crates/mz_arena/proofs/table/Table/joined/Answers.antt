@@ -1,4 +1,3 @@
-use Rattle.std.proofs.Common.{arith}
 use Rattle.mz_arena.proofs.Kept.{same_put, same_kept}
 use Rattle.mz_arena.proofs.table.Table.joined.Goals as goal
 

@@ -1,4 +1,4 @@
-use Rattle.std.proofs.Common.{refl, ◌∙◌, sym}
+use Rattle.std.proofs.Common.{refl, ◌∙◌}
 use Rattle.mz_arena.proofs.Kept.{is_kept, is_put}
 use Rattle.mz_arena.proofs.table.Table.keep.Goals as goal
 

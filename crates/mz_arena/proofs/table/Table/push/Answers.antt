@@ -1,5 +1,4 @@
 use Rattle.std.proofs.Common.{refl, ◌∙◌}
-use Rattle.mz_arena.specs.declared.table.Table.{Table}
 use Rattle.mz_arena.proofs.Pushed.{is_pushed, sound_pushed}
 use Rattle.mz_arena.proofs.table.Table.push.Goals as goal
 

@@ -1,4 +1,4 @@
-use Rattle.std.proofs.Common.{◌≡◌, ℕ, ◌≤◌, ◌-◌, drop}
+use Rattle.std.proofs.Common.{◌≡◌, drop}
 use Rattle.mz_arena.specs.Tables.{wholes_of}
 use Rattle.mz_arena.proofs.table.Table.skip.Given as goal
 

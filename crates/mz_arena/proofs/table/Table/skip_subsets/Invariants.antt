@@ -1,4 +1,4 @@
-use Rattle.std.proofs.Common.{◌≡◌, ℕ, ◌≤◌, ◌-◌, drop}
+use Rattle.std.proofs.Common.{◌≡◌, drop}
 use Rattle.mz_arena.specs.Tables.{subsets_of}
 use Rattle.mz_arena.proofs.table.Table.skip_subsets.Given as goal
 

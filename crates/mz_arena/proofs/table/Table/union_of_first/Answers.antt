@@ -1,4 +1,4 @@
-use Rattle.std.proofs.Common.{List, [], take, subst, arith}
+use Rattle.std.proofs.Common.{List, [], take, subst}
 use Rattle.mz_value.specs.Ranges.{Range, IsUnion}
 use Rattle.mz_operations.specs.Bounds.{union_from}
 use Rattle.mz_arena.specs.Tables.{set_at, subsets_of}

@@ -1,4 +1,4 @@
-use Rattle.std.proofs.Common.{◌≡◌, ℕ, [], take}
+use Rattle.std.proofs.Common.{◌≡◌, [], take}
 use Rattle.mz_operations.specs.Bounds.{union_from}
 use Rattle.mz_arena.specs.Tables.{subsets_of, IsSetList}
 use Rattle.mz_arena.proofs.table.Table.union_of_first.Given as goal
