@@ -1,0 +1,7 @@
+pub mod Folds
+pub mod Growing
+pub mod Intervals
+pub mod Lists
+pub mod Telling
+pub mod Kept
+pub mod Pushed

@@ -1,0 +1,22 @@
+use Rattle.mz_operations.specs.declared.row.SetOp.TheVariants.{Union, Symdiff}
+use Rattle.mz_operations.specs.Sets.{union}
+use Rattle.mz_operations.specs.Bounds.{combined_upper}
+use Rattle.mz_arena.specs.Tables.{known, set_at}
+use Rattle.mz_arena.proofs.Kept.{set_extent_of, put_told}
+use Rattle.mz_arena.proofs.table.Table.united.Goals as goal
+
+pub returns-clause-told : goal.returns-clause-told
+unfolding combined_upper
+returns-clause-told c =
+    let u = set_at c.args.self.now.sets.items c.in-Some.k in
+    let w = set_at c.args.self.now.sets.items c.in-Some.m in
+    put_told c.joined.new.self c.in_ok-place.place (union u w) _ c.in_ok-place.ensures.put
+    (set_extent_of Union (known c.args.self.now c.args.a) (known c.args.self.now c.args.b) u w c.in-Some.ensures.is_first c.in-Some.ensures.is_second)
+
+pub returns-clause-symdiff : goal.returns-clause-symdiff
+unfolding combined_upper
+returns-clause-symdiff c =
+    let u = set_at c.args.self.now.sets.items c.in-Some.k in
+    let w = set_at c.args.self.now.sets.items c.in-Some.m in
+    put_told c.joined.new.self c.in_ok-place.place (union u w) _ c.in_ok-place.ensures.put
+    (set_extent_of Symdiff (known c.args.self.now c.args.a) (known c.args.self.now c.args.b) u w c.in-Some.ensures.is_first c.in-Some.ensures.is_second)

@@ -1,0 +1,18 @@
+// Terms over variables: nodes with numbers, shared by all that speak of them, each with its meaning and its bounds.
+#![tactic(auto)]
+
+mod access;
+mod arena;
+mod choice;
+mod law;
+mod list;
+mod node;
+mod number;
+mod reach;
+mod set;
+mod table;
+mod truth;
+
+pub use arena::Arena;
+pub use law::growth_is_transitive;
+pub use node::{Id, Node, NodeKind, charge};

@@ -1,0 +1,11 @@
+// What each operation of the language gives on values, what bounds its value has, and what it costs. The definitions stand in `specs/`; here are the types that name the operations, and the laws.
+#![tactic(auto)]
+
+mod law;
+mod row;
+
+pub use law::values_lie_in_bounds;
+pub use row::{
+    Arith, BoundingRow, Comparison, Connective, Fold, MadeRow, Quantifier, Row, ScalarRow, SetOp,
+    Side, Sign,
+};
