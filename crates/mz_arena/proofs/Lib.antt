@@ -5,3 +5,5 @@ pub mod Lists
 pub mod Telling
 pub mod Kept
 pub mod Pushed
+mod TermExamples
+mod BoundExamples
