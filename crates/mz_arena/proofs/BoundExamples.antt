@@ -1,7 +1,7 @@
 -- Worked examples of the bounds of nodes.
 use Rattle.std.specs.Prelude.{◌≡◌, refl, ℕ, ℤ, pos, neg_ℤ, List, [], ◌∷◌, Some, None}
 use Rattle.mz_value.specs.Ranges.{Range}
-use Rattle.mz_value.specs.Walks.{merged, merged_from, joined, joined_from, common, common_from}
+use Rattle.mz_value.specs.StepsWalks.{merged, merged_from, joined, joined_from, common, common_from}
 use Rattle.mz_interval.specs.Ends.{Ends, least_number, greatest_number}
 use Rattle.mz_operations.specs.Sets.{union, intersection, end_of}
 use Rattle.mz_operations.specs.Numbers.{toward}

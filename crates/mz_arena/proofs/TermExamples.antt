@@ -1,7 +1,7 @@
 -- Worked examples of what nodes mean.
 use Rattle.std.specs.Prelude.{◌≡◌, refl, ℕ, ℤ, pos, neg_ℤ, nat_abs, List, [], ◌∷◌, Some, None}
 use Rattle.mz_value.specs.Ranges.{Range}
-use Rattle.mz_value.specs.Walks.{merged, merged_from, joined, joined_from, common, common_from, gaps}
+use Rattle.mz_value.specs.StepsWalks.{merged, merged_from, joined, joined_from, common, common_from, gaps}
 use Rattle.mz_operations.specs.Sets.{union, intersection, difference, combined, contains, same_set}
 use Rattle.mz_operations.specs.Numbers.{computed, signed, toward}
 use Rattle.mz_arena.specs.declared.node.Node.{Node}

@@ -3,7 +3,7 @@ use Rattle.std.proofs.Common.{◌≡◌, ℕ, zero, suc, ◌-◌, length, ℤ, p
 use Rattle.std.proofs.lemmas.Int.{ints}
 use Rattle.std.specs.List.{list_any}
 use Rattle.mz_value.specs.Ranges.{Range, AreCanonical, Has, IsIn, least}
-use Rattle.mz_value.specs.Walks.{gaps}
+use Rattle.mz_value.specs.StepsWalks.{gaps}
 use Rattle.mz_value.specs.Contents.{Content}
 use Rattle.mz_value.proofs.Members.{has_begins}
 use Rattle.mz_value.proofs.Common.{common_members, common_canonical, common_limit}

@@ -1,7 +1,7 @@
 -- Worked examples of bounds.
 use Rattle.std.specs.Prelude.{◌≡◌, refl, ℕ, ℤ, pos, negsuc, List, [], ◌∷◌, true, false, Some, None}
 use Rattle.mz_value.specs.Ranges.{Range}
-use Rattle.mz_value.specs.Walks.{merged, merged_from, joined, joined_from, common, common_from}
+use Rattle.mz_value.specs.StepsWalks.{merged, merged_from, joined, joined_from, common, common_from}
 use Rattle.mz_value.specs.Shown.{range_elements}
 use Rattle.mz_value.specs.Contents.{bool, int, case, set, absent, array, contents}
 use Rattle.mz_interval.specs.Ends.{Ends, least_number, greatest_number}

@@ -3,7 +3,7 @@ use Rattle.std.specs.Prelude.{◌≡◌, refl, ◌-◌, ℤ, pos, negsuc, List, 
 use Rattle.std.specs.List.{list_any}
 use Rattle.std.specs.Ordering.{int_eq}
 use Rattle.mz_value.specs.Ranges.{Range, range_of, least}
-use Rattle.mz_value.specs.Walks.{merged, merged_from, joined, joined_from, common, common_from, gaps}
+use Rattle.mz_value.specs.StepsWalks.{merged, merged_from, joined, joined_from, common, common_from, gaps}
 use Rattle.mz_interval.specs.Ends.{is_number}
 use Rattle.mz_operations.specs.declared.row.SetOp.{SetOp}
 use Rattle.mz_operations.specs.declared.row.SetOp.TheVariants.{Union, Intersect, Diff, Symdiff}

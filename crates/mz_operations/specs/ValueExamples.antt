@@ -3,7 +3,7 @@ use Rattle.std.specs.Prelude.{◌≡◌, refl, ℕ, pos, negsuc, List, [], ◌�
 use Rattle.std.specs.Fmt.{digits}
 use Rattle.mz_base.specs.declared.kind.Kind.TheVariants.{IndexMismatch, NegativeArgument, AssertFailed, Bounds}
 use Rattle.mz_value.specs.Ranges.{Range}
-use Rattle.mz_value.specs.Walks.{merged, merged_from, joined, joined_from, common, common_from, gaps}
+use Rattle.mz_value.specs.StepsWalks.{merged, merged_from, joined, joined_from, common, common_from, gaps}
 use Rattle.mz_value.specs.Contents.{Content, bool, int, case, set, absent, text, array, contents}
 use Rattle.mz_value.specs.Shown.{range_elements, shown}
 use Rattle.mz_interval.specs.Ends.{least_number, greatest_number}
