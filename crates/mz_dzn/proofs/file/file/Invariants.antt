@@ -1,4 +1,4 @@
-use Rattle.std.proofs.Common.{◌≡◌, ◌≤◌, length, map}
+use Rattle.std.proofs.Common.{◌≡◌, length, map}
 use Rattle.mz_tree.specs.Data.{given}
 use Rattle.mz_cursor.specs.Reading.{with_front}
 use Rattle.mz_grammar.specs.Data.{reads, file}
