@@ -1,4 +1,3 @@
 pub mod ArrayNames
-pub mod Places
-pub mod Lists
+pub mod Equations
 pub mod Answer

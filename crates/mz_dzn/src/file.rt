@@ -1,19 +1,21 @@
 // The items of a data file.
 
-ghost use Rattle.std.specs.Prelude.{◌≡◌, ◌≤◌, ◌<◌, [], length, map, OnOk, IfErr};
+ghost use Rattle.std.specs.Prelude.{◌≡◌, ◌<◌, [], length, map, OnOk, IfErr};
+ghost use Rattle.mz_cursor.specs.Reads.{Passes, Reads};
 ghost use Rattle.mz_base.specs.Faults.{IfRefused};
+ghost use Rattle.mz_base.specs.declared.limit.TheConstants.{OPEN_LIMIT};
 ghost use Rattle.mz_tree.specs.Data.{value, given};
 ghost use Rattle.mz_cursor.specs.Promise.{Gives, Answers};
 ghost use Rattle.mz_cursor.specs.Tokens.{place};
 ghost use Rattle.mz_grammar.specs.Data.{rule, reads, dimensions_of, file, item, datum, named, sized};
 ghost use Rattle.mz_base.specs.Names.{Grows};
 ghost use Rattle.mz_dzn.specs.ArrayNames.{meaning};
-ghost use Rattle.mz_dzn.specs.Steps.{array_by, table_by, brackets_by};
+ghost use Rattle.mz_dzn.specs.Steps.{array_at, table_at, brackets_at};
 
 use crate::array_names::{ArrayNames, array_names, meaning};
 use crate::list::{index_sets, plains, rows};
 use crate::make::{make_array, make_array_nd, make_ident, make_rows};
-use crate::step::{file_goes_on, symbol};
+use crate::step::file_goes_on;
 use crate::value::{plain, range_from};
 use crate::word::ident_of;
 use mz_base::{Kind, Name, Names, Span, Stop};
@@ -23,12 +25,8 @@ use mz_tree::{Data, DataItem, Datum};
 use std::alloc::Global;
 
 /// The elements of an array with index sets, in their brackets.
-#[tactic(auto, unfolding(crate::specs::Steps::brackets_by))]
 fn brackets(alloc: Global, cur: &mut Cursor<'_>) -> Result<Vec<Datum>, Stop>
-    ensures reads { Gives (λ v. map value v.items) cur.new.end cur.new.rest.now result (brackets_by cur.old.room cur.old.rest.now) }
-    ensures room { OnOk result (cur.new.room ≡ cur.old.room) }
-    ensures end { cur.new.end ≡ cur.old.end }
-    ensures shorter { OnOk result (length cur.new.rest.now < length cur.old.rest.now) }
+    ensures { Reads (λ v. map value v.items) brackets_at cur.old cur.new result }
 {
     if !is_sym(Symbol::SLBrack, cur.tok()) {
         return Err(cur.unfit());
@@ -41,26 +39,20 @@ fn brackets(alloc: Global, cur: &mut Cursor<'_>) -> Result<Vec<Datum>, Stop>
 }
 
 /// What stands behind the `(` of an array with so many index sets, up to and with the `)`.
-#[tactic(auto, using(crate::proofs::Places::sized_is), unfolding(crate::specs::Steps::sized_by))]
+#[tactic(auto, using(crate::proofs::Equations::sized_reads))]
 fn sized(alloc: Global, cur: &mut Cursor<'_>, dimensions: u8) -> Result<Datum, Stop>
-    ensures reads { Gives value cur.new.end cur.new.rest.now result (reads (sized dimensions) cur.old.room cur.old.rest.now) }
-    ensures room { OnOk result (cur.new.room ≡ cur.old.room) }
-    ensures end { cur.new.end ≡ cur.old.end }
-    ensures shorter { OnOk result (length cur.new.rest.now ≤ length cur.old.rest.now) }
+    ensures { Passes value (reads (sized dimensions)) cur.old cur.new result }
 {
     let sets = index_sets(alloc, cur, dimensions)?;
     let elements = brackets(alloc, cur)?;
-    symbol(cur, Symbol::SRParen)?;
+    cur.symbol(Symbol::SRParen)?;
     Ok(make_array_nd(sets, elements))
 }
 
 /// What stands behind an identifier with which a value begins.
-#[tactic(auto, using(crate::proofs::Places::named_is), unfolding(crate::specs::Steps::named_by))]
+#[tactic(auto, using(crate::proofs::Equations::named_reads))]
 fn named(alloc: Global, cur: &mut Cursor<'_>, names: &ArrayNames, name: Name) -> Result<Datum, Stop>
-    ensures reads { Gives value cur.new.end cur.new.rest.now result (reads (named (meaning names.now) name) cur.old.room cur.old.rest.now) }
-    ensures room { OnOk result (cur.new.room ≡ cur.old.room) }
-    ensures end { cur.new.end ≡ cur.old.end }
-    ensures shorter { OnOk result (length cur.new.rest.now ≤ length cur.old.rest.now) }
+    ensures { Passes value (reads (named (meaning names.now) name)) cur.old cur.new result }
 {
     if !is_sym(Symbol::SLParen, cur.tok()) {
         return range_from(alloc, cur, make_ident(name));
@@ -76,13 +68,9 @@ fn named(alloc: Global, cur: &mut Cursor<'_>, names: &ArrayNames, name: Name) ->
 }
 
 /// An array in brackets, before its `[`.
-#[tactic(auto, unfolding(crate::specs::Steps::array_by))]
 fn array(alloc: Global, cur: &mut Cursor<'_>) -> Result<Datum, Stop>
     requires { 0 < length cur.old.rest.now }
-    ensures reads { Gives (λ d. (place cur.old.rest.now, value d)) cur.new.end cur.new.rest.now result (array_by cur.old.room cur.old.rest.now) }
-    ensures room { OnOk result (cur.new.room ≡ cur.old.room) }
-    ensures end { cur.new.end ≡ cur.old.end }
-    ensures shorter { OnOk result (length cur.new.rest.now < length cur.old.rest.now) }
+    ensures { Reads (λ d. (place cur.old.rest.now, value d)) array_at cur.old cur.new result }
 {
     cur.push()?;
     cur.skip();
@@ -92,13 +80,9 @@ fn array(alloc: Global, cur: &mut Cursor<'_>) -> Result<Datum, Stop>
 }
 
 /// A table of rows, before its `[|`.
-#[tactic(auto, unfolding(crate::specs::Steps::table_by))]
 fn table(alloc: Global, cur: &mut Cursor<'_>) -> Result<Datum, Stop>
     requires { 0 < length cur.old.rest.now }
-    ensures reads { Gives (λ d. (place cur.old.rest.now, value d)) cur.new.end cur.new.rest.now result (table_by cur.old.room cur.old.rest.now) }
-    ensures room { OnOk result (cur.new.room ≡ cur.old.room) }
-    ensures end { cur.new.end ≡ cur.old.end }
-    ensures shorter { OnOk result (length cur.new.rest.now < length cur.old.rest.now) }
+    ensures { Reads (λ d. (place cur.old.rest.now, value d)) table_at cur.old cur.new result }
 {
     cur.push()?;
     cur.skip();
@@ -108,12 +92,9 @@ fn table(alloc: Global, cur: &mut Cursor<'_>) -> Result<Datum, Stop>
 }
 
 /// A value.
-#[tactic(auto, using(crate::proofs::Places::datum_is), unfolding(crate::specs::Steps::datum_by))]
+#[tactic(auto, using(crate::proofs::Equations::datum_reads))]
 fn datum(alloc: Global, cur: &mut Cursor<'_>, names: &ArrayNames) -> Result<Datum, Stop>
-    ensures reads { Gives (λ d. (place cur.old.rest.now, value d)) cur.new.end cur.new.rest.now result (reads (datum (meaning names.now)) cur.old.room cur.old.rest.now) }
-    ensures room { OnOk result (cur.new.room ≡ cur.old.room) }
-    ensures end { cur.new.end ≡ cur.old.end }
-    ensures shorter { OnOk result (length cur.new.rest.now < length cur.old.rest.now) }
+    ensures { Reads (λ d. (place cur.old.rest.now, value d)) (reads (datum (meaning names.now))) cur.old cur.new result }
 {
     if is_sym(Symbol::SLBrack, cur.tok()) {
         return array(alloc, cur);
@@ -129,18 +110,15 @@ fn datum(alloc: Global, cur: &mut Cursor<'_>, names: &ArrayNames) -> Result<Datu
 }
 
 /// A name and its value.
-#[tactic(auto, using(crate::proofs::Places::item_is), unfolding(crate::specs::Steps::item_by))]
+#[tactic(auto, using(crate::proofs::Equations::item_reads))]
 fn item(alloc: Global, cur: &mut Cursor<'_>, names: &ArrayNames) -> Result<DataItem, Stop>
-    ensures reads { Gives given cur.new.end cur.new.rest.now result (reads (item (meaning names.now)) cur.old.room cur.old.rest.now) }
-    ensures room { OnOk result (cur.new.room ≡ cur.old.room) }
-    ensures end { cur.new.end ≡ cur.old.end }
-    ensures shorter { OnOk result (length cur.new.rest.now < length cur.old.rest.now) }
+    ensures { Reads given (reads (item (meaning names.now))) cur.old cur.new result }
 {
     let Some(name) = ident_of(cur.tok()) else {
         return Err(cur.unfit());
     };
     let span = cur.pass();
-    symbol(cur, Symbol::SEq)?;
+    cur.symbol(Symbol::SEq)?;
     let at = cur.place();
     let datum = datum(alloc, cur, names)?;
     Ok(DataItem {
@@ -152,6 +130,7 @@ fn item(alloc: Global, cur: &mut Cursor<'_>, names: &ArrayNames) -> Result<DataI
 }
 
 /// All items, up to the end of the file.
+#[tactic(auto, using(crate::proofs::Equations::file_reads, mz_cursor::proofs::Steps::front_push, std::proofs::lemmas::List::map_push, mz_cursor::proofs::Steps::nothing_behind, mz_cursor::proofs::Steps::no_front))]
 fn file(alloc: Global, cur: &mut Cursor<'_>, names: &ArrayNames) -> Result<Vec<DataItem>, Stop>
     ensures reads { Gives (λ v. map given v.items) cur.new.end cur.new.rest.now result (reads (file (meaning names.now)) cur.old.room cur.old.rest.now) }
     ensures whole { OnOk result (cur.new.rest.now ≡ []) }
@@ -161,9 +140,8 @@ fn file(alloc: Global, cur: &mut Cursor<'_>, names: &ArrayNames) -> Result<Vec<D
     let mut all = Vec::new(alloc);
     while cur.tok().is_some() {
         let item = item(alloc, cur, names)?;
-        let more = file_goes_on(cur)?;
         all.push(item)?;
-        if !more {
+        if !file_goes_on(cur)? {
             return Ok(all);
         }
     }
@@ -188,7 +166,7 @@ pub fn data_items(
     end: Span,
     names: &mut Names,
 ) -> Result<Data, Stop>
-    ensures answers { Answers rule (file (dimensions_of names.new)) (λ d. map given d.items.items) 120 end tokens.now [] result }
+    ensures answers { Answers rule (file (dimensions_of names.new)) (λ d. map given d.items.items) OPEN_LIMIT end tokens.now [] result }
     ensures grows { Grows names.old names.new }
     ensures syntax { IfErr result (λ s. IfRefused s (λ f. f.kind ≡ Kind.Syntax)) }
 {

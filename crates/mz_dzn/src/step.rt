@@ -1,32 +1,16 @@
-// Single steps: a symbol, an opening token, and what stands behind an element of a list.
+// What stands behind an element of a list.
 
 ghost use Rattle.std.specs.Prelude.{◌≡◌, ◌≤◌, ◌<◌, length, false, [], OnOk, IfOk, if◌then◌else◌};
 ghost use Rattle.mz_cursor.specs.Promise.{Gives};
 ghost use Rattle.mz_cursor.specs.Tokens.{tok_at, behind};
 ghost use Rattle.mz_cursor.specs.Look.{is_sym};
 ghost use Rattle.mz_lexer.specs.declared.token.Symbol.TheVariants.{SComma};
-ghost use Rattle.mz_dzn.specs.Steps.{symbol_at, goes_on_at, row_goes_on_at, file_goes_on_at};
+ghost use Rattle.mz_dzn.specs.Steps.{goes_on_at, row_goes_on_at, file_goes_on_at};
 
 use crate::word::ends_row;
 use mz_base::Stop;
 use mz_cursor::{Cursor, is_sym};
 use mz_lexer::Symbol;
-
-/// A symbol, and no other token.
-#[tactic(auto, unfolding(crate::specs::Steps::symbol_at))]
-pub fn symbol(cur: &mut Cursor<'_>, wanted: Symbol) -> Result<(), Stop>
-    ensures reads { Gives (λ u. u) cur.new.end cur.new.rest.now result (symbol_at wanted cur.old.rest.now) }
-    ensures room { cur.new.room ≡ cur.old.room }
-    ensures end { cur.new.end ≡ cur.old.end }
-    ensures shorter { OnOk result (length cur.new.rest.now < length cur.old.rest.now) }
-{
-    if is_sym(wanted, cur.tok()) {
-        cur.skip();
-        Ok(())
-    } else {
-        Err(cur.unfit())
-    }
-}
 
 /// What stands behind an element: true behind a separator, false behind the closing symbol.
 #[tactic(auto, unfolding(crate::specs::Steps::goes_on_at))]

@@ -1,10 +1,11 @@
 // Values that no list but a set's stands in.
 
 ghost use Rattle.std.specs.Prelude.{◌≡◌, ◌≤◌, ◌<◌, length, OnOk};
+ghost use Rattle.mz_cursor.specs.Reads.{Reads};
 ghost use Rattle.mz_tree.specs.Data.{value};
 ghost use Rattle.mz_cursor.specs.Promise.{Gives};
 ghost use Rattle.mz_cursor.specs.Tokens.{place};
-ghost use Rattle.mz_dzn.specs.Steps.{braces_by};
+ghost use Rattle.mz_dzn.specs.Steps.{braces_at};
 ghost use Rattle.mz_grammar.specs.Data.{reads, plain, range, set, bounds, one};
 
 use crate::list::ones;
@@ -17,7 +18,7 @@ use mz_tree::Datum;
 use std::alloc::Global;
 
 /// A truth value, a number or an identifier.
-#[tactic(auto, using(crate::proofs::Places::one_is), unfolding(crate::specs::Steps::one_by))]
+#[tactic(auto, using(crate::proofs::Equations::one_reads))]
 pub fn one(cur: &mut Cursor<'_>) -> Result<Datum, Stop>
     ensures reads { Gives (λ d. (place cur.old.rest.now, value d)) cur.new.end cur.new.rest.now result (reads one cur.old.room cur.old.rest.now) }
     ensures room { cur.new.room ≡ cur.old.room }
@@ -40,7 +41,7 @@ pub fn one(cur: &mut Cursor<'_>) -> Result<Datum, Stop>
 }
 
 /// What may stand behind a value that is one token: the upper end of a range.
-#[tactic(auto, using(crate::proofs::Places::range_is), unfolding(crate::specs::Steps::range_by))]
+#[tactic(auto, using(crate::proofs::Equations::range_reads))]
 pub fn range_from(alloc: Global, cur: &mut Cursor<'_>, from: Datum) -> Result<Datum, Stop>
     ensures reads { Gives value cur.new.end cur.new.rest.now result (reads (range (value from)) cur.old.room cur.old.rest.now) }
     ensures room { cur.new.room ≡ cur.old.room }
@@ -56,7 +57,7 @@ pub fn range_from(alloc: Global, cur: &mut Cursor<'_>, from: Datum) -> Result<Da
 }
 
 /// What stands behind the first value of a set: the upper end of a range, which only an identifier can do without.
-#[tactic(auto, using(crate::proofs::Places::bounds_is), unfolding(crate::specs::Steps::bounds_by))]
+#[tactic(auto, using(crate::proofs::Equations::bounds_reads))]
 fn bounds_from(alloc: Global, cur: &mut Cursor<'_>, from: Datum) -> Result<Datum, Stop>
     ensures reads { Gives value cur.new.end cur.new.rest.now result (reads (bounds (value from)) cur.old.room cur.old.rest.now) }
     ensures room { cur.new.room ≡ cur.old.room }
@@ -77,10 +78,7 @@ fn bounds_from(alloc: Global, cur: &mut Cursor<'_>, from: Datum) -> Result<Datum
 /// A set in braces, before its `{`.
 fn braces(alloc: Global, cur: &mut Cursor<'_>) -> Result<Datum, Stop>
     requires { 0 < length cur.old.rest.now }
-    ensures reads { Gives value cur.new.end cur.new.rest.now result (braces_by cur.old.room cur.old.rest.now) }
-    ensures room { OnOk result (cur.new.room ≡ cur.old.room) }
-    ensures end { cur.new.end ≡ cur.old.end }
-    ensures shorter { OnOk result (length cur.new.rest.now < length cur.old.rest.now) }
+    ensures { Reads value braces_at cur.old cur.new result }
 {
     cur.push()?;
     cur.skip();
@@ -90,12 +88,9 @@ fn braces(alloc: Global, cur: &mut Cursor<'_>) -> Result<Datum, Stop>
 }
 
 /// A set: in braces, a range or an identifier.
-#[tactic(auto, using(crate::proofs::Places::set_is), unfolding(crate::specs::Steps::set_by))]
+#[tactic(auto, using(crate::proofs::Equations::set_reads))]
 pub fn index_set(alloc: Global, cur: &mut Cursor<'_>) -> Result<Datum, Stop>
-    ensures reads { Gives value cur.new.end cur.new.rest.now result (reads set cur.old.room cur.old.rest.now) }
-    ensures room { OnOk result (cur.new.room ≡ cur.old.room) }
-    ensures end { cur.new.end ≡ cur.old.end }
-    ensures shorter { OnOk result (length cur.new.rest.now < length cur.old.rest.now) }
+    ensures { Reads value (reads set) cur.old cur.new result }
 {
     if is_sym(Symbol::SLBrace, cur.tok()) {
         return braces(alloc, cur);
@@ -105,12 +100,9 @@ pub fn index_set(alloc: Global, cur: &mut Cursor<'_>) -> Result<Datum, Stop>
 }
 
 /// A value that is no array.
-#[tactic(auto, using(crate::proofs::Places::plain_is), unfolding(crate::specs::Steps::plain_by))]
+#[tactic(auto, using(crate::proofs::Equations::plain_reads))]
 pub fn plain(alloc: Global, cur: &mut Cursor<'_>) -> Result<Datum, Stop>
-    ensures reads { Gives (λ d. (place cur.old.rest.now, value d)) cur.new.end cur.new.rest.now result (reads plain cur.old.room cur.old.rest.now) }
-    ensures room { OnOk result (cur.new.room ≡ cur.old.room) }
-    ensures end { cur.new.end ≡ cur.old.end }
-    ensures shorter { OnOk result (length cur.new.rest.now < length cur.old.rest.now) }
+    ensures { Reads (λ d. (place cur.old.rest.now, value d)) (reads plain) cur.old cur.new result }
 {
     if is_sym(Symbol::SLBrace, cur.tok()) {
         return braces(alloc, cur);
