@@ -1,0 +1,123 @@
+// A block of the input: a command, the files that it runs over, and the calls that fail.
+
+use crate::gathered;
+use crate::outcome::put_lines;
+use crate::torn::TornSink;
+use cases::{Page, bytes_of};
+use mz_base::Memory;
+use mz_io::{MemFiles, MemSink, MemSource};
+use mz_tool::{Status, run};
+use std::alloc::Global;
+
+/// A command with its files and the numbers of the fetches, puts and notes that fail.
+#[derive(Drop)]
+pub struct Block<'a> {
+    command: &'a str,
+    files: Vec<(String, Vec<u8>)>,
+    fetches: Vec<u64>,
+    puts: Vec<u64>,
+    notes: Vec<u64>,
+    /// Whether a put fails after four bytes.
+    tears: bool,
+}
+
+impl<'a> Block<'a> {
+    /// A command over no files, where no call fails.
+    pub fn new(alloc: Global, command: &'a str) -> Block<'a> {
+        Block {
+            command,
+            files: Vec::new(alloc),
+            fetches: Vec::new(alloc),
+            puts: Vec::new(alloc),
+            notes: Vec::new(alloc),
+            tears: false,
+        }
+    }
+
+    /// Adds what an indented line says: `NAME: TEXT`, a file, where `NAME SIZE: TEXT` fills the text with blanks up to
+    /// so many bytes; `fails fetch N`, `fails put N`, `fails note N` and `tears put`.
+    pub fn add(&mut self, alloc: Global, line: &str) -> Result<(), Memory> {
+        if let Some((name, text)) = line.split_once(':') {
+            return self.add_file(alloc, name, text);
+        }
+        if line == "tears put" {
+            self.tears = true;
+        } else if let Some(call) = number_after("fails fetch ", line) {
+            self.fetches.push(call)?;
+        } else if let Some(call) = number_after("fails put ", line) {
+            self.puts.push(call)?;
+        } else if let Some(call) = number_after("fails note ", line) {
+            self.notes.push(call)?;
+        }
+        Ok(())
+    }
+
+    fn add_file(&mut self, alloc: Global, name: &str, text: &str) -> Result<(), Memory> {
+        let text = text.strip_prefix(' ').unwrap_or(text);
+        let mut bytes = bytes_of(alloc, text)?;
+        let mut name = name;
+        if let Some((first, size)) = name.split_once(' ') {
+            name = first;
+            if let Ok(size) = size.parse::<usize>() {
+                bytes.resize(size, b' ')?;
+            }
+        }
+        self.files.push((String::from_str(alloc, name)?, bytes))?;
+        Ok(())
+    }
+
+    /// Writes what the command answers. A line that is no command, as a comment, has no answer.
+    pub fn answer(self, alloc: Global, page: &mut Page) -> Result<(), Memory> {
+        let command = self.command;
+        if let Some(first) = command.strip_prefix("gather ") {
+            let mut files = MemFiles::new(self.files, self.fetches);
+            return gathered::print(alloc, first, &mut files, page);
+        }
+        if let Some(line) = command.strip_prefix("mzc") {
+            return self.run(alloc, line, page);
+        }
+        Ok(())
+    }
+
+    fn run(self, alloc: Global, line: &str, page: &mut Page) -> Result<(), Memory> {
+        let mut words = Vec::new(alloc);
+        for word in line.split_whitespace() {
+            words.push(String::from_str(alloc, word)?)?;
+        }
+        let mut files = MemFiles::new(self.files, self.fetches);
+        let mut input = MemSource::new(Vec::new(alloc), 1, Vec::new(alloc));
+        let mut notes = MemSink::new(alloc, self.notes);
+        if self.tears {
+            let mut out = TornSink::new(alloc);
+            let status = run(alloc, &words, &mut files, &mut input, &mut out, &mut notes);
+            print_run(page, status, out.bytes.as_slice(), notes.bytes())
+        } else {
+            let mut out = MemSink::new(alloc, self.puts);
+            let status = run(alloc, &words, &mut files, &mut input, &mut out, &mut notes);
+            print_run(page, status, out.bytes(), notes.bytes())
+        }
+    }
+}
+
+/// The number after these words, where a line is these words and a number.
+fn number_after(words: &str, line: &str) -> Option<u64> {
+    match line.strip_prefix(words) {
+        Some(number) => number.parse::<u64>().ok(),
+        None => None,
+    }
+}
+
+/// A run's status, each line that it wrote after `> `, and each line that it noted after `! `.
+fn print_run(page: &mut Page, status: Status, out: &[u8], notes: &[u8]) -> Result<(), Memory> {
+    match status {
+        Status::Done => page.line("Done"),
+        Status::Refused(_) => page.line("Refused"),
+        Status::Usage => page.line("Usage"),
+        Status::ReadFault => page.line("ReadFault"),
+        Status::WriteFault => page.line("WriteFault"),
+        Status::Memory => return Err(Memory),
+    }
+    put_lines(page, "> ", out);
+    put_lines(page, "! ", notes);
+    Ok(())
+}
