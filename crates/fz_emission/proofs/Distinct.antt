@@ -1,5 +1,5 @@
 -- Distinct names read their own values back.
-use Rattle.std.proofs.Common.{◌≡◌, ◌∙◌, ℤ, List, [], ◌∷◌, length, map, Bool, true, false, cond, refl, sym, ap, arith}
+use Rattle.std.proofs.Common.{◌≡◌, ◌∙◌, suc, ◌<◌, ℤ, List, [], ◌∷◌, length, map, Bool, true, false, cond, refl, sym, ap, arith}
 use Rattle.std.specs.List.{Contains}
 use Rattle.std.specs.Str.{bytes_eq}
 use Rattle.std.proofs.lemmas.Slice.Eq.{bytes_eq-Decides}
@@ -22,7 +22,7 @@ later y n ys [] f none = refl
 later y n ys (x ∷ xs) f none = rw (other_name x y (λ e. none x (0, omega arith, refl) e)) (ap (λ zs. read_off ys f x ∷ zs) (later y n ys xs f (λ z in'. none z (deeper z in'))))
   where
     deeper : (z : Name) → Contains xs z → Contains (x ∷ xs) z
-    deeper z (k, below, at) = (k + 1, omega (arith, below), at)
+    deeper z (k, below, at) = (suc k, omega (arith, below), at)
 
 pub reads_itself : (names : List Name) (f : Values) → AreDistinct names → length f ≡ length names → map (read_off names f) names ≡ f
 reads_itself [] [] d e = refl

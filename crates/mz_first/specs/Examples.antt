@@ -1,5 +1,6 @@
 -- Worked examples of the first form.
 use Rattle.std.specs.Prelude.{◌≡◌, ℕ, pos, List, [], ◌∷◌, true, false, Ok, Err, codes, refl}
+use Rattle.mz_base.specs.Words.{is_keyword}
 use Rattle.mz_base.specs.declared.fault.Span.{Span}
 use Rattle.mz_tree.specs.declared.expr.BinOp.TheVariants as op
 use Rattle.mz_tree.specs.Tree as tree
@@ -35,24 +36,24 @@ of_items turn ts = record { name = codes "m.mzn"; items = ts; end = place turn 9
 pub declared_elsewhere :
     formed table (of_items 0 (include 1 (place 0 9) ∷ constraint_on 0 0 ∷ solve (place 0 40) items.satisfy ∷ []) ∷ of_items 1 (declaration_of 1 0 ∷ []) ∷ [])
     ≡ Ok (constraint (name (codes "x")) Equal (number (pos 1)) ∷ satisfy ∷ variable (pos 1) (pos 3) (codes "x") ∷ [])
-unfolding formed walk_files walk_items declared_names constraint_in only compared comparison_of operand_in number_in within constraint_of declared_of domain_of range_of range_in range_from variable_of is_free goal_of
+unfolding formed walk_files walk_items declared_names constraint_in only compared comparison_of operand_in number_in within constraint_of declared_of domain_of range_of range_in range_from variable_of is_free goal_of is_keyword
 declared_elsewhere = refl
 
 -- A name that nothing declares
 pub declared_nowhere : formed table (of_items 0 (declaration_of 0 0 ∷ constraint_on 0 2 ∷ []) ∷ []) ≡ Err (place 0 20, codes "m.mzn")
-unfolding formed walk_files walk_items declared_names constraint_in only compared comparison_of operand_in number_in within constraint_of declared_of domain_of range_of range_in range_from variable_of is_free goal_of
+unfolding formed walk_files walk_items declared_names constraint_in only compared comparison_of operand_in number_in within constraint_of declared_of domain_of range_of range_in range_from variable_of is_free goal_of is_keyword
 declared_nowhere = refl
 
 -- A second declaration, and a second solve item
 pub declared_twice : formed table (of_items 0 (declaration_of 0 0 ∷ []) ∷ of_items 1 (declaration_of 1 0 ∷ []) ∷ []) ≡ Err (place 1 11, codes "m.mzn")
-unfolding formed walk_files walk_items declared_names declared_of domain_of range_of range_in range_from only number_in within variable_of is_free
+unfolding formed walk_files walk_items declared_names declared_of domain_of range_of range_in range_from only number_in within variable_of is_free is_keyword
 declared_twice = refl
 
 pub solved_twice : formed table (of_items 0 (solve (place 0 7) items.satisfy ∷ solve (place 0 22) items.satisfy ∷ []) ∷ []) ≡ Err (place 0 22, codes "m.mzn")
-unfolding formed walk_files walk_items declared_names goal_of
+unfolding formed walk_files walk_items declared_names goal_of is_keyword
 solved_twice = refl
 
 -- No solve item
 pub unsolved : formed table (of_items 0 (declaration_of 0 0 ∷ []) ∷ of_items 1 [] ∷ []) ≡ Err (place 0 99, codes "m.mzn")
-unfolding formed walk_files walk_items declared_names declared_of domain_of range_of range_in range_from only number_in within variable_of is_free
+unfolding formed walk_files walk_items declared_names declared_of domain_of range_of range_in range_from only number_in within variable_of is_free is_keyword
 unsolved = refl

@@ -30,7 +30,7 @@ fn declare_cases<'a>(
 }
 
 /// Declares the names that an item declares.
-#[tactic(auto, unfolding(mz_tree::specs::Kinds::OfDeclaration))]
+#[tactic(auto, unfolding(mz_tree::specs::Kinds::OfDeclaration, mz_tree::specs::Views::declaration))]
 fn declare_item<'a>(
     known: &mut NameTable<'a>,
     names: &'a Names,

@@ -13,8 +13,8 @@ ghost use Rattle.mz_first.specs.Views.{operand, item as item_of, given as given_
 
 use crate::item::{Comparison, Item, Operand};
 use mz_base::{Names, Span, is_identifier};
-use mz_value::{GREATEST, LEAST};
 use mz_tree::{BinOp, Decl, Expr, Form, Goal, Item as TreeItem, TypeBase, TypeText, UnOp};
+use mz_value::{GREATEST, LEAST};
 
 /// What an item of a file gives, with its place: nothing, an item of the model, or it isn't of the
 /// form.
@@ -37,7 +37,7 @@ fn within(n: i64) -> Option<i64>
     }
 }
 
-#[tactic(auto, unfolding(crate::specs::Form::magnitude_in))]
+#[tactic(auto, unfolding(crate::specs::Form::magnitude_in, mz_tree::specs::Views::tree, mz_tree::specs::Views::shape, mz_tree::specs::Views::based, mz_tree::specs::Views::written, mz_tree::specs::Views::declaration))]
 fn magnitude_in(f: &Form) -> Option<i64>
     ensures number { result ≡ magnitude_in (shape f.now) }
     ensures bound { IfSome result IsInLimit }
@@ -49,7 +49,7 @@ fn magnitude_in(f: &Form) -> Option<i64>
 }
 
 /// num = [ "-" ] INT
-#[tactic(auto, unfolding(crate::specs::Form::number_in))]
+#[tactic(auto, unfolding(crate::specs::Form::number_in, mz_tree::specs::Views::tree, mz_tree::specs::Views::shape, mz_tree::specs::Views::based, mz_tree::specs::Views::written, mz_tree::specs::Views::declaration))]
 fn number_in(f: &Form) -> Option<i64>
     ensures { result ≡ number_in (shape f.now) }
 {
@@ -64,7 +64,7 @@ fn number_in(f: &Form) -> Option<i64>
 }
 
 /// p = num | IDENT
-#[tactic(auto, unfolding(crate::specs::Form::operand_in, mz_tree::specs::Kinds::OfShape))]
+#[tactic(auto, unfolding(crate::specs::Form::operand_in, mz_tree::specs::Kinds::OfShape, mz_tree::specs::Views::tree, mz_tree::specs::Views::shape, mz_tree::specs::Views::based, mz_tree::specs::Views::written, mz_tree::specs::Views::declaration))]
 fn operand_in<'a>(names: &'a Names, f: &Form) -> Option<Operand<'a>>
     requires { IsShapeKnown names.now (shape f.now) }
     ensures { option_map operand result ≡ operand_in names.now (shape f.now) }
@@ -95,7 +95,7 @@ fn comparison_of(op: BinOp) -> Option<Comparison>
 }
 
 /// An operator with the operand behind it, where no other follows.
-#[tactic(auto, using(crate::proofs::Links::only_none, crate::proofs::Links::only_many), unfolding(crate::specs::Form::only))]
+#[tactic(auto, using(crate::proofs::Links::only_none, crate::proofs::Links::only_many), unfolding(crate::specs::Form::only, mz_tree::specs::Views::tree, mz_tree::specs::Views::shape, mz_tree::specs::Views::based, mz_tree::specs::Views::written, mz_tree::specs::Views::declaration))]
 fn only<'e>(rest: &'e [(BinOp, Expr)]) -> Option<(BinOp, &'e Form)>
     ensures { option_map pair result ≡ only (links (map link rest.now)) }
 {
@@ -130,7 +130,7 @@ fn compared<'a>(names: &'a Names, first: &Form, op: BinOp, last: &Form) -> Optio
     constraint_of(p, op, q)
 }
 
-#[tactic(auto, unfolding(crate::specs::Form::constraint_in))]
+#[tactic(auto, unfolding(crate::specs::Form::constraint_in, mz_tree::specs::Views::tree, mz_tree::specs::Views::shape, mz_tree::specs::Views::based, mz_tree::specs::Views::written, mz_tree::specs::Views::declaration))]
 fn constraint_in<'a>(names: &'a Names, f: &Form) -> Option<Item<'a>>
     requires { IsShapeKnown names.now (shape f.now) }
     ensures { option_map item_of result ≡ constraint_in names.now (shape f.now) }
@@ -159,7 +159,7 @@ fn range_from(first: &Form, op: BinOp, last: &Form) -> Option<(i64, i64)>
 }
 
 /// num ".." num
-#[tactic(auto, unfolding(crate::specs::Form::range_in))]
+#[tactic(auto, unfolding(crate::specs::Form::range_in, mz_tree::specs::Views::tree, mz_tree::specs::Views::shape, mz_tree::specs::Views::based, mz_tree::specs::Views::written, mz_tree::specs::Views::declaration))]
 fn range_in(f: &Form) -> Option<(i64, i64)>
     ensures { result ≡ range_in (shape f.now) }
 {
@@ -172,7 +172,7 @@ fn range_in(f: &Form) -> Option<(i64, i64)>
     }
 }
 
-#[tactic(auto, unfolding(crate::specs::Form::range_of))]
+#[tactic(auto, unfolding(crate::specs::Form::range_of, mz_tree::specs::Views::tree, mz_tree::specs::Views::shape, mz_tree::specs::Views::based, mz_tree::specs::Views::written, mz_tree::specs::Views::declaration))]
 fn range_of(base: &TypeBase) -> Option<(i64, i64)>
     ensures { result ≡ range_of (based base.now) }
 {
@@ -183,7 +183,7 @@ fn range_of(base: &TypeBase) -> Option<(i64, i64)>
 }
 
 /// "var" num ".." num
-#[tactic(auto, unfolding(crate::specs::Form::domain_of))]
+#[tactic(auto, unfolding(crate::specs::Form::domain_of, mz_tree::specs::Views::tree, mz_tree::specs::Views::shape, mz_tree::specs::Views::based, mz_tree::specs::Views::written, mz_tree::specs::Views::declaration))]
 fn domain_of(t: &TypeText) -> Option<(i64, i64)>
     ensures { result ≡ domain_of (written t.now) }
 {
@@ -223,7 +223,7 @@ fn variable_of<'a>(lo: i64, hi: i64, name: &'a str) -> Option<Item<'a>>
 }
 
 /// "var" num ".." num ":" IDENT
-#[tactic(auto, unfolding(crate::specs::Form::declared_of, mz_tree::specs::Kinds::OfDeclaration))]
+#[tactic(auto, unfolding(crate::specs::Form::declared_of, mz_tree::specs::Kinds::OfDeclaration, mz_tree::specs::Views::tree, mz_tree::specs::Views::shape, mz_tree::specs::Views::based, mz_tree::specs::Views::written, mz_tree::specs::Views::declaration))]
 fn declared_of<'a>(names: &'a Names, d: &Decl) -> Option<Item<'a>>
     requires { IsDeclarationKnown names.now (declaration d.now) }
     ensures { option_map item_of result ≡ declared_of names.now (declaration d.now) }
@@ -258,7 +258,7 @@ fn at<'a>(place: Span, found: Option<Item<'a>>) -> Given<'a>
 }
 
 /// What an item gives. The place is that of its name, of `solve`, or of its expression.
-#[tactic(auto, unfolding(mz_tree::specs::Kinds::OfTree))]
+#[tactic(auto, unfolding(mz_tree::specs::Kinds::OfTree, mz_tree::specs::Views::tree, mz_tree::specs::Views::shape, mz_tree::specs::Views::based, mz_tree::specs::Views::written, mz_tree::specs::Views::declaration))]
 pub fn gives<'a>(names: &'a Names, item: &TreeItem) -> Given<'a>
     requires { IsItemKnown names.now (tree_of item.now) }
     ensures { given_of result ≡ given names.now (tree_of item.now) }

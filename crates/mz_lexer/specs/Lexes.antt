@@ -39,25 +39,25 @@ pub record IsContent (bs v : List ℕ) : Type 0 where
 -- the bytes spell the token; the flag says that a `)` begins the next piece of a text
 pub data Spells : Bool → List ℕ → Lexeme → Type 0 where
   an_identifier : {later : Bool} {w : List ℕ} → is_word w ≡ true
-    → ((k : Keyword) → w ≡ keyword_text k → ⊥)
-    → Spells later w (ident w)
+      → ((k : Keyword) → w ≡ keyword_text k → ⊥)
+      → Spells later w (ident w)
   a_keyword : {later : Bool} (k : Keyword) → Spells later (keyword_text k) (word k)
   decimal : {later : Bool} {ds : List ℕ} → are_digits is_digit ds ≡ true
-    → Spells later ds (int (pos (number_of 10 ds)))
+      → Spells later ds (int (pos (number_of 10 ds)))
   hexadecimal : {later : Bool} {ds : List ℕ} → are_digits is_hex_digit ds ≡ true
-    → Spells later (codes "0x" ++ ds) (int (pos (number_of 16 ds)))
+      → Spells later (codes "0x" ++ ds) (int (pos (number_of 16 ds)))
   octal : {later : Bool} {ds : List ℕ} → are_digits is_octal_digit ds ≡ true
-    → Spells later (codes "0o" ++ ds) (int (pos (number_of 8 ds)))
+      → Spells later (codes "0o" ++ ds) (int (pos (number_of 8 ds)))
   a_symbol : {later : Bool} (s : Symbol) → (later ≡ true → s ≡ SRParen → ⊥)
-    → Spells later (symbol_text s) (sym s)
+      → Spells later (symbol_text s) (sym s)
   a_text : {later : Bool} (bs : List ℕ) {v : List ℕ} → IsContent bs v
-    → Spells later (quote ∷ (bs ++ quote ∷ [])) (text v)
+      → Spells later (quote ∷ (bs ++ quote ∷ [])) (text v)
   a_head : {later : Bool} (bs : List ℕ) {v : List ℕ} → IsContent bs v
-    → Spells later (quote ∷ (bs ++ backslash ∷ codes "(")) (text_head v)
+      → Spells later (quote ∷ (bs ++ backslash ∷ codes "(")) (text_head v)
   a_middle : (bs : List ℕ) {v : List ℕ} → IsContent bs v
-    → Spells true (codes ")" ++ (bs ++ backslash ∷ codes "(")) (text_mid v)
+      → Spells true (codes ")" ++ (bs ++ backslash ∷ codes "(")) (text_mid v)
   a_tail : (bs : List ℕ) {v : List ℕ} → IsContent bs v
-    → Spells true (codes ")" ++ (bs ++ quote ∷ [])) (text_tail v)
+      → Spells true (codes ")" ++ (bs ++ quote ∷ [])) (text_tail v)
 
 -- no token that begins where these bytes begin is longer
 abbrev pub IsLongest : Bool → List ℕ → List ℕ → Type 0
@@ -68,10 +68,10 @@ pub data IsLeftOut : List ℕ → Type 0 where
   left_byte : {b : ℕ} (bs : List ℕ) → is_left_out_byte b ≡ true → is_byte (codes "/") b ≡ false → IsLeftOut (b ∷ bs)
   -- a `/` that is no `/\` and begins no comment
   left_slash : (bs : List ℕ) → nat_eq (front_byte bs) backslash ≡ false → is_byte (codes "*") (front_byte bs) ≡ false
-    → IsLeftOut (codes "/" ++ bs)
+      → IsLeftOut (codes "/" ++ bs)
   left_number : (ds bs : List ℕ) → are_digits is_digit ds ≡ true → goes_on bs ≡ true → IsLeftOut (ds ++ bs)
   left_keyword : (k : Keyword) (bs : List ℕ) → is_left_out_keyword k ≡ true → is_word_byte (front_byte bs) ≡ false
-    → IsLeftOut (keyword_text k ++ bs)
+      → IsLeftOut (keyword_text k ++ bs)
 
 -- a comment with this between its ends
 abbrev pub comment : List ℕ → List ℕ
@@ -115,34 +115,34 @@ IsInLimit _ = Unit {0}
 pub data Lexed : List Opening → Span → List ℕ → Outcome → Type 0 where
   no_bytes : {opens : List Opening} {at : Span} → Lexed opens at [] (Ok [])
   a_blank : {opens : List Opening} {at : Span} {b : ℕ} {bs : List ℕ} {out : Outcome} → is_blank b ≡ true
-    → Lexed opens (passed at b) bs out
-    → Lexed opens at (b ∷ bs) out
+      → Lexed opens (passed at b) bs out
+      → Lexed opens at (b ∷ bs) out
   a_line_comment : {opens : List Opening} {at : Span} (c : List ℕ) {bs : List ℕ} {out : Outcome} → list_all (λ b. not (is_newline b)) c ≡ true
-    → IsLineEnd bs
-    → Lexed opens (after at (codes "%" ++ c)) bs out
-    → Lexed opens at (codes "%" ++ (c ++ bs)) out
+      → IsLineEnd bs
+      → Lexed opens (after at (codes "%" ++ c)) bs out
+      → Lexed opens at (codes "%" ++ (c ++ bs)) out
   a_comment : {opens : List Opening} {at : Span} (c : List ℕ) {bs : List ℕ} {out : Outcome} → EndsFirst c
-    → Lexed opens (after at (comment c)) bs out
-    → Lexed opens at (comment c ++ bs) out
+      → Lexed opens (after at (comment c)) bs out
+      → Lexed opens at (comment c ++ bs) out
   a_token : {opens : List Opening} {at : Span} (w : List ℕ) {bs : List ℕ} {x : Lexeme} {out : Outcome} → Spells (begins_piece opens) w x
-    → IsLongest (begins_piece opens) w bs
-    → IsInLimit x
-    → (IsLeftOut (w ++ bs) → ⊥)
-    → Lexed (opens_behind x opens) (after at w) bs out
-    → Lexed opens at (w ++ bs) (with_token (record { lexeme = x; span = at; len = length w }) out)
+      → IsLongest (begins_piece opens) w bs
+      → IsInLimit x
+      → (IsLeftOut (w ++ bs) → ⊥)
+      → Lexed (opens_behind x opens) (after at w) bs out
+      → Lexed opens at (w ++ bs) (with_token (record { lexeme = x; span = at; len = length w }) out)
   left_out : {opens : List Opening} {at : Span} {bs : List ℕ} → IsLeftOut bs
-    → Lexed opens at bs (Err (fault LeftOut at))
+      → Lexed opens at bs (Err (fault LeftOut at))
   past_limit : {opens : List Opening} {at : Span} (w bs : List ℕ) (n : ℕ) → Spells (begins_piece opens) w (int (pos n))
-    → IsLongest (begins_piece opens) w bs
-    → limit < n
-    → (IsLeftOut (w ++ bs) → ⊥)
-    → Lexed opens at (w ++ bs) (Err (fault Bounds at))
+      → IsLongest (begins_piece opens) w bs
+      → limit < n
+      → (IsLeftOut (w ++ bs) → ⊥)
+      → Lexed opens at (w ++ bs) (Err (fault Bounds at))
   nothing_begins : {opens : List Opening} {at : Span} {b : ℕ} {bs : List ℕ} → NothingBegins (begins_piece opens) (b ∷ bs)
-    → Lexed opens at (b ∷ bs) (Err (fault Lexical at))
+      → Lexed opens at (b ∷ bs) (Err (fault Lexical at))
   in_a_text : {opens : List Opening} {at : Span} {b : ℕ} (c bs : List ℕ) {v : List ℕ} → opens_piece (begins_piece opens) b ≡ true
-    → IsContent c v
-    → IsStuck bs
-    → Lexed opens at ((b ∷ c) ++ bs) (Err (fault Lexical (after at (b ∷ c))))
+      → IsContent c v
+      → IsStuck bs
+      → Lexed opens at ((b ∷ c) ++ bs) (Err (fault Lexical (after at (b ∷ c))))
 
 -- the bytes of a file are these tokens, in order
 abbrev pub Lexes : ℕ → List ℕ → List Lex → Type 0

@@ -16,6 +16,6 @@ mod symbol;
 mod token;
 
 pub use lexer::{one_outcome, tokens};
-pub use place::after;
 pub use mz_base::Keyword;
+pub use place::after;
 pub use token::{Symbol, Tok, Token};

@@ -140,7 +140,11 @@ fn predicate(alloc: Global, cur: &mut Cursor<'_>) -> Result<Item, Stop>
     ensures { Reads item (λ room ts. item_at a_predicate (place ts) room (behind ts)) cur.old cur.new result }
 {
     let at = cur.pass();
-    function_body(alloc, cur, make_scalar(at, true, false, false, make_bool_base()))
+    function_body(
+        alloc,
+        cur,
+        make_scalar(at, true, false, false, make_bool_base()),
+    )
 }
 
 /// A test: a function that gives a `bool`, with the place of its keyword as that type's.
@@ -149,7 +153,11 @@ fn test(alloc: Global, cur: &mut Cursor<'_>) -> Result<Item, Stop>
     ensures { Reads item (λ room ts. item_at a_test (place ts) room (behind ts)) cur.old cur.new result }
 {
     let at = cur.pass();
-    function_body(alloc, cur, make_scalar(at, false, false, false, make_bool_base()))
+    function_body(
+        alloc,
+        cur,
+        make_scalar(at, false, false, false, make_bool_base()),
+    )
 }
 
 /// A function item.

@@ -131,4 +131,3 @@ pub of_a_call : (Named : Name → Type 0) (Placed : Span → Type 0) (s t : Span
     → OfTree Named Placed (pure.node s (pure.call 0 (pure.trees (pure.node t (pure.ident 1) ∷ [])))) ≡ (Placed s × (Named 0 × ((Placed t × Named 1) × Unit {0})))
 unfolding OfTree
 of_a_call Named Placed s t = refl
-

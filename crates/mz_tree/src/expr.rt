@@ -90,7 +90,10 @@ pub struct Expr {
 impl Drop for Expr {
     #[cycle(tree)]
     fn drop(self) {
-        let Expr { span: _span, form: _form } = self;
+        let Expr {
+            span: _span,
+            form: _form,
+        } = self;
     }
 }
 
@@ -114,7 +117,11 @@ pub struct Gen {
 impl Drop for Gen {
     #[cycle(tree)]
     fn drop(self) {
-        let Gen { names: _names, set: _set, cond: _cond } = self;
+        let Gen {
+            names: _names,
+            set: _set,
+            cond: _cond,
+        } = self;
     }
 }
 
@@ -150,7 +157,12 @@ pub struct Decl {
 impl Drop for Decl {
     #[cycle(tree)]
     fn drop(self) {
-        let Decl { ty: _ty, name: _name, span: _span, value: _value } = self;
+        let Decl {
+            ty: _ty,
+            name: _name,
+            span: _span,
+            value: _value,
+        } = self;
     }
 }
 

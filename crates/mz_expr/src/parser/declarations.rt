@@ -1,6 +1,5 @@
 // Declarations.
 
-
 ghost use Rattle.std.specs.Option.{option_map};
 ghost use Rattle.mz_tree.specs.Tree as pure;
 ghost use Rattle.mz_tree.specs.Views.{tree, declaration, written};

@@ -21,7 +21,9 @@ use mz_base::{Held, Span, Stop};
 use mz_cursor::{Cursor, is_sym};
 use mz_grammar::Closing;
 use mz_lexer::Symbol;
-use mz_tree::{Expr, TextPart, make_array, make_array_comp, make_plain, make_set, make_set_comp, make_shown};
+use mz_tree::{
+    Expr, TextPart, make_array, make_array_comp, make_plain, make_set, make_set_comp, make_shown,
+};
 use std::alloc::Global;
 
 impl<F: Fn(Global, &mut Cursor<'_>, Entry) -> Result<Reading, Stop>> Descent<F> {

@@ -1,6 +1,5 @@
 // The parts that are read from outside: the descent begins with them.
 
-
 ghost use Rattle.mz_tree.specs.Views.{tree, declaration, written};
 ghost use Rattle.mz_cursor.specs.Reads.{Passes, Reads};
 ghost use Rattle.mz_grammar.specs.Parts as parts;

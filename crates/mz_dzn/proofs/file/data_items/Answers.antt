@@ -13,7 +13,7 @@ pub returns-clause-answers : goal.returns-clause-answers
 returns-clause-answers c =
     let start = c.new-cur.ensures in
     let means = c.in_ok-array_names.ensures.means in
-    answers {X = List DataItem} (file (dimensions_of c.array_names.new.names)) (map given) 120 c.args.end c.args.tokens.now [] (Ok c.in_ok-items.items.items) refl (rw (means, start.0, start.2, c.in_ok-items.ensures.whole) at c.in_ok-items.ensures.reads)
+    answers {X = List DataItem} (file (dimensions_of c.array_names.new.names)) (map given) 120 c.args.end c.args.tokens.now [] (Ok c.in_ok-items.items.items) refl (rw (means, start.rest, start.room, c.in_ok-items.ensures.whole) at c.in_ok-items.ensures.reads)
 
 pub returns-in_err-items-clause-answers : goal.returns-in_err-items-clause-answers
 returns-in_err-items-clause-answers c =
@@ -21,7 +21,7 @@ returns-in_err-items-clause-answers c =
     let means = c.in_ok-array_names.ensures.means in
     let from = c.from_residual-in_err-items in
     let p = err_from_is_err_and from.result from.ensures.1 in
-    rw (p.1, p.2) (answers {X = Data} (file (dimensions_of c.array_names.new.names)) (λ d. map given d.items.items) 120 c.args.end c.args.tokens.now c.file.new.cur.rest.now (Err c.in_err-items.field-0.0) refl (rw (means, start.0, start.2, c.file.ensures.end, start.1) at c.in_err-items.ensures.reads))
+    rw (p.1, p.2) (answers {X = Data} (file (dimensions_of c.array_names.new.names)) (λ d. map given d.items.items) 120 c.args.end c.args.tokens.now c.file.new.cur.rest.now (Err c.in_err-items.field-0.0) refl (rw (means, start.rest, start.room, c.file.ensures.end, start.end) at c.in_err-items.ensures.reads))
 
 pub returns-in_err-items-clause-syntax : goal.returns-in_err-items-clause-syntax
 returns-in_err-items-clause-syntax c =
@@ -29,4 +29,4 @@ returns-in_err-items-clause-syntax c =
     let means = c.in_ok-array_names.ensures.means in
     let from = c.from_residual-in_err-items in
     let p = err_from_is_err_and from.result from.ensures.1 in
-    rw (p.1, p.2) (tells_syntax (file (dimensions_of c.array_names.new.names)) 120 c.args.end c.args.tokens.now c.file.new.cur.rest.now _ (omega arith) (rw (means, start.0, start.2, c.file.ensures.end, start.1) at c.in_err-items.ensures.reads))
+    rw (p.1, p.2) (tells_syntax (file (dimensions_of c.array_names.new.names)) 120 c.args.end c.args.tokens.now c.file.new.cur.rest.now _ (omega arith) (rw (means, start.rest, start.room, c.file.ensures.end, start.end) at c.in_err-items.ensures.reads))

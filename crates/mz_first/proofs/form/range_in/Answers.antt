@@ -11,7 +11,7 @@ use Rattle.mz_first.proofs.KnownParts.{linked}
 use Rattle.mz_first.proofs.form.range_in.Goals as goal
 
 pub returns-in_ok-op-in-Chain : goal.returns-in_ok-op-in-Chain
-unfolding range_in
+unfolding range_in tree shape
 returns-in_ok-op-in-Chain c =
     let opened : shape c.args.f.now ≡ chain (tree c.in-Chain.first.value) (links (map link c.in-Chain.rest.items)) = rw c.in-Chain.is (simp form_lemmas refl) in
     let found : only (links (map link c.in-Chain.rest.items)) ≡ Some (c.in_ok-op-in-Chain.op, shape c.in_ok-op-in-Chain.last.now) = sym (rw c.as_slice.ensures.value at c.only.ensures) ∙ ap (option_map pair) c.in_ok-op-in-Chain.was in

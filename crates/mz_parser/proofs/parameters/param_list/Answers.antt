@@ -7,8 +7,8 @@ use Rattle.mz_parser.proofs.parameters.param_list.Goals as goal
 pub returns-then-not-branch : goal.returns-then-not-branch
 returns-then-not-branch c = record {
   reads = sym c.loop-alloc.invariant.reads
-    ∙ last_front declaration _ _ c.in_ok-d.d _ _ c.in_ok-push.ensures.items
-    (param_last _ _ _ _ _ _ _ _ c.tok.ensures c.is_sym.ensures c.loop-alloc-test.true c.in_ok-d.ensures.reads c.in_ok-separator.ensures.reads c.if-not-branch.true);
+      ∙ last_front declaration _ _ c.in_ok-d.d _ _ c.in_ok-push.ensures.items
+      (param_last _ _ _ _ _ _ _ _ c.tok.ensures c.is_sym.ensures c.loop-alloc-test.true c.in_ok-d.ensures.reads c.in_ok-separator.ensures.reads c.if-not-branch.true);
   room = search rules;
   end = search rules;
   shorter = search rules;

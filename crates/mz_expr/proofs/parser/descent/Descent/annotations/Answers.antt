@@ -6,4 +6,4 @@ use Rattle.mz_expr.proofs.parser.descent.Descent.annotations.Goals as goal
 pub accesses-requires : goal.accesses-requires
 accesses-requires g c =
     let bound = room_bound c.args.cur.now.room c.args.self.now.room entry_is.Unit c.args.self.now.entry c.requires.below in
-    record { calls = c.requires.calls; below = omega (arith, bound, c.in_ok-first.ensures.room, c.skip.ensures.room, c.loop-cur.invariant.room); }
+    record { calls = c.requires.calls; below = omega (arith, bound, c.in_ok-first.ensures.room, c.skip.ensures.room, c.loop-cur.invariant.room) }

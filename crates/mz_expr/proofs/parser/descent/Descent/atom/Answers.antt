@@ -4,9 +4,9 @@ use Rattle.mz_expr.proofs.Descents.{room_bound}
 use Rattle.mz_expr.proofs.parser.descent.Descent.atom.Goals as goal
 
 pub head-requires : goal.head-requires
-head-requires g c = record { calls = c.requires.calls; below = room_bound c.args.cur.now.room c.args.self.now.room entry_is.Unit c.args.self.now.entry c.requires.below; }
+head-requires g c = record { calls = c.requires.calls; below = room_bound c.args.cur.now.room c.args.self.now.room entry_is.Unit c.args.self.now.entry c.requires.below }
 
 pub accesses-requires : goal.accesses-requires
 accesses-requires g c =
     let bound = room_bound c.args.cur.now.room c.args.self.now.room entry_is.Unit c.args.self.now.entry c.requires.below in
-    record { calls = c.requires.calls; below = omega (arith, bound, c.in_ok-first.ensures.room); }
+    record { calls = c.requires.calls; below = omega (arith, bound, c.in_ok-first.ensures.room) }

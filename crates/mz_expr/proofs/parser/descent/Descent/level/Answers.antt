@@ -7,12 +7,12 @@ use Rattle.mz_expr.proofs.Climbs.{climb_starts, climb_step, climb_stops, climb_e
 use Rattle.mz_expr.proofs.parser.descent.Descent.level.Goals as goal
 
 pub unit-requires : goal.unit-requires
-unit-requires g c = record { calls = c.requires.calls; below = unit_below _ _ c.args.l _ c.requires.below; }
+unit-requires g c = record { calls = c.requires.calls; below = unit_below _ _ c.args.l _ c.requires.below }
 
 pub finished-requires : goal.finished-requires
 finished-requires g c =
     let is : next_level c.args.l c.loop-k.done (tok_at c.loop-k.cur.rest.now) ≡ Some c.in-Some.k = ap (next_level c.args.l c.loop-k.done) (sym c.tok.ensures) ∙ sym c.next_level.ensures ∙ c.in-Some.is in
-    record { calls = c.requires.calls; below = rw (c.loop-k.invariant.room, c.in_ok-x.ensures.room) (level_within _ _ _ _ _ _ _ is c.requires.below); }
+    record { calls = c.requires.calls; below = rw (c.loop-k.invariant.room, c.in_ok-x.ensures.room) (level_within _ _ _ _ _ _ _ is c.requires.below) }
 
 pub loop-k-smaller : goal.loop-k-smaller
 loop-k-smaller g c =

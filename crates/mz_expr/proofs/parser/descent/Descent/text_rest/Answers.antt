@@ -22,9 +22,9 @@ returns-in-None g c =
     let is : middle_of (tok_at c.expr.new.cur.rest.now) ≡ None = sym c.middle_of.ensures ∙ c.in-None.is in
     record {
       reads = gives_same pieces _ _ c.last_piece.result _ _
-        (sym c.loop-all.invariant.reads ∙ text_last all (tree c.in_ok-e.e) c.loop-all.cur.room c.loop-all.cur.rest.now c.expr.new.cur.rest.now c.in_ok-e.ensures.reads is
-        ∙ ap (λ done. on (tail_of (tok_at c.expr.new.cur.rest.now)) (stuck {A = List Part} syntax c.expr.new.cur.rest.now) (λ n. Ok (done ++ (pure.plain n ∷ []), behind c.expr.new.cur.rest.now))) (sym pushed))
-        c.last_piece.ensures.reads;
+          (sym c.loop-all.invariant.reads ∙ text_last all (tree c.in_ok-e.e) c.loop-all.cur.room c.loop-all.cur.rest.now c.expr.new.cur.rest.now c.in_ok-e.ensures.reads is
+          ∙ ap (λ done. on (tail_of (tok_at c.expr.new.cur.rest.now)) (stuck {A = List Part} syntax c.expr.new.cur.rest.now) (λ n. Ok (done ++ (pure.plain n ∷ []), behind c.expr.new.cur.rest.now))) (sym pushed))
+          c.last_piece.ensures.reads;
       room = search rules;
       end = search rules;
       shorter = search rules;

@@ -6,4 +6,4 @@ use Rattle.mz_expr.proofs.parser.descent.Descent.unit.Goals as goal
 pub inside-requires : goal.inside-requires
 inside-requires g c =
     let bound = room_bound c.args.cur.now.room c.args.self.now.room entry_is.Unit c.args.self.now.entry c.requires.below in
-    record { calls = c.requires.calls; below = omega (arith, bound, c.in_ok-push-in-Some.ensures.ok, c.pass-at.ensures.room); }
+    record { calls = c.requires.calls; below = omega (arith, bound, c.in_ok-push-in-Some.ensures.ok, c.pass-at.ensures.room) }

@@ -1,0 +1,6 @@
+// The overload that a call takes.
+#![tactic(auto)]
+
+mod choice;
+
+pub use choice::{Choice, choose};
