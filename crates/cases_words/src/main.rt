@@ -1,0 +1,57 @@
+// What words ask for: each line of the input that begins with `words` is a case, and is written with its answer. The
+// words are those after `words`, one blank between two.
+#![tactic(auto)]
+
+use cases::Page;
+use mz_words::{Options, Request, WordsError, read_words};
+use std::alloc::{AllocError, Global};
+use std::io;
+use std::io::ErrorKind;
+
+/// The words of a line after its first.
+fn words_of(alloc: Global, line: &str) -> Result<Vec<String>, AllocError> {
+    let mut words = Vec::new(alloc);
+    for word in line.split(' ').skip(1) {
+        words.push(String::from_str(alloc, word)?)?;
+    }
+    Ok(words)
+}
+
+/// The files, the budget and the range.
+fn print_options(name: &str, options: &Options, page: &mut Page) {
+    let model = options.model;
+    let data_files = &options.data_files;
+    let (budget, int_range) = (options.budget, options.int_range);
+    page.line(format_args!("  {name} {model:?} {data_files:?} {budget} {int_range}"));
+}
+
+fn print_answer(alloc: Global, words: &[String], page: &mut Page) {
+    match read_words(alloc, words) {
+        Ok(Request::Compile(options)) => print_options("compile", &options, page),
+        Ok(Request::Check(options)) => print_options("check", &options, page),
+        Err(WordsError::Usage) => page.line("  usage"),
+        Err(WordsError::Memory) => page.line("  out of memory"),
+    }
+}
+
+/// All lines, each case with its answer.
+fn all(alloc: Global, input: &str) -> Result<String, AllocError> {
+    let mut page = Page::new(alloc);
+    for line in input.lines() {
+        page.line(line);
+        if line.starts_with("words") {
+            let words = words_of(alloc, line)?;
+            print_answer(alloc, words.as_slice(), &mut page);
+        }
+    }
+    page.into_text()
+}
+
+fn main(rt: HostRuntime) -> io::Result<()> {
+    let alloc = rt.alloc();
+    let input = io::read_to_string(alloc, rt.reader())?;
+    match all(alloc, input.as_str()) {
+        Ok(text) => rt.print(text),
+        Err(AllocError) => Err(io::Error::from(ErrorKind::OutOfMemory)),
+    }
+}

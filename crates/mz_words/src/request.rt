@@ -1,0 +1,45 @@
+// What the words of a command line ask for.
+
+use std::alloc::AllocError;
+
+/// What is done, with the files and the options for it.
+#[derive(Debug, Drop)]
+pub enum Request<'a> {
+    /// Compile the model with its data.
+    Compile(Options<'a>),
+    /// Check the model with its data, and write nothing.
+    Check(Options<'a>),
+}
+
+/// The files of a command and its options. The files are named as the words spell them.
+#[derive(Debug, Drop)]
+pub struct Options<'a> {
+    /// The model's file.
+    pub model: &'a str,
+    /// The data files, in the order of the words.
+    pub data_files: Vec<&'a str>,
+    /// The most units of work, from 1 to 100,000,000.
+    pub budget: u64,
+    /// The greatest value of a `var int` that has no domain, from 1 to 2^61. The least is its negative.
+    pub int_range: i64,
+}
+
+/// Why words give no request.
+#[derive(Clone, Copy, Debug, PartialEq, Eq)]
+pub enum WordsError {
+    /// The words are used wrongly.
+    Usage,
+    /// Out of memory.
+    Memory,
+}
+
+impl From<AllocError> for WordsError {
+    ghost use Rattle.std.specs.Prelude.{◌≡◌};
+    ghost use Rattle.mz_words.specs.declared.request.WordsError.TheVariants.{Memory};
+
+    ghost from_gives = { λ _ e. e ≡ Memory };
+
+    fn from(_: AllocError) -> WordsError {
+        WordsError::Memory
+    }
+}
