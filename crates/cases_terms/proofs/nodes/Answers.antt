@@ -1,0 +1,5 @@
+use Rattle.std.specs.Prelude.{refl}
+use Rattle.cases_terms.proofs.nodes.Goals as goal
+
+pub intern-requires : goal.intern-requires
+intern-requires c = record { below = record {}; bounded = refl; other = refl; free = λ () }
