@@ -14,7 +14,8 @@ use Rattle.mz_cursor.specs.Reading.{Read, stuck, ◌>>=◌, on, open_at, symbol_
 use Rattle.mz_cursor.proofs.Laws
 use Rattle.mz_cursor.proofs.Steps.{itself, same_then, same_if, same_on, step_if, step_on, pass_if, enter_if, pass_on}
 use Rattle.mz_grammar.specs.Tests.{ident_of, ends_row}
-use Rattle.mz_grammar.specs.Data.{Dimensions, Place, Ruled, Placed, rule, rank, width, reads, symbol, opening, behind_element, file, item, datum, named, sized, index_sets, plains, rows, row, plain, range, set, bounds, ones, one, literal_of, negated_of, is_name}
+use Rattle.mz_grammar.specs.Data.{Dimensions, Place, Ruled, Placed, rule, rank, width, reads, symbol, opening, behind_element, file, item, datum, named, sized, index_sets, plains, rows, row, plain, range, set, bounds, ones, one, literal_of, negated_of}
+use Rattle.mz_tree.specs.Data.{is_name}
 use Rattle.mz_grammar.proofs.DataFalls.{low, falls}
 use Rattle.mz_dzn.specs.Steps.{goes_on_at, row_goes_on_at, file_goes_on_at, braces_at, brackets_at, array_at, table_at}
 

@@ -14,14 +14,15 @@ ghost use Rattle.mz_dzn.specs.Steps.{array_at, table_at, brackets_at};
 
 use crate::array_names::{ArrayNames, array_names, meaning};
 use crate::list::{index_sets, plains, rows};
-use crate::make::{make_array, make_array_nd, make_ident, make_rows};
 use crate::step::file_goes_on;
 use crate::value::{plain, range_from};
 use crate::word::ident_of;
 use mz_base::{Kind, Name, Names, Span, Stop};
 use mz_cursor::{Cursor, is_sym};
 use mz_lexer::{Symbol, Token};
-use mz_tree::{Data, DataItem, Datum};
+use mz_tree::{
+    Data, DataItem, Datum, make_array_datum, make_array_nd_datum, make_ident_datum, make_rows_datum,
+};
 use std::alloc::Global;
 
 /// The elements of an array with index sets, in their brackets.
@@ -46,7 +47,7 @@ fn sized(alloc: Global, cur: &mut Cursor<'_>, dimensions: u8) -> Result<Datum, S
     let sets = index_sets(alloc, cur, dimensions)?;
     let elements = brackets(alloc, cur)?;
     cur.symbol(Symbol::SRParen)?;
-    Ok(make_array_nd(sets, elements))
+    Ok(make_array_nd_datum(sets, elements))
 }
 
 /// What stands behind an identifier with which a value begins.
@@ -55,7 +56,7 @@ fn named(alloc: Global, cur: &mut Cursor<'_>, names: &ArrayNames, name: Name) ->
     ensures { Passes value (reads (named (meaning names.now) name)) cur.old cur.new result }
 {
     if !is_sym(Symbol::SLParen, cur.tok()) {
-        return range_from(alloc, cur, make_ident(name));
+        return range_from(alloc, cur, make_ident_datum(name));
     }
     let Some(dimensions) = meaning(names, name) else {
         return Err(cur.unfit());
@@ -76,7 +77,7 @@ fn array(alloc: Global, cur: &mut Cursor<'_>) -> Result<Datum, Stop>
     cur.skip();
     let elements = plains(alloc, cur)?;
     cur.pop();
-    Ok(make_array(elements))
+    Ok(make_array_datum(elements))
 }
 
 /// A table of rows, before its `[|`.
@@ -88,7 +89,7 @@ fn table(alloc: Global, cur: &mut Cursor<'_>) -> Result<Datum, Stop>
     cur.skip();
     let lines = rows(alloc, cur)?;
     cur.pop();
-    Ok(make_rows(lines))
+    Ok(make_rows_datum(lines))
 }
 
 /// A value.

@@ -4,7 +4,6 @@
 mod array_names;
 mod file;
 mod list;
-mod make;
 mod step;
 mod value;
 mod word;

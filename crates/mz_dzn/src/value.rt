@@ -9,12 +9,11 @@ ghost use Rattle.mz_dzn.specs.Steps.{braces_at};
 ghost use Rattle.mz_grammar.specs.Data.{reads, plain, range, set, bounds, one};
 
 use crate::list::ones;
-use crate::make::{make_absent, make_int, make_range, make_set};
-use crate::word::{is_name, literal_of, negated_of};
+use crate::word::{literal_of, negated_of};
 use mz_base::Stop;
 use mz_cursor::{Cursor, is_sym};
 use mz_lexer::Symbol;
-use mz_tree::Datum;
+use mz_tree::{Datum, make_absent_datum, make_int_datum, make_range_datum, make_set_datum};
 use std::alloc::Global;
 
 /// A truth value, a number or an identifier.
@@ -31,7 +30,7 @@ pub fn one(cur: &mut Cursor<'_>) -> Result<Datum, Stop>
             return Err(cur.unfit());
         };
         cur.skip();
-        return Ok(make_int(z));
+        return Ok(make_int_datum(z));
     }
     let Some(literal) = literal_of(cur.tok()) else {
         return Err(cur.unfit());
@@ -53,7 +52,7 @@ pub fn range_from(alloc: Global, cur: &mut Cursor<'_>, from: Datum) -> Result<Da
     }
     cur.skip();
     let to = one(cur)?;
-    Ok(make_range(alloc, from, to)?)
+    Ok(make_range_datum(alloc, from, to)?)
 }
 
 /// What stands behind the first value of a set: the upper end of a range, which only an identifier can do without.
@@ -67,9 +66,9 @@ fn bounds_from(alloc: Global, cur: &mut Cursor<'_>, from: Datum) -> Result<Datum
     if is_sym(Symbol::SDots, cur.tok()) {
         cur.skip();
         let to = one(cur)?;
-        return Ok(make_range(alloc, from, to)?);
+        return Ok(make_range_datum(alloc, from, to)?);
     }
-    if is_name(&from) {
+    if from.is_name() {
         return Ok(from);
     }
     Err(cur.unfit())
@@ -84,7 +83,7 @@ fn braces(alloc: Global, cur: &mut Cursor<'_>) -> Result<Datum, Stop>
     cur.skip();
     let elements = ones(alloc, cur)?;
     cur.pop();
-    Ok(make_set(elements))
+    Ok(make_set_datum(elements))
 }
 
 /// A set: in braces, a range or an identifier.
@@ -109,7 +108,7 @@ pub fn plain(alloc: Global, cur: &mut Cursor<'_>) -> Result<Datum, Stop>
     }
     if is_sym(Symbol::SAbsent, cur.tok()) {
         cur.skip();
-        return Ok(make_absent());
+        return Ok(make_absent_datum());
     }
     let from = one(cur)?;
     range_from(alloc, cur, from)

@@ -4,11 +4,11 @@ ghost use Rattle.std.specs.Prelude.{◌≡◌};
 ghost use Rattle.std.specs.Option.{option_map};
 ghost use Rattle.mz_tree.specs.Data.{value};
 ghost use Rattle.mz_grammar.specs.Tests.{ident_of, ends_row};
-ghost use Rattle.mz_grammar.specs.Data.{literal_of, negated_of, is_name};
+ghost use Rattle.mz_grammar.specs.Data.{literal_of, negated_of};
 
 use mz_base::Name;
 use mz_lexer::{Keyword, Symbol, Tok};
-use mz_tree::Datum;
+use mz_tree::{Datum, make_bool_datum, make_ident_datum, make_int_datum};
 
 /// The name of an identifier.
 pub fn ident_of(tok: Option<Tok>) -> Option<Name>
@@ -37,10 +37,10 @@ pub fn literal_of(tok: Option<Tok>) -> Option<Datum>
     ensures { option_map value result ≡ literal_of tok }
 {
     match &tok {
-        Some(Tok::Word(Keyword::KTrue)) => Some(Datum::Bool(true)),
-        Some(Tok::Word(Keyword::KFalse)) => Some(Datum::Bool(false)),
-        Some(Tok::Int(z)) => Some(Datum::Int(*z)),
-        Some(Tok::Ident(n)) => Some(Datum::Ident(*n)),
+        Some(Tok::Word(Keyword::KTrue)) => Some(make_bool_datum(true)),
+        Some(Tok::Word(Keyword::KFalse)) => Some(make_bool_datum(false)),
+        Some(Tok::Int(z)) => Some(make_int_datum(*z)),
+        Some(Tok::Ident(n)) => Some(make_ident_datum(*n)),
         _ => None,
     }
 }
@@ -53,11 +53,4 @@ pub fn negated_of(tok: Option<Tok>) -> Option<i64>
         Some(Tok::Int(z)) => { if z < 0 { None } else { Some(-z) } }
         _ => None,
     }
-}
-
-/// Whether a value is an identifier.
-pub fn is_name(datum: &Datum) -> bool
-    ensures { result ≡ is_name (value datum.now) }
-{
-    matches!(datum, Datum::Ident(_))
 }

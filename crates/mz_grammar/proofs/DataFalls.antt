@@ -5,7 +5,8 @@ use Rattle.mz_cursor.specs.Reading.{Falls, on}
 use Rattle.mz_cursor.specs.Look.{is_sym}
 use Rattle.mz_grammar.specs.Tests.{ident_of}
 use Rattle.mz_lexer.specs.declared.token.Symbol.TheVariants.{SLParen, SLBrack, SRBrack, SLBrace, SRBrace, SLRows, SRRows, SBar, SComma, SSemi, SDots, SMinus, SAbsent}
-use Rattle.mz_grammar.specs.Data.{Place, Ruled, rule, rank, width, file, item, datum, named, sized, index_sets, plains, rows, row, plain, range, set, bounds, ones, one, literal_of, is_name}
+use Rattle.mz_grammar.specs.Data.{Place, Ruled, rule, rank, width, file, item, datum, named, sized, index_sets, plains, rows, row, plain, range, set, bounds, ones, one, literal_of}
+use Rattle.mz_tree.specs.Data.{is_name}
 
 pub low : (n : Place) → rank n < width
 unfolding rank

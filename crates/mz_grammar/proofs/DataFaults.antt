@@ -9,7 +9,8 @@ use Rattle.mz_cursor.specs.Look.{is_sym}
 use Rattle.mz_cursor.specs.Rules.{Reason, syntax, give, refuse, leave_out, look, pass, enter, leave, part, Refuses, unfit, unwanted, no_token, no_opening, one_too_many, behind_look, behind_pass, behind_enter, behind_leave, within, beyond}
 use Rattle.mz_cursor.specs.Reading.{on}
 use Rattle.mz_grammar.specs.Tests.{ident_of, ends_row}
-use Rattle.mz_grammar.specs.Data.{Place, Value, Ruled, rule, file, item, datum, named, sized, index_sets, plains, rows, row, plain, range, set, bounds, ones, one, literal_of, negated_of, is_name}
+use Rattle.mz_grammar.specs.Data.{Place, Value, Ruled, rule, file, item, datum, named, sized, index_sets, plains, rows, row, plain, range, set, bounds, ones, one, literal_of, negated_of}
+use Rattle.mz_tree.specs.Data.{is_name}
 
 -- how many tokens a part opens, one inside the other
 unfoldable pub depth : Place → ℕ

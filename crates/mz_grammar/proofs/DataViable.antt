@@ -16,7 +16,8 @@ use Rattle.mz_cursor.proofs.Answering
 use Rattle.mz_cursor.proofs.Viable as ways
 use Rattle.mz_cursor.proofs.Viable.{never, last, tokens, maybe, done_by, goes_in, MayTake, Goes, finished}
 use Rattle.mz_grammar.specs.Tests.{ident_of, ends_row}
-use Rattle.mz_grammar.specs.Data.{Place, Value, rule, rank, width, reads, symbol, opening, file, item, datum, named, sized, index_sets, plains, rows, row, plain, range, set, bounds, ones, one, literal_of, negated_of, is_name}
+use Rattle.mz_grammar.specs.Data.{Place, Value, rule, rank, width, reads, symbol, opening, file, item, datum, named, sized, index_sets, plains, rows, row, plain, range, set, bounds, ones, one, literal_of, negated_of}
+use Rattle.mz_tree.specs.Data.{is_name}
 use Rattle.mz_grammar.proofs.DataFalls.{low, falls}
 use Rattle.mz_grammar.proofs.DataCalm.{Quiet, Calm, taking, Apt, far, aim, sign, a_number, an_identifier, Fine, Completion, tested, found, takes_found, steady_false, steady_true, steady_none, takes_symbol, fine_symbol, takes_opening, fine_opening, takes_behind, fine_behind, takes}
 

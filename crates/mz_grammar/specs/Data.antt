@@ -10,7 +10,7 @@ use Rattle.mz_lexer.specs.declared.token.Symbol.{Symbol}
 use Rattle.mz_lexer.specs.declared.token.Symbol.TheVariants.{SLParen, SRParen, SLBrack, SRBrack, SLBrace, SRBrace, SLRows, SRRows, SBar, SComma, SSemi, SDots, SEq, SMinus, SAbsent}
 use Rattle.mz_tree.specs.Tree.{Name}
 use Rattle.mz_tree.specs.Data as pure
-use Rattle.mz_tree.specs.Data.{Given, values, lines}
+use Rattle.mz_tree.specs.Data.{Given, values, lines, is_name}
 use Rattle.mz_cursor.specs.Look.{is_sym}
 use Rattle.mz_cursor.specs.Rules.{Rule, give, refuse, look, pass, enter, leave, part}
 use Rattle.mz_cursor.specs.Reading.{on, Reader, read}
@@ -131,10 +131,6 @@ set_rule = look (λ o. if is_sym SLBrace o
     else part one λ v. part (bounds v.1) λ w. give w)
 
 -- what stands behind the first one of a set; behind an IDENT nothing need
-abbrev pub is_name : pure.Value → Bool
-is_name (pure.ident n) = true
-is_name _ = false
-
 abbrev pub bounds_rule : (v : pure.Value) → Ruled (bounds v)
 bounds_rule v = look (λ o. if is_sym SDots o
     then pass (λ d. part one λ w. give (pure.range v w.1))

@@ -5,6 +5,7 @@ pub mod Cuts
 pub mod Digits
 pub mod Exact
 pub mod Fronts
+pub mod Identifiers
 pub mod LeftOuts
 pub mod Lexing
 pub mod Meanings

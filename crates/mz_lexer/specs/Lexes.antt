@@ -2,7 +2,7 @@
 use Rattle.std.specs.Prelude.{◌≡◌, ℕ, ◌<◌, ◌≤◌, List, [], ◌∷◌, ◌++◌, length, take, Bool, true, false, ◌&&◌, not, nat_eq, pos, codes, Ok, Err, if◌then◌else◌}
 use Rattle.std.specs.List.{list_all}
 use Rattle.std.specs.Str.{IsUtf8}
-use Rattle.mz_base.specs.Words.{is_word}
+use Rattle.mz_base.specs.Words.{is_word, is_identifier}
 use Rattle.mz_base.specs.declared.fault.Span.{Span}
 use Rattle.mz_base.specs.declared.fault.Fault.{Fault}
 use Rattle.mz_base.specs.declared.kind.Kind.TheVariants.{Lexical, LeftOut, Bounds}
@@ -155,3 +155,7 @@ IsFirstFault file bytes f = Lexed [] (start_of file) bytes (Err f)
 -- the bytes of a file determine their tokens or their first fault, never both
 abbrev pub IsDetermined : Type 0
 IsDetermined = (file : ℕ) (bytes : List ℕ) (one other : Outcome) → Lexed [] (start_of file) bytes one → Lexed [] (start_of file) bytes other → one ≡ other
+
+-- the word of every identifier token is an identifier of FlatZinc too
+abbrev pub IdentifiersAreFlat : Type 0
+IdentifiersAreFlat = (later : Bool) (bytes w : List ℕ) → Spells later bytes (ident w) → is_identifier w ≡ true

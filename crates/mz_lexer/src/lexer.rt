@@ -4,7 +4,7 @@ ghost use Rattle.std.specs.Prelude.{◌≡◌, ◌+◌, ◌<◌, ◌≤◌, ◌^
 ghost use Rattle.mz_base.specs.declared.limit.TheConstants.{FILE_LIMIT};
 ghost use Rattle.mz_base.specs.Names.{Grows};
 ghost use Rattle.mz_lexer.specs.Lexemes.{after, fault, fault_number};
-ghost use Rattle.mz_lexer.specs.Lexes.{Lexes, IsFirstFault, IsDetermined};
+ghost use Rattle.mz_lexer.specs.Lexes.{Lexes, IsFirstFault};
 ghost use Rattle.mz_lexer.specs.Views.{lex, HasName};
 ghost use Rattle.mz_base.specs.Faults.{IfRefused};
 
@@ -104,8 +104,3 @@ pub fn tokens(alloc: Global, bytes: &[u8], file: u64, names: &mut Names) -> Resu
     }
     Ok(tokens)
 }
-
-/// The law that the bytes of a file are one list of tokens, or have one first fault, and never both.
-pub fn one_outcome()
-    ensures { IsDetermined }
-{}

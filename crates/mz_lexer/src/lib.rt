@@ -6,6 +6,7 @@ mod comment;
 mod content;
 mod found;
 mod front;
+mod law;
 mod left_out;
 mod lexer;
 mod number;
@@ -15,7 +16,8 @@ mod place;
 mod symbol;
 mod token;
 
-pub use lexer::{one_outcome, tokens};
+pub use law::{identifiers_are_flat, one_outcome};
+pub use lexer::tokens;
 pub use mz_base::Keyword;
 pub use place::after;
 pub use token::{Symbol, Tok, Token};

@@ -8,7 +8,7 @@ use Rattle.mz_tree.specs.Tree as pure
 use Rattle.mz_tree.specs.Tree.{Name, Tree, Shape, Maybe, Trees, Links, Rows, Branches, Part, Parts, Generator, Gens, Let, Lets, Declaration, Written, Based, Dims, Bases}
 use Rattle.mz_tree.specs.Items.{GoalTree, satisfy, minimize, maximize, ItemTree, include, declare, assign, constraint, solve, output, function, enum, annotation}
 use Rattle.mz_tree.specs.Kinds.{IsSpot, OfTree, OfShape, OfMaybe, OfTrees, OfLinks, OfRows, OfBranches, OfPart, OfParts, OfGenerator, OfGens, OfLet, OfLets, OfDeclaration, OfWritten, OfBased, OfDims, OfBases, OfGoal, OfCases, OfItem}
-use Rattle.mz_tree.specs.Names.{spot, in_tree, in_shape, in_maybe, in_trees, in_links, in_rows, in_branches, in_part, in_parts, in_generator, in_gens, in_let, in_lets, in_declaration, in_written, in_based, in_dims, in_bases, in_goal, in_cases, in_item, of_name, of_place, names_in, places_in, item_names, item_places}
+use Rattle.mz_tree.specs.Names.{spot, in_tree, in_shape, in_maybe, in_trees, in_links, in_rows, in_branches, in_part, in_parts, in_generator, in_gens, in_let, in_lets, in_declaration, in_written, in_based, in_dims, in_bases, in_goal, in_cases, in_item}
 
 module _ {A : Type 0} (Q : A → Type 0) where
   pub all_parts : (xs ys : List A) → All Q (xs ++ ys) → All Q xs × All Q ys

@@ -1,4 +1,5 @@
 pub mod Collected
+pub mod DataLooks
 pub mod Later
 pub mod Looks
 pub mod Maps

@@ -15,7 +15,7 @@ use Rattle.mz_tree.specs.declared.expr.Form.TheViews.{out-Form, out-LetItem, out
 use Rattle.mz_tree.specs.declared.expr.Form.TheFolds as folds
 use Rattle.mz_tree.specs.Tree as pure
 use Rattle.mz_tree.specs.Tree.{Name, Tree, Shape, Part, Based, Declaration, Generator, Let, Written}
-use Rattle.mz_tree.specs.Views.{tree, shape, let_of, part, based, declaration, generator, written, link, branch, tree_row, form_step, let_step, part_step, base_step, decl_step, expr_step, gen_step, type_step, form_seen, let_seen, part_seen, base_seen}
+use Rattle.mz_tree.specs.Views.{tree, shape, let_of, part, based, declaration, generator, written, form_step, let_step, part_step, base_step, decl_step, expr_step, gen_step, type_step, form_seen, let_seen, part_seen, base_seen}
 
 rows_mapped : (f : Vec Expr Global → Vec Tree Global) (g : Vec Tree Global → List Tree) (h : Vec Expr Global → List Tree) (rs : List (Vec Expr Global)) → ((r : Vec Expr Global) → g (f r) ≡ h r) → map g (map f rs) ≡ map h rs
 rows_mapped f g h [] e = refl

@@ -1,5 +1,5 @@
 -- Values of data files, without where they lie in memory.
-use Rattle.std.specs.Prelude.{ℤ, Bool, List, [], ◌∷◌, map}
+use Rattle.std.specs.Prelude.{ℤ, Bool, true, false, List, [], ◌∷◌, map}
 use Rattle.mz_base.specs.declared.fault.Span.{Span}
 use Rattle.mz_tree.specs.declared.data.Datum.{Datum, Datum-F, fold-Datum}
 use Rattle.mz_tree.specs.declared.data.Datum.TheOpen as open_datum
@@ -47,8 +47,25 @@ datum_step (open_datum.Rows ls) = rows (lines (map (λ l. l.items) ls.items))
 datum_step (open_datum.ArrayNd ss vs) = array_nd (values ss.items) (values vs.items)
 
 -- what the code's value stands for
-abbrev pub value : Datum → Value
+unfoldable pub value : Datum → Value
 value = fold-Datum Value datum_step
+
+-- one layer of it, with what its parts stand for: by the equation of proofs/DataLooks
+abbrev pub datum_seen : Datum-F Datum → Value
+datum_seen (open_datum.Bool b) = bool b
+datum_seen (open_datum.Int n) = int n
+datum_seen (open_datum.Ident n) = ident n
+datum_seen open_datum.Absent = absent
+datum_seen (open_datum.Range a b) = range (value a.value) (value b.value)
+datum_seen (open_datum.Set vs) = set (values (map value vs.items))
+datum_seen (open_datum.Array vs) = array (values (map value vs.items))
+datum_seen (open_datum.Rows ls) = rows (lines (map (λ l. map value l.items) ls.items))
+datum_seen (open_datum.ArrayNd ss vs) = array_nd (values (map value ss.items)) (values (map value vs.items))
+
+-- whether a value is an identifier
+abbrev pub is_name : Value → Bool
+is_name (ident n) = true
+is_name _ = false
 
 -- a value for a name, with the places of the name and of the value
 pub record Given : Type 0 where

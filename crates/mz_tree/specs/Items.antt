@@ -1,5 +1,5 @@
 -- Items, without where they lie in memory, and how high their trees are.
-use Rattle.std.specs.Prelude.{ℕ, max, List, [], ◌∷◌, map, Option, Some, None}
+use Rattle.std.specs.Prelude.{ℕ, max, List, [], ◌∷◌, map, Option}
 use Rattle.std.specs.Option.{option_map}
 use Rattle.mz_base.specs.declared.fault.Span.{Span}
 use Rattle.mz_tree.specs.declared.item.Goal.{Goal}

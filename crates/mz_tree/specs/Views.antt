@@ -1,7 +1,6 @@
 -- The trees that the code's expressions stand for.
 use Rattle.std.specs.Prelude.{List, map, Vec}
 use Rattle.std.specs.Option.{option_map}
-use Rattle.mz_base.specs.declared.fault.Span.{Span}
 use Rattle.mz_tree.specs.declared.expr.Expr.{Expr, Expr-F, fold-Expr}
 use Rattle.mz_tree.specs.declared.expr.Form.{Form, Form-F, fold-Form}
 use Rattle.mz_tree.specs.declared.expr.LetItem.{LetItem, LetItem-F, fold-LetItem}
@@ -11,7 +10,6 @@ use Rattle.mz_tree.specs.declared.expr.Decl.{Decl, Decl-F, fold-Decl}
 use Rattle.mz_tree.specs.declared.expr.Gen.{Gen, Gen-F, fold-Gen}
 use Rattle.mz_tree.specs.declared.expr.TypeText.{TypeText, TypeText-F, fold-TypeText}
 use Rattle.mz_tree.specs.declared.expr.Form.TheOpen as open_form
-use Rattle.mz_tree.specs.declared.expr.Form.TheViews.{out-Form, out-LetItem, out-TextPart, out-TypeBase, out-Decl, out-Gen, out-TypeText}
 use Rattle.mz_tree.specs.Tree.{Tree, Shape, Part, Based, Declaration, Generator, Let, Written}
 use Rattle.mz_tree.specs.declared.expr.BinOp.{BinOp}
 use Rattle.mz_tree.specs.Tree as pure

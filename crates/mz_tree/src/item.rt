@@ -12,7 +12,7 @@ pub enum Goal {
 }
 
 /// An item. A `Span` is the place of the name or of `solve`; for `Include` that of its text.
-#[derive(Debug, Drop)]
+#[derive(Debug)]
 pub enum Item {
     Include(Name, Span),
     Decl(Decl),
@@ -23,6 +23,22 @@ pub enum Item {
     Function(Function),
     Enum(Name, Span, Option<Vec<(Name, Span)>>),
     Annotation(Name),
+}
+
+impl Drop for Item {
+    fn drop(self) {
+        match self {
+            Item::Include(_, _) => {}
+            Item::Decl(_declaration) => {}
+            Item::Assign(_, _, _value) => {}
+            Item::Constraint(_constraint) => {}
+            Item::Solve(_, _goal) => {}
+            Item::Output(_text) => {}
+            Item::Function(_function) => {}
+            Item::Enum(_, _, _cases) => {}
+            Item::Annotation(_) => {}
+        }
+    }
 }
 
 /// A function, a predicate or a test, with the place of its name.

@@ -8,6 +8,8 @@ mod item;
 mod law;
 #[tactic(auto, unfolding(crate::specs::Views::tree, crate::specs::Views::shape, crate::specs::Views::let_of, crate::specs::Views::part, crate::specs::Views::based, crate::specs::Views::declaration, crate::specs::Views::generator, crate::specs::Views::written))]
 mod make;
+#[tactic(auto, unfolding(crate::specs::Data::value))]
+mod make_data;
 #[tactic(auto, unfolding(crate::specs::Views::tree, crate::specs::Views::shape, crate::specs::Views::let_of, crate::specs::Views::part, crate::specs::Views::based, crate::specs::Views::declaration, crate::specs::Views::generator, crate::specs::Views::written))]
 mod parts;
 mod source;
@@ -21,6 +23,10 @@ pub use make::{
     make_absent, make_access, make_array, make_array_comp, make_bool, make_call, make_chain,
     make_gen_call, make_ident, make_if, make_int, make_interp, make_let, make_rows, make_set,
     make_set_comp, make_text, make_unary, make_whole,
+};
+pub use make_data::{
+    make_absent_datum, make_array_datum, make_array_nd_datum, make_bool_datum, make_ident_datum,
+    make_int_datum, make_range_datum, make_rows_datum, make_set_datum,
 };
 pub use parts::{
     make_bool_base, make_declaration, make_generator, make_int_base, make_let_constraint,

@@ -1,7 +1,7 @@
-use Rattle.std.proofs.Common.{◌≡◌, ap, ◌∙◌, map, List, [], ◌∷◌, refl}
+use Rattle.std.proofs.Common.{ap, List}
 use Rattle.mz_tree.specs.declared.expr.Expr.{the_lemmas}
 use Rattle.mz_tree.specs.Tree.{Tree, node, rows, rows_of}
-use Rattle.mz_tree.specs.Views.{tree, tree_row}
+use Rattle.mz_tree.specs.Views.{tree}
 use Rattle.mz_tree.proofs.Maps.{map_map}
 use Rattle.mz_tree.proofs.make.make_rows.Goals as goal
 

@@ -1,5 +1,5 @@
 use Rattle.mz_lexer.proofs.Lexing.{determined}
-use Rattle.mz_lexer.proofs.lexer.one_outcome.Goals as goal
+use Rattle.mz_lexer.proofs.law.one_outcome.Goals as goal
 
 pub returns : goal.returns
 returns c = determined
