@@ -3,4 +3,5 @@ pub mod Viable
 pub mod Longer
 pub mod Answering
 pub mod Keeps
+pub mod TokenParts
 pub mod Steps

@@ -12,6 +12,9 @@ pub mod ItemEquations
 pub mod Bounds
 pub mod Heights
 pub mod ItemHeights
+pub mod PartTrees
+pub mod ExpressionTrees
+pub mod ItemTrees
 pub mod DataFalls
 pub mod DataFaults
 pub mod DataCalm

@@ -13,8 +13,8 @@ use Rattle.mz_parser.specs.Model.{IsModel}
 use Rattle.mz_include.specs.Trees.{IsItemOf, IsItemKnown}
 use Rattle.mz_include.specs.Parsing.{AreTokens}
 use Rattle.mz_include.proofs.Places.{EachIn, lexed_in}
-use Rattle.mz_include.proofs.PartTrees.{Fine}
-use Rattle.mz_include.proofs.ItemTrees.{AllFine, file_is_of}
+use Rattle.mz_grammar.proofs.PartTrees.{Fine}
+use Rattle.mz_grammar.proofs.ItemTrees.{AllFine, file_is_of}
 
 module _ (names : List (List ℕ)) (turn : ℕ) where
   abbrev Named : Name → Type 0

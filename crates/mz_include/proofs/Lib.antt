@@ -1,9 +1,5 @@
 pub mod Folders
 pub mod Queues
-pub mod TokenParts
-pub mod PartTrees
-pub mod ExpressionTrees
-pub mod ItemTrees
 pub mod Places
 pub mod KnownItems
 pub mod Later

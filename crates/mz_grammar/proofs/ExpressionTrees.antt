@@ -24,7 +24,7 @@ use Rattle.mz_grammar.specs.Arguments.{waits, takes_where, trees_of, generators_
 use Rattle.mz_grammar.specs.Tests.{closes, ident_of, middle_of, tail_of, ends_row}
 use Rattle.mz_grammar.specs.Model.{Ruled, behind, operand_rule, operators_rule, unit_rule, atom_rule, unless_annotated, accesses_rule, indices_rule, more_indices_rule, annotations_rule, marks_rule, head_symbol, head_word, head_token, called, named_rule, guarded_rest, arguments_rule, text_rest_rule, elements_rule, array_body_rule, set_body_rule, rows_body_rule, more_rows_rule, row_rule, cells_rule, generator_rule, more_names_rule, filter_rule, generators_rule, branch_rule, branches_rule, let_items_rule, let_item_rule}
 use Rattle.mz_tree.specs.Kinds.{IsSpot, OfTree, OfTrees, OfGens}
-use Rattle.mz_include.proofs.PartTrees as Of
+use Rattle.mz_grammar.proofs.PartTrees as Of
 
 module _ (Named : Name → Type 0) (Placed : Span → Type 0) where
   abbrev Kept : {n : Place} → Ruled n → Type 0

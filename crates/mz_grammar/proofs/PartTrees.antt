@@ -21,7 +21,7 @@ use Rattle.mz_grammar.specs.Arguments.{trees_of, generators_behind, generators_o
 use Rattle.mz_grammar.specs.Tests.{closes, is_left_out, ident_of, text_of, middle_of, tail_of}
 use Rattle.mz_grammar.specs.Model.{Ruled, behind}
 use Rattle.mz_tree.specs.Kinds.{IsSpot, OfTree, OfShape, OfMaybe, OfTrees, OfLinks, OfRows, OfBranches, OfParts, OfGenerator, OfGens, OfLet, OfLets, OfDeclaration, OfWritten, OfBased, OfBases, OfGoal, OfCases, OfItem}
-use Rattle.mz_include.proofs.TokenParts.{Keeps}
+use Rattle.mz_cursor.proofs.TokenParts.{Keeps}
 
 abbrev pub OnSome : {A : Type 0} → (A → Type 0) → Option A → Type 0
 OnSome Q None = Unit {0}

@@ -20,9 +20,9 @@ use Rattle.mz_grammar.specs.Tests.{ItemKind, an_include, a_constraint, a_solve, 
 use Rattle.mz_grammar.specs.Model.{Ruled, behind, rule, declaration_rule, declared_rule, value_rule, type_rule, index_types_rule, element_rule, unmarked_rule, base_rule, params_rule, param_list_rule, param_rule, function_rule, by_expression, item_by, item_rule, goal_rule, cases_rule, case_names_rule, file_rule, more_items_rule}
 use Rattle.mz_tree.specs.Tree.{array_type, marked}
 use Rattle.mz_tree.specs.Kinds.{IsSpot, OfTree, OfBases, OfWritten, OfDeclaration, OfItem}
-use Rattle.mz_include.proofs.TokenParts as Generic
-use Rattle.mz_include.proofs.PartTrees as Of
-use Rattle.mz_include.proofs.ExpressionTrees as Expression
+use Rattle.mz_cursor.proofs.TokenParts as Generic
+use Rattle.mz_grammar.proofs.PartTrees as Of
+use Rattle.mz_grammar.proofs.ExpressionTrees as Expression
 
 module _ (Named : Name → Type 0) (Placed : Span → Type 0) where
   abbrev Kept : {n : Place} → Ruled n → Type 0
