@@ -20,7 +20,8 @@ use Rattle.mz_grammar.specs.Reading.{reads, operand_rank}
 use Rattle.mz_grammar.proofs.Equations.{level_reads, operand_reads, operators_reads}
 use Rattle.mz_expr.specs.declared.parser.descent.Entry.{Entry}
 use Rattle.mz_expr.specs.declared.parser.descent.Entry.TheVariants as entry_is
-use Rattle.mz_expr.specs.StepsClimb.{numbered, levels, finished, climbing, if_within, next_level}
+use Rattle.mz_operand.specs.Levels.{if_within, next_level}
+use Rattle.mz_expr.specs.StepsClimb.{numbered, levels, finished, climbing}
 use Rattle.mz_expr.specs.Descent.{extent}
 
 -- a level more

@@ -1,7 +1,4 @@
-pub mod Arguments
-pub mod ArgumentsOfCode
 pub mod Descents
-pub mod Readings
 pub mod Loops
 pub mod Fronts
 mod Climbs

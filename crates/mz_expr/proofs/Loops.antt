@@ -25,7 +25,7 @@ use Rattle.mz_grammar.specs.declared.level.Level.{Level}
 use Rattle.mz_grammar.specs.Operators.{binary_of, is_single}
 use Rattle.mz_grammar.specs.Reading.{reads}
 use Rattle.mz_grammar.specs.Steps.{with_branches}
-use Rattle.mz_expr.specs.Views.{annotated}
+use Rattle.mz_expr.specs.Descent.{annotated}
 
 pub annotated_step : (b : Bool) (o : Read Bool) → annotated true o ≡ annotated b (mapped (λ x. true) o)
 annotated_step false o = refl

@@ -1,19 +1,19 @@
 -- Where the descent begins, and how far down a call may still go.
-use Rattle.std.specs.Prelude.{ℕ, ◌+◌, ◌*◌, ◌<◌, ◌≤◌, Result}
+use Rattle.std.specs.Prelude.{ℕ, ◌+◌, ◌*◌, ◌<◌, ◌≤◌, Bool, true, false, Result}
 use Rattle.std.specs.declared.alloc.Global.{Global}
 use denote.Ref.{MutBor}
 use Rattle.mz_base.specs.declared.stop.Stop.{Stop}
 use Rattle.mz_cursor.specs.declared.cursor.Cursor.{Cursor}
 use Rattle.mz_cursor.specs.Reads.{Reads}
-use Rattle.mz_cursor.specs.Reading.{Reader, on}
+use Rattle.mz_cursor.specs.Reading.{Read, Reader, mapped, on}
 use Rattle.mz_grammar.specs.declared.level.Level.{Level}
 use Rattle.mz_grammar.specs.Operators.{tighter_level}
 use Rattle.mz_grammar.specs.Parts as parts
 use Rattle.mz_grammar.specs.Reading.{reads, operand_rank}
 use Rattle.mz_expr.specs.declared.parser.descent.Entry.{Entry}
 use Rattle.mz_expr.specs.declared.parser.descent.Entry.TheVariants as entry_is
-use Rattle.mz_expr.specs.declared.reading.Reading.{Reading}
-use Rattle.mz_expr.specs.Views.{reading}
+use Rattle.mz_operand.specs.declared.reading.Reading.{Reading}
+use Rattle.mz_operand.specs.Views.{reading}
 
 -- what is read from an entry on
 abbrev pub entry_at : Entry → ℕ → Reader parts.Reading
@@ -58,3 +58,8 @@ pub record MayBegin (e : Entry) (room : ℕ) (entry : Entry) (pre : Global → M
     (post : Global → MutBor Cursor → Entry → Result Reading Stop → MutBor Cursor → Type 0) (old : Cursor) : Type 0 where
   pub calls : Descends room entry pre post
   pub below : extent old.room e ≤ extent room entry
+
+-- whether annotations were read before, or are now
+abbrev pub annotated : Bool → Read Bool → Read Bool
+annotated false o = o
+annotated true o = mapped (λ b. true) o

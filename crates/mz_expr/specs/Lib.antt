@@ -1,4 +1,3 @@
-pub mod Views
 pub mod Front
 pub mod Descent
 pub mod StepsClimb

@@ -1,23 +1,12 @@
 -- Mirror of src/parser/expression.rt; private clauses only. How an expression goes on after its first operand: level by level,
 -- from the tightest to the loosest that it may have.
-use Rattle.std.specs.Prelude.{ℕ, zero, suc, List, [], ◌∷◌, Option, Some, None, Ok, if◌then◌else◌, ◌&&◌, nat_lt, nat_le, slice_index_or}
-use Rattle.mz_lexer.specs.declared.token.Tok.{Tok}
-use Rattle.mz_tree.specs.declared.expr.BinOp.{BinOp}
+use Rattle.std.specs.Prelude.{ℕ, zero, suc, List, [], ◌∷◌, Ok, if◌then◌else◌, nat_le, slice_index_or}
 use Rattle.mz_cursor.specs.Reading.{Reader, ◌>>=◌}
 use Rattle.mz_grammar.specs.declared.level.Level.{Level}
 use Rattle.mz_grammar.specs.declared.level.Level.TheVariants as level
-use Rattle.mz_grammar.specs.Operators.{operator_of, level_number}
 use Rattle.mz_grammar.specs.Parts as parts
 use Rattle.mz_grammar.specs.Parts.{Reading, chained}
 use Rattle.mz_grammar.specs.Reading.{reads}
-
-abbrev pub if_within : Level → ℕ → Option (Level × BinOp) → Option Level
-if_within l done None = None
-if_within l done (Some o) = if nat_le (level_number l) (level_number o.0) && nat_lt (level_number o.0) done then Some o.0 else None
-
--- the level of the operator that the token is, where that is l or tighter, with a number below done
-abbrev pub next_level : Level → ℕ → Option Tok → Option Level
-next_level l done tok = if_within l done (operator_of tok)
 
 -- the level with this number
 abbrev pub numbered : ℕ → Level

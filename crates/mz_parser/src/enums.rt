@@ -14,9 +14,9 @@ ghost use Rattle.mz_grammar.specs.Steps.{braced_at};
 
 use mz_base::{Name, Span, Stop};
 use mz_cursor::{Cursor, is_sym};
-use mz_expr::step::{ident, ident_of, separator};
 use mz_grammar::Closing;
 use mz_lexer::Symbol;
+use mz_operand::step::{ident, ident_of, separator};
 use std::alloc::Global;
 
 /// The cases behind the `=`, or None where no `=` stands here.

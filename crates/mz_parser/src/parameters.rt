@@ -9,9 +9,9 @@ ghost use Rattle.mz_grammar.specs.Reading.{reads};
 use mz_base::Stop;
 use mz_cursor::{Cursor, is_sym};
 use mz_expr::parser::{annotations, type_text};
-use mz_expr::step::{ident, separator};
 use mz_grammar::Closing;
 use mz_lexer::Symbol;
+use mz_operand::step::{ident, separator};
 use mz_tree::{Decl, make_declaration};
 use std::alloc::Global;
 

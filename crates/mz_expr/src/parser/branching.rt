@@ -8,15 +8,15 @@ ghost use Rattle.mz_cursor.specs.Reads.{Reads};
 ghost use Rattle.mz_grammar.specs.Parts as parts;
 ghost use Rattle.mz_grammar.specs.Reading.{reads};
 ghost use Rattle.mz_grammar.specs.Steps.{head_word_at, let_at, with_branches};
-ghost use Rattle.mz_expr.specs.Views.{reading};
+ghost use Rattle.mz_operand.specs.Views.{reading};
 ghost use Rattle.mz_expr.specs.Descent.{MayOpen, MayRead};
 
 use crate::parser::descent::{Descent, Entry};
-use crate::reading::{Reading, other};
-use crate::step::let_separator;
 use mz_base::{Held, Stop};
 use mz_cursor::{Cursor, is_sym, is_word};
 use mz_lexer::{Keyword, Symbol};
+use mz_operand::reading::{Reading, other};
+use mz_operand::step::let_separator;
 use mz_tree::{Expr, LetItem, make_if, make_let, make_let_constraint, make_let_declaration};
 use std::alloc::Global;
 

@@ -8,20 +8,20 @@ ghost use Rattle.mz_cursor.specs.Reading.{mapped, with_front};
 ghost use Rattle.mz_grammar.specs.Parts as parts;
 ghost use Rattle.mz_grammar.specs.Reading.{reads};
 ghost use Rattle.mz_grammar.specs.Steps.{called_at, guarded_at, waited_at};
-ghost use Rattle.mz_expr.specs.Views.{reading, argument};
+ghost use Rattle.mz_operand.specs.Views.{reading, argument};
 ghost use Rattle.mz_expr.specs.Descent.{MayOpen, MayRead};
 
-use crate::argument::{
-    Argument, exprs_of, generators_of, guarded_argument, strict_argument, takes_where, turn_by,
-    waits,
-};
 use crate::parser::descent::{Descent, Entry};
-use crate::reading::{Reading, other};
-use crate::step::separator;
 use mz_base::{Held, Name, Span, Stop};
 use mz_cursor::{Cursor, is_sym, is_word};
 use mz_grammar::{Closing, Level, Turn};
 use mz_lexer::{Keyword, Symbol};
+use mz_operand::argument::{
+    Argument, exprs_of, generators_of, guarded_argument, strict_argument, takes_where, turn_by,
+    waits,
+};
+use mz_operand::reading::{Reading, other};
+use mz_operand::step::separator;
 use mz_tree::{make_call, make_gen_call, make_generator};
 use std::alloc::Global;
 

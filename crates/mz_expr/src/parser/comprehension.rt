@@ -12,12 +12,12 @@ ghost use Rattle.mz_grammar.specs.Steps.{generators_at};
 ghost use Rattle.mz_expr.specs.Descent.{MayRead};
 
 use crate::parser::descent::{Descent, Entry};
-use crate::reading::Reading;
-use crate::step::{closes, ident, ident_of, separator};
 use mz_base::{Held, Name, Span, Stop};
 use mz_cursor::{Cursor, is_sym, is_word};
 use mz_grammar::{Closing, Level};
 use mz_lexer::{Keyword, Symbol};
+use mz_operand::reading::Reading;
+use mz_operand::step::{closes, ident, ident_of, separator};
 use mz_tree::{Expr, Gen, make_generator};
 use std::alloc::Global;
 

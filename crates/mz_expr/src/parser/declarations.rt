@@ -9,11 +9,11 @@ ghost use Rattle.mz_grammar.specs.Reading.{reads};
 ghost use Rattle.mz_expr.specs.Descent.{MayRead};
 
 use crate::parser::descent::{Descent, Entry};
-use crate::reading::Reading;
-use crate::step::ident;
 use mz_base::Stop;
 use mz_cursor::{Cursor, is_sym};
 use mz_lexer::Symbol;
+use mz_operand::reading::Reading;
+use mz_operand::step::ident;
 use mz_tree::{Decl, Expr, TypeText, make_declaration};
 use std::alloc::Global;
 

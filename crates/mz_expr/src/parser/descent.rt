@@ -7,14 +7,14 @@ ghost use Rattle.mz_base.specs.declared.limit.TheConstants.{OPEN_LIMIT};
 ghost use Rattle.mz_cursor.specs.Reads.{Reads};
 ghost use Rattle.mz_grammar.specs.Parts as parts;
 ghost use Rattle.mz_grammar.specs.Reading.{reads};
-ghost use Rattle.mz_expr.specs.Views.{reading};
+ghost use Rattle.mz_operand.specs.Views.{reading};
 ghost use Rattle.mz_expr.specs.Descent.{entry_at, tighter, MayBegin, MayRead};
 
-use crate::operator::tighter_level;
-use crate::reading::Reading;
 use mz_base::Stop;
 use mz_cursor::Cursor;
 use mz_grammar::Level;
+use mz_operand::operator::tighter_level;
+use mz_operand::reading::Reading;
 use std::alloc::Global;
 
 /// Where the descent begins.

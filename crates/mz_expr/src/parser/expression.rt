@@ -5,18 +5,18 @@ ghost use Rattle.mz_tree.specs.Views.{tree, link};
 ghost use Rattle.mz_cursor.specs.Reads.{Passes, Reads};
 ghost use Rattle.mz_grammar.specs.Parts as parts;
 ghost use Rattle.mz_grammar.specs.Reading.{reads};
-ghost use Rattle.mz_expr.specs.Views.{reading};
+ghost use Rattle.mz_operand.specs.Views.{reading};
 ghost use Rattle.mz_expr.specs.StepsClimb.{finished};
 ghost use Rattle.mz_expr.specs.Descent.{MayBegin, MayOpen, MayRead};
 
-use crate::operator::{binary_of, is_single, level_number, next_level, prefix_of};
 use crate::parser::descent::{Descent, Entry};
-use crate::reading::{Reading, accessed, chained, other, unless_annotated};
-use crate::step::separator;
 use mz_base::Stop;
 use mz_cursor::{Cursor, is_sym};
 use mz_grammar::{Closing, Level};
 use mz_lexer::Symbol;
+use mz_operand::operator::{binary_of, is_single, level_number, next_level, prefix_of};
+use mz_operand::reading::{Reading, accessed, chained, other, unless_annotated};
+use mz_operand::step::separator;
 use mz_tree::{BinOp, Expr, make_unary};
 use std::alloc::Global;
 

@@ -5,14 +5,14 @@ ghost use Rattle.mz_cursor.specs.Reads.{Reads};
 ghost use Rattle.mz_grammar.specs.Parts as parts;
 ghost use Rattle.mz_grammar.specs.Reading.{reads};
 ghost use Rattle.mz_grammar.specs.Steps.{head_at, head_word_at, head_symbol_at, parenthesised_at};
-ghost use Rattle.mz_expr.specs.Views.{reading};
+ghost use Rattle.mz_operand.specs.Views.{reading};
 ghost use Rattle.mz_expr.specs.Descent.{MayOpen};
 
 use crate::parser::descent::{Descent, Entry};
-use crate::reading::{Reading, other};
 use mz_base::{Held, Name, Stop};
 use mz_cursor::{Cursor, is_sym};
 use mz_lexer::{Keyword, Symbol, Tok};
+use mz_operand::reading::{Reading, other};
 use mz_tree::{make_absent, make_bool, make_int, make_interp, make_plain, make_rows, make_text};
 use std::alloc::Global;
 

@@ -15,12 +15,12 @@ ghost use Rattle.mz_grammar.specs.Steps.{separator_at};
 ghost use Rattle.mz_expr.specs.Descent.{MayRead};
 
 use crate::parser::descent::{Descent, Entry};
-use crate::reading::Reading;
-use crate::step::{closes, ends_row, middle_of, separator, tail_of};
 use mz_base::{Held, Span, Stop};
 use mz_cursor::{Cursor, is_sym};
 use mz_grammar::Closing;
 use mz_lexer::Symbol;
+use mz_operand::reading::Reading;
+use mz_operand::step::{closes, ends_row, middle_of, separator, tail_of};
 use mz_tree::{
     Expr, TextPart, make_array, make_array_comp, make_plain, make_set, make_set_comp, make_shown,
 };

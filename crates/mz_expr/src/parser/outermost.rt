@@ -4,13 +4,13 @@ ghost use Rattle.mz_tree.specs.Views.{tree, declaration, written};
 ghost use Rattle.mz_cursor.specs.Reads.{Passes, Reads};
 ghost use Rattle.mz_grammar.specs.Parts as parts;
 ghost use Rattle.mz_grammar.specs.Reading.{reads};
-ghost use Rattle.mz_expr.specs.Views.{reading};
+ghost use Rattle.mz_operand.specs.Views.{reading};
 
 use crate::parser::descent::{Descent, Entry, descend};
-use crate::reading::Reading;
 use mz_base::Stop;
 use mz_cursor::Cursor;
 use mz_grammar::Level;
+use mz_operand::reading::Reading;
 use mz_tree::{Decl, Expr, TypeText};
 use std::alloc::Global;
 

@@ -9,12 +9,12 @@ ghost use Rattle.mz_grammar.specs.Steps.{dimensions_at};
 ghost use Rattle.mz_expr.specs.Descent.{MayRead};
 
 use crate::parser::descent::{Descent, Entry};
-use crate::reading::Reading;
-use crate::step::{begins_base, separator};
 use mz_base::{Span, Stop};
 use mz_cursor::{Cursor, is_sym, is_word};
 use mz_grammar::{Closing, Level};
 use mz_lexer::{Keyword, Symbol};
+use mz_operand::reading::Reading;
+use mz_operand::step::{begins_base, separator};
 use mz_tree::{TypeBase, TypeText, make_bool_base, make_int_base, make_scalar, make_set_base};
 use std::alloc::Global;
 

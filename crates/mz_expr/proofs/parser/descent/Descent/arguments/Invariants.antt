@@ -3,7 +3,7 @@ use Rattle.mz_cursor.specs.Reading.{with_front}
 use Rattle.mz_grammar.specs.declared.list.Turn.TheVariants as turn
 use Rattle.mz_grammar.specs.Parts as parts
 use Rattle.mz_grammar.specs.Reading.{reads}
-use Rattle.mz_expr.specs.Views.{argument}
+use Rattle.mz_operand.specs.Views.{argument}
 use Rattle.mz_expr.proofs.parser.descent.Descent.arguments.Given as goal
 
 abbrev pub invariant-loop-turn : goal.invariant-loop-turn

@@ -7,7 +7,7 @@ ghost use Rattle.mz_tree.specs.Tree.{node, chain};
 ghost use Rattle.mz_grammar.specs.Parts as pure_parts;
 ghost use Rattle.mz_grammar.specs.Parts.{at_of, tree_of, chained};
 ghost use Rattle.mz_grammar.specs.Model.{accessed, unless_annotated};
-ghost use Rattle.mz_expr.specs.Views.{reading, is_one_member};
+ghost use Rattle.mz_operand.specs.Views.{reading, is_one_member};
 
 use mz_base::{Held, Name, Span};
 use mz_tree::{BinOp, Expr, make_access, make_chain, make_ident};

@@ -7,7 +7,7 @@ use Rattle.mz_tree.specs.declared.expr.BinOp.{BinOp}
 use Rattle.mz_tree.specs.declared.expr.BinOp.TheVariants as op
 use Rattle.mz_tree.specs.Views.{tree, link}
 use Rattle.mz_grammar.specs.Parts.{name, member, chained, related}
-use Rattle.mz_expr.specs.Views.{is_one_member}
+use Rattle.mz_operand.specs.Views.{is_one_member}
 
 -- a pair that is one operator with its operand
 related-member : (n : Name) (s : Span) (o : BinOp) (e : Tree) → is_one_member ((o, e) ∷ []) ≡ true → member n s e ≡ related n s o e

@@ -1,5 +1,5 @@
-use Rattle.mz_expr.proofs.ArgumentsOfCode.{exprs_of-given, exprs_of-other}
-use Rattle.mz_expr.proofs.argument.exprs_of.Goals as goal
+use Rattle.mz_operand.proofs.ArgumentsOfCode.{exprs_of-given, exprs_of-other}
+use Rattle.mz_operand.proofs.argument.exprs_of.Goals as goal
 
 pub loop-arg-preserved-in_ok-push-in-Some-given_of :
     goal.loop-arg-preserved-in_ok-push-in-Some-given_of

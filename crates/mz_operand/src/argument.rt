@@ -6,7 +6,7 @@ ghost use Rattle.mz_tree.specs.Tree.{maybe};
 ghost use Rattle.mz_tree.specs.Views.{tree, generator};
 ghost use Rattle.mz_grammar.specs.Parts.{given, guarded, strict};
 ghost use Rattle.mz_grammar.specs.Arguments.{turn_by, waits, takes_where, given_of, trees_of, role_of, bound, generators_of};
-ghost use Rattle.mz_expr.specs.Views.{reading, argument, role, condition};
+ghost use Rattle.mz_operand.specs.Views.{reading, argument, role, condition};
 
 use crate::reading::Reading;
 use mz_base::{Held, Name, Span};

@@ -2,11 +2,11 @@ use Rattle.std.proofs.Common.{rules, ◌≡◌, ◌<◌, ◌∙◌, sym, ap, len
 use Rattle.std.proofs.lemmas.List.{map-id}
 use Rattle.std.proofs.lemmas.Iterator.Adapters.{YieldsList-from_vec}
 use Rattle.std.proofs.lemmas.Iterator.Consumers.{YieldsList-end}
-use Rattle.mz_expr.specs.Views.{role}
-use Rattle.mz_expr.proofs.Arguments.{taken-none}
-use Rattle.mz_expr.proofs.ArgumentsOfCode.{taken_of-waiting, taken_of-bound, taken_of-unfit, taken_of-done, taken_of-waits, taken_of-fails}
-use Rattle.mz_expr.proofs.argument.generators_of.Goals as goal
-use Rattle.mz_expr.proofs.argument.generators_of.Goals.{After-drop-arg-iterator-2, else-fit-via-then-fit+else-is_empty-2, else-fit-via-else-fit}
+use Rattle.mz_operand.specs.Views.{role}
+use Rattle.mz_operand.proofs.Arguments.{taken-none}
+use Rattle.mz_operand.proofs.ArgumentsOfCode.{taken_of-waiting, taken_of-bound, taken_of-unfit, taken_of-done, taken_of-waits, taken_of-fails}
+use Rattle.mz_operand.proofs.argument.generators_of.Goals as goal
+use Rattle.mz_operand.proofs.argument.generators_of.Goals.{After-drop-arg-iterator-2, else-fit-via-then-fit+else-is_empty-2, else-fit-via-else-fit}
 
 pub loop-arg-init : goal.loop-arg-init
 loop-arg-init c = rw (c.new-all.ensures.items, c.new-names.ensures.items) taken-none

@@ -2,7 +2,7 @@
 
 ghost use Rattle.std.specs.Prelude.{◌≡◌, Some};
 ghost use Rattle.mz_grammar.specs.Operators.{prefix_of, operator_of, level_number, binary_of, is_single, tighter_level};
-ghost use Rattle.mz_expr.specs.StepsClimb.{next_level};
+ghost use Rattle.mz_operand.specs.Levels.{next_level};
 
 use mz_grammar::Level;
 use mz_lexer::{Keyword, Symbol, Tok};

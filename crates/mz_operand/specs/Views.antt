@@ -7,15 +7,14 @@ use Rattle.mz_tree.specs.declared.expr.BinOp.TheVariants as op
 use Rattle.mz_grammar.specs.Arguments as pure_role
 use Rattle.mz_tree.specs.declared.expr.Expr.{Expr}
 use Rattle.mz_base.specs.declared.held.Held.{Held}
-use Rattle.mz_expr.specs.declared.argument.Role.{Role}
-use Rattle.mz_expr.specs.declared.argument.Role.TheVariants as role_of
+use Rattle.mz_operand.specs.declared.argument.Role.{Role}
+use Rattle.mz_operand.specs.declared.argument.Role.TheVariants as role_of
 use Rattle.mz_tree.specs.Views.{tree, generator}
-use Rattle.mz_cursor.specs.Reading.{Read, mapped}
 use Rattle.mz_grammar.specs.Parts as pure
-use Rattle.mz_expr.specs.declared.reading.Reading.{Reading}
-use Rattle.mz_expr.specs.declared.reading.Reading.TheVariants as of_code
-use Rattle.mz_expr.specs.declared.argument.Argument.{Argument}
-use Rattle.mz_expr.specs.declared.argument.Argument.TheVariants as argument_of
+use Rattle.mz_operand.specs.declared.reading.Reading.{Reading}
+use Rattle.mz_operand.specs.declared.reading.Reading.TheVariants as of_code
+use Rattle.mz_operand.specs.declared.argument.Argument.{Argument}
+use Rattle.mz_operand.specs.declared.argument.Argument.TheVariants as argument_of
 
 abbrev pub reading : Reading → pure.Reading
 reading (of_code.Name n s) = pure.name n s
@@ -40,8 +39,3 @@ role role_of.Unfit = pure_role.unfit
 abbrev pub is_one_member : List (BinOp × Tree) → Bool
 is_one_member ((op.Member, e) ∷ []) = true
 is_one_member _ = false
-
--- whether annotations were read before, or are now
-abbrev pub annotated : Bool → Read Bool → Read Bool
-annotated false o = o
-annotated true o = mapped (λ b. true) o

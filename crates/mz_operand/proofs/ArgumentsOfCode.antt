@@ -11,13 +11,13 @@ use Rattle.mz_tree.specs.declared.expr.Gen.{Gen}
 use Rattle.mz_tree.specs.Views.{tree, generator}
 use Rattle.mz_grammar.specs.Parts.{tree_of}
 use Rattle.mz_grammar.specs.Arguments.{given_of, trees_of, role_of, bound, generators_of}
-use Rattle.mz_expr.specs.declared.argument.Argument.{Argument}
-use Rattle.mz_expr.specs.declared.argument.Role.{Role}
-use Rattle.mz_expr.specs.declared.argument.Role.TheVariants as role_is
-use Rattle.mz_expr.specs.declared.reading.Reading.{Reading}
+use Rattle.mz_operand.specs.declared.argument.Argument.{Argument}
+use Rattle.mz_operand.specs.declared.argument.Role.{Role}
+use Rattle.mz_operand.specs.declared.argument.Role.TheVariants as role_is
+use Rattle.mz_operand.specs.declared.reading.Reading.{Reading}
 use Rattle.mz_base.specs.declared.held.Held.{Held}
-use Rattle.mz_expr.specs.Views.{reading, argument, role, condition}
-use Rattle.mz_expr.proofs.Arguments.{trees_of-behind, Taken, taken-waiting, taken-bound, taken-unfit, taken-done, taken-waits, taken-fails}
+use Rattle.mz_operand.specs.Views.{reading, argument, role, condition}
+use Rattle.mz_operand.proofs.Arguments.{trees_of-behind, Taken, taken-waiting, taken-bound, taken-unfit, taken-done, taken-waits, taken-fails}
 
 -- one more that is an expression
 pub exprs_of-given : (args : List Argument) (arg : Argument) (x : Reading) (fit : Bool) (all more : List Expr) (e : Expr) → Some (reading x) ≡ given_of (argument arg) → tree e ≡ tree_of (reading x) → more ≡ all ++ (e ∷ []) → trees_of (map argument args) ≡ (if fit then Some (map tree all) else None) → trees_of (map argument (args ++ (arg ∷ []))) ≡ (if fit then Some (map tree more) else None)

@@ -1,0 +1,10 @@
+// What is read of an expression before it is known to be one: operands and arguments that may still become generators,
+// and single tokens.
+#![tactic(auto)]
+
+pub mod argument;
+pub mod operator;
+pub mod reading;
+pub mod step;
+
+pub use reading::Reading;
