@@ -1,8 +1,0 @@
-use Rattle.std.proofs.Common.{ap, List}
-use Rattle.mz_tree.specs.declared.data.Datum.{the_lemmas}
-use Rattle.mz_tree.specs.Data.{Value, rows, lines}
-use Rattle.mz_tree.proofs.Maps.{map_map}
-use Rattle.mz_dzn.proofs.make.make_rows.Goals as goal
-
-pub returns : goal.returns
-returns c = simp the_lemmas (ap (λ (ls : List (List Value)). rows (lines ls)) (map_map _ _ c.args.table.items))
