@@ -1,0 +1,9 @@
+pub mod IntLists
+pub mod SetLemmas
+pub mod Loops
+pub mod NameBytes
+pub mod Solutions
+pub mod LineLemmas
+pub mod ReaderLemmas
+pub mod CutLemmas
+pub mod Soundness

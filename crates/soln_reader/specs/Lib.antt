@@ -1,0 +1,16 @@
+pub mod Blocks
+pub mod Bytes
+pub mod Contents
+pub mod Cuts
+pub mod Forms
+pub mod Gives
+pub mod Holding
+pub mod Items
+pub mod Reader
+pub mod Steps
+pub mod StepsLines
+pub mod StepsReader
+pub mod StepsSettle
+pub mod StepsWalk
+pub mod Stream
+pub mod Views

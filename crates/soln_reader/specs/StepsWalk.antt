@@ -1,0 +1,32 @@
+-- Mirror of src/walk.rt; private clauses only.
+use Rattle.std.specs.Prelude.{◌≡◌, ℕ, ◌+◌, List, Bool, true, false, drop, map}
+use Rattle.mz_value.specs.Contents.{content}
+use Rattle.soln_reader.specs.declared.walk.Stop.{Stop}
+use Rattle.soln_reader.specs.declared.walk.Stop.TheVariants as stop
+use Rattle.soln_reader.specs.Forms.{Form}
+use Rattle.soln_reader.specs.Blocks.{Block}
+use Rattle.soln_reader.specs.Stream.{Place, Event, block, mark, Outcome, gives, is_bad, Passes, has_line, after_line, line_outcome}
+
+abbrev pub place_at : ℕ → Block → Place
+place_at n b = record { lines = n; block = b }
+
+-- lines pass up to a line with an outcome
+pub record WalksTo (fs : List Form) (ended : Bool) (lines : ℕ) (b : Block) (bs : List ℕ) (o : Outcome) (last taken : ℕ) : Type 0 where
+  pub before : Place
+  pub from : List ℕ
+  pub passed : Passes fs ended (place_at lines b) bs before from
+  pub line : has_line ended from ≡ true
+  pub outcome : line_outcome fs before.block from ≡ o
+  pub counted : last ≡ before.lines + 1
+  pub rest : drop taken bs ≡ after_line from
+
+-- lines pass, as many as there are or as memory allows
+pub record WalksOver (fs : List Form) (ended : Bool) (lines : ℕ) (b : Block) (bs : List ℕ) (new : Block) (last taken : ℕ) : Type 0 where
+  pub passed : Passes fs ended (place_at lines b) bs (place_at last new) (drop taken bs)
+
+abbrev pub Walks : List Form → Bool → ℕ → Block → List ℕ → Block → Stop → ℕ → ℕ → Type 0
+Walks fs ended lines b bs new (stop.Solved a) last taken = WalksTo fs ended lines b bs (gives (block (map content a.values.items))) last taken
+Walks fs ended lines b bs new (stop.Marked m) last taken = WalksTo fs ended lines b bs (gives (mark m)) last taken
+Walks fs ended lines b bs new stop.Bad last taken = WalksTo fs ended lines b bs is_bad last taken
+Walks fs ended lines b bs new stop.NoLine last taken = WalksOver fs ended lines b bs new last taken × (has_line ended (drop taken bs) ≡ false)
+Walks fs ended lines b bs new stop.Memory last taken = WalksOver fs ended lines b bs new last taken

@@ -1,0 +1,32 @@
+// Why something isn't read.
+
+use std::alloc::{AllocError, AllocFailed};
+
+/// What isn't read: a line that doesn't fit, or one for which memory ran out.
+#[derive(Clone, Copy, Debug)]
+pub(crate) enum Miss {
+    Unfit,
+    Memory,
+}
+
+impl From<AllocError> for Miss {
+    ghost use Rattle.std.specs.Prelude.{◌≡◌};
+    ghost use Rattle.soln_reader.specs.declared.miss.Miss.TheVariants.{Memory};
+
+    ghost from_gives = { λ _ e. e ≡ Memory };
+
+    fn from(_: AllocError) -> Miss {
+        Miss::Memory
+    }
+}
+
+impl<T: Drop> From<AllocFailed<T>> for Miss {
+    ghost use Rattle.std.specs.Prelude.{◌≡◌};
+    ghost use Rattle.soln_reader.specs.declared.miss.Miss.TheVariants.{Memory};
+
+    ghost from_gives = { λ _ e. e ≡ Memory };
+
+    fn from(_: AllocFailed<T>) -> Miss {
+        Miss::Memory
+    }
+}
