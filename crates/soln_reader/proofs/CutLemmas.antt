@@ -4,8 +4,8 @@ use Rattle.std.proofs.lemmas.Bool.{false≢true, cases_lt, eqb-true}
 use Rattle.std.proofs.lemmas.List.{append-nil, drop-append-le, take-append-le, length-append}
 use Rattle.std.proofs.lemmas.List.Folds.{prefix_len-append}
 use Rattle.std.proofs.lemmas.List.Sums.{prefix_len-le-length}
-use Rattle.soln_reader.specs.Bytes.{is_no_newline}
-use Rattle.soln_reader.specs.Forms.{Form}
+use Rattle.soln_items.specs.Bytes.{is_no_newline}
+use Rattle.soln_items.specs.Forms.{Form}
 use Rattle.soln_reader.specs.Blocks.{Block, Given}
 use Rattle.soln_reader.specs.Stream.{Place, next_place, Event, Ending, whole, bad, Stream, at_the_end, in_a_block, passes, an_event, a_bad_line, Outcome, leaves, gives, is_bad, Passes, no_line, a_line, line_len, line_limit, has_newline, is_too_long, has_line, first_line, chopped, after_line, line_outcome, outcome}
 use Rattle.soln_reader.specs.Reader.{State, place, at, start, fed, GivesEvent, Needs, Ends, IsFirstBad, a_bad_line as bad_found, left_open, FindsBad, first, again, Stops}
@@ -153,14 +153,6 @@ over_stream s u more es x passed after later =
     let P : List Form → Type 0 = λ fs. Stream fs (place u) (u.bytes ++ more) es x in
     passes_then s.forms (place s) s.bytes (place u) u.bytes more es x passed (subst P (ap (λ v. v.forms) after) later)
 
-over_last : (s u : State) (es : List Event) (x : Ending) → Passes s.forms true (place s) s.bytes (place u) u.bytes → u ≡ at s (place u) u.bytes None → Later u [] es x → Later s [] es x
-unfolding Later
-over_last s u es x passed after later =
-    let P : List Form → Type 0 = λ fs. Stream fs (place u) (u.bytes ++ []) es x in
-    let Q : List ℕ → Type 0 = λ cs. Stream s.forms (place u) cs es x in
-    let R : List ℕ → Type 0 = λ cs. Stream s.forms (place s) cs es x in
-    subst R (sym (append-nil s.bytes)) (passes_last s.forms (place s) s.bytes (place u) u.bytes es x passed (subst Q (append-nil u.bytes) (subst P (ap (λ v. v.forms) after) later)))
-
 end_stream : (s u : State) → Ends true s u → Later s [] [] whole
 unfolding Later
 end_stream s u e =
@@ -174,10 +166,14 @@ session_stream s bytes es x (feeds piece {bytes = more} k) fresh =
     subst P (append_assoc s.bytes piece more) (session_stream (fed s piece) more es x k fresh)
 session_stream s bytes es x (gives_one {u = u} {e = e} {es = ds} g k) fresh = event_stream s u e bytes ds x g (session_stream u bytes ds x k (ap (λ v. v.bad) g.after))
 session_stream s bytes es x (needs_more {u = u} n k) fresh = over_stream s u bytes es x n.passed n.after (session_stream u bytes es x k (ap (λ v. v.bad) n.after))
-session_stream s bytes es x (runs_short {u = u} n k) fresh = over_stream s u bytes es x n.passed n.after (session_stream u bytes es x k (ap (λ v. v.bad) n.after))
+session_stream s bytes es x (runs_short {u = u} n k) fresh =
+    let P : State → Type 0 = λ v. Later v bytes es x in
+    subst P n (session_stream u bytes es x k (ap (λ (v : State). v.bad) n ∙ fresh))
 session_stream s bytes es x (finds_bad {u = u} {n = n} more f) fresh = found_stream s u n more fresh f
 session_stream s bytes es x (gives_last {u = u} {e = e} {es = ds} g k) fresh = event_last s u e ds x g (session_stream u [] ds x k (ap (λ v. v.bad) g.after))
-session_stream s bytes es x (runs_short_last {u = u} n k) fresh = over_last s u es x n.passed n.after (session_stream u [] es x k (ap (λ v. v.bad) n.after))
+session_stream s bytes es x (runs_short_last {u = u} n k) fresh =
+    let P : State → Type 0 = λ v. Later v [] es x in
+    subst P n (session_stream u [] es x k (ap (λ (v : State). v.bad) n ∙ fresh))
 session_stream s bytes es x (finds_bad_last {u = u} {n = n} f) fresh = found_last s u n fresh f
 session_stream s bytes es x (ends {u = u} e) fresh = end_stream s u e
 

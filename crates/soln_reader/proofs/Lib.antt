@@ -1,8 +1,5 @@
-pub mod IntLists
-pub mod SetLemmas
-pub mod Loops
-pub mod NameBytes
 pub mod Solutions
+pub mod UndoLemmas
 pub mod LineLemmas
 pub mod ReaderLemmas
 pub mod CutLemmas

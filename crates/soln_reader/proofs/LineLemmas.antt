@@ -6,8 +6,8 @@ use Rattle.std.proofs.lemmas.Bool.{false≢true}
 use Rattle.std.proofs.lemmas.List.{drop_all, length-drop}
 use Rattle.std.proofs.lemmas.List.Folds.{prefix_len-append}
 use Rattle.std.proofs.lemmas.List.Sums.{prefix_len-le-length}
-use Rattle.soln_reader.specs.Bytes.{is_no_newline}
-use Rattle.soln_reader.specs.Forms.{Form}
+use Rattle.soln_items.specs.Bytes.{is_no_newline}
+use Rattle.soln_items.specs.Forms.{Form}
 use Rattle.soln_reader.specs.Blocks.{Block}
 use Rattle.soln_reader.specs.Stream.{Outcome, is_bad, line_len, line_limit, has_newline, is_too_long, has_line, first_line, chopped, after_line, line_outcome, outcome}
 use Rattle.soln_reader.specs.declared.step.Step.{Step}
@@ -93,7 +93,7 @@ no_line ended bs short all none = rw (lt_false (line_len bs) (length bs) all) (r
 
 -- a step by what the first line does
 pub steps_from : (fs : List Form) (ended : Bool) (old new : Block) (bs : List ℕ) (n : ℕ) (s : Step) → has_line ended bs ≡ true → StepsOver bs n → IsStep old new (line_outcome fs old bs) n s → Steps fs ended old new bs s
-steps_from fs ended old new bs n (step.Passed m) has o is = (has, is.0, subst (StepsOver bs) (sym is.1) o)
+steps_from fs ended old new bs n (step.Passed filled m) has o is = (has, is.0, is.1, subst (StepsOver bs) (sym is.2) o)
 steps_from fs ended old new bs n (step.Solved a m) has o is = (has, is.0, subst (StepsOver bs) (sym is.1) o)
 steps_from fs ended old new bs n (step.Marked k m) has o is = (has, is.0, subst (StepsOver bs) (sym is.1) o)
 steps_from fs ended old new bs n (step.Bad m) has o is = (has, is.0, subst (StepsOver bs) (sym is.1) o)

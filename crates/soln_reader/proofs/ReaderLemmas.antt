@@ -3,16 +3,16 @@ use Rattle.std.proofs.Common.{◌≡◌, ℕ, zero, suc, ◌<◌, ◌≤◌, ◌
 use Rattle.std.proofs.lemmas.Bool.{false≢true, cases_lt}
 use Rattle.soln_reader.proofs.LineLemmas.{ended_line, last_line}
 use Rattle.std.proofs.lemmas.List.{drop_all, drop-drop, length-drop}
-use Rattle.soln_reader.specs.Forms.{Form}
+use Rattle.soln_items.specs.Forms.{Form}
 use Rattle.soln_reader.specs.Blocks.{Block, Given}
 use Rattle.soln_reader.specs.Stream.{Place, next_place, Event, Outcome, leaves, gives, is_bad, Passes, no_line, a_line, line_len, line_limit, has_newline, is_too_long, has_line, after_line, line_outcome}
-use Rattle.soln_reader.specs.Reader.{State, Answers, bad_line, GivesEvent, Needs, Ends, IsFirstBad, a_bad_line, left_open, FindsBad, Stops, first, again}
+use Rattle.soln_reader.specs.Reader.{State, Answers, bad_line, GivesEvent, Needs, Ends, IsFirstBad, a_bad_line, left_open, FindsBad, first, again}
 use Rattle.soln_reader.specs.declared.next.Next.{Next}
 use Rattle.soln_reader.specs.declared.next.Next.TheVariants as next
 use Rattle.soln_reader.specs.declared.walk.Stop.{Stop}
 use Rattle.soln_reader.specs.declared.walk.Stop.TheVariants as stop
 use Rattle.soln_reader.specs.StepsLines.{StepsOver}
-use Rattle.soln_reader.specs.StepsWalk.{WalksTo, WalksOver, Walks, place_at}
+use Rattle.soln_reader.specs.StepsWalk.{WalksTo, WalksOver, Walks, Untouched, is_short, place_at}
 use Rattle.soln_reader.specs.StepsSettle.{Leaves, RunsOut, Settles, IsSeen}
 
 -- one more line passes
@@ -86,13 +86,6 @@ to_need fs bs at taken lines last b new w none = record {
   after = refl;
 }
 
-pub to_stop : (fs : List Form) (ended : Bool) (bs : List ℕ) (at taken lines last : ℕ) (b new : Block) → WalksOver fs ended lines b (drop at bs) new last taken → Stops ended (held fs (drop at bs) lines b) (held fs (drop (at + taken) bs) last new)
-to_stop fs ended bs at taken lines last b new w = record {
-  fresh = refl;
-  passed = over_at fs ended bs at taken lines last b new w;
-  after = refl;
-}
-
 nothing_left : (bs : List ℕ) → has_line true bs ≡ false → bs ≡ []
 nothing_left [] none = refl
 nothing_left (b ∷ bs) none = absurd (false≢true (sym none ∙ last_line (b ∷ bs) (omega arith)))
@@ -115,6 +108,21 @@ to_open fs bs at taken lines last b gs w none =
     let P : List ℕ → Type 0 = λ cs. Passes fs true (place_at lines b) (drop at bs) (place_at last (Some gs)) cs in
     first [] refl (left_open (place_at last (Some gs)) (subst P nil (over_at fs true bs at taken lines last b (Some gs) w)) refl refl) (ap (λ cs. failed fs cs last) nil)
 
+-- what holds where memory ran out matters there alone
+pub long_walk : (fs : List Form) (ended : Bool) (lines : ℕ) (b : Block) (bs : List ℕ) (new : Block) (s : Stop) (last taken : ℕ) (short other : Type 0) → is_short s ≡ false → Walks fs ended lines b bs new s last taken short → Walks fs ended lines b bs new s last taken other
+long_walk fs ended lines b bs new (stop.Solved a) last taken short other e w = w
+long_walk fs ended lines b bs new (stop.Marked m) last taken short other e w = w
+long_walk fs ended lines b bs new stop.Bad last taken short other e w = w
+long_walk fs ended lines b bs new stop.NoLine last taken short other e w = w
+long_walk fs ended lines b bs new stop.Memory last taken short other e w = absurd (false≢true (sym e))
+
+pub short_walk : (fs : List Form) (ended : Bool) (lines : ℕ) (b : Block) (bs : List ℕ) (new : Block) (s : Stop) (last taken : ℕ) (short : Type 0) → is_short s ≡ true → Walks fs ended lines b bs new s last taken short → short
+short_walk fs ended lines b bs new stop.Memory last taken short e w = w
+short_walk fs ended lines b bs new (stop.Solved a) last taken short e w = absurd (false≢true e)
+short_walk fs ended lines b bs new (stop.Marked m) last taken short e w = absurd (false≢true e)
+short_walk fs ended lines b bs new stop.Bad last taken short e w = absurd (false≢true e)
+short_walk fs ended lines b bs new stop.NoLine last taken short e w = absurd (false≢true e)
+
 -- where no whole line is left, there is no newline
 pub no_newline : (ended : Bool) (bs : List ℕ) → has_line ended bs ≡ false → length bs ≤ line_len bs
 no_newline ended bs none = elim (cases_lt (line_len bs) (length bs)) [
@@ -122,6 +130,11 @@ no_newline ended bs none = elim (cases_lt (line_len bs) (length bs)) [
   | inr h ↦ h ]
 
 -- the answer by where a walk ended
+
+untouched : (fs : List Form) (bs : List ℕ) (at taken lines last : ℕ) (b new : Block) → Untouched b new lines last taken → held fs (drop (at + taken) bs) last new ≡ held fs (drop at bs) lines b
+untouched fs bs at taken lines last b new u =
+    let none : at + taken ≡ at = omega (arith, u.2) in
+    ap (λ c. held fs (drop (at + taken) bs) last c) u.0 ∙ ap (λ n. held fs (drop (at + taken) bs) n b) u.1 ∙ ap (λ n. held fs (drop n bs) lines b) none
 
 same_answer : (ended : Bool) (old : State) (answer : Next) (fs : List Form) (rest : List ℕ) (last : ℕ) (b : Block) (bad : Option ℕ) (result : Next) (block : Block) (failed : Option ℕ) → Leaves answer b bad result block failed → Answers ended old answer (record { forms = fs; bytes = rest; lines = last; block = b; bad = bad }) → Answers ended old result (record { forms = fs; bytes = rest; lines = last; block = block; bad = failed })
 same_answer ended old answer fs rest last b bad result block failed l a =
@@ -138,7 +151,7 @@ run_out true fs bs at taken lines last b None result block failed w none s =
 run_out true fs bs at taken lines last b (Some gs) result block failed w none s =
     same_answer true (held fs (drop at bs) lines b) (next.Bad (bad_line last)) fs (drop (at + taken) bs) last None (Some last) result block failed s (last, refl, to_open fs bs at taken lines last b gs w none)
 
-pub settled : (ended : Bool) (fs : List Form) (bs : List ℕ) (at taken lines last : ℕ) (b new : Block) (s : Stop) (result : Next) (block : Block) (failed : Option ℕ) → Walks fs ended lines b (drop at bs) new s last taken → Settles ended s last new result block failed → Answers ended (held fs (drop at bs) lines b) result (record { forms = fs; bytes = drop (at + taken) bs; lines = last; block = block; bad = failed })
+pub settled : (ended : Bool) (fs : List Form) (bs : List ℕ) (at taken lines last : ℕ) (b new : Block) (s : Stop) (result : Next) (block : Block) (failed : Option ℕ) → Walks fs ended lines b (drop at bs) new s last taken (Untouched b new lines last taken) → Settles ended s last new result block failed → Answers ended (held fs (drop at bs) lines b) result (record { forms = fs; bytes = drop (at + taken) bs; lines = last; block = block; bad = failed })
 settled ended fs bs at taken lines last b new (stop.Solved a) result block failed w s =
     same_answer ended (held fs (drop at bs) lines b) (next.Block a) fs (drop (at + taken) bs) last None None result block failed s (to_event fs ended bs at taken lines last b _ w)
 settled ended fs bs at taken lines last b new (stop.Marked m) result block failed w s =
@@ -147,10 +160,10 @@ settled ended fs bs at taken lines last b new stop.Bad result block failed w s =
     same_answer ended (held fs (drop at bs) lines b) (next.Bad (bad_line last)) fs (drop (at + taken) bs) last None (Some last) result block failed s (last, refl, to_bad fs ended bs at taken lines last b w)
 settled ended fs bs at taken lines last b new stop.NoLine result block failed w s = run_out ended fs bs at taken lines last b new result block failed w.0 w.1 s
 settled ended fs bs at taken lines last b new stop.Memory result block failed w s =
-    same_answer ended (held fs (drop at bs) lines b) next.Memory fs (drop (at + taken) bs) last new None result block failed s (to_stop fs ended bs at taken lines last b new w)
+    same_answer ended (held fs (drop at bs) lines b) next.Memory fs (drop (at + taken) bs) last new None result block failed s (untouched fs bs at taken lines last b new w)
 
 -- what is known to have no newline
-pub seen_fits : (ended : Bool) (fs : List Form) (bs : List ℕ) (at taken lines last : ℕ) (b new : Block) (s : Stop) (left n : ℕ) → Walks fs ended lines b (drop at bs) new s last taken → left ≡ length (drop (at + taken) bs) → IsSeen s left n → n ≤ line_len (drop (at + taken) bs)
+pub seen_fits : (ended : Bool) (fs : List Form) (bs : List ℕ) (at taken lines last : ℕ) (b new : Block) (s : Stop) (left n : ℕ) → Walks fs ended lines b (drop at bs) new s last taken (Untouched b new lines last taken) → left ≡ length (drop (at + taken) bs) → IsSeen s left n → n ≤ line_len (drop (at + taken) bs)
 seen_fits ended fs bs at taken lines last b new (stop.Solved a) left n w is seen = omega arith
 seen_fits ended fs bs at taken lines last b new (stop.Marked m) left n w is seen = omega arith
 seen_fits ended fs bs at taken lines last b new stop.Bad left n w is seen = omega arith

@@ -9,10 +9,11 @@ use Rattle.std.specs.Prelude.{slice_get}
 use Rattle.std.specs.Option.{option_map}
 use Rattle.std.proofs.Math.ListN.{set}
 use Rattle.std.proofs.lemmas.Option.{slice_get-map, slice_get-get_or}
-use Rattle.soln_reader.specs.Gives.{Fits}
-use Rattle.soln_reader.specs.declared.outputs.Slot.{Slot}
-use Rattle.soln_reader.specs.Items.{◌>>=◌, Elements}
-use Rattle.soln_reader.specs.Forms.{Form}
+use Rattle.soln_items.specs.Gives.{Fits}
+use Rattle.soln_items.proofs.Loops.{cut, cut_map}
+use Rattle.soln_items.specs.declared.outputs.Slot.{Slot}
+use Rattle.soln_items.specs.Items.{◌>>=◌, Elements}
+use Rattle.soln_items.specs.Forms.{Form}
 use Rattle.soln_reader.specs.Blocks.{Given, put_in, put, optional, optional_all, solved, solution, nothing_for, nothing_given}
 
 abbrev pub with_all : List Content → Option (List Content) → Option (List Content)
@@ -29,12 +30,6 @@ get_or_same xs k d below = get_or_default xs k d (get_or xs k d) below
 joined : (front : List Content) (x : Content) (r : Option (List Content)) → with_all (front ++ x ∷ []) r ≡ with_all front (r >>= λ xs. Some (x ∷ xs))
 joined front x None = refl
 joined front x (Some r) = rw append_assoc refl
-
-cut : {X : Type 0} (xs : List X) (i : ℕ) (x : X) → i < length xs → x ≡ get_or xs i x → drop i xs ≡ x ∷ drop (i + 1) xs
-cut {X} xs i x below is = rw add-one (drop-cons xs i x below ∙ ap (λ (y : X). y ∷ drop (suc i) xs) (sym is))
-
-pub cut_map : {X Y : Type 0} (f : X → Y) (xs : List X) (i : ℕ) (x : X) → i < length xs → x ≡ get_or xs i x → drop i (map f xs) ≡ f x ∷ drop (i + 1) (map f xs)
-cut_map f xs i x below is = drop-map f i xs ∙ ap (map f) (cut xs i x below is) ∙ ap (λ ys. f x ∷ ys) (sym (drop-map f (i + 1) xs))
 
 -- options
 

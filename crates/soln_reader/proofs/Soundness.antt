@@ -4,9 +4,8 @@ use Rattle.std.specs.Prelude.{OnOk, OnErr}
 use Rattle.std.proofs.lemmas.List.{length-append, length-drop, drop-drop}
 use Rattle.mz_base.specs.declared.stop.Memory.{Memory}
 use Rattle.mz_value.specs.declared.value.Shape.{Shape}
-use Rattle.soln_reader.specs.Stream.{Place, line_len, Passes, no_line}
-use Rattle.soln_reader.specs.Reader.{State, place, at, Stops}
-use Rattle.soln_reader.specs.Steps.{Table}
+use Rattle.soln_reader.specs.Stream.{line_len}
+use Rattle.soln_items.specs.Tables.{Table}
 use Rattle.soln_reader.specs.StepsReader.{IsSound, FitsShapes}
 use Rattle.soln_reader.proofs.LineLemmas.{len_grows}
 
@@ -23,14 +22,6 @@ feed_sound (Err e) ss table bytes more piece from start seen lines h ok err with
   within = within;
   no_newline = let P : List ℕ → Type 0 = λ bs. seen ≤ line_len bs in subst P (sym err) h.no_newline;
   few = let P : List ℕ → Type 0 = λ bs. lines + length bs < 2 ^ 32 in subst P (sym err) h.few;
-}
-
--- nothing happens
-pub stops_here : (ended : Bool) (s : State) → s.bad ≡ None → Stops ended s s
-stops_here ended s fresh = record {
-  fresh = fresh;
-  passed = no_line;
-  after = ap (λ b. record { forms = s.forms; bytes = s.bytes; lines = s.lines; block = s.block; bad = b }) fresh;
 }
 
 -- after a walk

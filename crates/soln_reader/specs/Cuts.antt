@@ -1,6 +1,6 @@
 -- A stream in pieces.
 use Rattle.std.specs.Prelude.{◌≡◌, ℕ, List, [], ◌∷◌, ◌++◌, true, false, None}
-use Rattle.soln_reader.specs.Forms.{Form}
+use Rattle.soln_items.specs.Forms.{Form}
 use Rattle.soln_reader.specs.Stream.{Place, Event, Ending, whole, bad, Stream}
 use Rattle.soln_reader.specs.Reader.{State, place, start, fed, GivesEvent, Needs, Ends, FindsBad, Stops}
 
@@ -10,10 +10,10 @@ pub data Session : State → List ℕ → List Event → Ending → Type 0 where
   feeds : {s : State} (piece : List ℕ) {bytes : List ℕ} {es : List Event} {x : Ending} → Session (fed s piece) bytes es x → Session s (piece ++ bytes) es x
   gives_one : {s u : State} {e : Event} {bytes : List ℕ} {es : List Event} {x : Ending} → GivesEvent false s e u → Session u bytes es x → Session s bytes (e ∷ es) x
   needs_more : {s u : State} {bytes : List ℕ} {es : List Event} {x : Ending} → Needs false s u → Session u bytes es x → Session s bytes es x
-  runs_short : {s u : State} {bytes : List ℕ} {es : List Event} {x : Ending} → Stops false s u → Session u bytes es x → Session s bytes es x
+  runs_short : {s u : State} {bytes : List ℕ} {es : List Event} {x : Ending} → Stops s u → Session u bytes es x → Session s bytes es x
   finds_bad : {s u : State} {n : ℕ} (bytes : List ℕ) → FindsBad false s n u → Session s bytes [] (bad n)
   gives_last : {s u : State} {e : Event} {es : List Event} {x : Ending} → GivesEvent true s e u → Session u [] es x → Session s [] (e ∷ es) x
-  runs_short_last : {s u : State} {es : List Event} {x : Ending} → Stops true s u → Session u [] es x → Session s [] es x
+  runs_short_last : {s u : State} {es : List Event} {x : Ending} → Stops s u → Session u [] es x → Session s [] es x
   finds_bad_last : {s u : State} {n : ℕ} → FindsBad true s n u → Session s [] [] (bad n)
   ends : {s u : State} → Ends true s u → Session s [] [] whole
 

@@ -1,16 +1,11 @@
 pub mod Blocks
-pub mod Bytes
-pub mod Contents
 pub mod Cuts
-pub mod Forms
-pub mod Gives
 pub mod Holding
-pub mod Items
 pub mod Reader
-pub mod Steps
 pub mod StepsLines
 pub mod StepsReader
 pub mod StepsSettle
+pub mod StepsUndo
 pub mod StepsWalk
 pub mod Stream
 pub mod Views

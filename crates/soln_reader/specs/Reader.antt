@@ -5,7 +5,7 @@ use Rattle.mz_base.specs.declared.kind.Kind.TheVariants.{BadSolution}
 use Rattle.mz_value.specs.Contents.{content}
 use Rattle.soln_reader.specs.declared.next.Next.{Next}
 use Rattle.soln_reader.specs.declared.next.Next.TheVariants as next
-use Rattle.soln_reader.specs.Forms.{Form}
+use Rattle.soln_items.specs.Forms.{Form}
 use Rattle.soln_reader.specs.Blocks.{Block, Given}
 use Rattle.soln_reader.specs.Stream.{Place, next_place, Event, block, mark, Passes, has_line, after_line, line_outcome, leaves, gives, is_bad}
 
@@ -68,11 +68,9 @@ pub data FindsBad (ended : Bool) (old : State) (n : ℕ) (new : State) : Type 0 
   first : (rest : List ℕ) → old.bad ≡ None → IsFirstBad old.forms ended (place old) old.bytes n rest → new ≡ at old (record { lines = n; block = None }) rest (Some n) → FindsBad ended old n new
   again : old.bad ≡ Some n → new ≡ old → FindsBad ended old n new
 
--- memory ran out: whole lines may have passed and been taken out, and nothing else changed
-pub record Stops (ended : Bool) (old : State) (new : State) : Type 0 where
-  pub fresh : old.bad ≡ None
-  pub passed : Passes old.forms ended (place old) old.bytes (place new) new.bytes
-  pub after : new ≡ at old (place new) new.bytes None
+-- memory ran out, and nothing changed
+abbrev pub Stops : State → State → Type 0
+Stops old new = new ≡ old
 
 -- a bad line's fault
 abbrev pub bad_line : ℕ → Fault
@@ -85,4 +83,4 @@ Answers ended old (next.Mark m) new = GivesEvent ended old (mark m) new
 Answers ended old next.Need new = Needs ended old new
 Answers ended old next.End new = Ends ended old new
 Answers ended old (next.Bad f) new = (n : ℕ) × (f ≡ bad_line n) × FindsBad ended old n new
-Answers ended old next.Memory new = Stops ended old new
+Answers ended old next.Memory new = Stops old new

@@ -3,7 +3,7 @@ use Rattle.std.specs.Prelude.{◌≡◌, ℕ, ◌+◌, List, Bool, true, false, 
 use Rattle.mz_value.specs.Contents.{content}
 use Rattle.soln_reader.specs.declared.walk.Stop.{Stop}
 use Rattle.soln_reader.specs.declared.walk.Stop.TheVariants as stop
-use Rattle.soln_reader.specs.Forms.{Form}
+use Rattle.soln_items.specs.Forms.{Form}
 use Rattle.soln_reader.specs.Blocks.{Block}
 use Rattle.soln_reader.specs.Stream.{Place, Event, block, mark, Outcome, gives, is_bad, Passes, has_line, after_line, line_outcome}
 
@@ -20,13 +20,22 @@ pub record WalksTo (fs : List Form) (ended : Bool) (lines : ℕ) (b : Block) (bs
   pub counted : last ≡ before.lines + 1
   pub rest : drop taken bs ≡ after_line from
 
--- lines pass, as many as there are or as memory allows
+-- all whole lines pass
 pub record WalksOver (fs : List Form) (ended : Bool) (lines : ℕ) (b : Block) (bs : List ℕ) (new : Block) (last taken : ℕ) : Type 0 where
   pub passed : Passes fs ended (place_at lines b) bs (place_at last new) (drop taken bs)
 
-abbrev pub Walks : List Form → Bool → ℕ → Block → List ℕ → Block → Stop → ℕ → ℕ → Type 0
-Walks fs ended lines b bs new (stop.Solved a) last taken = WalksTo fs ended lines b bs (gives (block (map content a.values.items))) last taken
-Walks fs ended lines b bs new (stop.Marked m) last taken = WalksTo fs ended lines b bs (gives (mark m)) last taken
-Walks fs ended lines b bs new stop.Bad last taken = WalksTo fs ended lines b bs is_bad last taken
-Walks fs ended lines b bs new stop.NoLine last taken = WalksOver fs ended lines b bs new last taken × (has_line ended (drop taken bs) ≡ false)
-Walks fs ended lines b bs new stop.Memory last taken = WalksOver fs ended lines b bs new last taken
+-- where a walk ends; the last parameter says what holds where memory ran out
+abbrev pub Walks : List Form → Bool → ℕ → Block → List ℕ → Block → Stop → ℕ → ℕ → Type 0 → Type 0
+Walks fs ended lines b bs new (stop.Solved a) last taken short = WalksTo fs ended lines b bs (gives (block (map content a.values.items))) last taken
+Walks fs ended lines b bs new (stop.Marked m) last taken short = WalksTo fs ended lines b bs (gives (mark m)) last taken
+Walks fs ended lines b bs new stop.Bad last taken short = WalksTo fs ended lines b bs is_bad last taken
+Walks fs ended lines b bs new stop.NoLine last taken short = WalksOver fs ended lines b bs new last taken × (has_line ended (drop taken bs) ≡ false)
+Walks fs ended lines b bs new stop.Memory last taken short = short
+
+abbrev pub is_short : Stop → Bool
+is_short stop.Memory = true
+is_short _ = false
+
+-- nothing is taken
+abbrev pub Untouched : Block → Block → ℕ → ℕ → ℕ → Type 0
+Untouched old new lines last taken = (new ≡ old) × (last ≡ lines) × (taken ≡ 0)

@@ -2,17 +2,12 @@
 use Rattle.std.specs.Prelude.{List, map, Option, Vec}
 use Rattle.std.specs.Option.{option_map}
 use Rattle.std.specs.declared.alloc.Global.{Global}
-use Rattle.soln_reader.specs.Contents.{contents_of}
-use Rattle.soln_reader.specs.Forms.{forms}
-use Rattle.soln_reader.specs.Items as items
+use Rattle.soln_items.specs.Forms.{forms}
+use Rattle.soln_items.specs.Views.{elements}
 use Rattle.soln_reader.specs.Blocks as blocks
 use Rattle.soln_reader.specs.Holding.{Holding}
 use Rattle.soln_reader.specs.Reader.{State}
-use Rattle.soln_reader.specs.declared.value.Elements.{Elements}
 use Rattle.soln_reader.specs.declared.block.Given.{Given}
-
-abbrev pub elements : Elements → items.Elements
-elements e = record { index = option_map (λ v. v.items) e.index; items = contents_of e.items.items }
 
 abbrev pub given : Given → blocks.Given
 given g = record { occurs = option_map elements g.occurs; value = option_map elements g.value }

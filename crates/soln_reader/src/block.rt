@@ -1,20 +1,18 @@
 // The open block: what its items gave, and the solution that a whole block is.
 
-ghost use Rattle.std.specs.Prelude.{◌≡◌, ◌++◌, ◌∷◌, [], IfOk, map, Some, None, length, option_and_then};
+ghost use Rattle.std.specs.Prelude.{◌≡◌, ◌++◌, ◌∷◌, [], IfOk, OnOk, map, Some, None, length, option_and_then};
 ghost use Rattle.std.specs.Option.{option_map};
 ghost use Rattle.mz_value.specs.Contents.{content};
-ghost use Rattle.soln_reader.specs.Contents.{content_of, contents_of};
-ghost use Rattle.soln_reader.specs.Forms.{form, forms};
-ghost use Rattle.soln_reader.specs.Items.{is_none};
+ghost use Rattle.soln_items.specs.Contents.{content_of, contents_of};
+ghost use Rattle.soln_items.specs.Forms.{form, forms};
+ghost use Rattle.soln_items.specs.Items.{is_none};
 ghost use Rattle.soln_reader.specs.Blocks.{is_first, is_least, is_false, optional, optional_all, only, whole, elements_of, solved, solution, put_in, put, given_in, nothing_for};
+ghost use Rattle.soln_reader.specs.StepsUndo.{Undo};
 ghost use Rattle.soln_reader.specs.Views.{elements, given, givens, block_of};
-ghost use Rattle.soln_reader.specs.Gives.{Fits, Gives, Puts};
+ghost use Rattle.soln_items.specs.Gives.{Fits, Gives, Puts};
 
-use crate::element::Element;
-use crate::miss::Miss;
-use crate::outputs::{Part, Slot};
-use crate::value::Elements;
 use mz_value::{RangeSet, Shape, Value};
+use soln_items::{Element, Elements, Miss, Part, Slot};
 use std::alloc::Global;
 
 /// What the items of a block gave for a shape.
@@ -282,7 +280,8 @@ pub(crate) fn put(
     e: Elements,
     block: &mut Option<Vec<Given>>,
 ) -> Result<(), Miss>
-    ensures { Puts (block_of block.old) (block_of block.new) result (put slot (elements e) (given_in (forms shapes.now) (block_of block.old))) }
+    ensures puts { Puts (block_of block.old) (block_of block.new) result (put slot (elements e) (given_in (forms shapes.now) (block_of block.old))) }
+    ensures undo { OnOk result (Undo (Some slot) (block_of block.old) (block_of block.new)) }
 {
     let mut gs = match block.take() {
         Some(gs) => gs,

@@ -2,19 +2,13 @@
 #![tactic(auto)]
 
 mod block;
-mod element;
-mod item;
 mod laws;
 mod line;
-mod miss;
 mod next;
-mod outputs;
 mod reader;
-mod set;
 mod settle;
 mod step;
-mod token;
-mod value;
+mod undo;
 mod walk;
 
 pub use laws::{cut_freely, one_reading};

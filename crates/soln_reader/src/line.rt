@@ -4,22 +4,19 @@ ghost use Rattle.std.specs.Prelude.{◌≡◌, ◌<◌, ◌≤◌, IfSome, Some,
 ghost use Rattle.std.specs.Str.{bytes_eq};
 ghost use Rattle.std.specs.List.{prefix_len};
 ghost use Rattle.mz_value.specs.Contents.{content};
-ghost use Rattle.soln_reader.specs.Bytes.{is_no_newline, first_byte};
-ghost use Rattle.soln_reader.specs.Forms.{forms, outputs_from};
+ghost use Rattle.soln_items.specs.Bytes.{is_no_newline, first_byte};
+ghost use Rattle.soln_items.specs.Forms.{forms, outputs_from};
 ghost use Rattle.soln_reader.specs.Stream.{line_len, chopped, mark_of, is_skipped, ends_block, at_block_end, at_item, at_mark, outcome};
 ghost use Rattle.soln_reader.specs.Blocks.{solution, given_in};
-ghost use Rattle.soln_reader.specs.Items.{item_of};
-ghost use Rattle.soln_reader.specs.Steps.{Finds};
+ghost use Rattle.soln_items.specs.Items.{item_of};
+ghost use Rattle.soln_items.specs.Tables.{Finds};
 ghost use Rattle.soln_reader.specs.StepsLines.{SaysThere};
 ghost use Rattle.soln_reader.specs.Views.{block_of};
 
 use crate::block::{Given, put, solution_of};
-use crate::item::item;
-use crate::miss::Miss;
 use crate::next::Mark;
-use crate::outputs::Table;
-use crate::token::is_empty;
 use mz_value::{Assign, Shape};
+use soln_items::{Miss, Slot, Table, is_empty, read_item};
 use std::alloc::Global;
 
 /// The most bytes of a line, its newline aside: 16 MiB.
@@ -28,8 +25,8 @@ pub const LINE_LIMIT: usize = 16_777_216;
 /// What a line does.
 #[derive(Drop)]
 pub(crate) enum Said {
-    /// It leaves a block, with what an item gave.
-    Leaves,
+    /// It leaves a block, in which it filled this slot, or none.
+    Leaves(Option<Slot>),
     Block(Assign),
     Mark(Mark),
 }
@@ -129,9 +126,9 @@ fn at_item(
     requires { Finds table.now (outputs_from 0 (forms shapes.now)) }
     ensures { SaysThere (block_of block.old) (block_of block.new) result (at_item (given_in (forms shapes.now) (block_of block.old)) (item_of (forms shapes.now) line.now)) }
 {
-    match item(alloc, shapes, table, line) {
+    match read_item(alloc, shapes, table, line) {
         Ok((slot, e)) => match put(alloc, shapes, slot, e, block) {
-            Ok(()) => Ok(Said::Leaves),
+            Ok(()) => Ok(Said::Leaves(Some(slot))),
             Err(miss) => Err(miss),
         },
         Err(miss) => Err(miss),
@@ -161,7 +158,7 @@ pub(crate) fn says(
     ensures { SaysThere (block_of block.old) (block_of block.new) result (outcome (forms shapes.now) (block_of block.old) line.now) }
 {
     if is_skipped(line) {
-        return Ok(Said::Leaves);
+        return Ok(Said::Leaves(None));
     }
     if ends_block(line) {
         return at_block_end(alloc, shapes, block);

@@ -5,11 +5,11 @@ ghost use Rattle.soln_reader.specs.StepsReader.{FitsShapes};
 
 use crate::block::Given;
 use crate::next::Next;
-use crate::outputs::{Table, table_of};
 use crate::settle::{bad_line, settle};
-use crate::walk::pass_lines;
+use crate::walk::walk_lines;
 use mz_base::Memory;
 use mz_value::Shape;
+use soln_items::{Table, table_of};
 use std::alloc::Global;
 use std::marker::Model;
 
@@ -126,8 +126,8 @@ impl SolnReader {
 
     /// What stands next in the stream; `ended` says that no more bytes come.
     ///
-    /// The lines up to there are taken out. After `Bad` each call answers the same. After `Memory` whole lines before
-    /// the next event may be taken out, with their items in the open block.
+    /// The lines up to there are taken out. After `Bad` each call answers the same. After `Memory` the reader is
+    /// unchanged.
     pub fn next(&mut self, ended: bool) -> Next
         ensures answers { Answers ended (state self.old) result (state self.new) }
         // A line has a byte or more, so that a caller can count what may be fed.
@@ -140,7 +140,7 @@ impl SolnReader {
         let Some(table) = &self.table else {
             return Next::Memory;
         };
-        let found = pass_lines(
+        let found = walk_lines(
             self.alloc,
             &self.shapes,
             table,

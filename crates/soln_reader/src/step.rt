@@ -1,25 +1,25 @@
 // One line of the bytes that are held.
 
 ghost use Rattle.std.specs.Prelude.{◌≡◌, ◌<◌, ◌≤◌, ◌+◌, ◌&&◌, length, Bool, nat_lt};
-ghost use Rattle.soln_reader.specs.Forms.{forms, outputs_from};
+ghost use Rattle.soln_items.specs.Forms.{forms, outputs_from};
 ghost use Rattle.soln_reader.specs.Stream.{Outcome, line_limit, line_len, has_line};
 ghost use Rattle.soln_reader.specs.Blocks.{Block};
-ghost use Rattle.soln_reader.specs.Steps.{Finds};
+ghost use Rattle.soln_items.specs.Tables.{Finds};
 ghost use Rattle.soln_reader.specs.StepsLines.{SaysThere, IsStep, Steps};
 ghost use Rattle.soln_reader.specs.Views.{block_of};
 
 use crate::block::Given;
 use crate::line::{LINE_LIMIT, Said, chopped, line_len, says};
-use crate::miss::Miss;
 use crate::next::Mark;
-use crate::outputs::Table;
 use mz_value::{Assign, Shape};
+use soln_items::{Miss, Slot, Table};
 use std::alloc::Global;
 
 /// What the first line does, with its bytes, the newline among them.
 #[derive(Drop)]
 pub(crate) enum Step {
-    Passed(usize),
+    /// It passes, and filled this slot, or none.
+    Passed(Option<Slot>, usize),
     Solved(Assign, usize),
     Marked(Mark, usize),
     Bad(usize),
@@ -33,7 +33,7 @@ fn step_of(said: Result<Said, Miss>, n: usize) -> Step
     ensures { (old new : Block) (o : Outcome) → SaysThere old new said o → IsStep old new o n result }
 {
     match said {
-        Ok(Said::Leaves) => Step::Passed(n),
+        Ok(Said::Leaves(filled)) => Step::Passed(filled, n),
         Ok(Said::Block(a)) => Step::Solved(a, n),
         Ok(Said::Mark(m)) => Step::Marked(m, n),
         Err(Miss::Unfit) => Step::Bad(n),

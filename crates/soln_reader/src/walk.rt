@@ -1,17 +1,19 @@
 // The lines of the bytes that are held, up to the first that gives an event or is bad.
 
-ghost use Rattle.std.specs.Prelude.{◌≡◌, ◌<◌, ◌≤◌, ◌+◌, ◌-◌, ◌^◌, length};
-ghost use Rattle.soln_reader.specs.Forms.{forms, outputs_from};
+ghost use Rattle.std.specs.Prelude.{◌≡◌, ◌<◌, ◌≤◌, ◌+◌, ◌-◌, ◌^◌, [], length};
+ghost use Rattle.soln_items.specs.Forms.{forms, outputs_from};
 ghost use Rattle.soln_reader.specs.Stream.{line_len};
-ghost use Rattle.soln_reader.specs.Steps.{Finds};
-ghost use Rattle.soln_reader.specs.StepsWalk.{Walks};
+ghost use Rattle.soln_items.specs.Tables.{Finds};
+ghost use Rattle.soln_reader.specs.StepsUndo.{Restores};
+ghost use Rattle.soln_reader.specs.StepsWalk.{Walks, Untouched, is_short};
 ghost use Rattle.soln_reader.specs.Views.{block_of};
 
 use crate::block::Given;
 use crate::next::Mark;
-use crate::outputs::Table;
 use crate::step::{Step, first_step};
+use crate::undo::{note, restore};
 use mz_value::{Assign, Shape};
+use soln_items::{Slot, Table};
 use std::alloc::Global;
 
 /// Where a walk over lines ends.
@@ -32,8 +34,22 @@ pub(crate) struct Walk {
     pub lines: u32,
 }
 
-/// Goes over lines. The first `seen` bytes are known to have no newline.
-pub(crate) fn pass_lines(
+impl Stop {
+    fn is_short(&self) -> bool
+        ensures { result ≡ is_short self.now }
+    {
+        match self {
+            Stop::Memory => true,
+            Stop::Solved(_) => false,
+            Stop::Marked(_) => false,
+            Stop::Bad => false,
+            Stop::NoLine => false,
+        }
+    }
+}
+
+/// Goes over lines, and notes the slots that they filled. The first `seen` bytes are known to have no newline.
+fn pass_lines(
     alloc: Global,
     shapes: &[Shape],
     table: &Table,
@@ -42,11 +58,13 @@ pub(crate) fn pass_lines(
     seen: usize,
     lines: u32,
     block: &mut Option<Vec<Given>>,
+    slots: &mut Vec<Slot>,
 ) -> Walk
     requires table { Finds table.now (outputs_from 0 (forms shapes.now)) }
     requires seen { seen ≤ line_len bytes.now }
     requires few { lines + length bytes.now < 2 ^ 32 }
-    ensures walks { Walks (forms shapes.now) ended lines (block_of block.old) bytes.now (block_of block.new) result.stop result.lines result.taken }
+    requires empty { slots.old.items ≡ [] }
+    ensures walks { Walks (forms shapes.now) ended lines (block_of block.old) bytes.now (block_of block.new) result.stop result.lines result.taken (Restores slots.new.items (block_of block.old) (block_of block.new)) }
     ensures within { result.taken ≤ length bytes.now }
     ensures few { result.lines + (length bytes.now - result.taken) ≤ lines + length bytes.now }
 {
@@ -55,10 +73,17 @@ pub(crate) fn pass_lines(
     let mut known = seen;
     'lines: loop {
         match first_step(alloc, shapes, table, ended, &bytes[at..], known, block) {
-            Step::Passed(n) => {
+            Step::Passed(filled, n) => {
                 at += n;
                 passed += 1;
                 known = 0;
+                if !note(block, slots, filled) {
+                    return Walk {
+                        stop: Stop::Memory,
+                        taken: at,
+                        lines: passed,
+                    };
+                }
             }
             Step::Solved(a, n) => {
                 return Walk {
@@ -97,4 +122,38 @@ pub(crate) fn pass_lines(
             }
         }
     }
+}
+
+/// Goes over lines. Where memory runs out, nothing is taken and the block is as before.
+pub(crate) fn walk_lines(
+    alloc: Global,
+    shapes: &[Shape],
+    table: &Table,
+    ended: bool,
+    bytes: &[u8],
+    seen: usize,
+    lines: u32,
+    block: &mut Option<Vec<Given>>,
+) -> Walk
+    requires table { Finds table.now (outputs_from 0 (forms shapes.now)) }
+    requires seen { seen ≤ line_len bytes.now }
+    requires few { lines + length bytes.now < 2 ^ 32 }
+    ensures walks { Walks (forms shapes.now) ended lines (block_of block.old) bytes.now (block_of block.new) result.stop result.lines result.taken (Untouched (block_of block.old) (block_of block.new) lines result.lines result.taken) }
+    ensures within { result.taken ≤ length bytes.now }
+    ensures few { result.lines + (length bytes.now - result.taken) ≤ lines + length bytes.now }
+{
+    let was_open = block.is_some();
+    let mut slots = Vec::new(alloc);
+    let found = pass_lines(
+        alloc, shapes, table, ended, bytes, seen, lines, block, &mut slots,
+    );
+    if found.stop.is_short() {
+        restore(block, was_open, &mut slots);
+        return Walk {
+            stop: Stop::Memory,
+            taken: 0,
+            lines,
+        };
+    }
+    found
 }

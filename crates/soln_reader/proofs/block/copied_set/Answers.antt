@@ -1,5 +1,5 @@
 use Rattle.std.proofs.Common.{◌≡◌, ap, Some, inl}
-use Rattle.soln_reader.proofs.SetLemmas.{union_same}
+use Rattle.soln_items.proofs.SetLemmas.{union_same}
 use Rattle.soln_reader.proofs.block.copied_set.Goals as goal
 
 pub returns : goal.returns

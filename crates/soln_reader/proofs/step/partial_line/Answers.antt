@@ -1,6 +1,6 @@
 use Rattle.std.proofs.Common.{◌≡◌, ◌<◌, ◌≤◌, ◌∙◌, ap, sym, List, ℕ, Bool, true, false, length, subst, arith, refl}
 use Rattle.std.proofs.lemmas.Bool.{false≢true}
-use Rattle.soln_reader.specs.Forms.{forms}
+use Rattle.soln_items.specs.Forms.{forms}
 use Rattle.soln_reader.specs.Views.{block_of}
 use Rattle.soln_reader.specs.Stream.{Outcome, line_len, line_limit, line_outcome, outcome, has_line}
 use Rattle.soln_reader.specs.StepsLines.{SaysThere, IsStep}

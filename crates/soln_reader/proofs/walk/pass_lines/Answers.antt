@@ -1,6 +1,6 @@
 use Rattle.std.proofs.Common.{◌≡◌, ◌+◌, ◌∙◌, ◌≤◌, ap, sym, List, ℕ, true, drop, length, subst, arith, refl}
 use Rattle.std.proofs.lemmas.List.{drop-drop, length-drop}
-use Rattle.soln_reader.specs.Forms.{forms}
+use Rattle.soln_items.specs.Forms.{forms}
 use Rattle.soln_reader.specs.Views.{block_of}
 use Rattle.soln_reader.specs.Stream.{Passes, no_line, has_line, line_outcome, leaves}
 use Rattle.soln_reader.specs.StepsLines.{StepsOver, Steps}
