@@ -90,7 +90,9 @@ impl<'a> Case<'a> {
         let cuts = bytes.len();
         let same = count_cuts(alloc, title, bytes, events.as_str())?;
         let sizes = count_sizes(alloc, title, bytes, events.as_str())?;
-        page.line(format_args!("  same in {same} of {cuts} cuts and in {sizes} of 9 sizes of pieces"));
+        page.line(format_args!(
+            "  same in {same} of {cuts} cuts and in {sizes} of 9 sizes of pieces"
+        ));
         Ok(())
     }
 }

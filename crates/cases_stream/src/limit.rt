@@ -32,9 +32,34 @@ fn print_with(alloc: Global, title: &str, more: &[u8], page: &mut Page) -> Resul
 /// A line at its limit, and one that is a byte longer, each with and without its newline.
 pub fn print(alloc: Global, page: &mut Page) -> Result<(), Memory> {
     page.case("the limit of a line", LINE_LIMIT);
-    print_with(alloc, "a comment at the limit, and a mark", b"\n==========\n", page)?;
-    print_with(alloc, "a comment at the limit, without a newline", b"", page)?;
-    print_with(alloc, "a comment of one byte more", b"%\n==========\n", page)?;
-    print_with(alloc, "a comment of one byte more, without a newline", b"%", page)?;
-    print_with(alloc, "a comment of one byte more with its carriage return", b"\r\n==========\n", page)
+    print_with(
+        alloc,
+        "a comment at the limit, and a mark",
+        b"\n==========\n",
+        page,
+    )?;
+    print_with(
+        alloc,
+        "a comment at the limit, without a newline",
+        b"",
+        page,
+    )?;
+    print_with(
+        alloc,
+        "a comment of one byte more",
+        b"%\n==========\n",
+        page,
+    )?;
+    print_with(
+        alloc,
+        "a comment of one byte more, without a newline",
+        b"%",
+        page,
+    )?;
+    print_with(
+        alloc,
+        "a comment of one byte more with its carriage return",
+        b"\r\n==========\n",
+        page,
+    )
 }

@@ -1,15 +1,14 @@
 -- A stream in pieces is the stream.
-use Rattle.std.proofs.Common.{◌≡◌, ℕ, zero, suc, ◌<◌, ◌≤◌, ◌+◌, ◌-◌, List, [], ◌∷◌, ◌++◌, length, take, drop, Bool, true, false, ◌&&◌, ◌||◌, cond, eqb, ltb, refl, sym, ap, ◌∙◌, arith, rules, tests, subst, Option, Some, None, ◌⊎◌, inl, inr, append_assoc, is_some}
-use Rattle.std.proofs.lemmas.Bool.{false≢true, cases_lt, eqb-true}
+use Rattle.std.proofs.Common.{◌≡◌, ℕ, ◌<◌, ◌≤◌, ◌+◌, List, [], ◌∷◌, ◌++◌, length, take, drop, Bool, true, false, ◌||◌, cond, eqb, ltb, refl, sym, ap, ◌∙◌, arith, rules, tests, subst, Some, None, ◌⊎◌, inl, inr, append_assoc, is_some}
+use Rattle.std.proofs.lemmas.Bool.{false≢true, eqb-true}
 use Rattle.std.proofs.lemmas.List.{append-nil, drop-append-le, take-append-le, length-append}
 use Rattle.std.proofs.lemmas.List.Folds.{prefix_len-append}
-use Rattle.std.proofs.lemmas.List.Sums.{prefix_len-le-length}
 use Rattle.soln_items.specs.Bytes.{is_no_newline}
 use Rattle.soln_items.specs.Forms.{Form}
-use Rattle.soln_reader.specs.Blocks.{Block, Given}
-use Rattle.soln_reader.specs.Stream.{Place, next_place, Event, Ending, whole, bad, Stream, at_the_end, in_a_block, passes, an_event, a_bad_line, Outcome, leaves, gives, is_bad, Passes, no_line, a_line, line_len, line_limit, has_newline, is_too_long, has_line, first_line, chopped, after_line, line_outcome, outcome}
-use Rattle.soln_reader.specs.Reader.{State, place, at, start, fed, GivesEvent, Needs, Ends, IsFirstBad, a_bad_line as bad_found, left_open, FindsBad, first, again, Stops}
-use Rattle.soln_reader.specs.Cuts.{HasOneReading, IsCutFreely, Session, feeds, gives_one, needs_more, runs_short, finds_bad, gives_last, runs_short_last, finds_bad_last, ends}
+use Rattle.soln_reader.specs.Blocks.{Block}
+use Rattle.soln_reader.specs.Stream.{Place, next_place, Event, Ending, whole, bad, Stream, at_the_end, in_a_block, passes, an_event, a_bad_line, leaves, gives, is_bad, Passes, no_line, a_line, line_len, line_limit, has_newline, is_too_long, has_line, first_line, chopped, after_line, line_outcome, outcome}
+use Rattle.soln_reader.specs.Reader.{State, place, at, start, fed, GivesEvent, Ends, IsFirstBad, a_bad_line as bad_found, left_open, FindsBad, first, again}
+use Rattle.soln_reader.specs.Cuts.{HasOneReading, IsCutFreely, HasSameEvents, Session, feeds, gives_one, needs_more, runs_short, finds_bad, gives_last, runs_short_last, finds_bad_last, ends}
 use Rattle.soln_reader.proofs.LineLemmas.{long_outcome, len_grows}
 
 -- a line with its newline stays so, whatever follows
@@ -80,24 +79,27 @@ pub passes_then : (fs : List Form) (p : Place) (bs : List ℕ) (q : Place) (rest
 passes_then fs p bs q rest more es x no_line s = s
 passes_then fs p bs q rest more es x (a_line {b = b} line out then) s =
     elim (newline_or_bad fs p.block bs line) [
-      inl h ↦
-        let P : List ℕ → Type 0 = λ cs. Stream fs (next_place p b) cs es x in
-        passes (some_more bs more (some_line false bs line)) (outcome_more fs p.block bs more h ∙ out) (subst P (sym (after_more bs more h)) (passes_then fs _ _ q rest more es x then s))
-    | inr h ↦ absurd (leaves_is_good b (sym out ∙ long_outcome fs p.block bs h)) ]
+      | inl h ↦
+          let P : List ℕ → Type 0 = λ cs. Stream fs (next_place p b) cs es x in
+          passes (some_more bs more (some_line false bs line)) (outcome_more fs p.block bs more h ∙ out) (subst P (sym (after_more bs more h)) (passes_then fs _ _ q rest more es x then s))
+      | inr h ↦ absurd (leaves_is_good b (sym out ∙ long_outcome fs p.block bs h))
+    ]
 
 event_then : (fs : List Form) (p : Place) (bs more : List ℕ) (e : Event) (es : List Event) (x : Ending) → has_line false bs ≡ true → line_outcome fs p.block bs ≡ gives e → Stream fs (next_place p None) (after_line bs ++ more) es x → Stream fs p (bs ++ more) (e ∷ es) x
 event_then fs p bs more e es x line out s =
     elim (newline_or_bad fs p.block bs line) [
-      inl h ↦
-        let P : List ℕ → Type 0 = λ cs. Stream fs (next_place p None) cs es x in
-        an_event (some_more bs more (some_line false bs line)) (outcome_more fs p.block bs more h ∙ out) (subst P (sym (after_more bs more h)) s)
-    | inr h ↦ absurd (gives_is_good e (sym out ∙ long_outcome fs p.block bs h)) ]
+      | inl h ↦
+          let P : List ℕ → Type 0 = λ cs. Stream fs (next_place p None) cs es x in
+          an_event (some_more bs more (some_line false bs line)) (outcome_more fs p.block bs more h ∙ out) (subst P (sym (after_more bs more h)) s)
+      | inr h ↦ absurd (gives_is_good e (sym out ∙ long_outcome fs p.block bs h))
+    ]
 
 bad_then : (fs : List Form) (p : Place) (bs more : List ℕ) → has_line false bs ≡ true → line_outcome fs p.block bs ≡ is_bad → Stream fs p (bs ++ more) [] (bad (p.lines + 1))
 bad_then fs p bs more line out =
     elim (newline_or_bad fs p.block bs line) [
-      inl h ↦ a_bad_line (some_more bs more (some_line false bs line)) (outcome_more fs p.block bs more h ∙ out)
-    | inr h ↦ a_bad_line (some_more bs more (some_line false bs line)) (long_outcome fs p.block (bs ++ more) (omega (arith, len_grows bs more))) ]
+      | inl h ↦ a_bad_line (some_more bs more (some_line false bs line)) (outcome_more fs p.block bs more h ∙ out)
+      | inr h ↦ a_bad_line (some_more bs more (some_line false bs line)) (long_outcome fs p.block (bs ++ more) (omega (arith, len_grows bs more)))
+    ]
 
 -- the same at the end
 passes_last : (fs : List Form) (p : Place) (bs : List ℕ) (q : Place) (rest : List ℕ) (es : List Event) (x : Ending) → Passes fs true p bs q rest → Stream fs q rest es x → Stream fs p bs es x
@@ -223,3 +225,6 @@ one_reading fs p bs es ds x y (a_bad_line some out) (in_a_block o) = absurd (non
 one_reading fs p bs es ds x y (a_bad_line some out) (passes {b = b} some' out' t) = absurd (leaves_is_good b (sym out' ∙ out))
 one_reading fs p bs es ds x y (a_bad_line some out) (an_event {e = e} some' out' t) = absurd (gives_is_good e (sym out' ∙ out))
 one_reading fs p bs es ds x y (a_bad_line some out) (a_bad_line some' out') = (refl, refl)
+
+pub same_events : HasSameEvents
+same_events fs bytes es ds x y k l = one_reading fs (record { lines = 0; block = None }) bytes es ds x y (cut_freely fs bytes es x k) (cut_freely fs bytes ds y l)

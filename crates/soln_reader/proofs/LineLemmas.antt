@@ -1,7 +1,6 @@
 -- The first line of some bytes.
-use Rattle.std.proofs.Common.{◌≡◌, ℕ, zero, suc, ◌<◌, ◌≤◌, ◌+◌, ◌-◌, List, [], ◌∷◌, ◌++◌, length, take, drop, get_or, Bool, true, false, ◌&&◌, ◌||◌, cond, eqb, ltb, refl, sym, ap, ◌∙◌, arith, rules, tests, subst, add-one}
+use Rattle.std.proofs.Common.{◌≡◌, ℕ, zero, suc, ◌<◌, ◌≤◌, ◌+◌, ◌-◌, List, [], ◌∷◌, ◌++◌, length, take, drop, Bool, true, false, ◌&&◌, ◌||◌, cond, eqb, ltb, refl, sym, ap, ◌∙◌, arith, rules, tests, subst}
 use Rattle.std.specs.List.{prefix_len}
-use Rattle.std.proofs.Math.Numerals.{one-add}
 use Rattle.std.proofs.lemmas.Bool.{false≢true}
 use Rattle.std.proofs.lemmas.List.{drop_all, length-drop}
 use Rattle.std.proofs.lemmas.List.Folds.{prefix_len-append}
@@ -9,7 +8,7 @@ use Rattle.std.proofs.lemmas.List.Sums.{prefix_len-le-length}
 use Rattle.soln_items.specs.Bytes.{is_no_newline}
 use Rattle.soln_items.specs.Forms.{Form}
 use Rattle.soln_reader.specs.Blocks.{Block}
-use Rattle.soln_reader.specs.Stream.{Outcome, is_bad, line_len, line_limit, has_newline, is_too_long, has_line, first_line, chopped, after_line, line_outcome, outcome}
+use Rattle.soln_reader.specs.Stream.{is_bad, line_len, line_limit, has_newline, is_too_long, has_line, first_line, chopped, line_outcome, outcome}
 use Rattle.soln_reader.specs.declared.step.Step.{Step}
 use Rattle.soln_reader.specs.declared.step.Step.TheVariants as step
 use Rattle.soln_reader.specs.StepsLines.{IsStep, Steps, StepsOver}

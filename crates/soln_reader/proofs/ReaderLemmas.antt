@@ -1,12 +1,13 @@
 -- What a walk over lines means for a reader.
-use Rattle.std.proofs.Common.{◌≡◌, ℕ, zero, suc, ◌<◌, ◌≤◌, ◌+◌, ◌-◌, List, [], ◌∷◌, ◌++◌, length, drop, Bool, true, false, ◌&&◌, ◌||◌, ltb, refl, sym, ap, ◌∙◌, arith, rules, tests, subst, Option, Some, None, is_some, inl, inr}
+use Rattle.std.proofs.Common.{◌≡◌, ℕ, ◌<◌, ◌≤◌, ◌+◌, ◌-◌, List, [], ◌∷◌, length, take, drop, Bool, true, false, refl, sym, ap, ◌∙◌, arith, subst, Option, Some, None, inl, inr}
 use Rattle.std.proofs.lemmas.Bool.{false≢true, cases_lt}
-use Rattle.soln_reader.proofs.LineLemmas.{ended_line, last_line}
-use Rattle.std.proofs.lemmas.List.{drop_all, drop-drop, length-drop}
-use Rattle.soln_items.specs.Forms.{Form}
+use Rattle.soln_reader.proofs.LineLemmas.{ended_line, last_line, rest_slice}
+use Rattle.mz_value.specs.declared.value.Shape.{Shape}
+use Rattle.std.proofs.lemmas.List.{drop-drop, length-drop}
+use Rattle.soln_items.specs.Forms.{Form, forms}
 use Rattle.soln_reader.specs.Blocks.{Block, Given}
-use Rattle.soln_reader.specs.Stream.{Place, next_place, Event, Outcome, leaves, gives, is_bad, Passes, no_line, a_line, line_len, line_limit, has_newline, is_too_long, has_line, after_line, line_outcome}
-use Rattle.soln_reader.specs.Reader.{State, Answers, bad_line, GivesEvent, Needs, Ends, IsFirstBad, a_bad_line, left_open, FindsBad, first, again}
+use Rattle.soln_reader.specs.Stream.{Place, next_place, Event, Outcome, leaves, gives, is_bad, Passes, no_line, a_line, line_len, has_line, after_line, line_outcome}
+use Rattle.soln_reader.specs.Reader.{State, Answers, bad_line, GivesEvent, Needs, Ends, IsFirstBad, a_bad_line, left_open, FindsBad, first}
 use Rattle.soln_reader.specs.declared.next.Next.{Next}
 use Rattle.soln_reader.specs.declared.next.Next.TheVariants as next
 use Rattle.soln_reader.specs.declared.walk.Stop.{Stop}
@@ -126,8 +127,9 @@ short_walk fs ended lines b bs new stop.NoLine last taken short e w = absurd (fa
 -- where no whole line is left, there is no newline
 pub no_newline : (ended : Bool) (bs : List ℕ) → has_line ended bs ≡ false → length bs ≤ line_len bs
 no_newline ended bs none = elim (cases_lt (line_len bs) (length bs)) [
-    inl h ↦ absurd (false≢true (sym none ∙ ended_line ended bs h))
-  | inr h ↦ h ]
+  | inl h ↦ absurd (false≢true (sym none ∙ ended_line ended bs h))
+  | inr h ↦ h
+]
 
 -- the answer by where a walk ended
 
@@ -170,3 +172,14 @@ seen_fits ended fs bs at taken lines last b new stop.Bad left n w is seen = omeg
 seen_fits ended fs bs at taken lines last b new stop.Memory left n w is seen = omega arith
 seen_fits ended fs bs at taken lines last b new stop.NoLine left n w is seen =
     omega (arith, seen, is, no_newline ended (drop (at + taken) bs) (ap (has_line ended) (sym (rest_is bs at taken)) ∙ w.1))
+
+-- the bytes from a place on, as a slice
+pub slice_is : (bs cs : List ℕ) (at : ℕ) → cs ≡ bs → take (length cs - at) (drop at cs) ≡ drop at bs
+slice_is bs cs at is = ap (λ ds. take (length ds - at) (drop at ds)) is ∙ rest_slice bs at
+
+-- a walk over that slice
+pub walks_slice : (ss ts : List Shape) (ended : Bool) (lines : ℕ) (b : Block) (bs cs : List ℕ) (at : ℕ) (new : Block) (s : Stop) (last taken : ℕ) (short : Type 0) → ts ≡ ss → cs ≡ bs → Walks (forms ts) ended lines b (take (length cs - at) (drop at cs)) new s last taken short → Walks (forms ss) ended lines b (drop at bs) new s last taken short
+walks_slice ss ts ended lines b bs cs at new s last taken short same is w =
+    let P : List Shape → Type 0 = λ us. Walks (forms us) ended lines b (drop at bs) new s last taken short in
+    let Q : List ℕ → Type 0 = λ ds. Walks (forms ts) ended lines b ds new s last taken short in
+    subst P same (subst Q (slice_is bs cs at is) w)

@@ -1,7 +1,6 @@
 -- Loops that make the values of a solution.
-use Rattle.std.proofs.Common.{◌≡◌, ℕ, zero, suc, ◌<◌, ◌≤◌, ◌+◌, List, [], ◌∷◌, ◌++◌, length, map, drop, get_or, refl, sym, ap, ◌∙◌, arith, Option, Some, None, subst, add-one, append_assoc, ◌⊎◌, inl, inr, min, take, Bool, true, false}
-use Rattle.std.proofs.Math.Seq.{drop-cons}
-use Rattle.std.proofs.lemmas.List.{drop_all, drop-map, map_push, append-nil, get_or_default, length-drop, length-map, map-set}
+use Rattle.std.proofs.Common.{◌≡◌, ℕ, zero, suc, ◌<◌, ◌≤◌, ◌+◌, List, [], ◌∷◌, ◌++◌, length, map, drop, get_or, refl, sym, ap, ◌∙◌, arith, Option, Some, None, append_assoc, ◌⊎◌, inl, inr, min, take, Bool, true, false}
+use Rattle.std.proofs.lemmas.List.{drop_all, append-nil, get_or_default, length-drop, length-map, map-set}
 use Rattle.std.proofs.lemmas.Bool.{cases_lt}
 use Rattle.mz_value.specs.Ranges.{Range}
 use Rattle.mz_value.specs.Contents.{Content}
@@ -115,14 +114,17 @@ nothing_asked (f ∷ fs) gs h = absurd (omega arith)
 
 some_short : {X : Type 0} (f : X → Content) (ds : List (List Range)) (os xs : List X) (k : ℕ) → min (min (length ds) (length os)) (length xs) ≤ k → (length (drop k ds) ≤ 0) ⊎ ((length (drop k (map f os)) ≤ 0) ⊎ (length (drop k (map f xs)) ≤ 0))
 some_short f ds os xs k all = elim (cases_lt k (length ds)) [
-    inr p ↦ inl (simp length-drop (omega arith))
+  | inr p ↦ inl (simp length-drop (omega arith))
   | inl p ↦ elim (cases_lt k (length os)) [
-      inr q ↦ inr (inl (simp (length-drop, length-map) (omega arith)))
-    | inl q ↦ inr (inr (simp (length-drop, length-map) (omega arith))) ] ]
+    | inr q ↦ inr (inl (simp (length-drop, length-map) (omega arith)))
+    | inl q ↦ inr (inr (simp (length-drop, length-map) (omega arith)))
+  ]
+]
 
 pub optional_done : {X : Type 0} (f : X → Content) (ds : List (List Range)) (os xs : List X) (k : ℕ) (front : List Content) (whole : Option (List Content)) → min (min (length ds) (length os)) (length xs) ≤ k → with_all front (optional_all (drop k ds) (drop k (map f os)) (drop k (map f xs))) ≡ whole → whole ≡ Some front
 optional_done f ds os xs k front whole all so_far =
     sym so_far ∙ ap (with_all front) (optional_end (drop k ds) (drop k (map f os)) (drop k (map f xs)) (some_short f ds os xs k all)) ∙ ap Some (append-nil front)
+
 pub solution_done : {X : Type 0} (f : X → Form) (ss : List X) (gs : List Given) (k : ℕ) (front : List Content) (whole : Option (List Content)) → length ss ≤ k → with_all front (solution (drop k (map f ss)) gs) ≡ whole → whole ≡ Some front
 solution_done f ss gs k front whole all so_far =
     sym so_far ∙ ap (λ fs. with_all front (solution fs gs)) (drop_all k (map f ss) (simp length-map all)) ∙ ap (with_all front) (solution_nil gs) ∙ ap Some (append-nil front)

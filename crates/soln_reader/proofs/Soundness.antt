@@ -1,7 +1,7 @@
 -- What a reader keeps of its own parts.
-use Rattle.std.proofs.Common.{◌≡◌, ℕ, ◌<◌, ◌≤◌, ◌+◌, ◌-◌, ◌^◌, List, ◌++◌, length, drop, refl, sym, ap, ◌∙◌, arith, subst, Option, Some, None, Bool, Result, Ok, Err}
+use Rattle.std.proofs.Common.{◌≡◌, ℕ, ◌<◌, ◌≤◌, ◌+◌, ◌-◌, ◌^◌, List, ◌++◌, length, drop, sym, arith, subst, Option, Result, Ok, Err}
 use Rattle.std.specs.Prelude.{OnOk, OnErr}
-use Rattle.std.proofs.lemmas.List.{length-append, length-drop, drop-drop}
+use Rattle.std.proofs.lemmas.List.{length-append, length-drop}
 use Rattle.mz_base.specs.declared.stop.Memory.{Memory}
 use Rattle.mz_value.specs.declared.value.Shape.{Shape}
 use Rattle.soln_reader.specs.Stream.{line_len}

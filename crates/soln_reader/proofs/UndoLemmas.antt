@@ -1,6 +1,8 @@
 -- What was put into a block, taken out again.
-use Rattle.std.proofs.Common.{◌≡◌, ℕ, zero, suc, ◌<◌, ◌≤◌, List, [], ◌∷◌, ◌++◌, length, map, get_or, set, Bool, true, false, refl, sym, ap, ◌∙◌, arith, subst, Option, Some, None, is_some}
-use Rattle.std.specs.Prelude.{slice_get, slice_set}
+use Rattle.std.proofs.Common.{◌≡◌, ℕ, zero, suc, ◌<◌, ◌≤◌, List, [], ◌∷◌, ◌++◌, length, map, get_or, set, true, false, refl, sym, ap, ◌∙◌, arith, Option, Some, None, is_some, Result, Ok, Err}
+use Rattle.std.specs.Prelude.{slice_get, slice_set, OnOk}
+use Rattle.soln_items.specs.Gives.{Puts}
+use Rattle.soln_items.specs.declared.miss.Miss.{Miss}
 use Rattle.std.specs.Option.{option_map}
 use Rattle.std.proofs.lemmas.List.{map-set, length-map}
 use Rattle.std.proofs.lemmas.Bool.{false≢true}
@@ -82,6 +84,11 @@ unfolding put cleared put_by cleared_by
 put_undo fs s e None hs is = tt
 put_undo fs s e (Some gs) hs is = cleared_put s.part e s.shape gs hs is
 
+pub put_undoes : (fs : List Form) (s : Slot) (e : Elements) (b new : Block) (r : Result (Unit {0}) Miss) → Puts b new r (put s e (given_in fs b)) → OnOk r (Undo (Some s) b new)
+put_undoes fs s e b None (Ok u) p = absurd (false≢true p.1)
+put_undoes fs s e b (Some hs) (Ok u) p = put_undo fs s e b hs p.0
+put_undoes fs s e b new (Err m) p = tt
+
 -- several slots
 
 undone_more : (ss : List Slot) (s : Slot) (gs : List Given) → undone (ss ++ s ∷ []) gs ≡ undone ss (cleared s gs)
@@ -91,6 +98,10 @@ undone_more (t ∷ ss) s gs = ap (cleared t) (undone_more ss s gs)
 
 pub undone_last : (all ss : List Slot) (s : Slot) (gs before : List Given) → all ≡ ss ++ s ∷ [] → undone all gs ≡ before → undone ss (cleared s gs) ≡ before
 undone_last all ss s gs before is e = sym (undone_more ss s gs) ∙ ap (λ ts. undone ts gs) (sym is) ∙ e
+
+pub none_there : {X : Type 0} (xs : List X) → length xs ≤ 0 → xs ≡ []
+none_there [] h = refl
+none_there (x ∷ xs) h = absurd (omega arith)
 
 pub undone_none : (all : List Slot) (gs before : List Given) → all ≡ [] → undone all gs ≡ before → gs ≡ before
 unfolding undone

@@ -1,5 +1,5 @@
 -- What stands in the open block, and what a whole block gives.
-use Rattle.std.specs.Prelude.{ℕ, ℤ, List, [], ◌∷◌, map, Bool, true, false, ◌&&◌, not, int_le, Option, Some, None, is_some, slice_get, slice_set, if◌then◌else◌}
+use Rattle.std.specs.Prelude.{ℤ, List, [], ◌∷◌, map, Bool, false, not, Option, Some, None, slice_get, slice_set, if◌then◌else◌}
 use Rattle.std.specs.Ordering.{int_eq}
 use Rattle.mz_value.specs.Ranges.{Range}
 use Rattle.mz_value.specs.Contents.{Content, bool, int, case, set, absent, text, array, contents}

@@ -2,7 +2,7 @@
 use Rattle.std.specs.Prelude.{◌≡◌, ℕ, List, [], ◌∷◌, ◌++◌, true, false, None}
 use Rattle.soln_items.specs.Forms.{Form}
 use Rattle.soln_reader.specs.Stream.{Place, Event, Ending, whole, bad, Stream}
-use Rattle.soln_reader.specs.Reader.{State, place, start, fed, GivesEvent, Needs, Ends, FindsBad, Stops}
+use Rattle.soln_reader.specs.Reader.{State, start, fed, GivesEvent, Needs, Ends, FindsBad, Stops}
 
 -- from a state on, a reader is fed these bytes, in pieces, is asked at any time, and is told the end after the last piece:
 -- it gives these events, up to the end or to the first bad line
@@ -24,3 +24,7 @@ HasOneReading = (fs : List Form) (p : Place) (bs : List ℕ) (es ds : List Event
 -- what a reader gives of a stream is the stream's, however it was cut into pieces, and whenever the reader was asked
 abbrev pub IsCutFreely : Type 0
 IsCutFreely = (fs : List Form) (bytes : List ℕ) (es : List Event) (x : Ending) → Session (start fs) bytes es x → Stream fs (record { lines = 0; block = None }) bytes es x
+
+-- two readings of the same bytes give the same, however they were cut
+abbrev pub HasSameEvents : Type 0
+HasSameEvents = (fs : List Form) (bytes : List ℕ) (es ds : List Event) (x y : Ending) → Session (start fs) bytes es x → Session (start fs) bytes ds y → (es ≡ ds) × (x ≡ y)

@@ -6,8 +6,8 @@ use Rattle.mz_value.specs.Contents.{content}
 use Rattle.soln_reader.specs.declared.next.Next.{Next}
 use Rattle.soln_reader.specs.declared.next.Next.TheVariants as next
 use Rattle.soln_items.specs.Forms.{Form}
-use Rattle.soln_reader.specs.Blocks.{Block, Given}
-use Rattle.soln_reader.specs.Stream.{Place, next_place, Event, block, mark, Passes, has_line, after_line, line_outcome, leaves, gives, is_bad}
+use Rattle.soln_reader.specs.Blocks.{Block}
+use Rattle.soln_reader.specs.Stream.{Place, next_place, Event, block, mark, Passes, has_line, after_line, line_outcome, gives, is_bad}
 
 -- what a reader holds: the shapes, the bytes that were fed and not yet answered, how many lines stand before them, the
 -- block that is open there, and the line of the Bad that it answered, if it did

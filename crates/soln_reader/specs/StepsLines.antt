@@ -1,5 +1,5 @@
 -- Mirror of src/line.rt and src/step.rt; private clauses only.
-use Rattle.std.specs.Prelude.{◌≡◌, ℕ, ◌<◌, ◌≤◌, ◌||◌, ◌&&◌, nat_lt, List, Bool, true, false, length, drop, map, Result, Ok, Err, Option, None}
+use Rattle.std.specs.Prelude.{◌≡◌, ℕ, ◌<◌, ◌≤◌, List, Bool, true, false, length, drop, map, Result, Ok, Err}
 use Rattle.mz_value.specs.Contents.{content}
 use Rattle.soln_items.specs.declared.miss.Miss.{Miss}
 use Rattle.soln_items.specs.declared.miss.Miss.TheVariants.{Unfit, Memory}
@@ -10,7 +10,7 @@ use Rattle.soln_reader.specs.declared.step.Step.TheVariants as step
 use Rattle.soln_items.specs.Forms.{Form}
 use Rattle.soln_reader.specs.Blocks as blocks
 use Rattle.soln_reader.specs.StepsUndo.{Undo}
-use Rattle.soln_reader.specs.Stream.{Outcome, leaves, gives, is_bad, Event, block, mark, has_line, after_line, line_outcome}
+use Rattle.soln_reader.specs.Stream.{Outcome, leaves, gives, is_bad, block, mark, has_line, after_line, line_outcome}
 
 -- a line does this, and leaves the block as it is where it gives an event, or where memory runs out
 abbrev pub SaysThere : blocks.Block → blocks.Block → Result Said Miss → Outcome → Type 0

@@ -1,5 +1,5 @@
 -- Mirror of src/undo.rt; private clauses only.
-use Rattle.std.specs.Prelude.{◌≡◌, ℕ, List, [], ◌∷◌, Option, Some, None, slice_get, slice_set}
+use Rattle.std.specs.Prelude.{◌≡◌, List, [], ◌∷◌, Option, Some, None, slice_get, slice_set}
 use Rattle.soln_items.specs.declared.outputs.Part.{Part}
 use Rattle.soln_items.specs.declared.outputs.Part.TheVariants.{Occurs, Value}
 use Rattle.soln_items.specs.declared.outputs.Slot.{Slot}

@@ -5,7 +5,7 @@ use Rattle.soln_reader.specs.declared.walk.Stop.{Stop}
 use Rattle.soln_reader.specs.declared.walk.Stop.TheVariants as stop
 use Rattle.soln_items.specs.Forms.{Form}
 use Rattle.soln_reader.specs.Blocks.{Block}
-use Rattle.soln_reader.specs.Stream.{Place, Event, block, mark, Outcome, gives, is_bad, Passes, has_line, after_line, line_outcome}
+use Rattle.soln_reader.specs.Stream.{Place, block, mark, Outcome, gives, is_bad, Passes, has_line, after_line, line_outcome}
 
 abbrev pub place_at : ℕ → Block → Place
 place_at n b = record { lines = n; block = b }

@@ -1,5 +1,5 @@
 -- The solver's stream: lines, items, blocks and marks.
-use Rattle.std.specs.Prelude.{◌≡◌, ℕ, zero, suc, ◌+◌, ◌-◌, ◌<◌, List, [], ◌∷◌, ◌++◌, length, take, drop, Bool, true, false, ◌&&◌, ◌||◌, nat_eq, nat_lt, Option, Some, None, codes, slice_index, if◌then◌else◌}
+use Rattle.std.specs.Prelude.{◌≡◌, ℕ, ◌+◌, ◌-◌, ◌<◌, List, [], ◌∷◌, length, take, drop, Bool, true, ◌&&◌, ◌||◌, nat_eq, nat_lt, Option, Some, None, codes, slice_index, if◌then◌else◌}
 use Rattle.std.specs.List.{prefix_len}
 use Rattle.std.specs.Str.{bytes_eq}
 use Rattle.mz_value.specs.Contents.{Content}
@@ -8,7 +8,7 @@ use Rattle.soln_reader.specs.declared.next.Mark.TheVariants.{Complete, Unsatisfi
 use Rattle.soln_reader.specs.declared.line.TheConstants.{LINE_LIMIT}
 use Rattle.soln_items.specs.Bytes.{first_byte, is_no_newline}
 use Rattle.soln_items.specs.Forms.{Form}
-use Rattle.soln_items.specs.Items.{is_empty, item_of, Item, Elements}
+use Rattle.soln_items.specs.Items.{is_empty, item_of, Item}
 use Rattle.soln_reader.specs.Blocks.{Given, Block, given_in, put, solution}
 
 -- lines

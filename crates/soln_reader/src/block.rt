@@ -8,7 +8,8 @@ ghost use Rattle.soln_items.specs.Forms.{form, forms};
 ghost use Rattle.soln_items.specs.Items.{is_none};
 ghost use Rattle.soln_reader.specs.Blocks.{is_first, is_least, is_false, optional, optional_all, only, whole, elements_of, solved, solution, put_in, put, given_in, nothing_for};
 ghost use Rattle.soln_reader.specs.StepsUndo.{Undo};
-ghost use Rattle.soln_reader.specs.Views.{elements, given, givens, block_of};
+ghost use Rattle.soln_items.specs.Views.{elements};
+ghost use Rattle.soln_reader.specs.Views.{given, givens, block_of};
 ghost use Rattle.soln_items.specs.Gives.{Fits, Gives, Puts};
 
 use mz_value::{RangeSet, Shape, Value};
@@ -111,12 +112,7 @@ fn copied(alloc: Global, v: &Element) -> Result<Value, Miss>
 }
 
 /// An element of an option: absent where it doesn't occur.
-fn optional(
-    alloc: Global,
-    domain: &RangeSet,
-    occurs: &Element,
-    v: &Element,
-) -> Result<Value, Miss>
+fn optional(alloc: Global, domain: &RangeSet, occurs: &Element, v: &Element) -> Result<Value, Miss>
     ensures { Gives content result (optional domain.now (content_of occurs.now) (content_of v.now)) }
 {
     if !is_false(occurs) {
@@ -273,6 +269,25 @@ fn put_at(gs: &mut [Given], slot: Slot, e: Elements) -> bool
 }
 
 /// Puts what an item gave into the open block, and opens one where none is.
+fn put_in_block(
+    alloc: Global,
+    shapes: &[Shape],
+    slot: Slot,
+    e: Elements,
+    block: &mut Option<Vec<Given>>,
+) -> Result<(), Miss>
+    ensures { Puts (block_of block.old) (block_of block.new) result (put slot (elements e) (given_in (forms shapes.now) (block_of block.old))) }
+{
+    let mut gs = match block.take() {
+        Some(gs) => gs,
+        None => nothing_for(alloc, shapes)?,
+    };
+    let fits = put_at(&mut gs, slot, e);
+    *block = Some(gs);
+    if fits { Ok(()) } else { Err(Miss::Unfit) }
+}
+
+/// The same, so that the slot can be cleared again.
 pub(crate) fn put(
     alloc: Global,
     shapes: &[Shape],
@@ -283,11 +298,5 @@ pub(crate) fn put(
     ensures puts { Puts (block_of block.old) (block_of block.new) result (put slot (elements e) (given_in (forms shapes.now) (block_of block.old))) }
     ensures undo { OnOk result (Undo (Some slot) (block_of block.old) (block_of block.new)) }
 {
-    let mut gs = match block.take() {
-        Some(gs) => gs,
-        None => nothing_for(alloc, shapes)?,
-    };
-    let fits = put_at(&mut gs, slot, e);
-    *block = Some(gs);
-    if fits { Ok(()) } else { Err(Miss::Unfit) }
+    put_in_block(alloc, shapes, slot, e, block)
 }

@@ -102,11 +102,7 @@ fn mark_of(line: &[u8]) -> Option<Mark>
 }
 
 /// What the end of a block does.
-fn at_block_end(
-    alloc: Global,
-    shapes: &[Shape],
-    block: &Option<Vec<Given>>,
-) -> Result<Said, Miss>
+fn at_block_end(alloc: Global, shapes: &[Shape], block: &Option<Vec<Given>>) -> Result<Said, Miss>
     ensures { SaysThere (block_of block.now) (block_of block.now) result (at_block_end (solution (forms shapes.now) (given_in (forms shapes.now) (block_of block.now)))) }
 {
     match solution_of(alloc, shapes, block) {

@@ -62,12 +62,7 @@ fn compact(alloc: Global, bytes: &mut Vec<u8>, start: &mut usize) -> Result<(), 
 }
 
 /// Puts bytes last, after what is left from `start` on.
-fn append(
-    alloc: Global,
-    bytes: &mut Vec<u8>,
-    start: &mut usize,
-    piece: &[u8],
-) -> Result<(), Memory>
+fn append(alloc: Global, bytes: &mut Vec<u8>, start: &mut usize, piece: &[u8]) -> Result<(), Memory>
     requires { start.old ≤ vec_len bytes.old }
     ensures ok { OnOk result (drop start.new bytes.new.items ≡ drop start.old bytes.old.items ++ piece.now) }
     ensures err { OnErr result (drop start.new bytes.new.items ≡ drop start.old bytes.old.items) }

@@ -56,12 +56,7 @@ fn fail(lines: u32, block: &mut Option<Vec<Given>>, bad: &mut Option<u32>) -> Ne
 }
 
 /// The answer where no whole line is left.
-fn run_out(
-    ended: bool,
-    lines: u32,
-    block: &mut Option<Vec<Given>>,
-    bad: &mut Option<u32>,
-) -> Next
+fn run_out(ended: bool, lines: u32, block: &mut Option<Vec<Given>>, bad: &mut Option<u32>) -> Next
     requires { bad.old ≡ None }
     ensures { RunsOut ended (block_of block.old) lines result (block_of block.new) bad.new }
 {

@@ -1,4 +1,4 @@
-use Rattle.std.proofs.Common.{◌≡◌, ap, Some, inl}
+use Rattle.std.proofs.Common.{ap, Some}
 use Rattle.soln_items.proofs.SetLemmas.{union_same}
 use Rattle.soln_reader.proofs.block.copied_set.Goals as goal
 

@@ -1,8 +1,7 @@
-use Rattle.std.proofs.Common.{◌≡◌, ◌∙◌, ap, sym, Some, refl, List}
+use Rattle.std.proofs.Common.{◌∙◌, ap, sym, Some}
 use Rattle.std.proofs.lemmas.List.{map_push}
 use Rattle.soln_reader.specs.Views.{given, givens}
-use Rattle.soln_items.specs.Forms.{form, forms}
-use Rattle.soln_reader.specs.Blocks.{nothing_for}
+use Rattle.soln_items.specs.Forms.{form}
 use Rattle.soln_reader.proofs.Solutions.{nothing_step, nothing_all}
 use Rattle.soln_reader.proofs.block.nothing_for.Goals as goal
 

@@ -1,4 +1,4 @@
-use Rattle.std.proofs.Common.{◌≡◌, take, map}
+use Rattle.std.proofs.Common.{◌≡◌, take}
 use Rattle.soln_reader.specs.Views.{givens}
 use Rattle.soln_items.specs.Forms.{forms}
 use Rattle.soln_reader.specs.Blocks.{nothing_for}

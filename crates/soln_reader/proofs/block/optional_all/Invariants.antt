@@ -1,4 +1,4 @@
-use Rattle.std.proofs.Common.{◌≡◌, ◌≤◌, drop, map, length, min}
+use Rattle.std.proofs.Common.{◌≡◌, drop, map}
 use Rattle.mz_value.specs.Contents.{content}
 use Rattle.soln_items.specs.Contents.{content_of}
 use Rattle.soln_reader.specs.Blocks.{optional_all}

@@ -1,4 +1,4 @@
-use Rattle.std.proofs.Common.{◌≡◌, ◌∙◌, ap, List, ℕ, drop, ◌++◌, arith}
+use Rattle.std.proofs.Common.{◌∙◌, ap, List, ℕ, drop, ◌++◌, arith}
 use Rattle.std.proofs.lemmas.List.{drop-append-le}
 use Rattle.soln_reader.proofs.reader.append.Goals as goal
 

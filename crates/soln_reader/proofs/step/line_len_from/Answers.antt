@@ -1,4 +1,4 @@
-use Rattle.std.proofs.Common.{◌≡◌, ◌+◌, ◌∙◌, ap, ℕ, List, length, arith}
+use Rattle.std.proofs.Common.{◌+◌, ◌∙◌, ap, ℕ, List, length, arith}
 use Rattle.std.proofs.lemmas.List.{length-drop}
 use Rattle.soln_items.specs.Bytes.{is_no_newline}
 use Rattle.soln_reader.specs.Stream.{line_len}

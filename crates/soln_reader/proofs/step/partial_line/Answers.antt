@@ -1,9 +1,8 @@
-use Rattle.std.proofs.Common.{◌≡◌, ◌<◌, ◌≤◌, ◌∙◌, ap, sym, List, ℕ, Bool, true, false, length, subst, arith, refl}
-use Rattle.std.proofs.lemmas.Bool.{false≢true}
+use Rattle.std.proofs.Common.{◌≡◌, ◌<◌, ◌≤◌, ◌∙◌, sym, subst, arith, refl}
 use Rattle.soln_items.specs.Forms.{forms}
 use Rattle.soln_reader.specs.Views.{block_of}
-use Rattle.soln_reader.specs.Stream.{Outcome, line_len, line_limit, line_outcome, outcome, has_line}
-use Rattle.soln_reader.specs.StepsLines.{SaysThere, IsStep}
+use Rattle.soln_reader.specs.Stream.{Outcome, line_len, line_limit, line_outcome, outcome}
+use Rattle.soln_reader.specs.StepsLines.{SaysThere}
 use Rattle.soln_reader.proofs.LineLemmas.{steps_from, over_all, long_line, long_outcome, last_when, last_outcome, no_line, some_bytes}
 use Rattle.soln_reader.proofs.step.partial_line.Goals as goal
 
