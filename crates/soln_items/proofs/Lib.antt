@@ -1,0 +1,4 @@
+pub mod IntLists
+pub mod SetLemmas
+pub mod Loops
+pub mod NameBytes

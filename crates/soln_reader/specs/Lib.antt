@@ -1,0 +1,11 @@
+pub mod Blocks
+pub mod Cuts
+pub mod Holding
+pub mod Reader
+pub mod StepsLines
+pub mod StepsReader
+pub mod StepsSettle
+pub mod StepsUndo
+pub mod StepsWalk
+pub mod Stream
+pub mod Views

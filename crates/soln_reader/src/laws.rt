@@ -1,0 +1,18 @@
+// Laws of the stream, for callers' proofs.
+
+ghost use Rattle.soln_reader.specs.Cuts.{HasOneReading, HasSameEvents, IsCutFreely};
+
+/// What a reader gives of a stream is the stream's, however it was cut into pieces.
+pub fn cut_freely()
+    ensures { IsCutFreely }
+{}
+
+/// A stream has one list of blocks and marks, and one end.
+pub fn one_reading()
+    ensures { HasOneReading }
+{}
+
+/// Two readers that are fed the same bytes give the same, however these are cut.
+pub fn same_events()
+    ensures { HasSameEvents }
+{}
