@@ -1,0 +1,9 @@
+pub mod Classes
+pub mod Entering
+pub mod Following
+pub mod Membership
+pub mod Numbering
+pub mod OneOrder
+pub mod Placing
+pub mod Tables
+pub mod Visits

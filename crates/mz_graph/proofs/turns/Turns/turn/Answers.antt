@@ -1,0 +1,29 @@
+use Rattle.std.proofs.Common.{refl, ◌∙◌, arith}
+use Rattle.mz_graph.specs.Graph.{graph_of}
+use Rattle.mz_graph.specs.StepsTurns.{line}
+use Rattle.mz_graph.proofs.Membership.{in_rest}
+use Rattle.mz_graph.proofs.Placing.{code_turn, turn_rows, first_counted, one_turn_less}
+use Rattle.mz_graph.proofs.turns.Turns.turn.Goals as goal
+
+pub take-waited-requires : goal.take-waited-requires
+take-waited-requires c =
+    let h = first_counted (graph_of c.args.graph.now) (line c.args.self.now) c.in-Some.x c.pop_first.new.self.keys c.requires.stands c.in-Some.ensures.removal in
+    omega (arith, h, c.requires.rows.waiting)
+
+pub index_mut-requires : goal.index_mut-requires
+index_mut-requires c =
+    let h = first_counted (graph_of c.args.graph.now) (line c.args.self.now) c.in-Some.x c.pop_first.new.self.keys c.requires.stands c.in-Some.ensures.removal in
+    omega (arith, h, c.requires.rows.done)
+
+pub loop-y-init : goal.loop-y-init
+loop-y-init c = record {
+  rows = turn_rows (graph_of c.args.graph.now) (line c.args.self.now) c.in-Some.x c.pop_first.new.self.keys c.push.new.self.items (graph_of c.take-waited.new.self.rows.items) c.requires.rows c.take-waited.ensures.rest;
+  stands = code_turn (graph_of c.args.graph.now) (line c.args.self.now) c.in-Some.x c.pop_first.new.self.keys c.deref-y-items.result.now c.push.new.self.items (graph_of c.take-waited.new.self.rows.items) c.requires.rows c.requires.stands c.in-Some.ensures.removal c.in-Some.ensures.all_above (c.deref-y-items.ensures.value ∙ c.take-waited.ensures.row) c.in_ok-push.ensures.items c.take-waited.ensures.rest;
+  done = refl;
+}
+
+pub place-requires-clause-counted : goal.place-requires-clause-counted
+place-requires-clause-counted c = (c.loop-y.invariant.stands.left _ (in_rest c.deref-y-items.result.now c.loop-y.y-index 0 c.loop-y-test.true)).counted
+
+pub returns-clause-turned : goal.returns-clause-turned
+returns-clause-turned c = one_turn_less (graph_of c.args.graph.now) (line c.args.self.now) c.in-Some.x c.pop_first.new.self.keys c.loop-y.self.done.items c.requires.rows c.requires.stands c.in-Some.ensures.removal c.loop-y.invariant.done

@@ -1,0 +1,5 @@
+pub mod Examples
+pub mod Graph
+pub mod Order
+pub mod StepsSearch
+pub mod StepsTurns
