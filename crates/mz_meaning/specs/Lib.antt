@@ -1,0 +1,13 @@
+pub mod Cells
+pub mod Domains
+pub mod Coerced
+pub mod Runs
+pub mod Operations
+pub mod Arrays
+pub mod Contexts
+pub mod Chains
+pub mod Forms
+pub mod Comprehensions
+pub mod Lets
+pub mod Calls
+pub mod Evaluation

@@ -1,0 +1,2 @@
+// What a model means. The definitions stand in `specs/`.
+#![tactic(auto)]
