@@ -11,3 +11,6 @@ pub mod Comprehensions
 pub mod Lets
 pub mod Calls
 pub mod Evaluation
+pub mod Unbounded
+pub mod Walk
+pub mod Solutions
