@@ -14,3 +14,5 @@ pub mod Evaluation
 pub mod Unbounded
 pub mod Walk
 pub mod Solutions
+pub mod Written
+mod UndefinedExamples
