@@ -16,3 +16,5 @@ pub mod Walk
 pub mod Solutions
 pub mod Written
 mod UndefinedExamples
+mod ComprehensionExamples
+mod BoundExamples
