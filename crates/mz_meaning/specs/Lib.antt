@@ -18,3 +18,7 @@ pub mod Written
 mod UndefinedExamples
 mod ComprehensionExamples
 mod BoundExamples
+mod WorkExamples
+mod ChoiceExamples
+mod ArrayExamples
+mod SetExamples
