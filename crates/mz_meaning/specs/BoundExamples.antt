@@ -87,7 +87,7 @@ record VarPartsOfParExpressions : Type 0 where
 
 var_parts_of_par_expressions : VarPartsOfParExpressions
 unfolding eval row_table level_table front_of front_in back_of back_in backed scalar_value made_value bounding_value equality is_bounded is_fixable as_bool as_int as_case as_set as_text as_items as_index as_row as_ordinal as_element as_pair as_option is_single enum_of at bool_at int_at case_at ordinal_at element_at option_at set_at enum_at text_at items_at row_at index_at pair connected ordered computed signed folded raised toward nearer quantified contains end_of up_to same_set fold_from summand instance place_count with_index shape_from is_mismatched negative is_failed limited scalar_counts made_counts bounding_counts counts_from cost bound_of bounds_of is_settled toward_ends arith_ends sign_ends extreme_from fold_ends folded_ends raised_ends index_tuples is_reached reached branch_bound branch_bounds if_bounds combined_upper bounds_at each ends_at upper_at elements_at all_ends_at all_uppers_at uppers_before scalar_bounds made_bounds lower_of upper_of value_by_bounds range_elements
-var_parts_of_par_expressions = record { is_fixed_truth = refl; fixed_truth = refl; fixed_number = refl; lower_of_truth = refl; upper_of_sum = refl; length_of_options = refl; length_over_a_var_set = refl; lower_of_product = refl; bounds_of_a_part = refl; both_branches = refl; upper_of_if = refl; branches_of_two_lengths = refl; lower_of_set = refl; lower_of_undefined = refl; length_of_undefined = refl; length_of_undefined_par = refl; undefined_argument_of_par_call = refl; argument_outside_of_par_call = refl; }
+var_parts_of_par_expressions = record { is_fixed_truth = refl; fixed_truth = refl; fixed_number = refl; lower_of_truth = refl; upper_of_sum = refl; length_of_options = refl; length_over_a_var_set = refl; lower_of_product = refl; bounds_of_a_part = refl; both_branches = refl; upper_of_if = refl; branches_of_two_lengths = refl; lower_of_set = refl; lower_of_undefined = refl; length_of_undefined = refl; length_of_undefined_par = refl; undefined_argument_of_par_call = refl; argument_outside_of_par_call = refl }
 
 -- x is a var int in -5..7, y in 0..3, and q a var bool
 abbrev blank : Env
@@ -136,7 +136,7 @@ record BoundsOfNodes : Type 0 where
 
 bounds_of_nodes : BoundsOfNodes
 unfolding eval row_table level_table front_of front_in back_of back_in backed scalar_value made_value bounding_value equality is_bounded is_fixable as_bool as_int as_case as_set as_text as_items as_index as_row as_ordinal as_element as_pair as_option is_single enum_of at bool_at int_at case_at ordinal_at element_at option_at set_at enum_at text_at items_at row_at index_at pair connected ordered computed signed folded raised toward nearer quantified contains end_of up_to same_set fold_from summand instance place_count with_index shape_from is_mismatched negative is_failed limited scalar_counts made_counts bounding_counts counts_from cost bound_of bounds_of is_settled toward_ends arith_ends sign_ends extreme_from fold_ends folded_ends raised_ends index_tuples is_reached reached branch_bound branch_bounds if_bounds combined_upper bounds_at each ends_at upper_at elements_at all_ends_at all_uppers_at uppers_before scalar_bounds made_bounds lower_of upper_of value_by_bounds range_elements
-bounds_of_nodes = record { sum = refl; difference = refl; product = refl; quotient = refl; remainder = refl; magnitude = refl; truth = refl; power = refl; access_by_a_var_index = refl; access_to_no_place = refl; hull_of_branches = refl; }
+bounds_of_nodes = record { sum = refl; difference = refl; product = refl; quotient = refl; remainder = refl; magnitude = refl; truth = refl; power = refl; access_by_a_var_index = refl; access_to_no_place = refl; hull_of_branches = refl }
 
 -- Bounds comes where an end leaves the limit: the lower one is named first, and a fold's first partial result counts
 record Limit : Type 0 where
@@ -155,5 +155,4 @@ record Limit : Type 0 where
 
 limit : Limit
 unfolding eval row_table level_table front_of front_in back_of back_in backed scalar_value made_value bounding_value equality is_bounded is_fixable as_bool as_int as_case as_set as_text as_items as_index as_row as_ordinal as_element as_pair as_option is_single enum_of at bool_at int_at case_at ordinal_at element_at option_at set_at enum_at text_at items_at row_at index_at pair connected ordered computed signed folded raised toward nearer quantified contains end_of up_to same_set fold_from summand instance place_count with_index shape_from is_mismatched negative is_failed limited scalar_counts made_counts bounding_counts counts_from cost bound_of bounds_of is_settled toward_ends arith_ends sign_ends extreme_from fold_ends folded_ends raised_ends index_tuples is_reached reached branch_bound branch_bounds if_bounds combined_upper bounds_at each ends_at upper_at elements_at all_ends_at all_uppers_at uppers_before scalar_bounds made_bounds lower_of upper_of value_by_bounds range_elements
-limit = record { par_sum = refl; partial_sum = refl; lower_end = refl; undefined_product = refl; partial_product = refl; negative_exponent = refl; }
-
+limit = record { par_sum = refl; partial_sum = refl; lower_end = refl; undefined_product = refl; partial_product = refl; negative_exponent = refl }

@@ -59,7 +59,7 @@ record AbsentValues : Type 0 where
 
 absent_values : AbsentValues
 unfolding eval row_table level_table front_of front_in back_of back_in backed scalar_value made_value bounding_value equality is_bounded is_fixable as_bool as_int as_case as_set as_text as_items as_index as_row as_ordinal as_element as_pair as_option is_single enum_of at bool_at int_at case_at ordinal_at element_at option_at set_at enum_at text_at items_at row_at index_at pair connected ordered computed signed folded raised toward nearer quantified contains end_of up_to same_set fold_from summand instance place_count with_index shape_from is_mismatched negative is_failed limited scalar_counts made_counts bounding_counts counts_from cost bound_of bounds_of is_settled toward_ends arith_ends sign_ends extreme_from fold_ends folded_ends raised_ends index_tuples is_reached reached branch_bound branch_bounds if_bounds combined_upper bounds_at each ends_at upper_at elements_at all_ends_at all_uppers_at uppers_before scalar_bounds made_bounds lower_of upper_of value_by_bounds range_elements
-absent_values = record { summand_of_nothing = refl; absent_in_forall = refl; absent_in_exists = refl; absent_in_count = refl; both_absent = refl; one_absent = refl; one_absent_differs = refl; value_of_nothing = refl; occurs_not = refl; absent_in_nothing = refl; absent_in_something = refl; }
+absent_values = record { summand_of_nothing = refl; absent_in_forall = refl; absent_in_exists = refl; absent_in_count = refl; both_absent = refl; one_absent = refl; one_absent_differs = refl; value_of_nothing = refl; occurs_not = refl; absent_in_nothing = refl; absent_in_something = refl }
 
 -- Each value that is given to a name counts 1; the first name varies slowest
 record Generators : Type 0 where
@@ -82,7 +82,7 @@ record Generators : Type 0 where
 
 generators : Generators
 unfolding eval row_table level_table front_of front_in back_of back_in backed scalar_value made_value bounding_value equality is_bounded is_fixable as_bool as_int as_case as_set as_text as_items as_index as_row as_ordinal as_element as_pair as_option is_single enum_of at bool_at int_at case_at ordinal_at element_at option_at set_at enum_at text_at items_at row_at index_at pair connected ordered computed signed folded raised toward nearer quantified contains end_of up_to same_set fold_from summand instance place_count with_index shape_from is_mismatched negative is_failed limited scalar_counts made_counts bounding_counts counts_from cost bound_of bounds_of is_settled toward_ends arith_ends sign_ends extreme_from fold_ends folded_ends raised_ends index_tuples is_reached reached branch_bound branch_bounds if_bounds combined_upper bounds_at each ends_at upper_at elements_at all_ends_at all_uppers_at uppers_before scalar_bounds made_bounds lower_of upper_of value_by_bounds range_elements
-generators = record { one_name = refl; two_names = refl; nested = refl; filtered = refl; over_an_array = refl; undefined_set = refl; inner_set_not_reached = refl; an_undefined_element = refl; }
+generators = record { one_name = refl; two_names = refl; nested = refl; filtered = refl; over_an_array = refl; undefined_set = refl; inner_set_not_reached = refl; an_undefined_element = refl }
 
 -- x is a var int in 0..3, s a var set of 1..3, and a an array of two of x's kind
 abbrev scope : ℤ → Content → Env
@@ -139,5 +139,4 @@ record OptionalElements : Type 0 where
 
 optional_elements : OptionalElements
 unfolding eval row_table level_table front_of front_in back_of back_in backed scalar_value made_value bounding_value equality is_bounded is_fixable as_bool as_int as_case as_set as_text as_items as_index as_row as_ordinal as_element as_pair as_option is_single enum_of at bool_at int_at case_at ordinal_at element_at option_at set_at enum_at text_at items_at row_at index_at pair connected ordered computed signed folded raised toward nearer quantified contains end_of up_to same_set fold_from summand instance place_count with_index shape_from is_mismatched negative is_failed limited scalar_counts made_counts bounding_counts counts_from cost bound_of bounds_of is_settled toward_ends arith_ends sign_ends extreme_from fold_ends folded_ends raised_ends index_tuples is_reached reached branch_bound branch_bounds if_bounds combined_upper bounds_at each ends_at upper_at elements_at all_ends_at all_uppers_at uppers_before scalar_bounds made_bounds lower_of upper_of value_by_bounds range_elements
-optional_elements = record { var_where = refl; var_where_blank = refl; over_a_var_set = refl; absent_and_undefined = refl; there_and_undefined = refl; inner_set_of_an_absent_element = refl; inner_set_that_counts = refl; sum_of_options = refl; over_a_var_array = refl; }
-
+optional_elements = record { var_where = refl; var_where_blank = refl; over_a_var_set = refl; absent_and_undefined = refl; there_and_undefined = refl; inner_set_of_an_absent_element = refl; inner_set_that_counts = refl; sum_of_options = refl; over_a_var_array = refl }

@@ -22,3 +22,4 @@ mod WorkExamples
 mod ChoiceExamples
 mod ArrayExamples
 mod SetExamples
+mod ModelExamples

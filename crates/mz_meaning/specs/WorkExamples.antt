@@ -79,7 +79,7 @@ record Work : Type 0 where
 
 work : Work
 unfolding eval row_table level_table front_of front_in back_of back_in backed scalar_value made_value bounding_value equality is_bounded is_fixable as_bool as_int as_case as_set as_text as_items as_index as_row as_ordinal as_element as_pair as_option is_single enum_of at bool_at int_at case_at ordinal_at element_at option_at set_at enum_at text_at items_at row_at index_at pair connected ordered computed signed folded raised toward nearer quantified contains end_of up_to same_set fold_from summand instance place_count with_index shape_from is_mismatched negative is_failed limited scalar_counts made_counts bounding_counts counts_from cost bound_of bounds_of is_settled toward_ends arith_ends sign_ends extreme_from fold_ends folded_ends raised_ends index_tuples is_reached reached branch_bound branch_bounds if_bounds combined_upper bounds_at each ends_at upper_at elements_at all_ends_at all_uppers_at uppers_before scalar_bounds made_bounds lower_of upper_of value_by_bounds range_elements
-work = record { whole_sum = refl; at_the_sum = refl; at_the_array = refl; at_an_element = refl; chain_of_two = refl; coercion = refl; set_to_array = refl; budget_at_the_set = refl; at_a_generator = refl; declared_array = refl; }
+work = record { whole_sum = refl; at_the_sum = refl; at_the_array = refl; at_an_element = refl; chain_of_two = refl; coercion = refl; set_to_array = refl; budget_at_the_set = refl; at_a_generator = refl; declared_array = refl }
 
 -- At most 600 levels of nesting: a call's body has one more than the call, and a chain's operators all have one
 record Nesting : Type 0 where
@@ -96,7 +96,7 @@ record Nesting : Type 0 where
 
 nesting : Nesting
 unfolding eval row_table level_table front_of front_in back_of back_in backed scalar_value made_value bounding_value equality is_bounded is_fixable as_bool as_int as_case as_set as_text as_items as_index as_row as_ordinal as_element as_pair as_option is_single enum_of at bool_at int_at case_at ordinal_at element_at option_at set_at enum_at text_at items_at row_at index_at pair connected ordered computed signed folded raised toward nearer quantified contains end_of up_to same_set fold_from summand instance place_count with_index shape_from is_mismatched negative is_failed limited scalar_counts made_counts bounding_counts counts_from cost bound_of bounds_of is_settled toward_ends arith_ends sign_ends extreme_from fold_ends folded_ends raised_ends index_tuples is_reached reached branch_bound branch_bounds if_bounds combined_upper bounds_at each ends_at upper_at elements_at all_ends_at all_uppers_at uppers_before scalar_bounds made_bounds lower_of upper_of value_by_bounds range_elements
-nesting = record { without_end = refl; deep_enough = refl; too_deep = refl; chain_deep_enough = refl; chain_too_deep = refl; }
+nesting = record { without_end = refl; deep_enough = refl; too_deep = refl; chain_deep_enough = refl; chain_too_deep = refl }
 
 -- `++` is read from the last operand: all operands come first, and then the nodes from the last on
 record Appending : Type 0 where
@@ -107,5 +107,4 @@ record Appending : Type 0 where
 
 appending : Appending
 unfolding eval row_table level_table front_of front_in back_of back_in backed scalar_value made_value bounding_value equality is_bounded is_fixable as_bool as_int as_case as_set as_text as_items as_index as_row as_ordinal as_element as_pair as_option is_single enum_of at bool_at int_at case_at ordinal_at element_at option_at set_at enum_at text_at items_at row_at index_at pair connected ordered computed signed folded raised toward nearer quantified contains end_of up_to same_set fold_from summand instance place_count with_index shape_from is_mismatched negative is_failed limited scalar_counts made_counts bounding_counts counts_from cost bound_of bounds_of is_settled toward_ends arith_ends sign_ends extreme_from fold_ends folded_ends raised_ends index_tuples is_reached reached branch_bound branch_bounds if_bounds combined_upper bounds_at each ends_at upper_at elements_at all_ends_at all_uppers_at uppers_before scalar_bounds made_bounds lower_of upper_of value_by_bounds range_elements
-appending = record { three_lists = refl; nested_lists = refl; }
-
+appending = record { three_lists = refl; nested_lists = refl }
