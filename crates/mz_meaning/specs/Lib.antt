@@ -11,6 +11,7 @@ pub mod Comprehensions
 pub mod Lets
 pub mod Calls
 pub mod Evaluation
+pub mod Kinds
 pub mod Unbounded
 pub mod Walk
 pub mod Solutions
