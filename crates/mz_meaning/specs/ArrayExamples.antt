@@ -1,8 +1,8 @@
 -- Worked examples of arrays and their index sets.
-use Rattle.std.specs.Prelude.{◌≡◌, refl, ℕ, ℤ, pos, false, List, [], ◌∷◌, Option, Some, None}
+use Rattle.std.specs.Prelude.{◌≡◌, refl, ℕ, ℤ, pos, true, false, List, [], ◌∷◌, Option, Some, None}
 use Rattle.mz_value.specs.Shown.{range_elements}
 use Rattle.mz_core.specs.Program.{Function}
-use Rattle.mz_core.specs.Tree.{Tree, declares, trees}
+use Rattle.mz_core.specs.Tree.{Tree, declares, trees, branches}
 use Rattle.mz_operations.specs.Views.{as_bool, as_int, as_case, as_set, as_text, as_items, as_index, as_row, as_ordinal, as_element, as_pair, as_option, is_single, enum_of}
 use Rattle.mz_operations.specs.Arguments.{at, bool_at, int_at, case_at, ordinal_at, element_at, option_at, set_at, enum_at, text_at, items_at, row_at, index_at, pair}
 use Rattle.mz_operations.specs.Numbers.{connected, ordered, computed, signed, folded, raised, toward, nearer, quantified}
@@ -14,11 +14,11 @@ use Rattle.mz_operations.specs.Costs.{scalar_counts, made_counts, bounding_count
 use Rattle.mz_operations.specs.Bounds.{bound_of, bounds_of, is_settled, toward_ends, arith_ends, sign_ends, extreme_from, fold_ends, folded_ends, raised_ends, index_tuples, is_reached, reached, branch_bound, branch_bounds, if_bounds, combined_upper}
 use Rattle.mz_operations.specs.RowBounds.{bounds_at, each, ends_at, upper_at, elements_at, all_ends_at, all_uppers_at, uppers_before, scalar_bounds, made_bounds, lower_of, upper_of, value_by_bounds}
 use Rattle.mz_meaning.specs.Runs.{Answer, Out}
-use Rattle.mz_meaning.specs.Cells.{Cell, Unshaped, Bare, Env, bind, no_names}
+use Rattle.mz_meaning.specs.Cells.{Cell, Par, Unshaped, Bare, Env, bind, no_names}
 use Rattle.mz_meaning.specs.Operations.{row_table}
 use Rattle.mz_meaning.specs.Chains.{level_table, front_of, front_in, back_of, back_in, backed}
 use Rattle.mz_meaning.specs.Evaluation.{eval}
-use Rattle.mz_meaning.specs.Written.{col, int, var_int, var_bool, ints, list_of, table_of, num, slot, fun, call, bin, list, access, choose, let_in, range, plain, indexed, decl, param, function, i, b, set, fromto, row, between, var_number, var_row, run, result, is, is_undefined, stops, given, by_zero}
+use Rattle.mz_meaning.specs.Written.{col, int, var_int, var_bool, ints, list_of, table_of, num, lit, slot, fun, call, bin, to_var, list, access, choose, let_in, range, plain, indexed, decl, param, function, i, b, set, fromto, row, between, var_number, var_row, run, result, gives, is, is_undefined, stops, given, by_zero}
 use Rattle.mz_base.specs.declared.kind.Kind.TheVariants as kind
 use Rattle.mz_core.specs.Tree as tree
 
@@ -118,9 +118,15 @@ record ArrayBranches : Type 0 where
   chosen_undefined : chosen one_two (list 50 int (by_zero 51 ∷ [])) ≡ heavy (var_row (pos 1) (pos 2) (between (pos 1) (pos 1) ∷ between (pos 2) (pos 2) ∷ []) None) 10 2
   -- if q then [1 div 0] else [1 div 0] endif has no shape
   both_undefined : chosen (list 34 int (by_zero 35 ∷ [])) (list 50 int (by_zero 51 ∷ [])) ≡ heavy (Unshaped 1) 12 0
+  -- if q then 1 elseif true then 2 else 1 div 0 endif: a par condition that is true makes its branch the last
+  then_a_par_condition : run [] given scope (tree.node (col 1) var_int (tree.choice (branches ((slot 4 var_bool 7, to_var (num 11 (pos 1))) ∷ (lit 20 true, to_var (num 30 (pos 2))) ∷ [])) (tree.just (to_var (by_zero 37))))) ≡ gives (var_number (pos 1) (pos 2) (Some (i (pos 2)))) 5
+  -- f([1, 2]) of above: the elements of its argument are weight
+  weight_of_an_argument : run fs given no_names (call 1 int 0 (one_two ∷ [])) ≡ heavy (Par (Some (i (pos 2)))) 11 2
+  -- g([1, 2]): and those of its result
+  weight_of_a_result : run fs given no_names (call 1 (list_of int) 1 (one_two ∷ [])) ≡ heavy (Par (Some (row (pos 0) (pos 1) (i (pos 1) ∷ i (pos 2) ∷ [])))) 9 4
   -- if q then [1, 2] else [5] endif
   two_lengths : chosen one_two (list 50 int (num 51 (pos 5) ∷ [])) ≡ stops kind.IndexMismatch 1 (pos 0)
 
 array_branches : ArrayBranches
 unfolding eval row_table level_table front_of front_in back_of back_in backed scalar_value made_value bounding_value equality is_bounded is_fixable as_bool as_int as_case as_set as_text as_items as_index as_row as_ordinal as_element as_pair as_option is_single enum_of at bool_at int_at case_at ordinal_at element_at option_at set_at enum_at text_at items_at row_at index_at pair connected ordered computed signed folded raised toward nearer quantified contains end_of up_to same_set fold_from summand instance place_count with_index shape_from is_mismatched negative is_failed limited scalar_counts made_counts bounding_counts counts_from cost bound_of bounds_of is_settled toward_ends arith_ends sign_ends extreme_from fold_ends folded_ends raised_ends index_tuples is_reached reached branch_bound branch_bounds if_bounds combined_upper bounds_at each ends_at upper_at elements_at all_ends_at all_uppers_at uppers_before scalar_bounds made_bounds lower_of upper_of value_by_bounds range_elements
-array_branches = record { two_arrays = refl; undefined_branch = refl; chosen_undefined = refl; both_undefined = refl; two_lengths = refl }
+array_branches = record { two_arrays = refl; undefined_branch = refl; chosen_undefined = refl; both_undefined = refl; then_a_par_condition = refl; weight_of_an_argument = refl; weight_of_a_result = refl; two_lengths = refl }

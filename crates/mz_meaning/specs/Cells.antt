@@ -9,7 +9,7 @@ use Rattle.mz_core.specs.declared.types.Base.TheVariants as base
 use Rattle.mz_core.specs.Types.{PlainType, is_set}
 use Rattle.mz_core.specs.Order.{no_dims}
 use Rattle.mz_operations.specs.Views.{as_set, as_items, as_index}
-use Rattle.mz_operations.specs.Bounds.{Bound, Bounds, nothing, truth, no_set, no_array, bounds_of}
+use Rattle.mz_operations.specs.Bounds.{Bound, Bounds, nothing, truth, no_array, bounds_of}
 use Rattle.mz_operations.specs.Bounds as bounds
 
 -- A par cell has a value, or None where it is undefined; its bounds are its value's. A var cell has bounds, which of an array are its index ranges and the bounds of its elements, and a value or None. An undefined par array that has become var has no shape: it keeps its number of dimensions alone
@@ -87,9 +87,13 @@ bounds_in (Par (Some x)) = bounds_of x
 bounds_in (Var b v) = b
 bounds_in (Unshaped d) = no_array d
 
+-- of an undefined node of a type, or an element of it: 0..0, or no element that a set may have
+abbrev pub empty_bound : PlainType → Bound
+empty_bound t = if is_set t.base then bounds.sets [] [] else bounds.number nothing
+
 -- the bounds of an undefined node of a type
 abbrev pub no_bounds : PlainType → Bounds
-no_bounds t = if no_dims t.dims then (if is_set t.base then no_set else bounds.one (bounds.number nothing)) else no_array (length t.dims)
+no_bounds t = if no_dims t.dims then bounds.one (empty_bound t) else no_array (length t.dims)
 
 -- the bounds of a cell of this type
 abbrev pub bounds_as : PlainType → Cell → Bounds

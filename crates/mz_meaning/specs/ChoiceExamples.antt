@@ -1,5 +1,5 @@
 -- Worked examples of free locals: where they may be evaluated, and which choices they take.
-use Rattle.std.specs.Prelude.{◌≡◌, refl, ℕ, ◌+◌, pos, negsuc, true, false, List, [], ◌∷◌, Option, Some, None}
+use Rattle.std.specs.Prelude.{◌≡◌, refl, ℕ, ◌+◌, pos, negsuc, true, false, List, [], ◌∷◌, Option, Some, None, filter}
 use Rattle.mz_value.specs.Contents.{Content}
 use Rattle.mz_value.specs.Shown.{range_elements}
 use Rattle.mz_core.specs.Types.{PlainType}
@@ -20,7 +20,7 @@ use Rattle.mz_meaning.specs.Domains.{Domain}
 use Rattle.mz_meaning.specs.Operations.{row_table}
 use Rattle.mz_meaning.specs.Chains.{level_table, front_of, front_in, back_of, back_in, backed}
 use Rattle.mz_meaning.specs.Evaluation.{eval}
-use Rattle.mz_meaning.specs.Written.{int, var_int, var_bool, var_opt_int, ints, var_ints, list_of, num, lit, slot, fun, step, chain, bin, to_var, to_int, list, comp, gen, choose, let_in, range, within, indexed, decl, i, set, fromto, row, between, var_number, var_set, var_row, run, gives, stops, by_zero}
+use Rattle.mz_meaning.specs.Written.{int, var_int, var_bool, var_opt_int, ints, var_ints, list_of, num, lit, slot, fun, call, step, chain, bin, to_var, to_int, list, comp, gen, choose, let_in, range, plain, within, indexed, decl, function, i, set, fromto, row, between, var_number, var_set, var_row, run, gives, stops, by_zero}
 use Rattle.mz_base.specs.declared.kind.Kind.TheVariants as kind
 use Rattle.mz_core.specs.declared.types.Base.TheVariants as base
 
@@ -85,12 +85,14 @@ record RefusedPlaces : Type 0 where
   argument_of_xorall : refused (fun 1 var_bool 48 (bools (free ∷ []) ∷ []))
   argument_of_clause : refused (fun 1 var_bool 49 (bools (yes ∷ []) ∷ bools (free ∷ []) ∷ []))
   argument_of_count : refused (fun 1 var_int 50 (bools (free ∷ []) ∷ []))
+  -- not f(), whose body is free: a body has the context of its call
+  in_a_body : run (function [] (plain var_bool) free ∷ []) (Blank true) no_names (fun 1 var_bool 6 (call 5 var_bool 0 [] ∷ [])) ≡ stops kind.FreeInContext 40 (pos 0)
   -- (free = true) = true: within a chain
   first_of_a_chain : refused (chain 1 var_bool free (step 7 var_bool yes ∷ step 7 var_bool yes ∷ []))
 
 refused_places : RefusedPlaces
 unfolding eval row_table level_table front_of front_in back_of back_in backed scalar_value made_value bounding_value equality is_bounded is_fixable as_bool as_int as_case as_set as_text as_items as_index as_row as_ordinal as_element as_pair as_option is_single enum_of at bool_at int_at case_at ordinal_at element_at option_at set_at enum_at text_at items_at row_at index_at pair connected ordered computed signed folded raised toward nearer quantified contains end_of up_to same_set fold_from summand instance place_count with_index shape_from is_mismatched negative is_failed limited scalar_counts made_counts bounding_counts counts_from cost bound_of bounds_of is_settled toward_ends arith_ends sign_ends extreme_from fold_ends folded_ends raised_ends index_tuples is_reached reached branch_bound branch_bounds if_bounds combined_upper bounds_at each ends_at upper_at elements_at all_ends_at all_uppers_at uppers_before scalar_bounds made_bounds lower_of upper_of value_by_bounds range_elements
-refused_places = record { operand_of_not = refl; equivalence = refl; equivalence_left = refl; exclusive_or = refl; equal_booleans = refl; less_booleans = refl; premise = refl; premise_behind = refl; condition = refl; filter = refl; generator = refl; argument_of_bool2int = refl; coerced = refl; argument_of_xorall = refl; argument_of_clause = refl; argument_of_count = refl; first_of_a_chain = refl }
+refused_places = record { operand_of_not = refl; equivalence = refl; equivalence_left = refl; exclusive_or = refl; equal_booleans = refl; less_booleans = refl; premise = refl; premise_behind = refl; condition = refl; filter = refl; generator = refl; argument_of_bool2int = refl; coerced = refl; argument_of_xorall = refl; argument_of_clause = refl; argument_of_count = refl; in_a_body = refl; first_of_a_chain = refl }
 
 -- Every other place keeps the context. Evaluating `free` has work 9: 4 of the set, 4 of the comparison and 1
 record AllowedPlaces : Type 0 where
@@ -140,6 +142,8 @@ record Choices : Type 0 where
   empty_domain : choosing (let_in 1 int (declares (decl 14 20 (within var_int (range 8 (pos 1) (pos 0))) None) ∷ []) (num 20 (pos 7))) ≡ Out (Par None) (record { work = 6; taken = []; weight = 1 })
   -- let { var 1..1 div 0: y } in 7: nor does an undefined set
   undefined_domain : choosing (let_in 1 int (declares (decl 20 20 (within var_int (bin 8 ints (num 8 (pos 1)) 20 (by_zero 11))) None) ∷ []) (num 30 (pos 7))) ≡ Out (Par None) (record { work = 9; taken = []; weight = 1 })
+  -- let { array[1..2] of var 1..0: y } in y: it has its places, and nothing is taken
+  empty_places : choosing (locals (Some (range 20 (pos 1) (pos 0)))) ≡ chose (var_row (pos 1) (pos 2) (between (pos 0) (pos 0) ∷ between (pos 0) (pos 0) ∷ []) None) 12 []
   -- let { array[1..0] of var 1..0: y } in 7: an array without places is there
   no_places : choosing (let_in 1 int (declares (decl 28 20 (indexed (list_of var_int) (Some (range 13 (pos 1) (pos 0)) ∷ []) (Some (range 22 (pos 1) (pos 0)))) None) ∷ []) (num 40 (pos 7))) ≡ Out (Par (Some (i (pos 7)))) (record { work = 10; taken = []; weight = 1 })
   -- let { var int: y } in y: from -1000 to 1000
@@ -155,4 +159,4 @@ record Choices : Type 0 where
 
 choices : Choices
 unfolding eval row_table level_table front_of front_in back_of back_in backed scalar_value made_value bounding_value equality is_bounded is_fixable as_bool as_int as_case as_set as_text as_items as_index as_row as_ordinal as_element as_pair as_option is_single enum_of at bool_at int_at case_at ordinal_at element_at option_at set_at enum_at text_at items_at row_at index_at pair connected ordered computed signed folded raised toward nearer quantified contains end_of up_to same_set fold_from summand instance place_count with_index shape_from is_mismatched negative is_failed limited scalar_counts made_counts bounding_counts counts_from cost bound_of bounds_of is_settled toward_ends arith_ends sign_ends extreme_from fold_ends folded_ends raised_ends index_tuples is_reached reached branch_bound branch_bounds if_bounds combined_upper bounds_at each ends_at upper_at elements_at all_ends_at all_uppers_at uppers_before scalar_bounds made_bounds lower_of upper_of value_by_bounds range_elements
-choices = record { two_evaluations = refl; one_for_each_place = refl; empty_domain = refl; undefined_domain = refl; no_places = refl; default_range = refl; truth = refl; option = refl; a_set = refl; bare = refl }
+choices = record { two_evaluations = refl; one_for_each_place = refl; empty_domain = refl; undefined_domain = refl; empty_places = refl; no_places = refl; default_range = refl; truth = refl; option = refl; a_set = refl; bare = refl }

@@ -13,7 +13,7 @@ use Rattle.mz_operations.specs.Arrays.{place_count, is_contiguous}
 use Rattle.mz_operations.specs.Bounds.{Bound, Bounds}
 use Rattle.mz_operations.specs.Bounds as bounds
 use Rattle.mz_meaning.specs.Runs.{Run, Out, State, ◌>>=◌, ◌>>◌, give, stop, spend, loop, noted, weigh}
-use Rattle.mz_meaning.specs.Cells.{Cell, Var, Mode, Blank, Given, held, Env, bind_all, undefined, undefined_var, is_par, is_true, value_of, set_in, Sure, sure, unsure, both_sure, guarded}
+use Rattle.mz_meaning.specs.Cells.{Cell, Var, Mode, Blank, Given, held, Env, bind_all, undefined, empty_bound, is_par, is_true, value_of, set_in, Sure, sure, unsure, both_sure, guarded}
 use Rattle.mz_meaning.specs.Domains.{Domain, is_empty_domain, domain_bound, domain_over, default_set}
 use Rattle.mz_meaning.specs.Arrays.{Want, Anything, Missing, Within, want_of, suits, has_set, is_own, is_missing, no_missing, declared_ranges, declared_count, fitted}
 use Rattle.mz_meaning.specs.Contexts.{Context, Untested, Positive, Other}
@@ -90,9 +90,12 @@ abbrev pub unless_empty : Option Domain → Option Domain
 unless_empty None = None
 unless_empty (Some d) = if is_empty_domain d then None else Some d
 
--- nothing is taken, and the let is undefined
+-- nothing is taken, and the let is undefined; an array has its places all the same
 abbrev pub no_choice : PlainType → Run (Cell × Sure)
-no_choice t = give (undefined_var t, unsure)
+no_choice t = give (Var (bounds.one (empty_bound t)) None, unsure)
+
+abbrev pub no_choices : PlainType → List Range → Run (Cell × Sure)
+no_choices t ix = give (Var (bounds.many ix (replicate (place_count ix) (empty_bound t))) None, unsure)
 
 abbrev pub choose : Mode → PlainType → Option Domain → Run (Cell × Sure)
 choose m t None = no_choice t
@@ -104,11 +107,11 @@ places_cell m ix count b k = Var (bounds.many ix (replicate count b)) (held m (S
 -- for each place; an array without places takes nothing, and is there also where the domain is empty
 abbrev pub choose_places : Mode → PlainType → List Range → ℕ → Option Domain → Run (Cell × Sure)
 choose_places m t ix zero d = give (Var (bounds.many ix []) (held m (Some (values.array ix values.none))), sure)
-choose_places m t ix (suc n) None = no_choice t
+choose_places m t ix (suc n) None = no_choices t ix
 choose_places m t ix (suc n) (Some d) = λ s. Out (places_cell m ix (suc n) (domain_bound d) (length s.taken), sure) (noted m (replicate (suc n) d) 0 s)
 
 abbrev pub free_array : Mode → PlainType → List Range → Want → Option Domain → Run (Cell × Sure)
-free_array m t ix Missing d = no_choice t
+free_array m t ix Missing d = no_choices t ix
 free_array m t ix Anything d = choose_places m t ix (place_count ix) d
 free_array m t ix (Within u) d = choose_places m t ix (place_count ix) d
 
@@ -122,7 +125,7 @@ chosen m n t [] x = choose m t (unless_empty (local_domain n t x))
 chosen m n t (r ∷ rs) x =
     if all_declared (r ∷ rs)
     then free_array m t (declared_ranges (r ∷ rs) []) x (unless_empty (local_domain n t x))
-    else no_choice t
+    else no_choices t (declared_ranges (r ∷ rs) [])
 
 abbrev pub free_local : World → Context → Span → PlainType → List Want → Want → Run (Cell × Sure)
 free_local w Untested at t ixs x = chosen w.mode w.int_range t ixs x

@@ -1,5 +1,6 @@
 -- Worked examples of whole models: walks, refusals and solutions.
-use Rattle.std.specs.Prelude.{◌≡◌, refl, ℕ, ◌+◌, ℤ, pos, negsuc, true, false, List, [], ◌∷◌, map, Option, Some, None, nat_eq, if◌then◌else◌}
+use Rattle.std.specs.Prelude.{◌≡◌, refl, ℕ, ◌+◌, ℤ, pos, negsuc, Bool, true, false, List, [], ◌∷◌, map, Option, Some, None, nat_eq, if◌then◌else◌, length, filter}
+use Rattle.std.specs.List.{flat_map, list_all}
 use Rattle.mz_value.specs.Contents.{Content}
 use Rattle.mz_value.specs.Shown.{range_elements}
 use Rattle.mz_value.specs.StepsWalks.{merged, merged_from, joined, joined_from, common, common_from, gaps}
@@ -16,7 +17,7 @@ use Rattle.mz_operations.specs.Costs.{scalar_counts, made_counts, bounding_count
 use Rattle.mz_operations.specs.Bounds.{bound_of, bounds_of, is_settled, toward_ends, arith_ends, sign_ends, extreme_from, fold_ends, folded_ends, raised_ends, union_from, index_tuples, is_reached, reached, branch_bound, branch_bounds, if_bounds, combined_upper}
 use Rattle.mz_operations.specs.RowBounds.{bounds_at, each, ends_at, upper_at, elements_at, all_ends_at, all_uppers_at, uppers_before, scalar_bounds, made_bounds, lower_of, upper_of, value_by_bounds}
 use Rattle.mz_meaning.specs.Runs.{Answer, Out, Stopped, start, then_do, give, fault}
-use Rattle.mz_meaning.specs.Cells.{Given, value_of}
+use Rattle.mz_meaning.specs.Cells.{Given, value_of, is_true}
 use Rattle.mz_meaning.specs.Domains.{Domain, Domains, Scalar, is_canonical, lies_in, all_lie_in}
 use Rattle.mz_meaning.specs.Operations.{row_table}
 use Rattle.mz_meaning.specs.Contexts.{Positive}
@@ -198,6 +199,38 @@ walked p = given_to p (λ k. None) no_choices
 -- function int: f(int: n) = f(n + 1); int: k = f(0);
 abbrev endless : PlainProgram
 endless = model_with (function (param 10 (plain int) ∷ []) (plain int) (call 27 int 0 (bin 29 int (slot 29 int 10) 25 (num 33 (pos 1)) ∷ [])) ∷ []) (decl 42 0 (plain int) (Some (call 46 int 0 (num 48 (pos 0) ∷ []))) ∷ []) (0 ∷ []) [] satisfy
+
+-- function int: g(int: n) = if n = 0 then 1 else g(n - 1) + g(n - 1) endif; int: k = g(40);
+abbrev g : ℕ → Tree
+g at = call at int 0 (bin (at + 2) int (slot (at + 2) int 10) 26 (num (at + 6) (pos 1)) ∷ [])
+
+abbrev doubling : PlainProgram
+doubling = model_with (function (param 10 (plain int) ∷ []) (plain int) (choose 27 int (bin 30 bool (slot 30 int 10) 7 (num 34 (pos 0))) (num 41 (pos 1)) (Some (bin 48 int (g 48) 25 (g 59)))) ∷ []) (decl 80 0 (plain int) (Some (call 84 int 0 (num 86 (pos 40) ∷ []))) ∷ []) (0 ∷ []) [] satisfy
+
+abbrev kind_and_number : Answer Walked → Option (Kind × ℤ)
+kind_and_number (Out x s) = None
+kind_and_number (Stopped f) = Some (f.kind, f.number)
+
+-- the values of each element of x in `options`, and all assignments of three
+abbrev each_value : List Content
+each_value = values.absent ∷ i (pos 1) ∷ i (pos 2) ∷ i (pos 3) ∷ i (pos 4) ∷ i (pos 5) ∷ []
+
+abbrev all_rows : List Content
+all_rows = flat_map (λ x. flat_map (λ y. map (λ z. row (pos 1) (pos 3) (x ∷ y ∷ z ∷ [])) each_value) each_value) each_value
+
+abbrev all_met : Answer (List (Option Content)) → Bool
+all_met (Out vs s) = list_all is_true vs
+all_met (Stopped f) = false
+
+-- A budget of 1000, and the fifteen solutions of `sum(x) = 4`
+record Counts : Type 0 where
+  -- the budget plus 1
+  budget_of_1000 : kind_and_number (walk Positive (record { budget = 1000; int_range = pos 1000 }) (Given no_choices) (λ k. None) doubling start) ≡ Some (kind.Budget, pos 1001)
+  fifteen : length (filter (λ v. all_met (constraints_of (given_to options (all_are v) no_choices))) all_rows) ≡ 15
+
+counts : Counts
+unfolding eval row_table level_table front_of front_in back_of back_in backed scalar_value made_value bounding_value equality is_bounded is_fixable as_bool as_int as_case as_set as_text as_items as_index as_row as_ordinal as_element as_pair as_option is_single enum_of at bool_at int_at case_at ordinal_at element_at option_at set_at enum_at text_at items_at row_at index_at pair connected ordered computed signed folded raised toward nearer quantified contains end_of up_to same_set fold_from summand instance place_count with_index shape_from is_mismatched negative is_failed limited scalar_counts made_counts bounding_counts counts_from cost bound_of bounds_of is_settled toward_ends arith_ends sign_ends extreme_from fold_ends folded_ends raised_ends index_tuples is_reached reached branch_bound branch_bounds if_bounds combined_upper bounds_at each ends_at upper_at elements_at all_ends_at all_uppers_at uppers_before scalar_bounds made_bounds lower_of upper_of value_by_bounds range_elements union intersection difference combined union_from merged merged_from joined joined_from common common_from gaps first_unbounded unbounded_in in_form in_maybe in_trees in_maybes in_rows in_branches in_steps in_gens in_items lies_in all_lie_in
+counts = record { budget_of_1000 = refl; fifteen = refl }
 
 -- What a walk is refused for
 record Refusals : Type 0 where

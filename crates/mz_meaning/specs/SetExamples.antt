@@ -21,7 +21,7 @@ use Rattle.mz_meaning.specs.Operations.{row_table}
 use Rattle.mz_meaning.specs.Contexts.{Positive}
 use Rattle.mz_meaning.specs.Chains.{level_table, front_of, front_in, back_of, back_in, backed}
 use Rattle.mz_meaning.specs.Evaluation.{eval}
-use Rattle.mz_meaning.specs.Written.{col, scalar, int, var_int, bool, var_bool, ints, var_ints, text, num, lit, slot, fun, bin, to_var, comp, gen, choose, range, i, b, set, fromto, row, var_number, var_set, run, result, gives, is, is_undefined, stops, given, by_zero}
+use Rattle.mz_meaning.specs.Written.{col, scalar, int, var_int, bool, var_bool, ints, var_ints, text, num, lit, slot, fun, call, bin, to_var, comp, gen, choose, range, plain, param, function, i, b, set, fromto, row, var_number, var_set, run, result, gives, is, is_undefined, stops, given, by_zero}
 use Rattle.mz_base.specs.declared.kind.Kind.TheVariants as kind
 use Rattle.mz_value.specs.Contents as values
 use Rattle.mz_core.specs.declared.types.Base.TheVariants as base
@@ -71,6 +71,8 @@ record Sets : Type 0 where
   set_of_heads : result (tree.node (col 1) ints (tree.comp true (bin 2 int (slot 2 int 1) 25 (slot 6 int 1)) (tree.gens (gen (1 ∷ []) (range 15 (pos 1) (pos 2)) None ∷ [])))) ≡ is (set ((pos 2, pos 2) ∷ (pos 4, pos 4) ∷ [])) 15
   -- s union {5}: nothing is sure, and at most {1, 2, 3, 5}
   union_bounds : run [] given scope (bin 1 var_ints (s 1) 16 (to_var (range 9 (pos 5) (pos 5)))) ≡ gives (var_set [] ((pos 1, pos 3) ∷ (pos 5, pos 5) ∷ []) (Some (set ((pos 2, pos 2) ∷ (pos 5, pos 5) ∷ [])))) 7
+  -- lb(g(3) union {5}), with function var set of int: g(int: n) = 1..n
+  least_of_a_union : run (function (param 12 (plain int) ∷ []) (plain var_ints) (to_var (bin 38 ints (num 38 (pos 1)) 20 (slot 41 int 12))) ∷ []) Bare no_names (fun 1 ints 70 (bin 4 var_ints (call 4 var_ints 0 (num 6 (pos 3) ∷ [])) 16 (to_var (literal (num 16 (pos 5) ∷ []))) ∷ [])) ≡ is (set []) 12
   -- card(s)
   cardinality_bounds : run [] given scope (fun 1 var_int 21 (s 6 ∷ [])) ≡ gives (var_number (pos 0) (pos 3) (Some (i (pos 1)))) 3
   -- 2 in s
@@ -83,7 +85,7 @@ record Sets : Type 0 where
 
 sets : Sets
 unfolding eval row_table level_table front_of front_in back_of back_in backed scalar_value made_value bounding_value equality is_bounded is_fixable as_bool as_int as_case as_set as_text as_items as_index as_row as_ordinal as_element as_pair as_option is_single enum_of at bool_at int_at case_at ordinal_at element_at option_at set_at enum_at text_at items_at row_at index_at pair connected ordered computed signed folded raised toward nearer quantified contains end_of up_to same_set fold_from summand instance place_count with_index shape_from is_mismatched negative is_failed limited scalar_counts made_counts bounding_counts counts_from cost bound_of bounds_of is_settled toward_ends arith_ends sign_ends extreme_from fold_ends folded_ends raised_ends index_tuples is_reached reached branch_bound branch_bounds if_bounds combined_upper bounds_at each ends_at upper_at elements_at all_ends_at all_uppers_at uppers_before scalar_bounds made_bounds lower_of upper_of value_by_bounds range_elements union intersection difference combined union_from merged merged_from joined joined_from common common_from gaps
-sets = record { set_literal = refl; set_of_truths = refl; undefined_literal = refl; set_of_heads = refl; union_bounds = refl; cardinality_bounds = refl; membership = refl; greatest = refl; least = refl; set_of_if = refl }
+sets = record { set_literal = refl; set_of_truths = refl; undefined_literal = refl; set_of_heads = refl; union_bounds = refl; least_of_a_union = refl; cardinality_bounds = refl; membership = refl; greatest = refl; least = refl; set_of_if = refl }
 
 -- Cases are numbered from 1
 record Enums : Type 0 where

@@ -15,7 +15,7 @@ use Rattle.mz_operations.specs.Arrays.{place_count}
 use Rattle.mz_operations.specs.Bounds.{Bound, Bounds, nothing}
 use Rattle.mz_operations.specs.Bounds as bounds
 use Rattle.mz_meaning.specs.Runs.{Run, ◌>>=◌, ◌>>◌, give, stop, spend, loop, weigh}
-use Rattle.mz_meaning.specs.Cells.{Cell, Par, Var, Unshaped, Mode, held, Env, no_names, bind, undefined, bounds_in, set_in, Sure}
+use Rattle.mz_meaning.specs.Cells.{Cell, Par, Var, Unshaped, Mode, held, Env, no_names, bind, undefined, bounds_in, empty_bound, set_in, Sure}
 use Rattle.mz_meaning.specs.Domains.{Domain, Domains, Fixed, Scalar, Places, domains_bounds, domain_over, default_set}
 use Rattle.mz_meaning.specs.Arrays.{Want, Anything, Missing, Within, suits, declared_ranges, declared_count, fitted}
 use Rattle.mz_meaning.specs.Contexts.{Context}
@@ -57,10 +57,6 @@ set_by_value b (Within u) k = u
 abbrev pub domain_by_value : PlainType → Want → Bound → Domain
 domain_by_value t x b = domain_over t (set_by_value t.base x b)
 
--- an array without a shape has 0..0 at each declared place, or no element that a set may have
-abbrev pub no_value : PlainType → Bound
-no_value t = if is_set t.base then bounds.sets [] [] else bounds.number nothing
-
 abbrev pub domains_of_bounds : PlainType → Want → Bounds → Domains
 domains_of_bounds t x (bounds.one b) = Scalar (domain_by_value t x b)
 domains_of_bounds t x (bounds.many ix bs) = Places ix (map (domain_by_value t x) bs)
@@ -68,11 +64,11 @@ domains_of_bounds t x (bounds.many ix bs) = Places ix (map (domain_by_value t x)
 abbrev pub domains_in_ranges : List Range → Domain → Domains
 domains_in_ranges ix d = Places ix (replicate (place_count ix) d)
 
--- of a name with a value
+-- of a name with a value; an array without a shape has 0..0 at each declared place, or no element that a set may have
 abbrev pub domains_by_value : PlainType → List Want → Want → Cell → Domains
 domains_by_value t ixs x (Par v) = domains_of_bounds t x (bounds_in (Par v))
 domains_by_value t ixs x (Var b v) = domains_of_bounds t x b
-domains_by_value t ixs x (Unshaped d) = domains_in_ranges (declared_ranges ixs []) (domain_by_value t x (no_value t))
+domains_by_value t ixs x (Unshaped d) = domains_in_ranges (declared_ranges ixs []) (domain_by_value t x (empty_bound t))
 
 abbrev pub free_set : ℤ → Base → Want → List Range
 free_set n b Anything = default_set n b
