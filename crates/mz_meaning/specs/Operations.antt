@@ -1,0 +1,217 @@
+-- Operators and built-ins over cells.
+use Rattle.std.specs.Prelude.{ℕ, ◌+◌, ℤ, pos, negsuc, Bool, true, false, not, ◌&&◌, ◌||◌, List, [], ◌∷◌, map, take, drop, ◌++◌, length, slice_get, Option, Some, None, nat_eq, if◌then◌else◌, unwrap_or, nat_abs, int_le}
+use Rattle.std.specs.Option.{option_map}
+use Rattle.std.specs.List.{list_all}
+use Rattle.mz_base.specs.declared.fault.Span.{Span}
+use Rattle.mz_base.specs.declared.kind.Kind.TheVariants as kind
+use Rattle.mz_value.specs.Ranges.{Range, cardinality}
+use Rattle.mz_value.specs.Contents.{Content, Contents, contents}
+use Rattle.mz_value.specs.Contents as values
+use Rattle.mz_value.specs.Shown.{Names, names_of}
+use Rattle.mz_interval.specs.Ends.{is_number}
+use Rattle.mz_core.specs.declared.types.Base.{Base}
+use Rattle.mz_core.specs.declared.types.Base.TheVariants as base
+use Rattle.mz_core.specs.Types.{PlainType, is_set}
+use Rattle.mz_operations.specs.declared.row.Connective.TheVariants.{Iff, Implies, IsImplied, Or, Xor, And}
+use Rattle.mz_operations.specs.declared.row.Comparison.TheVariants.{Less, AtMost, Greater, AtLeast}
+use Rattle.mz_operations.specs.declared.row.Arith.TheVariants.{Add, Sub, Mul, Div, Mod, Min, Max}
+use Rattle.mz_operations.specs.declared.row.Sign.TheVariants.{Plus, Minus, Abs}
+use Rattle.mz_operations.specs.declared.row.Fold.TheVariants.{Sum, SumOfOptions, Product}
+use Rattle.mz_operations.specs.declared.row.Quantifier.TheVariants.{Forall, Exists, Xorall}
+use Rattle.mz_operations.specs.declared.row.SetOp.TheVariants.{Union, Intersect, Diff, Symdiff}
+use Rattle.mz_operations.specs.declared.row.Side.TheVariants.{Least, Greatest}
+use Rattle.mz_operations.specs.declared.row.ScalarRow.TheVariants.{Logic, Not, Order, Equal, Unequal, SetEqual, SetUnequal, In, Arith, Sign, Power, Fold, Extreme, SetExtreme, Quantified, Count, Clause, Ordinal, Card, Length, Occurs, Absent, Beside, Assert}
+use Rattle.mz_operations.specs.declared.row.MadeRow.TheVariants.{SetOf, Subset, Superset, UpTo, IndexSet, Line, Shaped, Concat, AppendTexts, SetToArray, ArrayUnion, ArrayIntersect, Deopt, AssertValue, AssertArray, ShowInt, Join, ConcatTexts}
+use Rattle.mz_operations.specs.declared.row.BoundingRow.TheVariants.{Lb, Ub, Dom, LbArray, UbArray, IsFixed, Fix}
+use Rattle.mz_operations.specs.declared.row.Row.{Row}
+use Rattle.mz_operations.specs.declared.row.Row.TheVariants.{Scalar, Made, Bounding, Show, ShowArray}
+use Rattle.mz_operations.specs.Values.{value}
+use Rattle.mz_operations.specs.Answers.{Answer, Gives, Stops, is_mismatched, negative, is_failed, answer}
+use Rattle.mz_operations.specs.Costs.{cost}
+use Rattle.mz_operations.specs.Bounds.{Bound, Bounds, no_set}
+use Rattle.mz_operations.specs.Bounds as bounds
+use Rattle.mz_operations.specs.RowBounds.{row_bounds, value_by_bounds}
+use Rattle.mz_meaning.specs.Runs.{Run, give, stop, ◌>>=◌, ◌>>◌}
+use Rattle.mz_meaning.specs.Cells.{Cell, Par, Var, Unshaped, Mode, held, all_par, value_of, bounds_in, no_bounds, length_of}
+use Rattle.mz_meaning.specs.Coerced.{recast}
+
+-- ---- the rows by the numbers that the typed tree has for them: their places in the table of operators and built-ins
+
+unfoldable pub row_table : List Row
+row_table =
+    Scalar (Logic Iff) ∷ Scalar (Logic Implies) ∷ Scalar (Logic IsImplied) ∷ Scalar (Logic Or) ∷ Scalar (Logic Xor) ∷ Scalar (Logic And) ∷ Scalar Not
+    -- from 7 on; of sets `=` and `!=` are rows of their own
+    ∷ Scalar Equal ∷ Scalar Unequal ∷ Scalar (Order Less) ∷ Scalar (Order AtMost) ∷ Scalar (Order Greater) ∷ Scalar (Order AtLeast)
+    -- from 13 on
+    ∷ Scalar In ∷ Made Subset ∷ Made Superset ∷ Made (SetOf Union) ∷ Made (SetOf Intersect) ∷ Made (SetOf Diff) ∷ Made (SetOf Symdiff)
+    -- from 20 on
+    ∷ Made UpTo ∷ Scalar Card ∷ Made SetToArray ∷ Made ArrayUnion ∷ Made ArrayIntersect
+    -- from 25 on
+    ∷ Scalar (Arith Add) ∷ Scalar (Arith Sub) ∷ Scalar (Arith Mul) ∷ Scalar (Sign Plus) ∷ Scalar (Sign Minus) ∷ Scalar (Arith Div) ∷ Scalar (Arith Mod)
+    -- from 32 on: `^` and `pow`
+    ∷ Scalar Power ∷ Scalar Power ∷ Scalar (Sign Abs)
+    -- from 35 on: of two integers, of a set, of an array
+    ∷ Scalar (Arith Min) ∷ Scalar (SetExtreme Least) ∷ Scalar (Extreme Least) ∷ Scalar (Arith Max) ∷ Scalar (SetExtreme Greatest) ∷ Scalar (Extreme Greatest)
+    -- from 41 on
+    ∷ Scalar (Fold Sum) ∷ Scalar (Fold SumOfOptions) ∷ Scalar (Fold Product)
+    -- from 44 on: each of Booleans, and of options of them
+    ∷ Scalar (Quantified Forall) ∷ Scalar (Quantified Forall) ∷ Scalar (Quantified Exists) ∷ Scalar (Quantified Exists)
+    -- from 48 on
+    ∷ Scalar (Quantified Xorall) ∷ Scalar Clause ∷ Scalar Count ∷ Scalar Count
+    -- from 52 on: of a Boolean, and of a case
+    ∷ Scalar Ordinal ∷ Scalar Ordinal ∷ Made Concat ∷ Scalar Length
+    -- from 56 on
+    ∷ Made (IndexSet 0 1) ∷ Made (IndexSet 0 2) ∷ Made (IndexSet 1 2) ∷ Made (IndexSet 0 3) ∷ Made (IndexSet 1 3) ∷ Made (IndexSet 2 3)
+    -- from 62 on
+    ∷ Made Line ∷ Made (Shaped 1) ∷ Made (Shaped 2) ∷ Made (Shaped 3) ∷ Made (Shaped 4) ∷ Made (Shaped 5) ∷ Made (Shaped 6)
+    -- from 69 on: `lb` and `ub` each of an integer, and of a set
+    ∷ Bounding Lb ∷ Bounding Lb ∷ Bounding Ub ∷ Bounding Ub ∷ Bounding Dom ∷ Bounding LbArray ∷ Bounding UbArray ∷ Bounding IsFixed ∷ Bounding Fix
+    -- from 78 on
+    ∷ Scalar Occurs ∷ Scalar Absent ∷ Made Deopt ∷ Scalar (Beside Greatest) ∷ Scalar (Beside Least)
+    -- from 83 on
+    ∷ Scalar Assert ∷ Made AssertValue ∷ Made AssertArray ∷ Show ∷ ShowArray ∷ Made ShowInt ∷ Made Join ∷ Made ConcatTexts ∷ Made AppendTexts
+    ∷ []
+
+abbrev pub of_sets : Row → Row
+of_sets (Scalar Equal) = Scalar SetEqual
+of_sets (Scalar Unequal) = Scalar SetUnequal
+of_sets r = r
+
+-- the row of a number whose arguments are of this base; a global is none of them, and isn't defined yet
+abbrev pub row_at : ℕ → Base → Option Row
+row_at n b = option_map (λ r. if is_set b then of_sets r else r) (slice_get row_table n)
+
+-- ---- what a row costs
+
+-- the elements of an array or of a par set, and a par integer that isn't negative
+abbrev pub content_size : Content → ℕ
+content_size (values.set of rs) = cardinality rs
+content_size (values.int (pos n)) = n
+content_size _ = 0
+
+abbrev pub value_size : Option Content → ℕ
+value_size None = 0
+value_size (Some x) = content_size x
+
+abbrev pub own_size : Cell → ℕ
+own_size (Par v) = value_size v
+own_size (Var b v) = 0
+own_size (Unshaped d) = 0
+
+abbrev pub size_of : Cell → ℕ
+size_of c = unwrap_or (length_of c) (own_size c)
+
+abbrev pub row_cost : Row → List Cell → ℕ
+row_cost r cs = cost r (map size_of cs)
+
+-- ---- `show` is asked only for cases that are there
+
+abbrev pub has_case : List (List ℕ) → ℤ → Bool
+has_case labels k = int_le (pos 1) k && int_le k (pos (length labels))
+
+abbrev pub has_cases : Names → Option ℕ → List Range → Bool
+has_cases names None rs = true
+has_cases names (Some e) rs = list_all (λ r. has_case (names_of names e) r.0 && has_case (names_of names e) r.1) rs
+
+unfoldable mutual
+  pub is_showable : Names → Content → Bool
+  is_showable names (values.case e k) = has_case (names_of names e) k
+  is_showable names (values.set of rs) = has_cases names of rs
+  is_showable names (values.array ix xs) = are_showable names xs
+  is_showable names _ = true
+
+  pub are_showable : Names → Contents → Bool
+  are_showable names values.none = true
+  are_showable names (values.more x xs) = is_showable names x && are_showable names xs
+
+abbrev pub all_showable : Names → List (Option Content) → Bool
+all_showable names [] = true
+all_showable names (None ∷ vs) = true
+all_showable names (Some x ∷ vs) = is_showable names x
+
+abbrev pub known_names : Names → Row → List (Option Content) → Bool
+known_names names Show vs = all_showable names vs
+known_names names ShowArray vs = all_showable names vs
+known_names names r vs = true
+
+-- ---- a row with par arguments: the lines on values
+
+abbrev pub par_answer : Base → Span → Answer → Run Cell
+par_answer b at (Gives v) = give (Par (option_map (recast b) v))
+par_answer b at (Stops k n) = stop k at n
+
+abbrev pub par_row : Names → Row → Base → Span → List (Option Content) → Run Cell
+par_row names r b at vs = par_answer b at (if known_names names r vs then answer names r vs else Gives None)
+
+-- ---- a row that has a par value of a var argument: it reads the bounds alone, so that the argument counts as defined
+
+abbrev pub reads_bounds : Row → Bool
+reads_bounds (Bounding r) = true
+reads_bounds (Scalar Length) = true
+reads_bounds (Made (IndexSet k d)) = true
+reads_bounds r = false
+
+-- ---- a row with a var argument, and a var value: the faults and the bounds go by bounds and par values alone
+
+-- what is known of an argument without its var value: a par value, and of a var array that it has so many elements
+abbrev pub known_in : Bounds → Option Content
+known_in (bounds.one b) = None
+known_in (bounds.many ix bs) = Some (values.array ix (contents (map (λ _. values.absent) bs)))
+
+abbrev pub known : Cell → Option Content
+known (Par v) = v
+known (Var b v) = known_in b
+known (Unshaped d) = None
+
+abbrev pub unless_negative : Option ℤ → Span → Run (Unit {0}) → Run (Unit {0})
+unless_negative None at go = go
+unless_negative (Some n) at go = stop kind.NegativeArgument at n
+
+-- the faults of a row, in their order
+abbrev pub tested : Row → Span → List (Option Content) → Run (Unit {0})
+tested r at vs =
+    if is_mismatched r vs
+    then stop kind.IndexMismatch at (pos 0)
+    else unless_negative (negative r vs) at (if is_failed r vs then stop kind.AssertFailed at (pos 0) else give tt)
+
+-- a number's bounds lie in the limit: of ends outside, the lower is named first
+abbrev pub limited : Span → Bounds → Run Bounds
+limited at (bounds.one (bounds.number e)) =
+    if is_number e.0 then (if is_number e.1 then give (bounds.one (bounds.number e)) else stop kind.Bounds at e.1) else stop kind.Bounds at e.0
+limited at (bounds.one (bounds.sets l u)) = give (bounds.one (bounds.sets l u))
+limited at (bounds.many ix bs) = give (bounds.many ix bs)
+
+-- the index sets of `array1d` to `array6d` are sets, also where they are undefined
+abbrev pub index_set_bounds : Cell → Bounds
+index_set_bounds (Par None) = no_set
+index_set_bounds c = bounds_in c
+
+abbrev pub argument_bounds : Row → List Cell → List Bounds
+argument_bounds (Made (Shaped d)) cs = map index_set_bounds (take d cs) ++ map bounds_in (drop d cs)
+argument_bounds r cs = map bounds_in cs
+
+abbrev pub at_place : ℕ → List Cell → Cell
+at_place k cs = unwrap_or (slice_get cs k) (Par None)
+
+-- an array without a shape that is given other index sets, or handed on by `assert`, stays without one
+abbrev pub or_unshaped : Cell → Cell → Cell
+or_unshaped (Unshaped d) c = Unshaped d
+or_unshaped _ c = c
+
+abbrev pub with_shape : Row → List Cell → Cell → Cell
+with_shape (Made (Shaped d)) cs c = or_unshaped (at_place d cs) c
+with_shape (Made AssertArray) cs c = or_unshaped (at_place 2 cs) c
+with_shape r cs c = c
+
+abbrev pub var_row : Mode → Names → Row → PlainType → Span → List Cell → Run Cell
+var_row m names r t at cs = do
+  tested r at (map known cs)
+  b ← limited at (unwrap_or (row_bounds r (argument_bounds r cs)) (no_bounds t))
+  give (with_shape r cs (Var b (held m (option_map (recast t.base) (value names r (map value_of cs))))))
+
+-- A ROW OVER CELLS, at a node of this type
+abbrev pub row_cell : Mode → Names → Row → PlainType → Span → List Cell → Run Cell
+row_cell m names r t at cs =
+    if all_par cs
+    then par_row names r t.base at (map value_of cs)
+    else (if reads_bounds r then give (Par (option_map (recast t.base) (value_by_bounds r (map bounds_in cs)))) else var_row m names r t at cs)
