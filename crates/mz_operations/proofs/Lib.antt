@@ -1,5 +1,6 @@
 pub mod Options
 pub mod Arithmetic
 pub mod FoldBounds
+pub mod SetMembers
 pub mod SetBounds
 pub mod CardBounds

@@ -2,13 +2,9 @@
 use Rattle.std.proofs.Common.{◌≡◌, ℕ, zero, suc, ◌-◌, length, ℤ, pos, ◌≤ℤ◌, Bool, true, false, List, [], ◌∷◌, Some, option_map, unwrap_or, slice_get, inl, inr, ⊎_elim, subst, refl, ap, ◌∙◌, arith}
 use Rattle.std.proofs.lemmas.Int.{ints}
 use Rattle.std.specs.List.{list_any}
-use Rattle.mz_value.specs.Ranges.{Range, AreCanonical, Has, IsIn, least}
-use Rattle.mz_value.specs.StepsWalks.{gaps}
+use Rattle.mz_value.specs.Ranges.{Range, AreCanonical, Has, IsIn}
 use Rattle.mz_value.specs.Contents.{Content}
 use Rattle.mz_value.proofs.Members.{has_begins}
-use Rattle.mz_value.proofs.Common.{common_members, common_canonical, common_limit}
-use Rattle.mz_value.proofs.Gaps.{gaps_canonical, begins_least, difference_members}
-use Rattle.mz_value.proofs.Joined.{union_members, union_canonical, union_limit}
 use Rattle.mz_interval.specs.Ends.{Encloses}
 use Rattle.mz_operations.specs.declared.row.SetOp.TheVariants.{Union, Intersect, Diff, Symdiff}
 use Rattle.mz_operations.specs.declared.row.Side.TheVariants.{Least, Greatest}
@@ -19,49 +15,31 @@ use Rattle.mz_operations.specs.Values.{common_so_far}
 use Rattle.mz_operations.specs.Bounds.{union_from, hull_of_set, combined_upper, intersection_from}
 use Rattle.mz_operations.specs.Laws.{IsSet, IsPart, AllLieWithin, AreSets, BesideEncloses, SetEncloses, UnionEncloses, ArrayUnionEncloses, ArrayIntersectEncloses}
 use Rattle.mz_operations.proofs.Options.{went}
+use Rattle.mz_operations.proofs.SetMembers.{union_set, union_members, intersection_set, intersection_members, difference_set, difference_members}
 
 -- ---- members
 
-pub union_set : (a b : List Range) → IsSet a → IsSet b → IsSet (union a b)
-unfolding union
-union_set a b p q = (union_canonical a b p.0 p.1 q.0 q.1, union_limit a b p.1 q.1)
-
-pub intersection_set : (a b : List Range) → IsSet a → IsSet b → IsSet (intersection a b)
-unfolding intersection
-intersection_set a b p q = (common_canonical a b p.0 q.0, common_limit a b p.1)
-
-pub difference_set : (a b : List Range) → IsSet a → IsSet b → IsSet (difference a b)
-unfolding difference
-difference_set a b p q = (common_canonical a (gaps least b) p.0 (gaps_canonical least b q.0 (begins_least b q.1)), common_limit a (gaps least b) p.1)
-
 -- what both halves lie in, the union lies in
 union_part : (a b u : List Range) → IsSet a → IsSet b → IsPart a u → IsPart b u → IsPart (union a b) u
-unfolding union
-union_part a b u p q h k = record { inside = λ x m. ⊎_elim (λ l. h.inside x l) (λ l. k.inside x l) ((union_members a b p.0 p.1 q.0 q.1 x).0 m) }
+union_part a b u p q h k = record { inside = λ x m. ⊎_elim (λ l. h.inside x l) (λ l. k.inside x l) ((union_members a b p q x).0 m) }
 
 pub union_left : (a b : List Range) → IsSet a → IsSet b → IsPart a (union a b)
-unfolding union
-union_left a b p q = record { inside = λ x m. (union_members a b p.0 p.1 q.0 q.1 x).1 (inl m) }
+union_left a b p q = record { inside = λ x m. (union_members a b p q x).1 (inl m) }
 
 pub union_right : (a b : List Range) → IsSet a → IsSet b → IsPart b (union a b)
-unfolding union
-union_right a b p q = record { inside = λ x m. (union_members a b p.0 p.1 q.0 q.1 x).1 (inr m) }
+union_right a b p q = record { inside = λ x m. (union_members a b p q x).1 (inr m) }
 
 intersection_left : (a b : List Range) → IsSet a → IsSet b → IsPart (intersection a b) a
-unfolding intersection
-intersection_left a b p q = record { inside = λ x m. ((common_members a b p.0 q.0 x).0 m).0 }
+intersection_left a b p q = record { inside = λ x m. ((intersection_members a b p q x).0 m).0 }
 
 intersection_right : (a b : List Range) → IsSet a → IsSet b → IsPart (intersection a b) b
-unfolding intersection
-intersection_right a b p q = record { inside = λ x m. ((common_members a b p.0 q.0 x).0 m).1 }
+intersection_right a b p q = record { inside = λ x m. ((intersection_members a b p q x).0 m).1 }
 
 part_intersection : (a u w : List Range) → IsSet u → IsSet w → IsPart a u → IsPart a w → IsPart a (intersection u w)
-unfolding intersection
-part_intersection a u w p q h k = record { inside = λ x m. (common_members u w p.0 q.0 x).1 (h.inside x m, k.inside x m) }
+part_intersection a u w p q h k = record { inside = λ x m. (intersection_members u w p q x).1 (h.inside x m, k.inside x m) }
 
 difference_part : (a b : List Range) → IsSet a → IsSet b → IsPart (difference a b) a
-unfolding difference
-difference_part a b p q = record { inside = λ x m. ((difference_members a b p.0 p.1 q.0 q.1 x).0 m).0 }
+difference_part a b p q = record { inside = λ x m. ((difference_members a b p q x).0 m).0 }
 
 pub part_part : (a b c : List Range) → IsPart a b → IsPart b c → IsPart a c
 part_part a b c h k = record { inside = λ x m. k.inside x (h.inside x m) }

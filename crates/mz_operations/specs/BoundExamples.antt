@@ -1,7 +1,6 @@
 -- Worked examples of bounds.
 use Rattle.std.specs.Prelude.{◌≡◌, refl, ℕ, ℤ, pos, negsuc, List, [], ◌∷◌, true, false, Some, None}
 use Rattle.mz_value.specs.Ranges.{Range}
-use Rattle.mz_value.specs.StepsWalks.{merged, merged_from, joined, joined_from, common, common_from}
 use Rattle.mz_value.specs.Shown.{range_elements}
 use Rattle.mz_value.specs.Contents.{bool, int, case, set, absent, array, contents}
 use Rattle.mz_interval.specs.Ends.{Ends, least_number, greatest_number}
@@ -15,7 +14,7 @@ use Rattle.mz_operations.specs.declared.row.ScalarRow.TheVariants.{Order, Arith,
 use Rattle.mz_operations.specs.declared.row.MadeRow.TheVariants.{SetOf, IndexSet, Shaped, Concat, ArrayUnion, ArrayIntersect, Deopt}
 use Rattle.mz_operations.specs.declared.row.BoundingRow.TheVariants.{Lb, Ub, Dom, LbArray, UbArray, IsFixed, Fix}
 use Rattle.mz_operations.specs.declared.row.Row.TheVariants.{Scalar, Made, Bounding}
-use Rattle.mz_operations.specs.Sets.{union, intersection, same_set, end_of, up_to}
+use Rattle.mz_operations.specs.Sets.{union, intersection, same_set, end_of, up_to, complement, missing_from}
 use Rattle.mz_operations.specs.Numbers.{toward}
 use Rattle.mz_operations.specs.Bounds.{Bound, number, sets, Bounds, one, many, bound_of, bounds_of, no_array, nothing, is_settled, toward_ends, arith_ends, sign_ends, extreme_from, fold_ends, folded_ends, raised_ends, union_from, index_tuples, is_reached, reached, access_ends, access_upper, branch_bound, branch_bounds, if_bounds, hull_of_set, combined_upper}
 use Rattle.mz_operations.specs.RowBounds.{bounds_at, each, ends_at, upper_at, elements_at, all_ends_at, all_uppers_at, uppers_before, scalar_bounds, made_bounds, row_bounds, lower_of, upper_of, value_by_bounds}
@@ -249,7 +248,7 @@ unfolding reached index_tuples is_reached range_elements
 a_column = refl
 
 an_access_to_sets : access_upper (from_to 1 2 ∷ []) (from_to 1 2 ∷ []) ((from_to 1 2 ∷ []) ∷ (from_to 3 4 ∷ []) ∷ []) ≡ from_to 1 4 ∷ []
-unfolding reached index_tuples is_reached range_elements union_from union merged merged_from joined joined_from
+unfolding reached index_tuples is_reached range_elements union_from union complement missing_from intersection
 an_access_to_sets = refl
 
 two_branches : if_bounds (between (pos 1) (pos 2)) (between (pos 5) (pos 6) ∷ []) ≡ between (pos 1) (pos 6)
@@ -262,7 +261,7 @@ branches_of_arrays = refl
 
 -- nothing is sure of a set behind a condition
 branches_of_sets : if_bounds (one (sets (from_to 1 1 ∷ []) (from_to 1 1 ∷ []))) (one (sets (from_to 2 2 ∷ []) (from_to 2 2 ∷ [])) ∷ []) ≡ within (from_to 1 2 ∷ [])
-unfolding if_bounds branch_bounds branch_bound union merged merged_from joined joined_from
+unfolding if_bounds branch_bounds branch_bound union complement missing_from intersection
 branches_of_sets = refl
 
 -- ---- enums, sets, variables
@@ -276,7 +275,7 @@ unfolding scalar_bounds upper_at bounds_at end_of
 next_of_the_empty_set = refl
 
 a_union : row_bounds (Made (SetOf Union)) (within (from_to 1 2 ∷ []) ∷ within (from_to 3 3 ∷ []) ∷ []) ≡ Some (within (from_to 1 3 ∷ []))
-unfolding made_bounds upper_at bounds_at combined_upper union merged merged_from joined joined_from
+unfolding made_bounds upper_at bounds_at combined_upper union complement missing_from intersection
 a_union = refl
 
 -- the first set's, whatever the second is
@@ -285,11 +284,11 @@ unfolding made_bounds upper_at bounds_at combined_upper
 a_difference_of_sets = refl
 
 an_intersection : combined_upper Intersect (from_to 1 5 ∷ []) (from_to 4 9 ∷ []) ≡ from_to 4 5 ∷ []
-unfolding combined_upper intersection common common_from
+unfolding combined_upper intersection
 an_intersection = refl
 
 a_symmetric_difference : combined_upper Symdiff (from_to 1 5 ∷ []) (from_to 4 9 ∷ []) ≡ from_to 1 9 ∷ []
-unfolding combined_upper union merged merged_from joined joined_from
+unfolding combined_upper union complement missing_from intersection
 a_symmetric_difference = refl
 
 an_intersection_of_none : row_bounds (Made ArrayIntersect) (numbers 0 [] ∷ []) ≡ Some (within [])
@@ -297,7 +296,7 @@ unfolding made_bounds all_uppers_at elements_at bounds_at each
 an_intersection_of_none = refl
 
 a_union_of_two : row_bounds (Made ArrayUnion) (many (from_to 1 2 ∷ []) (sets [] (from_to 1 1 ∷ []) ∷ sets [] (from_to 5 5 ∷ []) ∷ []) ∷ []) ≡ Some (within (from_to 1 1 ∷ from_to 5 5 ∷ []))
-unfolding made_bounds all_uppers_at elements_at bounds_at each union_from union merged merged_from joined joined_from
+unfolding made_bounds all_uppers_at elements_at bounds_at each union_from union complement missing_from intersection
 a_union_of_two = refl
 
 a_variable_with_gaps : hull_of_set (from_to 1 2 ∷ from_to 9 9 ∷ []) ≡ from_to 1 9

@@ -1,8 +1,9 @@
--- Values in bounds give a value in bounds.
+-- Values in bounds give a value in bounds, and all numbers have one limit.
 use Rattle.std.specs.Prelude.{◌≡◌, ℕ, length, ℤ, pos, List, [], ◌∷◌, ◌&&◌, true, false, Some, None, slice_get}
-use Rattle.mz_value.specs.Ranges.{Range, AreCanonical, AreInLimit, Has, cardinality}
+use Rattle.mz_base.specs.declared.limit.TheConstants.{INTEGER_LIMIT}
+use Rattle.mz_value.specs.Ranges.{Range, AreCanonical, AreInLimit, Has, cardinality, least, greatest}
 use Rattle.mz_value.specs.Contents.{Content}
-use Rattle.mz_interval.specs.Ends.{Ends, Encloses, is_number}
+use Rattle.mz_interval.specs.Ends.{Ends, Encloses, is_number, least_number, greatest_number}
 use Rattle.mz_operations.specs.declared.row.Arith.{Arith}
 use Rattle.mz_operations.specs.declared.row.Sign.{Sign}
 use Rattle.mz_operations.specs.declared.row.Fold.{Fold}
@@ -97,3 +98,9 @@ ArrayUnionEncloses = (us : List (List Range)) (xs : List Content) (s : List Rang
 
 abbrev pub ArrayIntersectEncloses : Type 0
 ArrayIntersectEncloses = (us : List (List Range)) (xs : List Content) (s : List Range) → AllLieWithin us xs → fold_from as_set common_so_far None xs ≡ Some (Some s) → IsPart s (intersection_of_all us)
+
+-- the limit of literals, of sets and of bounds
+pub record HaveOneLimit : Type 0 where
+  pub of_literals : INTEGER_LIMIT ≡ greatest_number
+  pub of_sets : greatest ≡ greatest_number
+  pub of_sets_below : least ≡ least_number

@@ -3,7 +3,6 @@ use Rattle.std.specs.Prelude.{◌≡◌, refl, ℕ, pos, negsuc, List, [], ◌�
 use Rattle.std.specs.Fmt.{digits}
 use Rattle.mz_base.specs.declared.kind.Kind.TheVariants.{IndexMismatch, NegativeArgument, AssertFailed, Bounds}
 use Rattle.mz_value.specs.Ranges.{Range}
-use Rattle.mz_value.specs.StepsWalks.{merged, merged_from, joined, joined_from, common, common_from, gaps}
 use Rattle.mz_value.specs.Contents.{Content, bool, int, case, set, absent, text, array, contents}
 use Rattle.mz_value.specs.Shown.{range_elements, shown}
 use Rattle.mz_interval.specs.Ends.{least_number, greatest_number}
@@ -22,7 +21,7 @@ use Rattle.mz_operations.specs.declared.row.Row.{Row}
 use Rattle.mz_operations.specs.declared.row.Row.TheVariants.{Scalar, Made, Bounding, Show, ShowArray}
 use Rattle.mz_operations.specs.Views.{as_bool, as_int, as_case, as_set, as_text, as_items, as_index, as_row, as_ordinal, as_element, as_pair, as_option, is_single, enum_of}
 use Rattle.mz_operations.specs.Arguments.{Arguments, at, bool_at, int_at, case_at, ordinal_at, element_at, option_at, set_at, enum_at, text_at, items_at, row_at, index_at, pair}
-use Rattle.mz_operations.specs.Sets.{union, intersection, difference, combined, contains, same_set, end_of, up_to}
+use Rattle.mz_operations.specs.Sets.{union, intersection, difference, combined, contains, same_set, end_of, up_to, complement, missing_from}
 use Rattle.mz_operations.specs.Numbers.{connected, ordered, computed, signed, folded, raised, toward, nearer, quantified}
 use Rattle.mz_operations.specs.Arrays.{fold_from, summand, instance, line, place_count, with_index, shape_from}
 use Rattle.mz_operations.specs.Values.{equality, common_so_far, scalar_value, made_value, bounding_value, is_bounded, is_fixable}
@@ -188,39 +187,39 @@ unfolding is_mismatched negative is_failed limited scalar_value element_at set_a
 a_case_in = refl
 
 subset_of_itself : gives (Made Subset) (members (from_to 1 2 ∷ []) ∷ members (from_to 1 2 ∷ []) ∷ []) ≡ Gives yes
-unfolding is_mismatched negative is_failed limited made_value set_at at as_set difference common common_from gaps
+unfolding is_mismatched negative is_failed limited made_value set_at at as_set difference intersection complement missing_from
 subset_of_itself = refl
 
 no_subset : gives (Made Subset) (members (from_to 1 3 ∷ []) ∷ members (from_to 1 2 ∷ from_to 4 4 ∷ []) ∷ []) ≡ Gives no
-unfolding is_mismatched negative is_failed limited made_value set_at at as_set difference common common_from gaps
+unfolding is_mismatched negative is_failed limited made_value set_at at as_set difference intersection complement missing_from
 no_subset = refl
 
 superset_of_the_empty_set : gives (Made Superset) (members [] ∷ members [] ∷ []) ≡ Gives yes
-unfolding is_mismatched negative is_failed limited made_value set_at at as_set difference common
+unfolding is_mismatched negative is_failed limited made_value set_at at as_set difference intersection complement missing_from
 superset_of_the_empty_set = refl
 
 no_superset : gives (Made Superset) (members [] ∷ members (from_to 0 0 ∷ []) ∷ []) ≡ Gives no
-unfolding is_mismatched negative is_failed limited made_value set_at at as_set difference common common_from gaps
+unfolding is_mismatched negative is_failed limited made_value set_at at as_set difference intersection complement missing_from
 no_superset = refl
 
 union_of_touching_sets : gives (Made (SetOf Union)) (members (from_to 1 2 ∷ []) ∷ members (from_to 3 4 ∷ []) ∷ []) ≡ Gives (members (from_to 1 4 ∷ []))
-unfolding is_mismatched negative is_failed limited made_value set_at enum_at at as_set enum_of combined union merged merged_from joined joined_from
+unfolding is_mismatched negative is_failed limited made_value set_at enum_at at as_set enum_of combined union complement missing_from intersection
 union_of_touching_sets = refl
 
 union_of_cases : gives (Made (SetOf Union)) (cases 1 1 ∷ cases 3 3 ∷ []) ≡ Gives (Some (set (Some 0) (from_to 1 1 ∷ from_to 3 3 ∷ [])))
-unfolding is_mismatched negative is_failed limited made_value set_at enum_at at as_set enum_of combined union merged merged_from joined joined_from
+unfolding is_mismatched negative is_failed limited made_value set_at enum_at at as_set enum_of combined union complement missing_from intersection
 union_of_cases = refl
 
 common_elements : gives (Made (SetOf Intersect)) (members (from_to 1 3 ∷ []) ∷ members (from_to 3 9 ∷ []) ∷ []) ≡ Gives (members (from_to 3 3 ∷ []))
-unfolding is_mismatched negative is_failed limited made_value set_at enum_at at as_set enum_of combined intersection common common_from
+unfolding is_mismatched negative is_failed limited made_value set_at enum_at at as_set enum_of combined intersection
 common_elements = refl
 
 what_is_left : gives (Made (SetOf Diff)) (members (from_to 1 5 ∷ []) ∷ members (from_to 2 2 ∷ []) ∷ []) ≡ Gives (members (from_to 1 1 ∷ from_to 3 5 ∷ []))
-unfolding is_mismatched negative is_failed limited made_value set_at enum_at at as_set enum_of combined difference common common_from gaps
+unfolding is_mismatched negative is_failed limited made_value set_at enum_at at as_set enum_of combined difference intersection complement missing_from
 what_is_left = refl
 
 in_one_alone : gives (Made (SetOf Symdiff)) (members (from_to 1 3 ∷ []) ∷ members (from_to 2 5 ∷ []) ∷ []) ≡ Gives (members (from_to 1 1 ∷ from_to 4 5 ∷ []))
-unfolding is_mismatched negative is_failed limited made_value set_at enum_at at as_set enum_of combined union difference merged merged_from joined joined_from common common_from gaps
+unfolding is_mismatched negative is_failed limited made_value set_at enum_at at as_set enum_of combined union difference complement missing_from intersection
 in_one_alone = refl
 
 one_up_to_three : gives (Made UpTo) (n 1 ∷ n 3 ∷ []) ≡ Gives (members (from_to 1 3 ∷ []))
@@ -541,7 +540,7 @@ unfolding is_mismatched negative is_failed limited made_value set_at enum_at at 
 cases_in_order = refl
 
 union_of_sets : gives (Made ArrayUnion) (row (set None (from_to 1 2 ∷ []) ∷ set None (from_to 3 3 ∷ []) ∷ []) ∷ []) ≡ Gives (members (from_to 1 3 ∷ []))
-unfolding is_mismatched negative is_failed limited made_value items_at at as_items as_set fold_from union merged merged_from joined joined_from
+unfolding is_mismatched negative is_failed limited made_value items_at at as_items as_set fold_from union complement missing_from intersection
 union_of_sets = refl
 
 union_of_no_set : gives (Made ArrayUnion) (row [] ∷ []) ≡ Gives (members [])
@@ -549,7 +548,7 @@ unfolding is_mismatched negative is_failed limited made_value items_at at as_ite
 union_of_no_set = refl
 
 intersection_of_sets : gives (Made ArrayIntersect) (row (set None (from_to 1 5 ∷ []) ∷ set None (from_to 3 9 ∷ []) ∷ []) ∷ []) ≡ Gives (members (from_to 3 5 ∷ []))
-unfolding is_mismatched negative is_failed limited made_value items_at at as_items as_set fold_from common_so_far intersection common common_from
+unfolding is_mismatched negative is_failed limited made_value items_at at as_items as_set fold_from common_so_far intersection
 intersection_of_sets = refl
 
 intersection_of_no_set : gives (Made ArrayIntersect) (row [] ∷ []) ≡ Gives None

@@ -4,7 +4,7 @@
 mod law;
 mod row;
 
-pub use law::values_lie_in_bounds;
+pub use law::{one_limit, values_lie_in_bounds};
 pub use row::{
     Arith, BoundingRow, Comparison, Connective, Fold, MadeRow, Quantifier, Row, ScalarRow, SetOp,
     Side, Sign,

@@ -1,0 +1,3 @@
+pub mod Turns
+pub mod Raised
+pub mod Outside
