@@ -4,7 +4,7 @@ use Rattle.std.proofs.lemmas.Slice.Eq.{bytes_eq-Decides}
 use Rattle.fz_program.proofs.TestAnswers.{says_true, says_false, denied}
 use Rattle.fz_program.proofs.Each.{each_all, loop_more}
 use Rattle.fz_program.proofs.Labels.{label_or_is, lacks_label}
-use Rattle.fz_program.proofs.well_formedness.has_label.Goals as goal
+use Rattle.fz_program.proofs.names.has_label.Goals as goal
 
 pub returns-then-eq : goal.returns-then-eq
 returns-then-eq c =
