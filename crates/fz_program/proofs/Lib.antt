@@ -3,3 +3,4 @@ pub mod Each
 pub mod Labels
 pub mod Tests
 pub mod Places
+pub mod RowExamples

@@ -1,5 +1,5 @@
 -- The table of constraints: a line for each, with its name, the kinds of its arguments, and what it asks of them.
-use Rattle.std.specs.Prelude.{◌≡◌, true, ℕ, ℤ, pos, int_le, int_lt, List, [], ◌∷◌, ◌-◌, Bool, not, ◌||◌, Option, Some, codes, length, take}
+use Rattle.std.specs.Prelude.{◌≡◌, true, false, ℕ, ℤ, pos, int_le, int_lt, List, [], ◌∷◌, ◌-◌, Bool, not, ◌||◌, Option, Some, None, codes, length, take}
 use Rattle.std.specs.List.{list_any, list_all}
 use Rattle.std.specs.Ordering.{int_eq}
 use Rattle.std.specs.Option.{option_map}
@@ -160,6 +160,15 @@ line SetIntersect = row (codes "set_intersect") (Set ∷ Set ∷ Set ∷ []) (gi
 line SetDiff = row (codes "set_diff") (Set ∷ Set ∷ Set ∷ []) (gives (set_result Diff))
 line SetSymdiff = row (codes "set_symdiff") (Set ∷ Set ∷ Set ∷ []) (gives (set_result Symdiff))
 line SetCard = row (codes "set_card") (Set ∷ Int ∷ []) (gives size)
+
+-- what a constraint's inputs give, and what its test says; nothing and false where it has no such
+abbrev pub result_of : Meaning → List Given → Option Value
+result_of (tests test) xs = None
+result_of (gives result) xs = result xs
+
+abbrev pub answer_of : Meaning → List Given → Bool
+answer_of (tests test) xs = test xs
+answer_of (gives result) xs = false
 
 -- a constraint holds of the values of its arguments
 abbrev pub Holds : Meaning → List Given → Type 0

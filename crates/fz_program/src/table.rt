@@ -3,7 +3,9 @@
 ghost use Rattle.std.specs.Prelude.{◌≡◌};
 ghost use Rattle.fz_program.specs.Table.{line};
 
-use crate::row_name::Kind::{Bool, Bools, ConstBools, ConstInt, ConstInts, ConstSets, Int, Ints, Set, Sets};
+use crate::row_name::Kind::{
+    Bool, Bools, ConstBools, ConstInt, ConstInts, ConstSets, Int, Ints, Set, Sets,
+};
 use crate::row_name::{Kind, RowName};
 
 // A line has the constraint, its name, and the kinds of its arguments. What is picked of the line
