@@ -1,10 +1,11 @@
 -- Distinct names read their own values back.
-use Rattle.std.proofs.Common.{◌≡◌, ◌∙◌, suc, ◌<◌, ℤ, List, [], ◌∷◌, length, map, Bool, true, false, cond, refl, sym, ap, arith}
+use Rattle.std.proofs.Common.{◌≡◌, ◌∙◌, suc, ◌<◌, List, [], ◌∷◌, length, map, Bool, true, false, cond, refl, sym, ap, arith}
 use Rattle.std.specs.List.{Contains}
 use Rattle.std.specs.Str.{bytes_eq}
 use Rattle.std.proofs.lemmas.Slice.Eq.{bytes_eq-Decides}
 use Rattle.fz_program.specs.Names.{Name}
-use Rattle.fz_program.specs.Flat.{AreDistinct, Values}
+use Rattle.fz_program.specs.Values.{Value, Values}
+use Rattle.fz_program.specs.Flat.{AreDistinct}
 use Rattle.fz_emission.specs.Solutions.{read_off}
 
 same_name : (x : Name) → bytes_eq x x ≡ true
@@ -17,7 +18,7 @@ other_name x y n = go (bytes_eq x y) refl
     go true e = absurd (n ((bytes_eq-Decides x y).0 e))
     go false e = refl
 
-later : (y : Name) (n : ℤ) (ys xs : List Name) (f : Values) → ((x : Name) → Contains xs x → x ≡ y → ⊥) → map (read_off (y ∷ ys) (n ∷ f)) xs ≡ map (read_off ys f) xs
+later : (y : Name) (n : Value) (ys xs : List Name) (f : Values) → ((x : Name) → Contains xs x → x ≡ y → ⊥) → map (read_off (y ∷ ys) (n ∷ f)) xs ≡ map (read_off ys f) xs
 later y n ys [] f none = refl
 later y n ys (x ∷ xs) f none = rw (other_name x y (λ e. none x (0, omega arith, refl) e)) (ap (λ zs. read_off ys f x ∷ zs) (later y n ys xs f (λ z in'. none z (deeper z in'))))
   where

@@ -1,3 +1,6 @@
 pub mod TestAnswers
 pub mod Each
 pub mod Labels
+pub mod Tests
+pub mod Places
+pub mod RowExamples

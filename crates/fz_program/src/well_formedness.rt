@@ -1,69 +1,60 @@
 // The test whether a FlatZinc program is well formed. It changes nothing and takes no memory.
 
-ghost use Rattle.std.specs.Prelude.{◌≡◌, ◌≢◌, ◌↔◌, ◌<◌, List, [], map, length, string_bytes, IsTrue, Option};
-ghost use Rattle.std.specs.List.{AllByRecursion, Contains};
-ghost use Rattle.mz_value.specs.Ranges.{AreCanonical};
-ghost use Rattle.fz_program.specs.declared.program.Arg.TheVariants.{Var};
+ghost use Rattle.std.specs.Prelude.{◌≡◌, ◌≢◌, ◌↔◌, List, [], map, length, string_bytes, true, IsTrue};
+ghost use Rattle.std.specs.List.{AllByRecursion, list_all};
+ghost use Rattle.mz_value.specs.Ranges.{cardinality, range_of};
 ghost use Rattle.fz_program.specs.Flat.{
-  AreArguments,
-  AreDistinct,
   AreMarks,
-  AreWithin,
-  HasValues,
-  IsDefinition,
-  IsLiteral,
-  IsWellFormedArg,
+  AreParts,
+  IsOfSet,
+  IsSome,
+  IsWellFormedArray,
   IsWellFormedRow,
   IsWellFormedVariable,
-  Variable,
   WellFormed,
-  labels_of,
+  are_alike,
+  are_variables_of,
+  array_item,
+  is_goal,
+  is_index,
+  is_index_range,
+  place_count,
   program,
-  ranges_of,
   row,
   variable,
 };
 
-use crate::program::{Arg, Domain, FzName, FzProgram, FzRow, FzVar};
+use crate::arguments::{are_arguments, is_definition, is_literal, is_variable_of};
+use crate::linear::is_within;
+use crate::names::are_distinct;
+use crate::program::{Domain, FzArray, FzGoal, FzProgram, FzRow, FzVar};
+use crate::row_name::Kind;
+use crate::table::kinds_of;
 use mz_base::is_identifier;
-use mz_value::{GREATEST, LEAST};
 
 /// Whether a program is well formed: distinct identifiers as names, the marks of one line, domains
-/// that aren't empty, numbers within -2^61 and 2^61, rows of two arguments that are declared, and a
-/// defined variable that stands in its row.
+/// that aren't empty, numbers within -2^61 and 2^61, arrays of declared variables of one kind that
+/// are as many as the index ranges have places, rows with arguments of the kinds that the table
+/// has, a defined variable that stands in its row, linear rows with as many coefficients as
+/// variables whose sums stay within 64 bits, and an integer variable to minimize or maximize.
 ///
 /// It takes no memory, so it compares names pair by pair, and its time grows with the square of
-/// their number. It is a test aid: the compiler doesn't call it.
+/// their number; for all else it grows with the size of the program. It is a test aid: the compiler
+/// doesn't call it.
 pub fn well_formed(p: &FzProgram) -> bool
     ensures { IsTrue result ↔ WellFormed (program p.now) }
 {
-    are_distinct(&p.vars) && are_variables(&p.vars) && are_rows(p.vars.len(), &p.rows)
+    are_distinct(&p.vars, &p.arrays) && are_parts(p)
 }
 
-// Whether no name stands twice.
-fn are_distinct(vars: &[FzVar]) -> bool
-    ensures { IsTrue result ↔ AreDistinct (labels_of (map variable vars.now)) }
+// Whether all but the names that stand twice is well formed.
+fn are_parts(p: &FzProgram) -> bool
+    ensures { IsTrue result ↔ AreParts (program p.now) }
 {
-    let mut rest = vars;
-    while let [v, more @ ..] = rest {
-        if has_label(more, &v.label) {
-            return false;
-        }
-        rest = more;
-    }
-    true
-}
-
-fn has_label(vars: &[FzVar], label: &FzName) -> bool
-    ensures { IsTrue result
-        ↔ Contains (labels_of (map variable vars.now)) (string_bytes label.now.text) }
-{
-    for v in vars {
-        if v.label.text == label.text {
-            return true;
-        }
-    }
-    false
+    are_variables(&p.vars)
+        && are_arrays(&p.vars, &p.arrays)
+        && are_rows(&p.vars, &p.rows)
+        && is_goal(&p.vars, p.goal)
 }
 
 fn are_variables(vars: &[FzVar]) -> bool
@@ -96,90 +87,143 @@ fn has_marks(output: bool, introduced: bool, defined: bool) -> bool
     }
 }
 
-// Whether a domain isn't empty, and its bounds are within the limit.
+// Whether a domain isn't empty.
 fn has_values(domain: &Domain) -> bool
-    ensures answer { IsTrue result ↔ HasValues (ranges_of domain.now) }
-    ensures canonical { AreCanonical (ranges_of domain.now) }
+    ensures answer { IsTrue result ↔ IsSome domain.now }
+    ensures of_set { IsOfSet domain.now }
 {
     match domain {
-        Domain::Ints(s) => {
-            let ranges = s.ranges();
-            !ranges.is_empty() && are_within(ranges)
+        Domain::Bool => true,
+        Domain::Ints(s) => !s.ranges().is_empty(),
+        Domain::SetOf(s) => {
+            let _ranges = s.ranges();
+            true
         }
     }
 }
 
-fn are_within(ranges: &[(i64, i64)]) -> bool
-    ensures { IsTrue result ↔ AllByRecursion AreWithin ranges.now }
+fn are_arrays(vars: &[FzVar], arrays: &[FzArray]) -> bool
+    ensures { IsTrue result
+        ↔ AllByRecursion (IsWellFormedArray (map variable vars.now)) (map array_item arrays.now) }
 {
-    for r in ranges {
-        if !is_within(*r) {
+    for a in arrays {
+        if !is_array(vars, a) {
             return false;
         }
     }
     true
 }
 
-fn is_within(range: (i64, i64)) -> bool
-    ensures { IsTrue result ↔ AreWithin range }
+#[tactic(auto, using(crate::proofs::Places::all_ranges))]
+fn is_array(vars: &[FzVar], a: &FzArray) -> bool
+    ensures { IsTrue result ↔ IsWellFormedArray (map variable vars.now) (array_item a.now) }
 {
-    is_literal(range.0) && is_literal(range.1)
+    is_identifier(a.label.text.as_bytes())
+        && is_index(&a.index)
+        && has_places(&a.index, a.items.len() as u64)
+        && are_alike(vars, &a.items)
 }
 
-fn is_literal(n: i64) -> bool
-    ensures { IsTrue result ↔ IsLiteral n }
+// Whether there is an index range, and each is `1..0` or one that isn't empty.
+fn is_index(ranges: &[(i64, i64)]) -> bool
+    ensures { result ≡ is_index ranges.now }
 {
-    LEAST <= n && n <= GREATEST
+    match ranges {
+        [] => false,
+        [first, rest @ ..] => is_index_range(*first) && are_index_ranges(rest),
+    }
 }
 
-// Whether the rows are well formed, where so many variables are declared.
-fn are_rows(count: usize, rows: &[FzRow]) -> bool
-    ensures { IsTrue result ↔ AllByRecursion (IsWellFormedRow count) (map row rows.now) }
+fn are_index_ranges(ranges: &[(i64, i64)]) -> bool
+    ensures { result ≡ list_all is_index_range ranges.now }
+{
+    ranges.iter().all(|r| is_index_range(*r))
+}
+
+fn is_index_range(range: (i64, i64)) -> bool
+    ensures { result ≡ is_index_range range }
+{
+    (range.0 == 1 && range.1 == 0)
+        || (range.0 <= range.1 && is_literal(range.0) && is_literal(range.1))
+}
+
+// How many places an index range has.
+fn size_of(range: (i64, i64)) -> u64
+    requires { is_index_range range ≡ true }
+    ensures { result ≡ cardinality (range_of range.0 range.1) }
+{
+    if range.0 <= range.1 {
+        (range.1 - range.0) as u64 + 1
+    } else {
+        0
+    }
+}
+
+// Whether index ranges have so many places.
+#[tactic(auto, unfolding(crate::specs::Flat::place_count))]
+fn has_places(ranges: &[(i64, i64)], count: u64) -> bool
+    requires { list_all is_index_range ranges.now ≡ true }
+    ensures { IsTrue result ↔ (place_count ranges.now ≡ count) }
+{
+    let mut rest = ranges;
+    let mut left = count;
+    while let [r, more @ ..] = rest {
+        let size = size_of(*r);
+        if size == 0 {
+            return left == 0;
+        }
+        if left % size != 0 {
+            return false;
+        }
+        left /= size;
+        rest = more;
+    }
+    left == 1
+}
+
+// Whether all places are those of declared variables of one kind.
+fn are_alike(vars: &[FzVar], items: &[u64]) -> bool
+    ensures { result ≡ are_alike (map variable vars.now) items.now }
+{
+    are_variables_of(vars, Kind::Int, items)
+        || are_variables_of(vars, Kind::Bool, items)
+        || are_variables_of(vars, Kind::Set, items)
+}
+
+fn are_variables_of(vars: &[FzVar], kind: Kind, items: &[u64]) -> bool
+    ensures { result ≡ are_variables_of (map variable vars.now) kind items.now }
+{
+    items.iter().all(|k| is_variable_of(vars, kind, *k))
+}
+
+// Whether the rows are well formed, where these variables are declared.
+fn are_rows(vars: &[FzVar], rows: &[FzRow]) -> bool
+    ensures { IsTrue result
+        ↔ AllByRecursion (IsWellFormedRow (map variable vars.now)) (map row rows.now) }
 {
     for r in rows {
-        if !is_row(count, r) {
+        if !is_row(vars, r) {
             return false;
         }
     }
     true
 }
 
-fn is_row(count: usize, r: &FzRow) -> bool
-    ensures { IsTrue result ↔ IsWellFormedRow count (row r.now) }
+fn is_row(vars: &[FzVar], r: &FzRow) -> bool
+    ensures { IsTrue result ↔ IsWellFormedRow (map variable vars.now) (row r.now) }
 {
-    are_arguments(count, &r.args) && is_definition(&r.args, r.defines)
+    are_arguments(vars, kinds_of(r.name), &r.args)
+        && is_definition(&r.args, r.defines)
+        && is_within(vars, &r.args)
 }
 
-fn are_arguments(count: usize, args: &[Arg]) -> bool
-    ensures { IsTrue result ↔ AreArguments count args.now }
+// Whether what is minimized or maximized is an integer variable.
+fn is_goal(vars: &[FzVar], goal: FzGoal) -> bool
+    ensures { result ≡ is_goal (map variable vars.now) goal }
 {
-    match args {
-        [a, b] => is_argument(count, *a) && is_argument(count, *b),
-        _ => false,
+    match goal {
+        FzGoal::Satisfy => true,
+        FzGoal::Minimize(k) => is_variable_of(vars, Kind::Int, k),
+        FzGoal::Maximize(k) => is_variable_of(vars, Kind::Int, k),
     }
-}
-
-fn is_argument(count: usize, arg: Arg) -> bool
-    ensures { IsTrue result ↔ IsWellFormedArg count arg }
-{
-    match arg {
-        Arg::Int(n) => is_literal(n),
-        Arg::Var(k) => k < count as u64,
-    }
-}
-
-// Whether the variable that a row defines, where it defines one, stands in it.
-fn is_definition(args: &[Arg], defines: Option<u64>) -> bool
-    ensures { IsTrue result ↔ IsDefinition args.now defines }
-{
-    match defines {
-        None => true,
-        Some(k) => has_variable(args, k),
-    }
-}
-
-fn has_variable(args: &[Arg], k: u64) -> bool
-    ensures { IsTrue result ↔ Contains args.now (Var k) }
-{
-    args.contains(&Arg::Var(k))
 }

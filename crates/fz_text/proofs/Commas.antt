@@ -1,14 +1,16 @@
 -- Pieces with a comma before each, and with commas between them.
-use Rattle.std.proofs.Common.{◌≡◌, ℕ, suc, ◌+◌, ◌<◌, List, [], ◌∷◌, ◌++◌, length, get_or, take, map, flat_map, refl, sym, ap, ◌∙◌, append_assoc, arith}
-use Rattle.std.proofs.lemmas.List.{append-nil}
+use Rattle.std.proofs.Common.{◌≡◌, ℕ, suc, ◌+◌, ◌<◌, List, [], ◌∷◌, ◌++◌, length, ◌-◌, ◌≤◌, get_or, take, drop, map, Result, OnOk, flat_map, refl, sym, ap, ◌∙◌, append_assoc, arith}
+use Rattle.std.proofs.lemmas.List.{append-nil, take_rest}
 use Rattle.std.proofs.lemmas.List.Concat.{flat_map-append}
 use Rattle.std.proofs.lemmas.Int.{ints}
 use Rattle.std.specs.Prelude.{ℤ, pos, nat_abs, ◌+ℤ◌, ◌-ℤ◌, ◌<ℤ◌, ◌≤ℤ◌}
 use Rattle.std.specs.Fmt.{signed_decimal}
 use Rattle.std.specs.List.{join_with_byte}
 use Rattle.mz_value.specs.Ranges.{Range}
-use Rattle.fz_text.specs.Spelling.{elements, numbers, numbers_from}
-use Rattle.fz_text.proofs.Appends.{pieces_more}
+use Rattle.fz_program.specs.declared.program.Arg.{Arg}
+use Rattle.fz_program.specs.Arguments.{Plain, plain, plains}
+use Rattle.fz_text.specs.Spelling.{commas, elements, numbers, numbers_from}
+use Rattle.fz_text.proofs.Appends.{pieces_more, joined_on_ok, same_on_ok}
 
 -- each piece with a comma before it
 abbrev pub each_after_comma : {X : Type 0} → (X → List ℕ) → List X → List ℕ
@@ -64,3 +66,28 @@ numbers_all n r old mid new low high first before =
     let none = ap (λ t. new ++ t) (after_all n r.1 low high) ∙ append-nil new in
     let text = join_is signed_decimal r.0 (numbers_from (r.0 +ℤ pos 1) (nat_abs (r.1 -ℤ r.0))) in
     sym none ∙ before ∙ ap (λ t. t ++ after r.0 r.1) first ∙ append_assoc old (signed_decimal r.0) (after r.0 r.1) ∙ ap (λ t. old ++ t) (sym text)
+
+-- ---- lists with commas, by their first element
+
+-- texts behind commas
+pub after_first : {X : Type 0} (f : X → List ℕ) (xs : List X) → flat_map (λ u. 44 ∷ u) (map f xs) ≡ each_after_comma f xs
+after_first f [] = refl
+after_first f (x ∷ xs) = ap (λ t. 44 ∷ f x ++ t) (after_first f xs)
+
+pub commas_are : {X : Type 0} (f : X → List ℕ) (xs : List X) (d : X) → 1 ≤ length xs → f (get_or xs 0 d) ++ each_after_comma f (take (length xs - 1) (drop 1 xs)) ≡ commas (map f xs)
+unfolding commas
+commas_are f [] d h = absurd (omega arith)
+commas_are f (x ∷ xs) d h = rw (take_rest (x ∷ xs) 1) (ap (λ t. f x ++ t) (sym (after_first f xs)))
+
+-- the first element's text, and then the others
+pub listed : {X T E : Type 0} (r : Result T E) (f : X → List ℕ) (xs : List X) (d : X) (old mid new whole : List ℕ) → 1 ≤ length xs → commas (map f xs) ≡ whole → mid ≡ old ++ f (get_or xs 0 d) → OnOk r (new ≡ mid ++ each_after_comma f (take (length xs - 1) (drop 1 xs))) → OnOk r (new ≡ old ++ whole)
+listed r f xs d old mid new whole some is first last =
+    same_on_ok r old _ whole new (commas_are f xs d some ∙ is) (joined_on_ok r old (f (get_or xs 0 d)) _ mid new first last)
+
+pub map_map : {X Y Z : Type 0} (f : Y → Z) (g : X → Y) (xs : List X) → map (λ x. f (g x)) xs ≡ map f (map g xs)
+map_map f g [] = refl
+map_map f g (x ∷ xs) = ap (λ ys. f (g x) ∷ ys) (map_map f g xs)
+
+pub plains_map : (f : Plain → List ℕ) (xs : List Arg) → map (λ x. f (plain x)) xs ≡ map f (plains xs)
+plains_map f [] = refl
+plains_map f (x ∷ xs) = ap (λ ys. f (plain x) ∷ ys) (plains_map f xs)

@@ -2,4 +2,4 @@ pub mod Lists
 pub mod Sets
 pub mod Appends
 pub mod Commas
-mod SpellingExamples
+pub mod SpellingExamples

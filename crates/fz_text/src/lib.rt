@@ -1,6 +1,7 @@
 // FlatZinc programs as text, and how one is written to a sink.
 #![tactic(auto)]
 
+mod array;
 mod spell;
 mod writer;
 

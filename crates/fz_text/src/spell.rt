@@ -5,26 +5,32 @@ ghost use Rattle.std.specs.Prelude.{◌≡◌, ◌++◌, ◌≤ℤ◌, ◌∷◌
 ghost use Rattle.std.specs.Fmt.{signed_decimal};
 ghost use Rattle.std.specs.List.{flat_map};
 ghost use Rattle.mz_value.specs.Ranges.{AreCanonical};
-ghost use Rattle.fz_program.specs.Flat.{Variable, labels_of, ranges_of, row, variable};
+ghost use Rattle.fz_program.specs.Arguments.{argument, plain, plains};
+ghost use Rattle.fz_program.specs.Flat.{array_item, labels_of, row, variable};
 ghost use Rattle.fz_text.specs.Spelling.{
-  argument,
-  arguments,
+  argument_list,
+  argument_text,
+  array_line,
+  array_text,
   braces,
+  commas,
   definition,
+  domain_text,
   elements,
   goal_line,
   interval,
   label_at,
   mark,
-  more_arguments,
   numbers,
+  plain_text,
   row_line,
-  row_name,
   set,
+  truth,
   variable_line,
 };
 
-use fz_program::{Arg, Domain, FzGoal, FzRow, FzVar, RowName};
+use crate::array::push_array;
+use fz_program::{Arg, Domain, FzArray, FzGoal, FzRow, FzVar, name_of};
 use itoa::Buffer;
 use mz_value::RangeSet;
 use std::alloc::AllocError;
@@ -51,13 +57,41 @@ pub(crate) fn push_rows(vars: &[FzVar], rows: &[FzRow], out: &mut Vec<u8>) -> Re
     Ok(())
 }
 
+// A line for each array.
+pub(crate) fn push_arrays(
+    vars: &[FzVar],
+    arrays: &[FzArray],
+    out: &mut Vec<u8>,
+) -> Result<(), AllocError>
+    ensures { OnOk result (out.new.items
+        ≡ out.old.items ++ flat_map (array_line (map variable vars.now)) (map array_item arrays.now)) }
+{
+    for a in arrays {
+        push_array(vars, a, out)?;
+    }
+    Ok(())
+}
+
 // The solve item's line.
-pub(crate) fn push_goal(goal: FzGoal, out: &mut Vec<u8>) -> Result<(), AllocError>
-    ensures { OnOk result (out.new.items ≡ out.old.items ++ goal_line goal) }
+#[tactic(auto, unfolding(crate::specs::Spelling::goal_line))]
+pub(crate) fn push_goal(vars: &[FzVar], goal: FzGoal, out: &mut Vec<u8>) -> Result<(), AllocError>
+    ensures { OnOk result (out.new.items
+        ≡ out.old.items ++ goal_line (labels_of (map variable vars.now)) goal) }
 {
     match goal {
         FzGoal::Satisfy => push_text(b"solve satisfy;\n", out),
+        FzGoal::Minimize(k) => push_objective(vars, b"solve minimize ", k, out),
+        FzGoal::Maximize(k) => push_objective(vars, b"solve maximize ", k, out),
     }
+}
+
+fn push_objective(vars: &[FzVar], text: &[u8], k: u64, out: &mut Vec<u8>) -> Result<(), AllocError>
+    ensures { OnOk result (out.new.items ≡ out.old.items
+        ++ text.now ++ label_at (labels_of (map variable vars.now)) k ++ codes ";\n") }
+{
+    push_text(text, out)?;
+    push_label(vars, k, out)?;
+    push_text(b";\n", out)
 }
 
 fn push_variable(v: &FzVar, out: &mut Vec<u8>) -> Result<(), AllocError>
@@ -86,12 +120,22 @@ fn push_row(vars: &[FzVar], r: &FzRow, out: &mut Vec<u8>) -> Result<(), AllocErr
     push_text(b";\n", out)
 }
 
+#[tactic(auto, unfolding(crate::specs::Spelling::domain_text))]
 fn push_domain(domain: &Domain, out: &mut Vec<u8>) -> Result<(), AllocError>
-    ensures { OnOk result (out.new.items ≡ out.old.items ++ set (ranges_of domain.now)) }
+    ensures { OnOk result (out.new.items ≡ out.old.items ++ domain_text domain.now) }
 {
     match domain {
+        Domain::Bool => push_text(b"bool", out),
         Domain::Ints(s) => push_set(s, out),
+        Domain::SetOf(s) => push_set_of(s, out),
     }
+}
+
+fn push_set_of(s: &RangeSet, out: &mut Vec<u8>) -> Result<(), AllocError>
+    ensures { OnOk result (out.new.items ≡ out.old.items ++ codes "set of " ++ set s.now) }
+{
+    push_text(b"set of ", out)?;
+    push_set(s, out)
 }
 
 fn push_set(s: &RangeSet, out: &mut Vec<u8>) -> Result<(), AllocError>
@@ -118,7 +162,7 @@ pub(crate) fn push_ranges(
     }
 }
 
-fn push_interval(range: (i64, i64), out: &mut Vec<u8>) -> Result<(), AllocError>
+pub(crate) fn push_interval(range: (i64, i64), out: &mut Vec<u8>) -> Result<(), AllocError>
     ensures { OnOk result (out.new.items ≡ out.old.items ++ interval range) }
 {
     push_number(range.0, out)?;
@@ -186,25 +230,15 @@ fn push_mark(has: bool, text: &[u8], out: &mut Vec<u8>) -> Result<(), AllocError
     out.extend_from_slice(text)
 }
 
-fn name_of(name: RowName) -> &'static [u8]
-    ensures { result.now ≡ row_name name }
-{
-    match name {
-        RowName::IntEq => b"int_eq",
-        RowName::IntNe => b"int_ne",
-        RowName::IntLe => b"int_le",
-        RowName::IntLt => b"int_lt",
-    }
-}
-
+// Arguments with commas between them.
 fn push_arguments(vars: &[FzVar], args: &[Arg], out: &mut Vec<u8>) -> Result<(), AllocError>
-    ensures { OnOk result (out.new.items
-        ≡ out.old.items ++ arguments (labels_of (map variable vars.now)) args.now) }
+    ensures { OnOk result (out.new.items ≡ out.old.items
+        ++ argument_list (labels_of (map variable vars.now)) (map argument args.now)) }
 {
     match args {
         [] => Ok(()),
         [first, rest @ ..] => {
-            push_argument(vars, *first, out)?;
+            push_argument(vars, first, out)?;
             push_more_arguments(vars, rest, out)
         }
     }
@@ -212,28 +246,89 @@ fn push_arguments(vars: &[FzVar], args: &[Arg], out: &mut Vec<u8>) -> Result<(),
 
 // Arguments, with a comma before each.
 fn push_more_arguments(vars: &[FzVar], args: &[Arg], out: &mut Vec<u8>) -> Result<(), AllocError>
-    ensures { OnOk result (out.new.items
-        ≡ out.old.items ++ more_arguments (labels_of (map variable vars.now)) args.now) }
+    ensures { OnOk result (out.new.items ≡ out.old.items
+        ++ flat_map (λ a. 44 ∷ argument_text (labels_of (map variable vars.now)) (argument a)) args.now) }
 {
     for a in args {
         push_text(b",", out)?;
-        push_argument(vars, *a, out)?;
+        push_argument(vars, a, out)?;
     }
     Ok(())
 }
 
-fn push_argument(vars: &[FzVar], arg: Arg, out: &mut Vec<u8>) -> Result<(), AllocError>
+#[tactic(auto, unfolding(crate::specs::Spelling::argument_text))]
+fn push_argument(vars: &[FzVar], arg: &Arg, out: &mut Vec<u8>) -> Result<(), AllocError>
     ensures { OnOk result (out.new.items
-        ≡ out.old.items ++ argument (labels_of (map variable vars.now)) arg) }
+        ≡ out.old.items ++ argument_text (labels_of (map variable vars.now)) (argument arg.now)) }
 {
     match arg {
-        Arg::Int(n) => push_number(n, out),
-        Arg::Var(k) => push_label(vars, k, out),
+        Arg::Array(items) => push_array_of(vars, items, out),
+        _ => push_plain(vars, arg, out),
+    }
+}
+
+// Elements with commas between them, in brackets.
+fn push_array_of(vars: &[FzVar], items: &[Arg], out: &mut Vec<u8>) -> Result<(), AllocError>
+    ensures { OnOk result (out.new.items
+        ≡ out.old.items ++ array_text (labels_of (map variable vars.now)) (plains items.now)) }
+{
+    push_text(b"[", out)?;
+    push_plains(vars, items, out)?;
+    push_text(b"]", out)
+}
+
+fn push_plains(vars: &[FzVar], items: &[Arg], out: &mut Vec<u8>) -> Result<(), AllocError>
+    ensures { OnOk result (out.new.items ≡ out.old.items
+        ++ commas (map (plain_text (labels_of (map variable vars.now))) (plains items.now))) }
+{
+    match items {
+        [] => Ok(()),
+        [first, rest @ ..] => {
+            push_plain(vars, first, out)?;
+            push_more_plains(vars, rest, out)
+        }
+    }
+}
+
+// Elements, with a comma before each.
+fn push_more_plains(vars: &[FzVar], items: &[Arg], out: &mut Vec<u8>) -> Result<(), AllocError>
+    ensures { OnOk result (out.new.items ≡ out.old.items
+        ++ flat_map (λ a. 44 ∷ plain_text (labels_of (map variable vars.now)) (plain a)) items.now) }
+{
+    for a in items {
+        push_text(b",", out)?;
+        push_plain(vars, a, out)?;
+    }
+    Ok(())
+}
+
+// An argument that is no array, nothing for an array.
+#[tactic(auto, unfolding(crate::specs::Spelling::plain_text))]
+fn push_plain(vars: &[FzVar], arg: &Arg, out: &mut Vec<u8>) -> Result<(), AllocError>
+    ensures { OnOk result (out.new.items
+        ≡ out.old.items ++ plain_text (labels_of (map variable vars.now)) (plain arg.now)) }
+{
+    match arg {
+        Arg::Bool(b) => push_truth(*b, out),
+        Arg::Int(n) => push_number(*n, out),
+        Arg::Set(s) => push_set(s, out),
+        Arg::Var(k) => push_label(vars, *k, out),
+        Arg::Array(_) => Ok(()),
+    }
+}
+
+fn push_truth(b: bool, out: &mut Vec<u8>) -> Result<(), AllocError>
+    ensures { OnOk result (out.new.items ≡ out.old.items ++ truth b) }
+{
+    if b {
+        push_text(b"true", out)
+    } else {
+        push_text(b"false", out)
     }
 }
 
 // The name of the variable at place `k`, nothing where there is none.
-fn push_label(vars: &[FzVar], k: u64, out: &mut Vec<u8>) -> Result<(), AllocError>
+pub(crate) fn push_label(vars: &[FzVar], k: u64, out: &mut Vec<u8>) -> Result<(), AllocError>
     ensures { OnOk result (out.new.items
         ≡ out.old.items ++ label_at (labels_of (map variable vars.now)) k) }
 {
@@ -267,7 +362,7 @@ fn push_defined(vars: &[FzVar], k: u64, out: &mut Vec<u8>) -> Result<(), AllocEr
     push_text(b")", out)
 }
 
-fn push_text(text: &[u8], out: &mut Vec<u8>) -> Result<(), AllocError>
+pub(crate) fn push_text(text: &[u8], out: &mut Vec<u8>) -> Result<(), AllocError>
     ensures { OnOk result (out.new.items ≡ out.old.items ++ text.now) }
 {
     out.extend_from_slice(text)

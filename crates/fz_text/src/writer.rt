@@ -5,10 +5,7 @@ ghost use Rattle.fz_program.specs.Flat.{WellFormed, program};
 ghost use Rattle.fz_text.specs.Spelling.{spelling};
 ghost use Rattle.fz_text.specs.Writing.{Writes, WriteCounts};
 
-#[cfg(test)]
-mod tests;
-
-use crate::spell::{push_goal, push_rows, push_variables};
+use crate::spell::{push_arrays, push_goal, push_rows, push_variables};
 use fz_program::FzProgram;
 use mz_io::{Sent, Sink};
 use std::alloc::{AllocError, Global};
@@ -24,8 +21,8 @@ pub enum Wrote {
     Memory,
 }
 
-/// Writes the program's one spelling with one put: a line for each variable, each constraint and the
-/// solve item, in the order of the program, as the FlatZinc chapter of the MiniZinc Handbook has them.
+/// Writes the program's one spelling with one put: a line for each variable, each array, each
+/// constraint and the solve item, in the order of the program, as the FlatZinc chapter of the MiniZinc Handbook has them.
 /// `well_formed` of `fz_program` tests what is required.
 ///
 /// After `Failed` the sink holds what it held and a front of the text, after `Memory` what it held.
@@ -50,7 +47,8 @@ fn text(alloc: Global, p: &FzProgram) -> Result<Vec<u8>, AllocError>
 {
     let mut out = Vec::new(alloc);
     push_variables(&p.vars, &mut out)?;
+    push_arrays(&p.vars, &p.arrays, &mut out)?;
     push_rows(&p.vars, &p.rows, &mut out)?;
-    push_goal(p.goal, &mut out)?;
+    push_goal(&p.vars, p.goal, &mut out)?;
     Ok(out)
 }

@@ -40,6 +40,7 @@ module _ (table : List Name) (files : List File) where
         items = items;
         model = is_model items e goal;
         vars = ap (λ (q : Program). q.vars) is;
+        arrays = ap (λ (q : Program). q.arrays) is;
         rows = ap (λ (q : Program). q.rows) is;
         goal = ap (λ (q : Program). q.goal) is;
         well_formed = subst WellFormed (sym is) (well_formed items distinct declared (all_proper table (declared_names table files) files items e));

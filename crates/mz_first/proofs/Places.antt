@@ -1,10 +1,11 @@
 -- Where a name stands in a list of names.
 use Rattle.std.proofs.Common.{◌≡◌, ℕ, zero, suc, ◌+◌, ◌<◌, List, [], ◌∷◌, ◌++◌, length, get_or, map, Bool, true, false, refl, sym, ap, ◌∙◌, cond, not, arith, inl, inr, position, subst}
-use Rattle.std.specs.Prelude.{◌⊎◌, ℤ, pos, Some, None}
+use Rattle.std.specs.Prelude.{◌⊎◌, pos, Some, None}
 use Rattle.std.specs.List.{list_any, Contains, prefix_len}
 use Rattle.std.specs.Str.{bytes_eq}
 use Rattle.std.proofs.lemmas.Slice.Eq.{bytes_eq-Decides}
 use Rattle.fz_program.specs.Names.{Name}
+use Rattle.fz_program.specs.Values.{Values, number}
 use Rattle.fz_emission.specs.Solutions.{Assignment, read_off, ReadsOff}
 use Rattle.fz_program.specs.Flat.{AreDistinct}
 use Rattle.mz_first.specs.Emission.{place_of}
@@ -89,7 +90,7 @@ place_kept x (y ∷ ys) zs below = elim (either (bytes_eq x y)) [ inl is ↦ rw 
     later y ys isnt below = let h = rw isnt at below in omega arith
 
 -- the value that an assignment gives a name stands at its place
-pub value_at : (a : Assignment) (x : Name) (ys : List Name) → place_of x ys < length ys → get_or (map a ys) (place_of x ys) (pos 0) ≡ a x
+pub value_at : (a : Assignment) (x : Name) (ys : List Name) → place_of x ys < length ys → get_or (map a ys) (place_of x ys) (number (pos 0)) ≡ a x
 value_at a x [] below = absurd (omega arith)
 value_at a x (y ∷ ys) below = elim (either (bytes_eq x y)) [ inl is ↦ rw is (ap a (sym (same_bytes x y is))) | inr isnt ↦ rw isnt (value_at a x ys (let h = rw isnt at below in omega arith)) ]
 
@@ -106,7 +107,7 @@ map_same g h [] same = refl
 map_same g h (x ∷ xs) same = rw (same x (contains_front x xs)) (ap (λ ys. h x ∷ ys) (map_same g h xs (λ y c. same y (contains_behind x xs y c))))
 
 -- the values of distinct names, read off and listed again, are the values
-pub lists_back : (ys : List Name) (f : List ℤ) → AreDistinct ys → length f ≡ length ys → map (read_off ys f) ys ≡ f
+pub lists_back : (ys : List Name) (f : Values) → AreDistinct ys → length f ≡ length ys → map (read_off ys f) ys ≡ f
 lists_back [] [] distinct same = refl
 lists_back [] (n ∷ f) distinct same = absurd (omega arith)
 lists_back (y ∷ ys) [] distinct same = absurd (omega arith)

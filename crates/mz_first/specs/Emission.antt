@@ -3,9 +3,9 @@ use Rattle.std.specs.Prelude.{ℕ, suc, ℤ, List, [], ◌∷◌, true, false, N
 use Rattle.std.specs.List.{flat_map}
 use Rattle.std.specs.Str.{bytes_eq}
 use Rattle.fz_program.specs.declared.program.FzGoal.TheVariants.{Satisfy}
-use Rattle.fz_program.specs.declared.program.Arg.{Arg}
-use Rattle.fz_program.specs.declared.program.Arg.TheVariants.{Int, Var}
-use Rattle.fz_program.specs.declared.program.RowName.TheVariants.{IntEq, IntNe, IntLe, IntLt}
+use Rattle.fz_program.specs.declared.program.Domain.TheVariants.{Ints}
+use Rattle.fz_program.specs.Arguments.{Argument, int, var, one}
+use Rattle.fz_program.specs.declared.row_name.RowName.TheVariants.{IntEq, IntNe, IntLe, IntLt}
 use Rattle.fz_program.specs.Names.{Name}
 use Rattle.fz_program.specs.Flat as flat
 use Rattle.mz_first.specs.declared.item.Comparison.{Comparison}
@@ -22,7 +22,7 @@ names is = flat_map names_of is
 
 -- an output variable with the declared domain
 abbrev pub variable : ℤ → ℤ → Name → flat.Variable
-variable lo hi x = record { label = x; domain = (lo, hi) ∷ []; introduced = false; defined = false; output = true }
+variable lo hi x = record { label = x; domain = Ints ((lo, hi) ∷ []); introduced = false; defined = false; output = true }
 
 abbrev pub variables_of : model.Item → List flat.Variable
 variables_of (model.variable lo hi x) = variable lo hi x ∷ []
@@ -36,12 +36,12 @@ abbrev pub place_of : Name → List Name → ℕ
 place_of x [] = 0
 place_of x (y ∷ ys) = if bytes_eq x y then 0 else suc (place_of x ys)
 
-abbrev pub argument : List Name → model.Operand → Arg
-argument known (model.number n) = Int n
-argument known (model.name x) = Var (place_of x known)
+abbrev pub argument : List Name → model.Operand → Argument
+argument known (model.number n) = one (int n)
+argument known (model.name x) = one (var (place_of x known))
 
 -- a comparison as a row: `>` and `>=` are turned round
-abbrev pub row : Comparison → Arg → Arg → flat.Row
+abbrev pub row : Comparison → Argument → Argument → flat.Row
 row Less a b = record { name = IntLt; args = a ∷ b ∷ []; defines = None }
 row LessEqual a b = record { name = IntLe; args = a ∷ b ∷ []; defines = None }
 row Equal a b = record { name = IntEq; args = a ∷ b ∷ []; defines = None }
@@ -58,4 +58,4 @@ rows known is = flat_map (rows_of known) is
 
 -- the program of a model
 abbrev pub program_of : List model.Item → flat.Program
-program_of is = record { vars = variables is; rows = rows (names is) is; goal = Satisfy }
+program_of is = record { vars = variables is; arrays = []; rows = rows (names is) is; goal = Satisfy }

@@ -2,6 +2,8 @@
 use Rattle.std.specs.Prelude.{◌≡◌, ◌≢◌, ℤ, List, ◌≤ℤ◌, ◌<ℤ◌}
 use Rattle.std.specs.List.{AllByRecursion}
 use Rattle.fz_program.specs.Names.{Name}
+use Rattle.fz_program.specs.Values.{Value, number_in}
+use Rattle.fz_program.specs.Values as values
 use Rattle.fz_emission.specs.Solutions.{Assignment}
 use Rattle.mz_first.specs.declared.item.Comparison.{Comparison}
 use Rattle.mz_first.specs.declared.item.Comparison.TheVariants.{Less, LessEqual, Equal, NotEqual, Greater, GreaterEqual}
@@ -18,7 +20,7 @@ pub data Item : Type 0 where
 
 abbrev pub value_of : Assignment → Operand → ℤ
 value_of a (number n) = n
-value_of a (name x) = a x
+value_of a (name x) = number_in (a x)
 
 abbrev pub Compares : Comparison → ℤ → ℤ → Type 0
 Compares Less x y = x <ℤ y
@@ -28,9 +30,14 @@ Compares NotEqual x y = x ≢ y
 Compares Greater x y = y <ℤ x
 Compares GreaterEqual x y = y ≤ℤ x
 
+-- a value is an integer of a range
+abbrev pub IsBetween : ℤ → ℤ → Value → Type 0
+IsBetween lo hi (values.number n) = (lo ≤ℤ n) × (n ≤ℤ hi)
+IsBetween lo hi (values.set s) = ⊥
+
 -- a variable's value lies in its range, and a constraint holds
 abbrev pub Holds : Assignment → Item → Type 0
-Holds a (variable lo hi x) = (lo ≤ℤ a x) × (a x ≤ℤ hi)
+Holds a (variable lo hi x) = IsBetween lo hi (a x)
 Holds a (constraint p op q) = Compares op (value_of a p) (value_of a q)
 Holds a satisfy = Unit {0}
 

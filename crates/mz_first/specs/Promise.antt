@@ -1,5 +1,5 @@
 -- What is promised of the program of a model's files.
-use Rattle.std.specs.Prelude.{◌≡◌, ◌<◌, List, length, map, Ok, Err}
+use Rattle.std.specs.Prelude.{◌≡◌, ◌<◌, List, [], length, map, Ok, Err}
 use Rattle.mz_base.specs.Names.{text_of, Grows}
 use Rattle.mz_tree.specs.declared.source.SourceFile.{SourceFile}
 use Rattle.mz_include.specs.Naming.{File}
@@ -20,6 +20,7 @@ pub record IsProgram (table : List Name) (files : List File) (p : Program) : Typ
   pub items : List Item
   pub model : formed table files ≡ Ok items
   pub vars : p.vars ≡ variables items
+  pub arrays : p.arrays ≡ []
   pub rows : p.rows ≡ rows (names items) items
   pub goal : p.goal ≡ Satisfy
   pub well_formed : WellFormed p

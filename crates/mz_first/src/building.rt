@@ -16,7 +16,7 @@ use mz_tree::{SourceFile, Sources};
 use std::alloc::{AllocError, Global};
 
 /// What the files of a model give.
-#[derive(Debug, Drop)]
+#[derive(Drop)]
 pub enum Built {
     /// Its program.
     Program(FzProgram),

@@ -3,6 +3,7 @@
 ghost use Rattle.std.specs.Prelude.{◌≡◌, ◌≤ℤ◌, [], ◌∷◌, ◌++◌, map, IfOk, OnOk, None};
 ghost use Rattle.std.specs.List.{AllByRecursion};
 ghost use Rattle.mz_value.specs.Ranges.{IsInLimit};
+ghost use Rattle.fz_program.specs.Arguments.{argument as argument_seen};
 ghost use Rattle.fz_program.specs.Flat.{row, variable, program};
 ghost use Rattle.mz_first.specs.Emission.{names, variables_of, variables, argument, rows_of, rows, row as row_of, variable as variable_of, program_of};
 ghost use Rattle.mz_first.specs.Proper.{IsProper, IsDeclaredIn, AreDeclaredIn};
@@ -59,7 +60,8 @@ fn variables(alloc: Global, items: &[Item<'_>]) -> Result<Vec<FzVar>, AllocError
 
 /// A row of two arguments.
 fn comparison(alloc: Global, name: RowName, a: Arg, b: Arg) -> Result<FzRow, AllocError>
-    ensures { IfOk result (λ r. row r ≡ record { name = name; args = a ∷ b ∷ []; defines = None }) }
+    ensures { IfOk result (λ r. row r
+        ≡ record { name = name; args = argument_seen a ∷ argument_seen b ∷ []; defines = None }) }
 {
     let mut args = Vec::with_capacity(alloc, 2)?;
     args.push(a)?;
@@ -73,7 +75,7 @@ fn comparison(alloc: Global, name: RowName, a: Arg, b: Arg) -> Result<FzRow, All
 
 /// A comparison as a row: `>` and `>=` are turned round.
 fn row(alloc: Global, op: Comparison, a: Arg, b: Arg) -> Result<FzRow, AllocError>
-    ensures { IfOk result (λ r. row r ≡ row_of op a b) }
+    ensures { IfOk result (λ r. row r ≡ row_of op (argument_seen a) (argument_seen b)) }
 {
     match op {
         Comparison::Less => comparison(alloc, RowName::IntLt, a, b),
@@ -88,7 +90,7 @@ fn row(alloc: Global, op: Comparison, a: Arg, b: Arg) -> Result<FzRow, AllocErro
 /// An operand as an argument: a number, or the place of its name.
 fn argument<'a>(known: &NameTable<'a>, p: Operand<'a>) -> Arg
     requires { IsDeclaredIn known.now (operand p) }
-    ensures { result ≡ argument known.now (operand p.entry) }
+    ensures { argument_seen result ≡ argument known.now (operand p.entry) }
 {
     match p {
         Operand::Number(n) => Arg::Int(n),
@@ -140,6 +142,7 @@ pub fn emit(alloc: Global, items: &Items<'_>) -> Result<FzProgram, AllocError>
 {
     Ok(FzProgram {
         vars: variables(alloc, items.list.as_slice())?,
+        arrays: Vec::new(alloc),
         rows: rows(alloc, &items.names, items.list.as_slice())?,
         goal: FzGoal::Satisfy,
     })

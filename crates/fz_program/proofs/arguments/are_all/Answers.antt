@@ -1,0 +1,14 @@
+use Rattle.fz_program.specs.declared.program.Arg.{the_lemmas}
+use Rattle.std.proofs.Common.{ap}
+use Rattle.std.specs.List.{list_all}
+use Rattle.fz_program.specs.Arguments.{plain}
+use Rattle.std.proofs.Common.{map}
+use Rattle.fz_program.specs.Flat.{is_plain, variable}
+use Rattle.std.proofs.Common.{◌∙◌, sym}
+use Rattle.fz_program.proofs.Tests.{all_plains}
+use Rattle.fz_program.proofs.arguments.are_all.Goals as goal
+
+pub returns-in-Array : goal.returns-in-Array
+returns-in-Array c =
+    let test = is_plain (map variable c.args.vars.now) c.args.kind in
+    rw c.in-Array.is (simp the_lemmas (c.are_plain.ensures ∙ ap (λ xs. list_all (λ a. test (plain a)) xs) c.deref.ensures.value ∙ sym (all_plains test c.in-Array.items.items)))
