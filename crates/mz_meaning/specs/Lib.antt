@@ -15,6 +15,7 @@ pub mod Kinds
 pub mod Unbounded
 pub mod Walk
 pub mod Solutions
+pub mod RowNumbers
 pub mod Written
 mod UndefinedExamples
 mod ComprehensionExamples
