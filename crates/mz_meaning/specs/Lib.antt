@@ -12,6 +12,7 @@ pub mod Lets
 pub mod Calls
 pub mod Evaluation
 pub mod Kinds
+pub mod Promises
 pub mod Unbounded
 pub mod Walk
 pub mod Solutions
