@@ -1,13 +1,13 @@
 -- Each node's cell has the node's type.
-use Rattle.std.proofs.Common.{◌≡◌, ℕ, zero, suc, Bool, true, false, not, ◌&&◌, List, [], ◌∷◌, Option, Some, None, refl, sym, ap, subst, ◌∙◌, if◌then◌else◌}
+use Rattle.std.proofs.Common.{◌≡◌, ℕ, zero, suc, Bool, true, false, not, ◌&&◌, List, [], Some, None, refl, sym, ap, subst, ◌∙◌, if◌then◌else◌}
 use Rattle.mz_base.specs.declared.fault.Span.{Span}
 use Rattle.mz_value.specs.Contents.{Content}
 use Rattle.mz_core.specs.Types.{PlainType}
 use Rattle.mz_core.specs.Order.{no_dims}
 use Rattle.mz_core.specs.Coercions.{PathLink}
 use Rattle.mz_core.specs.Tree.{Tree, layer, shape_of, place_of, type_of, inner_tree, root_coercions}
-use Rattle.mz_meaning.specs.Runs.{Run, State, Answer, Out, Stopped, then_do, give}
-use Rattle.mz_meaning.specs.Cells.{Cell, Par, Var, Unshaped, Mode, Given, Env, is_par, is_truth, value_of, sealed, widened, risen, typed, to_var, undefined_var, no_bounds}
+use Rattle.mz_meaning.specs.Runs.{Run, State, Answer, Out, Stopped, then_do}
+use Rattle.mz_meaning.specs.Cells.{Cell, Par, Var, Unshaped, Mode, Given, Env, is_par, is_truth, value_of, sealed, widened, risen, typed, to_var, no_bounds}
 use Rattle.mz_meaning.specs.Contexts.{Context, within_links}
 use Rattle.mz_meaning.specs.Forms.{World, coerced_by}
 use Rattle.mz_meaning.specs.Evaluation.{node, is_name, eval}

@@ -6,7 +6,7 @@ use Rattle.mz_core.specs.Tree.{Tree}
 use Rattle.mz_operations.specs.Views.{as_bool, as_int, as_case, as_set, as_text, as_items, as_index, as_row, as_ordinal, as_element, as_pair, as_option, is_single, enum_of}
 use Rattle.mz_operations.specs.Arguments.{at, bool_at, int_at, case_at, ordinal_at, element_at, option_at, set_at, enum_at, text_at, items_at, row_at, index_at, pair}
 use Rattle.mz_operations.specs.Numbers.{connected, ordered, computed, signed, folded, raised, toward, nearer, quantified}
-use Rattle.mz_operations.specs.Sets.{contains, end_of, up_to, same_set, difference}
+use Rattle.mz_operations.specs.Sets.{contains, end_of, up_to, same_set}
 use Rattle.mz_operations.specs.Arrays.{fold_from, summand, instance, place_count, with_index, shape_from}
 use Rattle.mz_operations.specs.Values.{equality, scalar_value, made_value, bounding_value, is_bounded, is_fixable}
 use Rattle.mz_operations.specs.Answers.{is_mismatched, negative, is_failed, limited}

@@ -1,10 +1,10 @@
 -- What the evaluation of an expression keeps, in the language's own words.
-use Rattle.std.specs.Prelude.{◌≡◌, ℕ, List, [], Bool, true, not, Option, Some, None}
+use Rattle.std.specs.Prelude.{◌≡◌, ℕ, [], Bool, true, not, Option, Some}
 use Rattle.mz_value.specs.Contents.{Content}
 use Rattle.mz_value.specs.Contents as values
 use Rattle.mz_core.specs.Tree.{Tree, type_of, inner_tree, root_coercions}
 use Rattle.mz_meaning.specs.Runs.{Answer, Out, Stopped, State}
-use Rattle.mz_meaning.specs.Cells.{Cell, Given, Env, is_par, is_truth, value_of}
+use Rattle.mz_meaning.specs.Cells.{Given, Env, is_par, is_truth, value_of}
 use Rattle.mz_meaning.specs.Contexts.{Context}
 use Rattle.mz_meaning.specs.Forms.{World}
 use Rattle.mz_meaning.specs.Evaluation.{eval}

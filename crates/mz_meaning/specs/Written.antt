@@ -1,5 +1,5 @@
 -- How the worked examples write typed trees. A place is a column of the one line of the example's text.
-use Rattle.std.specs.Prelude.{ℕ, ◌-◌, ℤ, pos, negsuc, Bool, true, false, List, [], ◌∷◌, Option, Some, None}
+use Rattle.std.specs.Prelude.{ℕ, ◌-◌, ℤ, pos, Bool, true, false, List, [], ◌∷◌, Option, Some, None}
 use Rattle.mz_base.specs.declared.fault.Span.{Span}
 use Rattle.mz_base.specs.declared.kind.Kind.{Kind}
 use Rattle.mz_value.specs.Ranges.{Range}
@@ -16,8 +16,7 @@ use Rattle.mz_core.specs.Tree as tree
 use Rattle.mz_operations.specs.Bounds.{Bound}
 use Rattle.mz_operations.specs.Bounds as bounds
 use Rattle.mz_meaning.specs.Runs.{Answer, Out, Stopped, fault, start}
-use Rattle.mz_meaning.specs.Cells.{Cell, Par, Var, Mode, Blank, Bare, Given, Env, bind, no_names}
-use Rattle.mz_meaning.specs.Domains.{Domain}
+use Rattle.mz_meaning.specs.Cells.{Cell, Par, Var, Mode, Bare, Given, Env, no_names}
 use Rattle.mz_meaning.specs.Contexts.{Positive}
 use Rattle.mz_meaning.specs.Forms.{World}
 use Rattle.mz_meaning.specs.Evaluation.{eval}
