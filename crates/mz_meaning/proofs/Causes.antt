@@ -1,12 +1,12 @@
 -- An evaluation that tests no context stops at few kinds of faults.
-use Rattle.std.proofs.Common.{◌≡◌, ℕ, zero, suc, ℤ, pos, Bool, true, false, List, [], ◌∷◌, Option, Some, None, refl, if◌then◌else◌, nat_lt, ◌+◌, ◌++◌, ◌&&◌, not, map, unwrap_or, slice_get}
+use Rattle.std.proofs.Common.{◌≡◌, ℕ, zero, suc, ℤ, pos, Bool, true, false, List, [], ◌∷◌, Option, Some, None, refl, if◌then◌else◌, nat_lt, ◌+◌, ◌++◌, not, map, unwrap_or, slice_get}
 use Rattle.std.specs.Option.{option_map}
 use Rattle.std.specs.List.{list_all}
 use Rattle.mz_base.specs.declared.fault.Span.{Span}
 use Rattle.mz_base.specs.declared.fault.Fault.{Fault}
 use Rattle.mz_base.specs.declared.kind.Kind.{Kind}
 use Rattle.mz_base.specs.declared.kind.Kind.TheVariants as kind
-use Rattle.mz_interval.specs.Ends.{Ends, is_number}
+use Rattle.mz_interval.specs.Ends.{is_number}
 use Rattle.mz_value.specs.Ranges.{Range}
 use Rattle.mz_value.specs.Contents.{Content}
 use Rattle.mz_value.specs.Contents as values
@@ -32,7 +32,7 @@ use Rattle.mz_meaning.specs.Domains.{Domain}
 use Rattle.mz_meaning.specs.Operations as operations
 use Rattle.mz_meaning.specs.Arrays as arrays
 use Rattle.mz_meaning.specs.Arrays.{Want, Anything, Missing, Within}
-use Rattle.mz_meaning.specs.Contexts.{Context, Untested, elsewhere}
+use Rattle.mz_meaning.specs.Contexts.{Untested}
 use Rattle.mz_meaning.specs.Chains.{Operator, Front, chained, same_level, operand_base}
 use Rattle.mz_meaning.specs.Forms as forms
 use Rattle.mz_meaning.specs.Forms.{World, Eval}

@@ -21,6 +21,7 @@ use Rattle.mz_meaning.specs.Evaluation.{eval}
 use Rattle.mz_meaning.specs.Written.{col, int, var_int, var_bool, ints, list_of, table_of, num, lit, slot, fun, call, bin, to_var, list, access, choose, let_in, range, plain, indexed, decl, param, function, i, b, set, fromto, row, between, var_number, var_row, run, result, gives, is, is_undefined, stops, given, by_zero}
 use Rattle.mz_base.specs.declared.kind.Kind.TheVariants as kind
 use Rattle.mz_core.specs.Tree as tree
+use Rattle.mz_meaning.specs.RowNumbers as op
 
 -- an array of integers under declared index sets, in a let whose body asks for it
 abbrev declared : List (Option Tree) → Tree → Tree → Tree
@@ -84,15 +85,15 @@ record Shapes : Type 0 where
   -- [| 1, 2 | 3, 4 |][2, 1]
   access_to_a_table : result (tree.node (col 34) int (tree.access two_by_two (trees (num 53 (pos 2) ∷ num 56 (pos 1) ∷ [])))) ≡ is (i (pos 3)) 8
   -- array2d(1..2, 1..2, [1])
-  shape_that_does_not_fit : result (fun 1 (table_of int) 64 (range 9 (pos 1) (pos 2) ∷ range 15 (pos 1) (pos 2) ∷ list 21 int (num 22 (pos 1) ∷ []) ∷ [])) ≡ stops kind.IndexMismatch 1 (pos 0)
+  shape_that_does_not_fit : result (fun 1 (table_of int) op.array2d (range 9 (pos 1) (pos 2) ∷ range 15 (pos 1) (pos 2) ∷ list 21 int (num 22 (pos 1) ∷ []) ∷ [])) ≡ stops kind.IndexMismatch 1 (pos 0)
   -- array2d(1..2, 1..2, [1 div 0])
-  undefined_in_a_shape : result (fun 1 (table_of int) 64 (range 9 (pos 1) (pos 2) ∷ range 15 (pos 1) (pos 2) ∷ list 21 int (by_zero 22 ∷ []) ∷ [])) ≡ is_undefined 15
+  undefined_in_a_shape : result (fun 1 (table_of int) op.array2d (range 9 (pos 1) (pos 2) ∷ range 15 (pos 1) (pos 2) ∷ list 21 int (by_zero 22 ∷ []) ∷ [])) ≡ is_undefined 15
   -- array2d(1..1, 1..1 div 0, [1])
-  undefined_index_set : result (fun 1 (table_of int) 64 (range 9 (pos 1) (pos 1) ∷ bin 15 ints (num 15 (pos 1)) 20 (by_zero 18) ∷ list 27 int (num 28 (pos 1) ∷ []) ∷ [])) ≡ is_undefined 16
+  undefined_index_set : result (fun 1 (table_of int) op.array2d (range 9 (pos 1) (pos 1) ∷ bin 15 ints (num 15 (pos 1)) op.up_to (by_zero 18) ∷ list 27 int (num 28 (pos 1) ∷ []) ∷ [])) ≡ is_undefined 16
   -- array1d(0..1, [1, 2])[0]
-  given_index_set : result (access 1 int (fun 1 (list_of int) 63 (range 9 (pos 0) (pos 1) ∷ list 15 int (num 16 (pos 1) ∷ num 19 (pos 2) ∷ []) ∷ [])) (num 23 (pos 0))) ≡ is (i (pos 1)) 13
+  given_index_set : result (access 1 int (fun 1 (list_of int) op.array1d (range 9 (pos 0) (pos 1) ∷ list 15 int (num 16 (pos 1) ∷ num 19 (pos 2) ∷ []) ∷ [])) (num 23 (pos 0))) ≡ is (i (pos 1)) 13
   -- index_set(array1d(0..1, [1, 2]))
-  asked_for : result (fun 1 ints 56 (fun 11 (list_of int) 63 (range 19 (pos 0) (pos 1) ∷ list 25 int (num 26 (pos 1) ∷ num 29 (pos 2) ∷ []) ∷ []) ∷ [])) ≡ is (set (fromto (pos 0) (pos 1))) 15
+  asked_for : result (fun 1 ints op.index_set (fun 11 (list_of int) op.array1d (range 19 (pos 0) (pos 1) ∷ list 25 int (num 26 (pos 1) ∷ num 29 (pos 2) ∷ []) ∷ []) ∷ [])) ≡ is (set (fromto (pos 0) (pos 1))) 15
 
 shapes : Shapes
 unfolding eval row_table level_table front_of front_in back_of back_in backed scalar_value made_value bounding_value equality is_bounded is_fixable as_bool as_int as_case as_set as_text as_items as_index as_row as_ordinal as_element as_pair as_option is_single enum_of at bool_at int_at case_at ordinal_at element_at option_at set_at enum_at text_at items_at row_at index_at pair connected ordered computed signed folded raised toward nearer quantified contains end_of up_to same_set fold_from summand instance place_count with_index shape_from is_mismatched negative is_failed limited scalar_counts made_counts bounding_counts counts_from cost bound_of bounds_of is_settled toward_ends arith_ends sign_ends extreme_from fold_ends folded_ends raised_ends index_tuples is_reached reached branch_bound branch_bounds if_bounds combined_upper bounds_at each ends_at upper_at elements_at all_ends_at all_uppers_at uppers_before scalar_bounds made_bounds lower_of upper_of value_by_bounds range_elements

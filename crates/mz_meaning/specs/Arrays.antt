@@ -1,5 +1,5 @@
 -- Arrays, sets and accesses over cells; declared index sets; the branches of an `if`.
-use Rattle.std.specs.Prelude.{ℕ, ◌+◌, ℤ, pos, Bool, true, false, not, ◌&&◌, ◌||◌, List, [], ◌∷◌, ◌++◌, map, zip, length, slice_get, Option, Some, None, nat_eq, option_map, unwrap_or, if◌then◌else◌}
+use Rattle.std.specs.Prelude.{ℕ, ◌+◌, ℤ, pos, Bool, true, false, not, ◌&&◌, ◌||◌, List, [], ◌∷◌, ◌++◌, map, length, slice_get, Option, Some, None, nat_eq, option_map, unwrap_or, if◌then◌else◌}
 use Rattle.std.specs.Option.{option_and_then}
 use Rattle.std.specs.List.{list_all}
 use Rattle.mz_base.specs.declared.fault.Span.{Span}
@@ -11,13 +11,13 @@ use Rattle.mz_index.specs.Places.{place_of}
 use Rattle.mz_interval.specs.Ends.{Ends}
 use Rattle.mz_core.specs.Types.{PlainType, is_set}
 use Rattle.mz_core.specs.Order.{no_dims}
-use Rattle.mz_operations.specs.Views.{items_in, as_element, as_ordinal, is_absent}
+use Rattle.mz_operations.specs.Views.{items_in, as_element, as_ordinal}
 use Rattle.mz_operations.specs.Sets.{union, contains, is_subset, is_empty_set, same_set}
 use Rattle.mz_operations.specs.Arrays.{line, place_count, index_range}
 use Rattle.mz_operations.specs.Bounds.{Bound, Bounds, nothing, hull_of_all, union_of_all, reached, if_bounds, no_array}
 use Rattle.mz_operations.specs.Bounds as bounds
 use Rattle.mz_operations.specs.RowBounds.{line_of}
-use Rattle.mz_meaning.specs.Runs.{Run, give, stop, ◌>>=◌, ◌>>◌}
+use Rattle.mz_meaning.specs.Runs.{Run, give, stop}
 use Rattle.mz_meaning.specs.Cells.{Cell, Par, Var, Unshaped, Mode, held, undefined, all_par, is_par, is_there, is_true, value_of, bounds_in, bounds_as, scalar_bound, element_bounds, index_of, length_of, Sure, unsure}
 use Rattle.mz_meaning.specs.Coerced.{enum_in}
 

@@ -1,7 +1,6 @@
 -- Calls of a model's functions.
 use Rattle.std.specs.Prelude.{ℕ, ◌+◌, Bool, true, false, List, [], ◌∷◌, Option, Some, None, slice_get}
 use Rattle.mz_base.specs.declared.fault.Span.{Span}
-use Rattle.mz_core.specs.Types.{PlainType}
 use Rattle.mz_core.specs.Program.{Function}
 use Rattle.mz_core.specs.Tree.{Tree, Decl, place_of}
 use Rattle.mz_meaning.specs.Runs.{Run, ◌>>=◌, ◌>>◌, give, loop, weigh}

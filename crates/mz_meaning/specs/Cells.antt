@@ -1,5 +1,5 @@
 -- Cells: what an evaluation gives for an expression, a value with its bounds.
-use Rattle.std.specs.Prelude.{ℕ, ℤ, pos, int_lt, Bool, true, false, not, ◌&&◌, List, [], ◌∷◌, map, length, Option, Some, None, nat_eq, if◌then◌else◌}
+use Rattle.std.specs.Prelude.{ℕ, Bool, true, false, not, ◌&&◌, List, [], ◌∷◌, length, Option, Some, None, nat_eq, if◌then◌else◌}
 use Rattle.std.specs.Option.{option_map, option_and_then}
 use Rattle.mz_value.specs.Ranges.{Range}
 use Rattle.mz_value.specs.Contents.{Content}
@@ -180,7 +180,7 @@ abbrev pub risen : Mode → Bool → Cell → Cell
 risen m false c = c
 risen m true (Par v) = Par (Some (values.bool (is_true v)))
 risen m true (Var b v) = Var b (held m (Some (values.bool (is_true v))))
-risen m true (Unshaped d) = Unshaped d
+risen m true (Unshaped d) = Var (bounds.one (bounds.number truth)) (held m (Some (values.bool false)))
 
 -- the cell of a node with this type; a name keeps its own bounds, the bounds of other Booleans are 0..1
 abbrev pub typed : Mode → Bool → PlainType → Cell → Cell

@@ -1,5 +1,5 @@
 -- Worked examples of free locals: where they may be evaluated, and which choices they take.
-use Rattle.std.specs.Prelude.{◌≡◌, refl, ℕ, ◌+◌, pos, negsuc, true, false, List, [], ◌∷◌, Option, Some, None, filter}
+use Rattle.std.specs.Prelude.{◌≡◌, refl, ℕ, ◌+◌, pos, negsuc, true, false, List, [], ◌∷◌, Option, Some, None}
 use Rattle.mz_value.specs.Contents.{Content}
 use Rattle.mz_value.specs.Shown.{range_elements}
 use Rattle.mz_core.specs.Types.{PlainType}
@@ -23,13 +23,14 @@ use Rattle.mz_meaning.specs.Evaluation.{eval}
 use Rattle.mz_meaning.specs.Written.{int, var_int, var_bool, var_opt_int, ints, var_ints, list_of, num, lit, slot, fun, call, step, chain, bin, to_var, to_int, list, comp, gen, choose, let_in, range, plain, within, indexed, decl, function, i, set, fromto, row, between, var_number, var_set, var_row, run, gives, stops, by_zero}
 use Rattle.mz_base.specs.declared.kind.Kind.TheVariants as kind
 use Rattle.mz_core.specs.declared.types.Base.TheVariants as base
+use Rattle.mz_meaning.specs.RowNumbers as op
 
 -- let { var 1..2: y } in y = 1, whose y stands at 40
 abbrev y : Decl
 y = decl 40 20 (within var_int (range 35 (pos 1) (pos 2))) None
 
 abbrev free : Tree
-free = let_in 28 var_bool (declares y ∷ []) (bin 43 var_bool (slot 43 var_int 20) 7 (to_var (num 47 (pos 1))))
+free = let_in 28 var_bool (declares y ∷ []) (bin 43 var_bool (slot 43 var_int 20) op.equal (to_var (num 47 (pos 1))))
 
 -- let { var 1..2: y } in y
 abbrev free_number : Tree
@@ -58,19 +59,19 @@ bools es = list 80 var_bool es
 -- A free local may not be evaluated in these places
 record RefusedPlaces : Type 0 where
   -- not free
-  operand_of_not : refused (fun 1 var_bool 6 (free ∷ []))
+  operand_of_not : refused (fun 1 var_bool op.negation (free ∷ []))
   -- true <-> free, and free <-> true
-  equivalence : refused (bin 1 var_bool yes 0 free)
-  equivalence_left : refused (bin 1 var_bool free 0 yes)
+  equivalence : refused (bin 1 var_bool yes op.iff free)
+  equivalence_left : refused (bin 1 var_bool free op.iff yes)
   -- free xor true
-  exclusive_or : refused (bin 1 var_bool free 4 yes)
+  exclusive_or : refused (bin 1 var_bool free op.xor yes)
   -- true = free, and free < true: comparisons of Booleans
-  equal_booleans : refused (bin 1 var_bool yes 7 free)
-  less_booleans : refused (bin 1 var_bool free 9 yes)
+  equal_booleans : refused (bin 1 var_bool yes op.equal free)
+  less_booleans : refused (bin 1 var_bool free op.less yes)
   -- free -> true: the left side of `->`
-  premise : refused (bin 1 var_bool free 1 yes)
+  premise : refused (bin 1 var_bool free op.implies yes)
   -- true <- free: the right side of `<-`
-  premise_behind : refused (bin 1 var_bool yes 2 free)
+  premise_behind : refused (bin 1 var_bool yes op.implied_by free)
   -- if free then true else true endif
   condition : refused (choose 1 var_bool free yes (Some yes))
   -- [1 | n in 1..2 where free]
@@ -78,17 +79,17 @@ record RefusedPlaces : Type 0 where
   -- [1 | n in [free_number]]: a generator's set
   generator : refused (comp 1 var_int (num 2 (pos 1)) (gen (60 ∷ []) (list 11 var_int (free_number ∷ [])) None ∷ []))
   -- bool2int(free)
-  argument_of_bool2int : refused (fun 1 var_int 52 (free ∷ []))
+  argument_of_bool2int : refused (fun 1 var_int op.bool2int (free ∷ []))
   -- free + 1: the coercion from bool to int
-  coerced : refused (bin 1 var_int (to_int free) 25 (to_var (num 70 (pos 1))))
+  coerced : refused (bin 1 var_int (to_int free) op.plus (to_var (num 70 (pos 1))))
   -- xorall([free]), clause([true], [free]), count([free])
-  argument_of_xorall : refused (fun 1 var_bool 48 (bools (free ∷ []) ∷ []))
-  argument_of_clause : refused (fun 1 var_bool 49 (bools (yes ∷ []) ∷ bools (free ∷ []) ∷ []))
-  argument_of_count : refused (fun 1 var_int 50 (bools (free ∷ []) ∷ []))
+  argument_of_xorall : refused (fun 1 var_bool op.xorall (bools (free ∷ []) ∷ []))
+  argument_of_clause : refused (fun 1 var_bool op.clause (bools (yes ∷ []) ∷ bools (free ∷ []) ∷ []))
+  argument_of_count : refused (fun 1 var_int op.count (bools (free ∷ []) ∷ []))
   -- not f(), whose body is free: a body has the context of its call
-  in_a_body : run (function [] (plain var_bool) free ∷ []) (Blank true) no_names (fun 1 var_bool 6 (call 5 var_bool 0 [] ∷ [])) ≡ stops kind.FreeInContext 40 (pos 0)
+  in_a_body : run (function [] (plain var_bool) free ∷ []) (Blank true) no_names (fun 1 var_bool op.negation (call 5 var_bool 0 [] ∷ [])) ≡ stops kind.FreeInContext 40 (pos 0)
   -- (free = true) = true: within a chain
-  first_of_a_chain : refused (chain 1 var_bool free (step 7 var_bool yes ∷ step 7 var_bool yes ∷ []))
+  first_of_a_chain : refused (chain 1 var_bool free (step op.equal var_bool yes ∷ step op.equal var_bool yes ∷ []))
 
 refused_places : RefusedPlaces
 unfolding eval row_table level_table front_of front_in back_of back_in backed scalar_value made_value bounding_value equality is_bounded is_fixable as_bool as_int as_case as_set as_text as_items as_index as_row as_ordinal as_element as_pair as_option is_single enum_of at bool_at int_at case_at ordinal_at element_at option_at set_at enum_at text_at items_at row_at index_at pair connected ordered computed signed folded raised toward nearer quantified contains end_of up_to same_set fold_from summand instance place_count with_index shape_from is_mismatched negative is_failed limited scalar_counts made_counts bounding_counts counts_from cost bound_of bounds_of is_settled toward_ends arith_ends sign_ends extreme_from fold_ends folded_ends raised_ends index_tuples is_reached reached branch_bound branch_bounds if_bounds combined_upper bounds_at each ends_at upper_at elements_at all_ends_at all_uppers_at uppers_before scalar_bounds made_bounds lower_of upper_of value_by_bounds range_elements
@@ -99,15 +100,15 @@ record AllowedPlaces : Type 0 where
   -- free
   alone : noting free ≡ one_choice 9
   -- true -> free
-  conclusion : noting (bin 1 var_bool yes 1 free) ≡ one_choice 12
+  conclusion : noting (bin 1 var_bool yes op.implies free) ≡ one_choice 12
   -- free <- true
-  conclusion_first : noting (bin 1 var_bool free 2 yes) ≡ one_choice 12
+  conclusion_first : noting (bin 1 var_bool free op.implied_by yes) ≡ one_choice 12
   -- free \/ true
-  disjunct : noting (bin 1 var_bool free 3 yes) ≡ one_choice 12
+  disjunct : noting (bin 1 var_bool free op.either yes) ≡ one_choice 12
   -- free_number = 1: a comparison of integers
-  compared_number : noting (bin 1 var_bool free_number 7 (to_var (num 70 (pos 1)))) ≡ one_choice 9
+  compared_number : noting (bin 1 var_bool free_number op.equal (to_var (num 70 (pos 1)))) ≡ one_choice 9
   -- forall([free])
-  in_forall : noting (fun 1 var_bool 44 (bools (free ∷ []) ∷ [])) ≡ one_choice 13
+  in_forall : noting (fun 1 var_bool op.forall (bools (free ∷ []) ∷ [])) ≡ one_choice 13
   -- if true then free else true endif
   branch : noting (choose 1 var_bool (lit 4 true) free (Some yes)) ≡ one_choice 11
 
@@ -135,13 +136,13 @@ locals set = let_in 1 (list_of var_int) (declares (decl 28 20 (indexed (list_of 
 -- Each evaluation of a free local takes choices of its own, one for each element
 record Choices : Type 0 where
   -- (let { var 1..2: y } in y) + (let { var 1..2: y } in y): the first choice is 1 and the second 2
-  two_evaluations : choosing (bin 28 var_int free_number 25 free_number) ≡ Out (var_number (pos 2) (pos 4) (Some (i (pos 3)))) (record { work = 14; taken = domain ∷ domain ∷ []; weight = 2 })
+  two_evaluations : choosing (bin 28 var_int free_number op.plus free_number) ≡ Out (var_number (pos 2) (pos 4) (Some (i (pos 3)))) (record { work = 14; taken = domain ∷ domain ∷ []; weight = 2 })
   -- let { array[1..2] of var 1..2: y } in y: one for each place, and the elements are counted
   one_for_each_place : choosing (locals (Some (range 20 (pos 1) (pos 2)))) ≡ chose (var_row (pos 1) (pos 2) (between (pos 1) (pos 2) ∷ between (pos 1) (pos 2) ∷ []) (Some (row (pos 1) (pos 2) (i (pos 1) ∷ i (pos 2) ∷ [])))) 12 (domain ∷ domain ∷ [])
   -- let { var 1..0: y } in 7: an empty domain takes nothing, and the let is undefined
   empty_domain : choosing (let_in 1 int (declares (decl 14 20 (within var_int (range 8 (pos 1) (pos 0))) None) ∷ []) (num 20 (pos 7))) ≡ Out (Par None) (record { work = 6; taken = []; weight = 1 })
   -- let { var 1..1 div 0: y } in 7: nor does an undefined set
-  undefined_domain : choosing (let_in 1 int (declares (decl 20 20 (within var_int (bin 8 ints (num 8 (pos 1)) 20 (by_zero 11))) None) ∷ []) (num 30 (pos 7))) ≡ Out (Par None) (record { work = 9; taken = []; weight = 1 })
+  undefined_domain : choosing (let_in 1 int (declares (decl 20 20 (within var_int (bin 8 ints (num 8 (pos 1)) op.up_to (by_zero 11))) None) ∷ []) (num 30 (pos 7))) ≡ Out (Par None) (record { work = 9; taken = []; weight = 1 })
   -- let { array[1..2] of var 1..0: y } in y: it has its places, and nothing is taken
   empty_places : choosing (locals (Some (range 20 (pos 1) (pos 0)))) ≡ chose (var_row (pos 1) (pos 2) (between (pos 0) (pos 0) ∷ between (pos 0) (pos 0) ∷ []) None) 12 []
   -- let { array[1..0] of var 1..0: y } in 7: an array without places is there

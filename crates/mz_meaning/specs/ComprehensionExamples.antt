@@ -21,6 +21,7 @@ use Rattle.mz_meaning.specs.Evaluation.{eval}
 use Rattle.mz_meaning.specs.Written.{int, var_int, bool, var_bool, opt_int, var_opt_int, ints, var_ints, list_of, num, lit, slot, fun, bin, to_var, to_opt, list, comp, gen, let_in, range, within, decl, i, b, set, fromto, row, between, var_number, var_set, var_row, run, result, gives, is, is_undefined, given, absent, by_zero}
 use Rattle.mz_value.specs.Contents as values
 use Rattle.mz_core.specs.declared.types.Base.TheVariants as base
+use Rattle.mz_meaning.specs.RowNumbers as op
 
 -- from 1 to 3, with work 4
 abbrev one_to_three : ℕ → Tree
@@ -35,23 +36,23 @@ absent_int at = absent at opt_int
 -- An absent value is a value, and is different from an undefined one
 record AbsentValues : Type 0 where
   -- sum([<>, 2])
-  summand_of_nothing : result (fun 1 int 42 (list 5 opt_int (absent_int 6 ∷ to_opt (num 10 (pos 2)) ∷ []) ∷ [])) ≡ is (i (pos 2)) 7
+  summand_of_nothing : result (fun 1 int op.sum_of_options (list 5 opt_int (absent_int 6 ∷ to_opt (num 10 (pos 2)) ∷ []) ∷ [])) ≡ is (i (pos 2)) 7
   -- forall([<>, true]): absent counts as true
-  absent_in_forall : result (fun 1 bool 45 (list 8 opt_bool (absent 9 opt_bool ∷ to_opt (lit 13 true) ∷ []) ∷ [])) ≡ is (b true) 7
+  absent_in_forall : result (fun 1 bool op.forall_options (list 8 opt_bool (absent 9 opt_bool ∷ to_opt (lit 13 true) ∷ []) ∷ [])) ≡ is (b true) 7
   -- exists([<>, false]): absent counts as false
-  absent_in_exists : result (fun 1 bool 47 (list 8 opt_bool (absent 9 opt_bool ∷ to_opt (lit 13 false) ∷ []) ∷ [])) ≡ is (b false) 7
+  absent_in_exists : result (fun 1 bool op.exists_options (list 8 opt_bool (absent 9 opt_bool ∷ to_opt (lit 13 false) ∷ []) ∷ [])) ≡ is (b false) 7
   -- count([<>, true])
-  absent_in_count : result (fun 1 int 51 (list 7 opt_bool (absent 8 opt_bool ∷ to_opt (lit 12 true) ∷ []) ∷ [])) ≡ is (i (pos 1)) 7
+  absent_in_count : result (fun 1 int op.count_options (list 7 opt_bool (absent 8 opt_bool ∷ to_opt (lit 12 true) ∷ []) ∷ [])) ≡ is (i (pos 1)) 7
   -- <> = <>
-  both_absent : result (bin 1 bool (absent_int 1) 7 (absent_int 6)) ≡ is (b true) 4
+  both_absent : result (bin 1 bool (absent_int 1) op.equal (absent_int 6)) ≡ is (b true) 4
   -- <> = 0
-  one_absent : result (bin 1 bool (absent_int 1) 7 (to_opt (num 6 (pos 0)))) ≡ is (b false) 4
+  one_absent : result (bin 1 bool (absent_int 1) op.equal (to_opt (num 6 (pos 0)))) ≡ is (b false) 4
   -- <> != 0
-  one_absent_differs : result (bin 1 bool (absent_int 1) 8 (to_opt (num 6 (pos 0)))) ≡ is (b true) 4
+  one_absent_differs : result (bin 1 bool (absent_int 1) op.unequal (to_opt (num 6 (pos 0)))) ≡ is (b true) 4
   -- deopt(<>)
-  value_of_nothing : result (fun 1 int 80 (absent_int 7 ∷ [])) ≡ is_undefined 3
+  value_of_nothing : result (fun 1 int op.deopt (absent_int 7 ∷ [])) ≡ is_undefined 3
   -- occurs(<>)
-  occurs_not : result (fun 1 bool 78 (absent_int 8 ∷ [])) ≡ is (b false) 3
+  occurs_not : result (fun 1 bool op.occurs (absent_int 8 ∷ [])) ≡ is (b false) 3
   -- let { opt 1..0: o = <> } in 7: nothing lies in an empty set, not even an absent value
   absent_in_nothing : result (let_in 1 int (declares (decl 17 1 (within opt_int (range 11 (pos 1) (pos 0))) (Some (absent_int 21))) ∷ []) (num 29 (pos 7))) ≡ is_undefined 7
   -- let { opt 1..1: o = <> } in 7
@@ -66,19 +67,19 @@ record Generators : Type 0 where
   -- [n | n in 1..3]: 4 of the set, 1 and 1 for each element, and 1
   one_name : result (comp 1 int (slot 2 int 1) (gen (1 ∷ []) (one_to_three 11) None ∷ [])) ≡ is (row (pos 1) (pos 3) (i (pos 1) ∷ i (pos 2) ∷ i (pos 3) ∷ [])) 11
   -- [10 * n + k | n, k in 1..2]
-  two_names : result (comp 1 int (bin 2 int (bin 2 int (num 2 (pos 10)) 27 (slot 7 int 1)) 25 (slot 11 int 2)) (gen (1 ∷ 2 ∷ []) (range 23 (pos 1) (pos 2)) None ∷ [])) ≡ is (row (pos 1) (pos 4) (i (pos 11) ∷ i (pos 12) ∷ i (pos 21) ∷ i (pos 22) ∷ [])) 39
+  two_names : result (comp 1 int (bin 2 int (bin 2 int (num 2 (pos 10)) op.times (slot 7 int 1)) op.plus (slot 11 int 2)) (gen (1 ∷ 2 ∷ []) (range 23 (pos 1) (pos 2)) None ∷ [])) ≡ is (row (pos 1) (pos 4) (i (pos 11) ∷ i (pos 12) ∷ i (pos 21) ∷ i (pos 22) ∷ [])) 39
   -- [k | n in 1..3, k in n..2]: the second set is evaluated for each element of the first
-  nested : result (comp 1 int (slot 2 int 2) (gen (1 ∷ []) (one_to_three 11) None ∷ gen (2 ∷ []) (bin 22 ints (slot 22 int 1) 20 (num 25 (pos 2))) None ∷ [])) ≡ is (row (pos 1) (pos 3) (i (pos 1) ∷ i (pos 2) ∷ i (pos 2) ∷ [])) 26
+  nested : result (comp 1 int (slot 2 int 2) (gen (1 ∷ []) (one_to_three 11) None ∷ gen (2 ∷ []) (bin 22 ints (slot 22 int 1) op.up_to (num 25 (pos 2))) None ∷ [])) ≡ is (row (pos 1) (pos 3) (i (pos 1) ∷ i (pos 2) ∷ i (pos 2) ∷ [])) 26
   -- [n | n in 1..3 where n > 2]: what is dropped is not evaluated
-  filtered : result (comp 1 int (slot 2 int 1) (gen (1 ∷ []) (one_to_three 11) (Some (bin 22 bool (slot 22 int 1) 11 (num 26 (pos 2)))) ∷ [])) ≡ is (row (pos 1) (pos 1) (i (pos 3) ∷ [])) 21
+  filtered : result (comp 1 int (slot 2 int 1) (gen (1 ∷ []) (one_to_three 11) (Some (bin 22 bool (slot 22 int 1) op.greater (num 26 (pos 2)))) ∷ [])) ≡ is (row (pos 1) (pos 1) (i (pos 3) ∷ [])) 21
   -- [n | n in [5, 6]]: over an array, its elements
   over_an_array : result (comp 1 int (slot 2 int 1) (gen (1 ∷ []) (list 11 int (num 12 (pos 5) ∷ num 15 (pos 6) ∷ [])) None ∷ [])) ≡ is (row (pos 1) (pos 2) (i (pos 5) ∷ i (pos 6) ∷ [])) 8
   -- [n | n in 1..1 div 0]: an undefined set
-  undefined_set : result (comp 1 int (slot 2 int 1) (gen (1 ∷ []) (bin 11 ints (num 11 (pos 1)) 20 (by_zero 14)) None ∷ [])) ≡ is_undefined 8
+  undefined_set : result (comp 1 int (slot 2 int 1) (gen (1 ∷ []) (bin 11 ints (num 11 (pos 1)) op.up_to (by_zero 14)) None ∷ [])) ≡ is_undefined 8
   -- [7 | n in 2..1, k in 1..1 div 0]: the second set is not evaluated
-  inner_set_not_reached : result (comp 1 int (num 2 (pos 7)) (gen (1 ∷ []) (range 11 (pos 2) (pos 1)) None ∷ gen (2 ∷ []) (bin 22 ints (num 22 (pos 1)) 20 (by_zero 25)) None ∷ [])) ≡ is (row (pos 1) (pos 0) []) 5
+  inner_set_not_reached : result (comp 1 int (num 2 (pos 7)) (gen (1 ∷ []) (range 11 (pos 2) (pos 1)) None ∷ gen (2 ∷ []) (bin 22 ints (num 22 (pos 1)) op.up_to (by_zero 25)) None ∷ [])) ≡ is (row (pos 1) (pos 0) []) 5
   -- [1 div n | n in 0..1]
-  an_undefined_element : result (comp 1 int (bin 2 int (num 2 (pos 1)) 30 (slot 8 int 1)) (gen (1 ∷ []) (range 15 (pos 0) (pos 1)) None ∷ [])) ≡ is_undefined 15
+  an_undefined_element : result (comp 1 int (bin 2 int (num 2 (pos 1)) op.quotient (slot 8 int 1)) (gen (1 ∷ []) (range 15 (pos 0) (pos 1)) None ∷ [])) ≡ is_undefined 15
 
 generators : Generators
 unfolding eval row_table level_table front_of front_in back_of back_in backed scalar_value made_value bounding_value equality is_bounded is_fixable as_bool as_int as_case as_set as_text as_items as_index as_row as_ordinal as_element as_pair as_option is_single enum_of at bool_at int_at case_at ordinal_at element_at option_at set_at enum_at text_at items_at row_at index_at pair connected ordered computed signed folded raised toward nearer quantified contains end_of up_to same_set fold_from summand instance place_count with_index shape_from is_mismatched negative is_failed limited scalar_counts made_counts bounding_counts counts_from cost bound_of bounds_of is_settled toward_ends arith_ends sign_ends extreme_from fold_ends folded_ends raised_ends index_tuples is_reached reached branch_bound branch_bounds if_bounds combined_upper bounds_at each ends_at upper_at elements_at all_ends_at all_uppers_at uppers_before scalar_bounds made_bounds lower_of upper_of value_by_bounds range_elements
@@ -99,7 +100,7 @@ s at = slot at var_ints 6
 
 -- [n | n in 1..3 where n < x]
 abbrev below_x : Tree
-below_x = comp 1 var_opt_int (slot 2 int 1) (gen (1 ∷ []) (one_to_three 11) (Some (bin 22 var_bool (to_var (slot 22 int 1)) 9 (x 26))) ∷ [])
+below_x = comp 1 var_opt_int (slot 2 int 1) (gen (1 ∷ []) (one_to_three 11) (Some (bin 22 var_bool (to_var (slot 22 int 1)) op.less (x 26))) ∷ [])
 
 -- [n | n in s]
 abbrev members : Tree
@@ -107,11 +108,11 @@ members = comp 1 var_opt_int (slot 2 int 1) (gen (1 ∷ []) (s 11) None ∷ [])
 
 -- [6 div n | n in s]
 abbrev quotients : Tree
-quotients = comp 1 var_opt_int (bin 2 int (num 2 (pos 6)) 30 (bin 8 int (slot 8 int 1) 26 (num 12 (pos 1)))) (gen (1 ∷ []) (s 22) None ∷ [])
+quotients = comp 1 var_opt_int (bin 2 int (num 2 (pos 6)) op.quotient (bin 8 int (slot 8 int 1) op.minus (num 12 (pos 1)))) (gen (1 ∷ []) (s 22) None ∷ [])
 
 -- [7 | n in s, k in 1..(1 div (n - 1))]
 abbrev inner_sets : Tree
-inner_sets = comp 1 var_opt_int (num 2 (pos 7)) (gen (1 ∷ []) (s 11) None ∷ gen (2 ∷ []) (bin 22 ints (num 22 (pos 1)) 20 (bin 26 int (num 26 (pos 1)) 30 (bin 33 int (slot 33 int 1) 26 (num 37 (pos 1))))) None ∷ [])
+inner_sets = comp 1 var_opt_int (num 2 (pos 7)) (gen (1 ∷ []) (s 11) None ∷ gen (2 ∷ []) (bin 22 ints (num 22 (pos 1)) op.up_to (bin 26 int (num 26 (pos 1)) op.quotient (bin 33 int (slot 33 int 1) op.minus (num 37 (pos 1))))) None ∷ [])
 
 abbrev all_bounds : List Bound
 all_bounds = between (pos 1) (pos 1) ∷ between (pos 2) (pos 2) ∷ between (pos 3) (pos 3) ∷ []
@@ -133,9 +134,9 @@ record OptionalElements : Type 0 where
   -- and where s is {1}
   inner_set_that_counts : run [] given (scope (pos 0) (set (fromto (pos 1) (pos 1)))) inner_sets ≡ gives (var_row (pos 1) (pos 1) (between (pos 7) (pos 7) ∷ []) None) 37
   -- sum([n | n in s]) where s is {2, 3}: its bounds join each element with 0
-  sum_of_options : run [] given (scope (pos 0) (set (fromto (pos 2) (pos 3)))) (fun 1 var_int 42 (members ∷ [])) ≡ gives (var_number (pos 0) (pos 6) (Some (i (pos 5)))) 13
+  sum_of_options : run [] given (scope (pos 0) (set (fromto (pos 2) (pos 3)))) (fun 1 var_int op.sum_of_options (members ∷ [])) ≡ gives (var_number (pos 0) (pos 6) (Some (i (pos 5)))) 13
   -- [n + 1 | n in a] for a var array a, where its first element is 2
-  over_a_var_array : run [] given (scope (pos 2) (set [])) (comp 1 var_int (bin 2 var_int (slot 2 var_int 1) 25 (to_var (num 6 (pos 1)))) (gen (1 ∷ []) (slot 15 (list_of var_int) 7) None ∷ [])) ≡ gives (var_row (pos 1) (pos 2) (between (pos 1) (pos 4) ∷ between (pos 1) (pos 4) ∷ []) (Some (row (pos 1) (pos 2) (i (pos 3) ∷ i (pos 4) ∷ [])))) 12
+  over_a_var_array : run [] given (scope (pos 2) (set [])) (comp 1 var_int (bin 2 var_int (slot 2 var_int 1) op.plus (to_var (num 6 (pos 1)))) (gen (1 ∷ []) (slot 15 (list_of var_int) 7) None ∷ [])) ≡ gives (var_row (pos 1) (pos 2) (between (pos 1) (pos 4) ∷ between (pos 1) (pos 4) ∷ []) (Some (row (pos 1) (pos 2) (i (pos 3) ∷ i (pos 4) ∷ [])))) 12
 
 optional_elements : OptionalElements
 unfolding eval row_table level_table front_of front_in back_of back_in backed scalar_value made_value bounding_value equality is_bounded is_fixable as_bool as_int as_case as_set as_text as_items as_index as_row as_ordinal as_element as_pair as_option is_single enum_of at bool_at int_at case_at ordinal_at element_at option_at set_at enum_at text_at items_at row_at index_at pair connected ordered computed signed folded raised toward nearer quantified contains end_of up_to same_set fold_from summand instance place_count with_index shape_from is_mismatched negative is_failed limited scalar_counts made_counts bounding_counts counts_from cost bound_of bounds_of is_settled toward_ends arith_ends sign_ends extreme_from fold_ends folded_ends raised_ends index_tuples is_reached reached branch_bound branch_bounds if_bounds combined_upper bounds_at each ends_at upper_at elements_at all_ends_at all_uppers_at uppers_before scalar_bounds made_bounds lower_of upper_of value_by_bounds range_elements

@@ -1,6 +1,6 @@
 -- Comprehensions: generators over sets and arrays, par and var; `where`; and the elements that may be absent.
-use Rattle.std.specs.Prelude.{ℕ, ℤ, Bool, true, false, not, ◌&&◌, ◌||◌, List, [], ◌∷◌, ◌++◌, map, length, slice_get, Option, Some, None, if◌then◌else◌}
-use Rattle.std.specs.Option.{option_map, option_and_then}
+use Rattle.std.specs.Prelude.{ℕ, ℤ, Bool, true, false, not, ◌&&◌, ◌||◌, List, [], ◌∷◌, ◌++◌, map, slice_get, Option, Some, None}
+use Rattle.std.specs.Option.{option_and_then}
 use Rattle.std.specs.List.{enumerate_from}
 use Rattle.mz_base.specs.declared.fault.Span.{Span}
 use Rattle.mz_value.specs.Ranges.{Range}

@@ -1,5 +1,5 @@
 -- Domains: which values a decision variable, or a free local, may have.
-use Rattle.std.specs.Prelude.{ℕ, ℤ, pos, neg_ℤ, Bool, true, false, not, ◌&&◌, List, [], ◌∷◌, map, length, Option, Some, None, nat_eq, int_le, int_lt, replicate, if◌then◌else◌, ◌+ℤ◌}
+use Rattle.std.specs.Prelude.{ℕ, ℤ, pos, neg_ℤ, Bool, true, false, not, ◌&&◌, List, [], ◌∷◌, map, Option, Some, None, nat_eq, int_le, int_lt, if◌then◌else◌, ◌+ℤ◌}
 use Rattle.mz_value.specs.Ranges.{Range}
 use Rattle.mz_value.specs.Contents.{Content}
 use Rattle.mz_value.specs.Contents as values

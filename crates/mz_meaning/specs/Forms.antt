@@ -1,6 +1,5 @@
 -- What an expression means, form by form: names and literals, operators and built-ins, chains, arrays, sets, accesses and `if`. Parts are evaluated from left to right before the node; then the node's own work is counted, and then its own faults come.
-use Rattle.std.specs.Prelude.{ℕ, ◌+◌, ℤ, pos, Bool, true, false, List, [], ◌∷◌, ◌++◌, length, reverse, map, nat_eq, Option, Some, None, if◌then◌else◌}
-use Rattle.std.specs.Option.{option_map}
+use Rattle.std.specs.Prelude.{ℕ, ◌+◌, ℤ, pos, Bool, true, false, List, [], ◌∷◌, ◌++◌, length, nat_eq, Option, Some, None, if◌then◌else◌}
 use Rattle.mz_base.specs.declared.fault.Span.{Span}
 use Rattle.mz_value.specs.Ranges.{range_of}
 use Rattle.mz_value.specs.Contents as values

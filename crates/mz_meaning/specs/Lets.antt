@@ -1,21 +1,19 @@
 -- Declared sets, lets and free locals.
-use Rattle.std.specs.Prelude.{ℕ, zero, suc, ◌+◌, ℤ, pos, Bool, true, false, not, ◌&&◌, List, [], ◌∷◌, ◌++◌, map, length, replicate, Option, Some, None, nat_eq, unwrap_or, if◌then◌else◌}
+use Rattle.std.specs.Prelude.{ℕ, zero, suc, ℤ, pos, Bool, true, not, ◌&&◌, List, [], ◌∷◌, ◌++◌, length, replicate, Option, Some, None, if◌then◌else◌}
 use Rattle.mz_base.specs.declared.fault.Span.{Span}
 use Rattle.mz_base.specs.declared.kind.Kind.TheVariants as kind
 use Rattle.mz_value.specs.Ranges.{Range}
 use Rattle.mz_value.specs.Contents.{Content, contents}
 use Rattle.mz_value.specs.Contents as values
-use Rattle.mz_core.specs.declared.types.Base.{Base}
-use Rattle.mz_core.specs.declared.types.Base.TheVariants as base
-use Rattle.mz_core.specs.Types.{PlainType, is_set}
+use Rattle.mz_core.specs.Types.{PlainType}
 use Rattle.mz_core.specs.Tree.{Tree, Decl, Item, declares, constrains, place_of}
 use Rattle.mz_operations.specs.Arrays.{place_count, is_contiguous}
 use Rattle.mz_operations.specs.Bounds.{Bound, Bounds}
 use Rattle.mz_operations.specs.Bounds as bounds
-use Rattle.mz_meaning.specs.Runs.{Run, Out, State, ◌>>=◌, ◌>>◌, give, stop, spend, loop, noted, weigh}
+use Rattle.mz_meaning.specs.Runs.{Run, Out, ◌>>=◌, ◌>>◌, give, stop, spend, loop, noted, weigh}
 use Rattle.mz_meaning.specs.Cells.{Cell, Var, Mode, Blank, Given, held, Env, bind_all, undefined, empty_bound, is_par, is_true, value_of, set_in, Sure, sure, unsure, both_sure, guarded}
 use Rattle.mz_meaning.specs.Domains.{Domain, is_empty_domain, domain_bound, domain_over, default_set}
-use Rattle.mz_meaning.specs.Arrays.{Want, Anything, Missing, Within, want_of, suits, has_set, is_own, is_missing, no_missing, declared_ranges, declared_count, fitted}
+use Rattle.mz_meaning.specs.Arrays.{Want, Anything, Missing, Within, want_of, suits, has_set, is_own, is_missing, declared_ranges, declared_count, fitted}
 use Rattle.mz_meaning.specs.Contexts.{Context, Untested, Positive, Other}
 use Rattle.mz_meaning.specs.Forms.{World, Eval, done}
 

@@ -12,9 +12,11 @@ pub mod Lets
 pub mod Calls
 pub mod Evaluation
 pub mod Kinds
+pub mod Promises
 pub mod Unbounded
 pub mod Walk
 pub mod Solutions
+pub mod RowNumbers
 pub mod Written
 mod UndefinedExamples
 mod ComprehensionExamples

@@ -26,12 +26,13 @@ use Rattle.mz_meaning.specs.Evaluation.{eval}
 use Rattle.mz_meaning.specs.Unbounded.{unbounded_in, in_form, in_maybe, in_trees, in_maybes, in_rows, in_branches, in_steps, in_gens, in_items, first_unbounded}
 use Rattle.mz_meaning.specs.Walk.{Limits, Assignment, Walked, walk}
 use Rattle.mz_meaning.specs.Solutions.{SolvesWith}
-use Rattle.mz_meaning.specs.Written.{col, int, var_int, bool, var_bool, var_opt_int, ints, var_ints, list_of, table_of, num, lit, slot, fun, call, bin, to_var, list, access, choose, let_in, range, plain, within, indexed, decl, param, function, i, b, set, fromto, row, no_choices, absent, by_zero}
+use Rattle.mz_meaning.specs.Written.{col, int, var_int, bool, var_bool, var_opt_int, ints, var_ints, list_of, table_of, num, lit, slot, fun, call, bin, to_var, list, access, choose, let_in, range, plain, within, indexed, decl, param, function, i, b, set, fromto, row, no_choices, by_zero}
 use Rattle.mz_base.specs.declared.kind.Kind.{Kind}
 use Rattle.mz_base.specs.declared.kind.Kind.TheVariants as kind
 use Rattle.mz_value.specs.Contents as values
 use Rattle.mz_core.specs.declared.types.Base.TheVariants as base
 use Rattle.mz_core.specs.Tree as tree
+use Rattle.mz_meaning.specs.RowNumbers as op
 
 abbrev limits : Limits
 limits = record { budget = 10000; int_range = pos 1000000000 }
@@ -82,7 +83,7 @@ empty_domain = model (decl 11 0 (within var_int (range 5 (pos 1) (pos 0))) None 
 
 -- var 0..2: x; constraint 10 div x = 5;
 abbrev quotient : PlainProgram
-quotient = model (decl 11 0 (within var_int (range 5 (pos 0) (pos 2))) None ∷ []) (bin 25 var_bool (bin 25 var_int (to_var (num 25 (pos 10))) 30 (slot 32 var_int 0)) 7 (to_var (num 36 (pos 5))) ∷ [])
+quotient = model (decl 11 0 (within var_int (range 5 (pos 0) (pos 2))) None ∷ []) (bin 25 var_bool (bin 25 var_int (to_var (num 25 (pos 10))) op.quotient (slot 32 var_int 0)) op.equal (to_var (num 36 (pos 5))) ∷ [])
 
 -- array[1..2] of int: a = [1, 2]; var 0..3: i; with a[i]
 abbrev a_decl : List ℤ → Decl
@@ -96,29 +97,29 @@ a_at_i at = access at var_int (slot at (list_of int) 0) (slot (at + 2) var_int 1
 
 -- constraint not (a[i] = 1);
 abbrev not_one : PlainProgram
-not_one = model (a_decl (pos 1 ∷ pos 2 ∷ []) ∷ i_decl (pos 3) ∷ []) (fun 56 var_bool 6 (bin 61 var_bool (a_at_i 61) 7 (to_var (num 68 (pos 1))) ∷ []) ∷ [])
+not_one = model (a_decl (pos 1 ∷ pos 2 ∷ []) ∷ i_decl (pos 3) ∷ []) (fun 56 var_bool op.negation (bin 61 var_bool (a_at_i 61) op.equal (to_var (num 68 (pos 1))) ∷ []) ∷ [])
 
 -- constraint [a[i], 1][2] = 1;
 abbrev beside_one : PlainProgram
-beside_one = model (a_decl (pos 1 ∷ pos 2 ∷ []) ∷ i_decl (pos 3) ∷ []) (bin 56 var_bool (access 56 var_int (list 56 var_int (a_at_i 57 ∷ to_var (num 63 (pos 1)) ∷ [])) (num 66 (pos 2))) 7 (to_var (num 71 (pos 1))) ∷ [])
+beside_one = model (a_decl (pos 1 ∷ pos 2 ∷ []) ∷ i_decl (pos 3) ∷ []) (bin 56 var_bool (access 56 var_int (list 56 var_int (a_at_i 57 ∷ to_var (num 63 (pos 1)) ∷ [])) (num 66 (pos 2))) op.equal (to_var (num 71 (pos 1))) ∷ [])
 
 -- array[1..2] of int: a = [1, 0]; var 0..2: i; constraint if i > 0 then a[i] else 0 endif = 0;
 abbrev guarded_by_if : PlainProgram
-guarded_by_if = model (a_decl (pos 1 ∷ pos 0 ∷ []) ∷ i_decl (pos 2) ∷ []) (bin 56 var_bool (choose 56 var_int (bin 59 var_bool (slot 59 var_int 1) 11 (to_var (num 63 (pos 0)))) (a_at_i 70) (Some (to_var (num 80 (pos 0))))) 7 (to_var (num 90 (pos 0))) ∷ [])
+guarded_by_if = model (a_decl (pos 1 ∷ pos 0 ∷ []) ∷ i_decl (pos 2) ∷ []) (bin 56 var_bool (choose 56 var_int (bin 59 var_bool (slot 59 var_int 1) op.greater (to_var (num 63 (pos 0)))) (a_at_i 70) (Some (to_var (num 80 (pos 0))))) op.equal (to_var (num 90 (pos 0))) ∷ [])
 
 -- function var int: f(var int: z) = let { var 1..2: y } in z + y; var 0..0: x; constraint f(x) = 1 /\ f(x) = 2;
 abbrev f : Function
-f = function (param 10 (plain var_int) ∷ []) (plain var_int) (let_in 35 var_int (declares (decl 50 11 (within var_int (range 45 (pos 1) (pos 2))) None) ∷ []) (bin 57 var_int (slot 57 var_int 10) 25 (slot 61 var_int 11)))
+f = function (param 10 (plain var_int) ∷ []) (plain var_int) (let_in 35 var_int (declares (decl 50 11 (within var_int (range 45 (pos 1) (pos 2))) None) ∷ []) (bin 57 var_int (slot 57 var_int 10) op.plus (slot 61 var_int 11)))
 
 abbrev f_of_x : ℕ → Tree
 f_of_x at = call at var_int 0 (slot (at + 2) var_int 0 ∷ [])
 
 abbrev two_choices : PlainProgram
-two_choices = model_with (f ∷ []) (decl 75 0 (within var_int (range 69 (pos 0) (pos 0))) None ∷ []) (0 ∷ []) (bin 89 var_bool (bin 89 var_bool (f_of_x 89) 7 (to_var (num 96 (pos 1)))) 5 (bin 101 var_bool (f_of_x 101) 7 (to_var (num 108 (pos 2)))) ∷ []) satisfy
+two_choices = model_with (f ∷ []) (decl 75 0 (within var_int (range 69 (pos 0) (pos 0))) None ∷ []) (0 ∷ []) (bin 89 var_bool (bin 89 var_bool (f_of_x 89) op.equal (to_var (num 96 (pos 1)))) op.both (bin 101 var_bool (f_of_x 101) op.equal (to_var (num 108 (pos 2)))) ∷ []) satisfy
 
 -- array[1..3] of var opt 1..5: x; constraint sum(x) = 4;
 abbrev options : PlainProgram
-options = model (decl 30 0 (indexed (list_of var_opt_int) (Some (range 7 (pos 1) (pos 3)) ∷ []) (Some (range 24 (pos 1) (pos 5)))) None ∷ []) (bin 44 var_bool (fun 44 var_int 42 (slot 48 (list_of var_opt_int) 0 ∷ [])) 7 (to_var (num 53 (pos 4))) ∷ [])
+options = model (decl 30 0 (indexed (list_of var_opt_int) (Some (range 7 (pos 1) (pos 3)) ∷ []) (Some (range 24 (pos 1) (pos 5)))) None ∷ []) (bin 44 var_bool (fun 44 var_int op.sum_of_options (slot 48 (list_of var_opt_int) 0 ∷ [])) op.equal (to_var (num 53 (pos 4))) ∷ [])
 
 abbrev i_is : ℤ → Assignment
 i_is n k = if nat_eq k 1 then Some (i n) else None
@@ -172,9 +173,9 @@ solves_two_choices = record { choices = counting; out = _; end = _; runs = refl;
 abbrev four_names : PlainProgram
 four_names = model_with []
     (decl 6 0 (plain int) (Some (num 10 (pos 3)))
-    ∷ decl 22 1 (within var_int (bin 17 ints (num 17 (pos 1)) 20 (slot 20 int 0))) None
+    ∷ decl 22 1 (within var_int (bin 17 ints (num 17 (pos 1)) op.up_to (slot 20 int 0))) None
     ∷ decl 50 2 (indexed (list_of var_int) (Some (range 30 (pos 1) (pos 2)) ∷ []) (Some (range 43 (pos 0) (pos 5)))) None
-    ∷ decl 62 3 (plain var_int) (Some (bin 66 var_int (slot 66 var_int 1) 25 (to_var (slot 70 int 0))))
+    ∷ decl 62 3 (plain var_int) (Some (bin 66 var_int (slot 66 var_int 1) op.plus (to_var (slot 70 int 0))))
     ∷ [])
     (0 ∷ 1 ∷ 2 ∷ 3 ∷ []) [] (minimize (slot 90 var_int 1))
 
@@ -188,7 +189,7 @@ solves_four_names = record { choices = no_choices; out = _; end = _; runs = refl
 
 -- int: m = n + 1; int: n = 2305843009213693952; in which n is evaluated first
 abbrev past_the_limit : PlainProgram
-past_the_limit = model_with [] (decl 6 0 (plain int) (Some (bin 10 int (slot 10 int 1) 25 (num 14 (pos 1)))) ∷ decl 22 1 (plain int) (Some (num 26 (pos 2305843009213693952))) ∷ []) (1 ∷ 0 ∷ []) [] satisfy
+past_the_limit = model_with [] (decl 6 0 (plain int) (Some (bin 10 int (slot 10 int 1) op.plus (num 14 (pos 1)))) ∷ decl 22 1 (plain int) (Some (num 26 (pos 2305843009213693952))) ∷ []) (1 ∷ 0 ∷ []) [] satisfy
 
 abbrev par_model : DeclaredType → Tree → PlainProgram
 par_model t e = model (decl 20 0 t (Some e) ∷ []) []
@@ -198,14 +199,14 @@ walked p = given_to p (λ k. None) no_choices
 
 -- function int: f(int: n) = f(n + 1); int: k = f(0);
 abbrev endless : PlainProgram
-endless = model_with (function (param 10 (plain int) ∷ []) (plain int) (call 27 int 0 (bin 29 int (slot 29 int 10) 25 (num 33 (pos 1)) ∷ [])) ∷ []) (decl 42 0 (plain int) (Some (call 46 int 0 (num 48 (pos 0) ∷ []))) ∷ []) (0 ∷ []) [] satisfy
+endless = model_with (function (param 10 (plain int) ∷ []) (plain int) (call 27 int 0 (bin 29 int (slot 29 int 10) op.plus (num 33 (pos 1)) ∷ [])) ∷ []) (decl 42 0 (plain int) (Some (call 46 int 0 (num 48 (pos 0) ∷ []))) ∷ []) (0 ∷ []) [] satisfy
 
 -- function int: g(int: n) = if n = 0 then 1 else g(n - 1) + g(n - 1) endif; int: k = g(40);
 abbrev g : ℕ → Tree
-g at = call at int 0 (bin (at + 2) int (slot (at + 2) int 10) 26 (num (at + 6) (pos 1)) ∷ [])
+g at = call at int 0 (bin (at + 2) int (slot (at + 2) int 10) op.minus (num (at + 6) (pos 1)) ∷ [])
 
 abbrev doubling : PlainProgram
-doubling = model_with (function (param 10 (plain int) ∷ []) (plain int) (choose 27 int (bin 30 bool (slot 30 int 10) 7 (num 34 (pos 0))) (num 41 (pos 1)) (Some (bin 48 int (g 48) 25 (g 59)))) ∷ []) (decl 80 0 (plain int) (Some (call 84 int 0 (num 86 (pos 40) ∷ []))) ∷ []) (0 ∷ []) [] satisfy
+doubling = model_with (function (param 10 (plain int) ∷ []) (plain int) (choose 27 int (bin 30 bool (slot 30 int 10) op.equal (num 34 (pos 0))) (num 41 (pos 1)) (Some (bin 48 int (g 48) op.plus (g 59)))) ∷ []) (decl 80 0 (plain int) (Some (call 84 int 0 (num 86 (pos 40) ∷ []))) ∷ []) (0 ∷ []) [] satisfy
 
 abbrev kind_and_number : Answer Walked → Option (Kind × ℤ)
 kind_and_number (Out x s) = None
@@ -243,7 +244,7 @@ record Refusals : Type 0 where
   -- 1..3: a = 4
   outside_its_set : walked (par_model (within int (range 1 (pos 1) (pos 3))) (num 24 (pos 4))) ≡ fails kind.ParUndefined 24 (pos 0)
   -- 1..1 div 0: a = 1: at the set
-  undefined_set : walked (par_model (within int (bin 1 ints (num 1 (pos 1)) 20 (by_zero 4))) (num 24 (pos 1))) ≡ fails kind.ParUndefined 1 (pos 0)
+  undefined_set : walked (par_model (within int (bin 1 ints (num 1 (pos 1)) op.up_to (by_zero 4))) (num 24 (pos 1))) ≡ fails kind.ParUndefined 1 (pos 0)
   -- array[1..2] of int: a = [1, 2, 3]: at the value
   index_mismatch : walked (par_model (indexed (list_of int) (Some (range 7 (pos 1) (pos 2)) ∷ []) None) (list 24 int (num 25 (pos 1) ∷ num 28 (pos 2) ∷ num 31 (pos 3) ∷ []))) ≡ fails kind.IndexMismatch 24 (pos 0)
   -- array[1..2] of int: a = [1 div 0, 1, 2]: an undefined array isn't tested
@@ -251,17 +252,17 @@ record Refusals : Type 0 where
   -- array[{1, 3}] of int: a = [1, 2]: the index set isn't contiguous
   holes : walked (par_model (indexed (list_of int) (Some (tree.node (col 7) ints (tree.set (trees (num 8 (pos 1) ∷ num 11 (pos 3) ∷ [])))) ∷ []) None) (list 24 int (num 25 (pos 1) ∷ num 28 (pos 2) ∷ []))) ≡ fails kind.IndexMismatch 7 (pos 0)
   -- array[1..1 div 0, {1, 3}] of int: each is tested as it is evaluated
-  undefined_first : walked (par_model (indexed (table_of int) (Some (bin 7 ints (num 7 (pos 1)) 20 (by_zero 10)) ∷ Some (tree.node (col 19) ints (tree.set (trees (num 20 (pos 1) ∷ num 23 (pos 3) ∷ [])))) ∷ []) None) (list 44 int [])) ≡ fails kind.ParUndefined 7 (pos 0)
+  undefined_first : walked (par_model (indexed (table_of int) (Some (bin 7 ints (num 7 (pos 1)) op.up_to (by_zero 10)) ∷ Some (tree.node (col 19) ints (tree.set (trees (num 20 (pos 1) ∷ num 23 (pos 3) ∷ [])))) ∷ []) None) (list 44 int [])) ≡ fails kind.ParUndefined 7 (pos 0)
   -- array[1..100000000] of int: a = [1]: Budget at the name
   budget : walked (par_model (indexed (list_of int) (Some (range 7 (pos 1) (pos 100000000)) ∷ []) None) (list 24 int (num 25 (pos 1) ∷ []))) ≡ fails kind.Budget 20 (pos 10001)
   -- int: a = 2 ^ (-1)
-  negative_argument : walked (par_model (plain int) (bin 24 int (num 24 (pos 2)) 32 (num 29 (negsuc 0)))) ≡ fails kind.NegativeArgument 24 (negsuc 0)
+  negative_argument : walked (par_model (plain int) (bin 24 int (num 24 (pos 2)) op.power (num 29 (negsuc 0)))) ≡ fails kind.NegativeArgument 24 (negsuc 0)
   -- int: a = 1 div 0; var set of int: s; the second comes first: at its name
   unbounded_set : walked (model (decl 6 0 (plain int) (Some (by_zero 10)) ∷ decl 35 1 (plain var_ints) None ∷ []) []) ≡ fails kind.UnboundedSet 35 (pos 0)
   -- constraint let { array[int] of var int: z } in true: a local one, and before it in source order one in a function
   unbounded_locals : walked (model_with (function [] (plain int) (let_in 20 int (declares (decl 40 5 (indexed (list_of var_int) (None ∷ []) None) None) ∷ []) (num 50 (pos 1))) ∷ []) [] [] (let_in 60 bool (declares (decl 80 6 (indexed (list_of var_int) (None ∷ []) None) None) ∷ []) (lit 90 true) ∷ []) satisfy) ≡ fails kind.UnboundedSet 40 (pos 0)
   -- constraint not (let { var 1..2: y } in y = 1)
-  free_in_context : walked (model [] (fun 12 var_bool 6 (let_in 17 var_bool (declares (decl 23 5 (within var_int (range 19 (pos 1) (pos 2))) None) ∷ []) (bin 33 var_bool (slot 33 var_int 5) 7 (to_var (num 37 (pos 1)))) ∷ []) ∷ [])) ≡ fails kind.FreeInContext 23 (pos 0)
+  free_in_context : walked (model [] (fun 12 var_bool op.negation (let_in 17 var_bool (declares (decl 23 5 (within var_int (range 19 (pos 1) (pos 2))) None) ∷ []) (bin 33 var_bool (slot 33 var_int 5) op.equal (to_var (num 37 (pos 1)))) ∷ []) ∷ [])) ≡ fails kind.FreeInContext 23 (pos 0)
 
 refusals : Refusals
 unfolding eval row_table level_table front_of front_in back_of back_in backed scalar_value made_value bounding_value equality is_bounded is_fixable as_bool as_int as_case as_set as_text as_items as_index as_row as_ordinal as_element as_pair as_option is_single enum_of at bool_at int_at case_at ordinal_at element_at option_at set_at enum_at text_at items_at row_at index_at pair connected ordered computed signed folded raised toward nearer quantified contains end_of up_to same_set fold_from summand instance place_count with_index shape_from is_mismatched negative is_failed limited scalar_counts made_counts bounding_counts counts_from cost bound_of bounds_of is_settled toward_ends arith_ends sign_ends extreme_from fold_ends folded_ends raised_ends index_tuples is_reached reached branch_bound branch_bounds if_bounds combined_upper bounds_at each ends_at upper_at elements_at all_ends_at all_uppers_at uppers_before scalar_bounds made_bounds lower_of upper_of value_by_bounds range_elements union intersection difference combined union_from merged merged_from joined joined_from common common_from gaps first_unbounded unbounded_in in_form in_maybe in_trees in_maybes in_rows in_branches in_steps in_gens in_items lies_in all_lie_in

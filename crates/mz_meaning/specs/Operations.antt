@@ -1,5 +1,5 @@
 -- Operators and built-ins over cells.
-use Rattle.std.specs.Prelude.{ℕ, ◌+◌, ℤ, pos, negsuc, Bool, true, false, not, ◌&&◌, ◌||◌, List, [], ◌∷◌, map, take, drop, ◌++◌, length, slice_get, Option, Some, None, nat_eq, if◌then◌else◌, unwrap_or, nat_abs, int_le}
+use Rattle.std.specs.Prelude.{ℕ, ℤ, pos, Bool, true, false, ◌&&◌, List, [], ◌∷◌, map, take, drop, ◌++◌, length, slice_get, Option, Some, None, if◌then◌else◌, unwrap_or, int_le}
 use Rattle.std.specs.Option.{option_map}
 use Rattle.std.specs.List.{list_all}
 use Rattle.mz_base.specs.declared.fault.Span.{Span}
@@ -10,7 +10,6 @@ use Rattle.mz_value.specs.Contents as values
 use Rattle.mz_value.specs.Shown.{Names, names_of}
 use Rattle.mz_interval.specs.Ends.{is_number}
 use Rattle.mz_core.specs.declared.types.Base.{Base}
-use Rattle.mz_core.specs.declared.types.Base.TheVariants as base
 use Rattle.mz_core.specs.Types.{PlainType, is_set}
 use Rattle.mz_operations.specs.declared.row.Connective.TheVariants.{Iff, Implies, IsImplied, Or, Xor, And}
 use Rattle.mz_operations.specs.declared.row.Comparison.TheVariants.{Less, AtMost, Greater, AtLeast}

@@ -26,6 +26,7 @@ use Rattle.mz_base.specs.declared.kind.Kind.TheVariants as kind
 use Rattle.mz_value.specs.Contents as values
 use Rattle.mz_core.specs.declared.types.Base.TheVariants as base
 use Rattle.mz_core.specs.Tree as tree
+use Rattle.mz_meaning.specs.RowNumbers as op
 
 abbrev literal : List Tree → Tree
 literal es = tree.node (col 1) ints (tree.set (trees es))
@@ -68,18 +69,18 @@ record Sets : Type 0 where
   -- {1 div 0}
   undefined_literal : result (literal (by_zero 2 ∷ [])) ≡ is_undefined 5
   -- {n + n | n in 1..2}
-  set_of_heads : result (tree.node (col 1) ints (tree.comp true (bin 2 int (slot 2 int 1) 25 (slot 6 int 1)) (tree.gens (gen (1 ∷ []) (range 15 (pos 1) (pos 2)) None ∷ [])))) ≡ is (set ((pos 2, pos 2) ∷ (pos 4, pos 4) ∷ [])) 15
+  set_of_heads : result (tree.node (col 1) ints (tree.comp true (bin 2 int (slot 2 int 1) op.plus (slot 6 int 1)) (tree.gens (gen (1 ∷ []) (range 15 (pos 1) (pos 2)) None ∷ [])))) ≡ is (set ((pos 2, pos 2) ∷ (pos 4, pos 4) ∷ [])) 15
   -- s union {5}: nothing is sure, and at most {1, 2, 3, 5}
-  union_bounds : run [] given scope (bin 1 var_ints (s 1) 16 (to_var (range 9 (pos 5) (pos 5)))) ≡ gives (var_set [] ((pos 1, pos 3) ∷ (pos 5, pos 5) ∷ []) (Some (set ((pos 2, pos 2) ∷ (pos 5, pos 5) ∷ [])))) 7
+  union_bounds : run [] given scope (bin 1 var_ints (s 1) op.union (to_var (range 9 (pos 5) (pos 5)))) ≡ gives (var_set [] ((pos 1, pos 3) ∷ (pos 5, pos 5) ∷ []) (Some (set ((pos 2, pos 2) ∷ (pos 5, pos 5) ∷ [])))) 7
   -- lb(g(3) union {5}), with function var set of int: g(int: n) = 1..n
-  least_of_a_union : run (function (param 12 (plain int) ∷ []) (plain var_ints) (to_var (bin 38 ints (num 38 (pos 1)) 20 (slot 41 int 12))) ∷ []) Bare no_names (fun 1 ints 70 (bin 4 var_ints (call 4 var_ints 0 (num 6 (pos 3) ∷ [])) 16 (to_var (literal (num 16 (pos 5) ∷ []))) ∷ [])) ≡ is (set []) 12
+  least_of_a_union : run (function (param 12 (plain int) ∷ []) (plain var_ints) (to_var (bin 38 ints (num 38 (pos 1)) op.up_to (slot 41 int 12))) ∷ []) Bare no_names (fun 1 ints op.lb_set (bin 4 var_ints (call 4 var_ints 0 (num 6 (pos 3) ∷ [])) op.union (to_var (literal (num 16 (pos 5) ∷ []))) ∷ [])) ≡ is (set []) 12
   -- card(s)
-  cardinality_bounds : run [] given scope (fun 1 var_int 21 (s 6 ∷ [])) ≡ gives (var_number (pos 0) (pos 3) (Some (i (pos 1)))) 3
+  cardinality_bounds : run [] given scope (fun 1 var_int op.card (s 6 ∷ [])) ≡ gives (var_number (pos 0) (pos 3) (Some (i (pos 1)))) 3
   -- 2 in s
-  membership : run [] given scope (bin 1 var_bool (to_var (num 1 (pos 2))) 13 (s 6)) ≡ gives (var_number (pos 0) (pos 1) (Some (b true))) 4
+  membership : run [] given scope (bin 1 var_bool (to_var (num 1 (pos 2))) op.member (s 6)) ≡ gives (var_number (pos 0) (pos 1) (Some (b true))) 4
   -- ub(s), and lb(s), which is empty
-  greatest : run [] given scope (fun 1 ints 72 (s 4 ∷ [])) ≡ gives (Par (Some (set (fromto (pos 1) (pos 3))))) 3
-  least : run [] given scope (fun 1 ints 70 (s 4 ∷ [])) ≡ gives (Par (Some (set []))) 3
+  greatest : run [] given scope (fun 1 ints op.ub_set (s 4 ∷ [])) ≡ gives (Par (Some (set (fromto (pos 1) (pos 3))))) 3
+  least : run [] given scope (fun 1 ints op.lb_set (s 4 ∷ [])) ≡ gives (Par (Some (set []))) 3
   -- if true then s else s endif: behind an `if` nothing is sure
   set_of_if : run [] given scope (choose 1 var_ints (lit 4 true) (to_var (range 9 (pos 1) (pos 2))) (Some (s 20))) ≡ gives (var_set [] (fromto (pos 1) (pos 2)) (Some (set (fromto (pos 1) (pos 2))))) 6
 
@@ -92,23 +93,23 @@ record Enums : Type 0 where
   -- E
   whole_enum : with_cases (all_cases 1) ≡ is (values.set (Some 0) (fromto (pos 1) (pos 3))) 1
   -- enum_next(E, A)
-  next_case : with_cases (fun 1 case_type 81 (all_cases 11 ∷ case 14 1 ∷ [])) ≡ is (values.case 0 (pos 2)) 4
+  next_case : with_cases (fun 1 case_type op.enum_next (all_cases 11 ∷ case 14 1 ∷ [])) ≡ is (values.case 0 (pos 2)) 4
   -- enum_next(E, C) is undefined
-  no_next_case : with_cases (fun 1 case_type 81 (all_cases 11 ∷ case 14 3 ∷ [])) ≡ is_undefined 4
+  no_next_case : with_cases (fun 1 case_type op.enum_next (all_cases 11 ∷ case 14 3 ∷ [])) ≡ is_undefined 4
   -- A < B
-  order_of_cases : with_cases (bin 1 bool (case 1 1) 9 (case 5 2)) ≡ is (b true) 4
+  order_of_cases : with_cases (bin 1 bool (case 1 1) op.less (case 5 2)) ≡ is (b true) 4
   -- max(E) is a case, though the row finds a number
-  greatest_case : with_cases (fun 1 case_type 39 (all_cases 5 ∷ [])) ≡ is (values.case 0 (pos 3)) 3
+  greatest_case : with_cases (fun 1 case_type op.greatest_of_set (all_cases 5 ∷ [])) ≡ is (values.case 0 (pos 3)) 3
   -- [n | n in E]
   cases_as_elements : with_cases (comp 1 case_type (slot 2 case_type 1) (gen (1 ∷ []) (all_cases 7) None ∷ [])) ≡ is (row (pos 1) (pos 3) (values.case 0 (pos 1) ∷ values.case 0 (pos 2) ∷ values.case 0 (pos 3) ∷ [])) 8
   -- assert(1 < 2, "m")
-  holding_assert : with_cases (fun 1 bool 83 (bin 8 bool (num 8 (pos 1)) 9 (num 12 (pos 2)) ∷ message 15 ∷ [])) ≡ is (b true) 7
+  holding_assert : with_cases (fun 1 bool op.assert (bin 8 bool (num 8 (pos 1)) op.less (num 12 (pos 2)) ∷ message 15 ∷ [])) ≡ is (b true) 7
   -- assert(2 < 1, "m")
-  failed_assert : with_cases (fun 1 bool 83 (bin 8 bool (num 8 (pos 2)) 9 (num 12 (pos 1)) ∷ message 15 ∷ [])) ≡ stops kind.AssertFailed 1 (pos 0)
+  failed_assert : with_cases (fun 1 bool op.assert (bin 8 bool (num 8 (pos 2)) op.less (num 12 (pos 1)) ∷ message 15 ∷ [])) ≡ stops kind.AssertFailed 1 (pos 0)
   -- assert(1 div 0 = 1, "m"): the condition is false
-  undefined_assert : with_cases (fun 1 bool 83 (bin 8 bool (by_zero 8) 7 (num 18 (pos 1)) ∷ message 21 ∷ [])) ≡ stops kind.AssertFailed 1 (pos 0)
+  undefined_assert : with_cases (fun 1 bool op.assert (bin 8 bool (by_zero 8) op.equal (num 18 (pos 1)) ∷ message 21 ∷ [])) ≡ stops kind.AssertFailed 1 (pos 0)
   -- assert(true, "m", 7)
-  assert_with_value : with_cases (fun 1 int 84 (lit 8 true ∷ message 14 ∷ num 19 (pos 7) ∷ [])) ≡ is (i (pos 7)) 5
+  assert_with_value : with_cases (fun 1 int op.assert_value (lit 8 true ∷ message 14 ∷ num 19 (pos 7) ∷ [])) ≡ is (i (pos 7)) 5
 
 enums : Enums
 unfolding eval row_table level_table front_of front_in back_of back_in backed scalar_value made_value bounding_value equality is_bounded is_fixable as_bool as_int as_case as_set as_text as_items as_index as_row as_ordinal as_element as_pair as_option is_single enum_of at bool_at int_at case_at ordinal_at element_at option_at set_at enum_at text_at items_at row_at index_at pair connected ordered computed signed folded raised toward nearer quantified contains end_of up_to same_set fold_from summand instance place_count with_index shape_from is_mismatched negative is_failed limited scalar_counts made_counts bounding_counts counts_from cost bound_of bounds_of is_settled toward_ends arith_ends sign_ends extreme_from fold_ends folded_ends raised_ends index_tuples is_reached reached branch_bound branch_bounds if_bounds combined_upper bounds_at each ends_at upper_at elements_at all_ends_at all_uppers_at uppers_before scalar_bounds made_bounds lower_of upper_of value_by_bounds range_elements union intersection difference combined union_from merged merged_from joined joined_from common common_from gaps

@@ -18,21 +18,22 @@ use Rattle.mz_meaning.specs.Operations.{row_table}
 use Rattle.mz_meaning.specs.Chains.{level_table, front_of, front_in, back_of, back_in, backed}
 use Rattle.mz_meaning.specs.Evaluation.{eval}
 use Rattle.mz_meaning.specs.Written.{int, bool, ints, num, lit, slot, fun, call, bin, list, access, choose, let_in, range, plain, within, decl, param, function, i, b, run, result, is, is_undefined, by_zero}
+use Rattle.mz_meaning.specs.RowNumbers as op
 
 -- A Boolean is never undefined: it is false where a part is, at the nearest Boolean
 record UndefinedInBooleans : Type 0 where
   -- 1 div 0 = 1 is false. Its work: 4 of the quotient, 1 of the number, 2 of the comparison
-  comparison : result (bin 1 bool (by_zero 1) 7 (num 11 (pos 1))) ≡ is (b false) 7
+  comparison : result (bin 1 bool (by_zero 1) op.equal (num 11 (pos 1))) ≡ is (b false) 7
   -- not (1 div 0 = 1) is true: the undefined part is false at the comparison, and not at the root
-  negation : result (fun 1 bool 6 (bin 6 bool (by_zero 6) 7 (num 16 (pos 1)) ∷ [])) ≡ is (b true) 9
+  negation : result (fun 1 bool op.negation (bin 6 bool (by_zero 6) op.equal (num 16 (pos 1)) ∷ [])) ≡ is (b true) 9
   -- exists([1 div 0 = 1, true])
-  in_exists : result (fun 1 bool 46 (list 8 bool (bin 9 bool (by_zero 9) 7 (num 19 (pos 1)) ∷ lit 22 true ∷ []) ∷ [])) ≡ is (b true) 13
+  in_exists : result (fun 1 bool op.exists (list 8 bool (bin 9 bool (by_zero 9) op.equal (num 19 (pos 1)) ∷ lit 22 true ∷ []) ∷ [])) ≡ is (b true) 13
   -- forall([1 div 0 = 1, true])
-  in_forall : result (fun 1 bool 44 (list 8 bool (bin 9 bool (by_zero 9) 7 (num 19 (pos 1)) ∷ lit 22 true ∷ []) ∷ [])) ≡ is (b false) 13
+  in_forall : result (fun 1 bool op.forall (list 8 bool (bin 9 bool (by_zero 9) op.equal (num 19 (pos 1)) ∷ lit 22 true ∷ []) ∷ [])) ≡ is (b false) 13
   -- (1 div 0 = 1) -> false
-  implied : result (bin 1 bool (bin 2 bool (by_zero 2) 7 (num 12 (pos 1))) 1 (lit 18 false)) ≡ is (b true) 10
+  implied : result (bin 1 bool (bin 2 bool (by_zero 2) op.equal (num 12 (pos 1))) op.implies (lit 18 false)) ≡ is (b true) 10
   -- 1 div 0 != 1 is false too
-  different : result (bin 1 bool (by_zero 1) 8 (num 12 (pos 1))) ≡ is (b false) 7
+  different : result (bin 1 bool (by_zero 1) op.unequal (num 12 (pos 1))) ≡ is (b false) 7
   -- an access to an array of Booleans outside its index set: [true][2]
   access_to_booleans : result (access 1 bool (list 1 bool (lit 2 true ∷ [])) (num 8 (pos 2))) ≡ is (b false) 4
 
@@ -45,9 +46,9 @@ record UndefinedInOthers : Type 0 where
   -- 1 div 0, with work 4
   quotient : result (by_zero 1) ≡ is_undefined 4
   -- 1 mod 0
-  remainder : result (bin 1 int (num 1 (pos 1)) 31 (num 7 (pos 0))) ≡ is_undefined 4
+  remainder : result (bin 1 int (num 1 (pos 1)) op.modulo (num 7 (pos 0))) ≡ is_undefined 4
   -- (1 div 0) * 0
-  product : result (bin 1 int (by_zero 2) 27 (num 14 (pos 0))) ≡ is_undefined 7
+  product : result (bin 1 int (by_zero 2) op.times (num 14 (pos 0))) ≡ is_undefined 7
   -- [1 div 0, 1]: an array with one undefined element
   an_element : result (list 1 int (by_zero 2 ∷ num 11 (pos 1) ∷ [])) ≡ is_undefined 6
   -- [1 div 0, 1][2]: also where another element is asked for
@@ -55,12 +56,12 @@ record UndefinedInOthers : Type 0 where
   -- [1, 2][3]
   outside : result (access 1 int (list 1 int (num 2 (pos 1) ∷ num 5 (pos 2) ∷ [])) (num 8 (pos 3))) ≡ is_undefined 5
   -- min([]) of an array of integers
-  least_of_none : result (fun 1 int 37 (list 5 int [] ∷ [])) ≡ is_undefined 3
+  least_of_none : result (fun 1 int op.least_of_array (list 5 int [] ∷ [])) ≡ is_undefined 3
   -- min(2..1)
-  least_of_the_empty_set : result (fun 1 int 36 (range 5 (pos 2) (pos 1) ∷ [])) ≡ is_undefined 6
+  least_of_the_empty_set : result (fun 1 int op.least_of_set (range 5 (pos 2) (pos 1) ∷ [])) ≡ is_undefined 6
   -- sum([]) is 0, and product([]) is 1
-  sum_of_none : result (fun 1 int 41 (list 5 int [] ∷ [])) ≡ is (i (pos 0)) 3
-  product_of_none : result (fun 1 int 43 (list 9 int [] ∷ [])) ≡ is (i (pos 1)) 3
+  sum_of_none : result (fun 1 int op.sum (list 5 int [] ∷ [])) ≡ is (i (pos 0)) 3
+  product_of_none : result (fun 1 int op.product (list 9 int [] ∷ [])) ≡ is (i (pos 1)) 3
 
 undefined_in_others : UndefinedInOthers
 unfolding eval row_table level_table front_of front_in back_of back_in backed scalar_value made_value bounding_value equality is_bounded is_fixable as_bool as_int as_case as_set as_text as_items as_index as_row as_ordinal as_element as_pair as_option is_single enum_of at bool_at int_at case_at ordinal_at element_at option_at set_at enum_at text_at items_at row_at index_at pair connected ordered computed signed folded raised toward nearer quantified contains end_of up_to same_set fold_from summand instance place_count with_index shape_from is_mismatched negative is_failed limited scalar_counts made_counts bounding_counts counts_from cost bound_of bounds_of is_settled toward_ends arith_ends sign_ends extreme_from fold_ends folded_ends raised_ends index_tuples is_reached reached branch_bound branch_bounds if_bounds combined_upper bounds_at each ends_at upper_at elements_at all_ends_at all_uppers_at uppers_before scalar_bounds made_bounds lower_of upper_of value_by_bounds range_elements
@@ -75,7 +76,7 @@ record UndefinedInIf : Type 0 where
   -- if true then 1 div 0 else 2 endif
   undefined_branch : result (choose 1 int (lit 4 true) (by_zero 14) (Some (num 27 (pos 2)))) ≡ is_undefined 6
   -- if 1 div 0 = 1 then 1 else 2 endif: the condition is false
-  undefined_condition : result (choose 1 int (bin 4 bool (by_zero 4) 7 (num 14 (pos 1))) (num 21 (pos 1)) (Some (num 28 (pos 2)))) ≡ is (i (pos 2)) 9
+  undefined_condition : result (choose 1 int (bin 4 bool (by_zero 4) op.equal (num 14 (pos 1))) (num 21 (pos 1)) (Some (num 28 (pos 2)))) ≡ is (i (pos 2)) 9
   -- if false then false endif is true
   no_else : result (choose 1 bool (lit 4 false) (lit 15 false) None) ≡ is (b true) 2
 
@@ -86,17 +87,17 @@ undefined_in_if = record { else_not_chosen = refl; then_not_chosen = refl; undef
 -- A let is undefined where a constraint is false, or a declared value or set is undefined, or a value lies outside its set; a Boolean one is false there
 record UndefinedInLet : Type 0 where
   -- let { constraint 1 div 0 = 1 } in 2
-  false_constraint : result (let_in 1 int (constrains (bin 18 bool (by_zero 18) 7 (num 28 (pos 1))) ∷ []) (num 35 (pos 2))) ≡ is_undefined 9
+  false_constraint : result (let_in 1 int (constrains (bin 18 bool (by_zero 18) op.equal (num 28 (pos 1))) ∷ []) (num 35 (pos 2))) ≡ is_undefined 9
   -- let { constraint false } in true
   boolean_let : result (let_in 1 bool (constrains (lit 18 false) ∷ []) (lit 29 true)) ≡ is (b false) 3
   -- let { 1..3: x = 5 } in 7
   outside_its_set : result (let_in 1 int (declares (decl 13 1 (within int (range 7 (pos 1) (pos 3))) (Some (num 17 (pos 5)))) ∷ []) (num 24 (pos 7))) ≡ is_undefined 7
   -- let { 1..3: x = 2 } in x + x
-  inside_its_set : result (let_in 1 int (declares (decl 13 1 (within int (range 7 (pos 1) (pos 3))) (Some (num 17 (pos 2)))) ∷ []) (bin 24 int (slot 24 int 1) 25 (slot 28 int 1))) ≡ is (i (pos 4)) 10
+  inside_its_set : result (let_in 1 int (declares (decl 13 1 (within int (range 7 (pos 1) (pos 3))) (Some (num 17 (pos 2)))) ∷ []) (bin 24 int (slot 24 int 1) op.plus (slot 28 int 1))) ≡ is (i (pos 4)) 10
   -- let { int: x = 1 div 0 } in 7
   undefined_value : result (let_in 1 int (declares (decl 12 1 (plain int) (Some (by_zero 16))) ∷ []) (num 29 (pos 7))) ≡ is_undefined 6
   -- let { 1..1 div 0: x = 1 } in 7
-  undefined_set : result (let_in 1 int (declares (decl 19 1 (within int (bin 7 ints (num 7 (pos 1)) 20 (by_zero 10))) (Some (num 23 (pos 1)))) ∷ []) (num 29 (pos 7))) ≡ is_undefined 10
+  undefined_set : result (let_in 1 int (declares (decl 19 1 (within int (bin 7 ints (num 7 (pos 1)) op.up_to (by_zero 10))) (Some (num 23 (pos 1)))) ∷ []) (num 29 (pos 7))) ≡ is_undefined 10
 
 undefined_in_let : UndefinedInLet
 unfolding eval row_table level_table front_of front_in back_of back_in backed scalar_value made_value bounding_value equality is_bounded is_fixable as_bool as_int as_case as_set as_text as_items as_index as_row as_ordinal as_element as_pair as_option is_single enum_of at bool_at int_at case_at ordinal_at element_at option_at set_at enum_at text_at items_at row_at index_at pair connected ordered computed signed folded raised toward nearer quantified contains end_of up_to same_set fold_from summand instance place_count with_index shape_from is_mismatched negative is_failed limited scalar_counts made_counts bounding_counts counts_from cost bound_of bounds_of is_settled toward_ends arith_ends sign_ends extreme_from fold_ends folded_ends raised_ends index_tuples is_reached reached branch_bound branch_bounds if_bounds combined_upper bounds_at each ends_at upper_at elements_at all_ends_at all_uppers_at uppers_before scalar_bounds made_bounds lower_of upper_of value_by_bounds range_elements

@@ -1,13 +1,12 @@
 -- THE WALK: the evaluation of a whole model. No declaration may lack a bound; then come the declarations in the order of their evaluation, the constraints in source order, and the objective.
-use Rattle.std.specs.Prelude.{ℕ, ℤ, pos, Bool, true, false, not, ◌&&◌, List, [], ◌∷◌, ◌++◌, map, replicate, length, Option, Some, None, slice_get, if◌then◌else◌}
+use Rattle.std.specs.Prelude.{ℕ, ℤ, pos, Bool, true, false, ◌&&◌, List, [], ◌∷◌, ◌++◌, map, replicate, Option, Some, None, slice_get}
 use Rattle.mz_base.specs.declared.fault.Span.{Span}
 use Rattle.mz_base.specs.declared.kind.Kind.TheVariants as kind
 use Rattle.mz_value.specs.Ranges.{Range, range_of}
 use Rattle.mz_value.specs.Contents.{Content}
 use Rattle.mz_core.specs.declared.types.Base.{Base}
 use Rattle.mz_core.specs.declared.types.Base.TheVariants as base
-use Rattle.mz_core.specs.Types.{PlainType, is_set}
-use Rattle.mz_core.specs.Order.{no_dims}
+use Rattle.mz_core.specs.Types.{PlainType}
 use Rattle.mz_core.specs.Program.{Goal, PlainProgram}
 use Rattle.mz_core.specs.Program as program
 use Rattle.mz_core.specs.Tree.{Tree, Decl, place_of}

@@ -23,18 +23,19 @@ use Rattle.mz_meaning.specs.Written.{col, int, bool, ints, list_of, num, lit, sl
 use Rattle.mz_base.specs.declared.kind.Kind.TheVariants as kind
 use Rattle.mz_core.specs.declared.types.Coercion.TheVariants as coercion
 use Rattle.mz_core.specs.Tree as tree
+use Rattle.mz_meaning.specs.RowNumbers as op
 
 -- function int: f(int: n) = f(n + 1);
 abbrev endless : Function
-endless = function (param 10 (plain int) ∷ []) (plain int) (call 27 int 0 (bin 29 int (slot 29 int 10) 25 (num 33 (pos 1)) ∷ []))
+endless = function (param 10 (plain int) ∷ []) (plain int) (call 27 int 0 (bin 29 int (slot 29 int 10) op.plus (num 33 (pos 1)) ∷ []))
 
 -- function int: d(int: n) = if n = 0 then 0 else d(n - 1) endif;
 abbrev down : Function
-down = function (param 11 (plain int) ∷ []) (plain int) (choose 27 int (bin 30 bool (slot 30 int 11) 7 (num 34 (pos 0))) (num 41 (pos 0)) (Some (call 48 int 1 (bin 50 int (slot 50 int 11) 26 (num 54 (pos 1)) ∷ []))))
+down = function (param 11 (plain int) ∷ []) (plain int) (choose 27 int (bin 30 bool (slot 30 int 11) op.equal (num 34 (pos 0))) (num 41 (pos 0)) (Some (call 48 int 1 (bin 50 int (slot 50 int 11) op.minus (num 54 (pos 1)) ∷ []))))
 
 -- function int: f(int: n) = if n = 0 then 0 else (f(n - 1) + 1) + 1 endif;
 abbrev chained : Function
-chained = function (param 12 (plain int) ∷ []) (plain int) (choose 27 int (bin 30 bool (slot 30 int 12) 7 (num 34 (pos 0))) (num 41 (pos 0)) (Some (bin 48 int (bin 49 int (call 49 int 2 (bin 51 int (slot 51 int 12) 26 (num 55 (pos 1)) ∷ [])) 25 (num 60 (pos 1))) 25 (num 65 (pos 1)))))
+chained = function (param 12 (plain int) ∷ []) (plain int) (choose 27 int (bin 30 bool (slot 30 int 12) op.equal (num 34 (pos 0))) (num 41 (pos 0)) (Some (bin 48 int (bin 49 int (call 49 int 2 (bin 51 int (slot 51 int 12) op.minus (num 55 (pos 1)) ∷ [])) op.plus (num 60 (pos 1))) op.plus (num 65 (pos 1)))))
 
 abbrev fs : List Function
 fs = endless ∷ down ∷ chained ∷ []
@@ -44,15 +45,15 @@ with_budget n e = eval (world fs n Bare no_names) 600 Positive e no_names start
 
 -- sum([1, 2, 3]): 3 and 1 of the array, 1 and 1 + 3 of the sum
 abbrev a_sum : Tree
-a_sum = fun 1 int 41 (list 5 int (num 6 (pos 1) ∷ num 9 (pos 2) ∷ num 12 (pos 3) ∷ []) ∷ [])
+a_sum = fun 1 int op.sum (list 5 int (num 6 (pos 1) ∷ num 9 (pos 2) ∷ num 12 (pos 3) ∷ []) ∷ [])
 
 -- length(1..3), with the coercion from a set to an array
 abbrev length_of_set : Tree
-length_of_set = fun 10 int 55 (tree.node (col 17) (list_of int) (tree.coerce coercion.SetToArray (range 17 (pos 1) (pos 3))) ∷ [])
+length_of_set = fun 10 int op.length (tree.node (col 17) (list_of int) (tree.coerce coercion.SetToArray (range 17 (pos 1) (pos 3))) ∷ [])
 
 -- 0..d(n)
 abbrev from_zero : ℕ → Tree
-from_zero n = bin 1 ints (num 1 (pos 0)) 20 (call 4 int 1 (num 6 (pos n) ∷ []))
+from_zero n = bin 1 ints (num 1 (pos 0)) op.up_to (call 4 int 1 (num 6 (pos n) ∷ []))
 
 -- Work is 1 for each node, its row's cost besides, and what generators, arrays and sets count; Budget comes at the node where it passes
 record Work : Type 0 where
@@ -65,9 +66,9 @@ record Work : Type 0 where
   -- of 2
   at_an_element : with_budget 2 a_sum ≡ stops kind.Budget 12 (pos 3)
   -- 1 + 2 + 3: each operator counts 1 and its cost
-  chain_of_two : result (chain 1 int (num 1 (pos 1)) (step 25 int (num 5 (pos 2)) ∷ step 25 int (num 9 (pos 3)) ∷ [])) ≡ is (i (pos 6)) 7
+  chain_of_two : result (chain 1 int (num 1 (pos 1)) (step op.plus int (num 5 (pos 2)) ∷ step op.plus int (num 9 (pos 3)) ∷ [])) ≡ is (i (pos 6)) 7
   -- true + 1: a coercion costs nothing
-  coercion : result (bin 1 int (to_int (lit 1 true)) 25 (num 8 (pos 1))) ≡ is (i (pos 2)) 4
+  coercion : result (bin 1 int (to_int (lit 1 true)) op.plus (num 8 (pos 1))) ≡ is (i (pos 2)) 4
   -- length(1..3): but the one from a set to an array counts the set's elements, at the set
   set_to_array : with_budget 100 length_of_set ≡ is (i (pos 3)) 12
   -- with a budget of 6
@@ -101,9 +102,9 @@ nesting = record { without_end = refl; deep_enough = refl; too_deep = refl; chai
 -- `++` is read from the last operand: all operands come first, and then the nodes from the last on
 record Appending : Type 0 where
   -- [1] ++ [2] ++ [3]: 2 for each list; then 1 and 1 + 2, and 1 and 1 + 3
-  three_lists : result (chain 1 (list_of int) (list 1 int (num 2 (pos 1) ∷ [])) (step 54 (list_of int) (list 8 int (num 9 (pos 2) ∷ [])) ∷ step 54 (list_of int) (list 15 int (num 16 (pos 3) ∷ [])) ∷ [])) ≡ is (row (pos 1) (pos 3) (i (pos 1) ∷ i (pos 2) ∷ i (pos 3) ∷ [])) 15
+  three_lists : result (chain 1 (list_of int) (list 1 int (num 2 (pos 1) ∷ [])) (step op.append (list_of int) (list 8 int (num 9 (pos 2) ∷ [])) ∷ step op.append (list_of int) (list 15 int (num 16 (pos 3) ∷ [])) ∷ [])) ≡ is (row (pos 1) (pos 3) (i (pos 1) ∷ i (pos 2) ∷ i (pos 3) ∷ [])) 15
   -- [1] ++ ([2] ++ [3]) is the same chain
-  nested_lists : result (bin 1 (list_of int) (list 1 int (num 2 (pos 1) ∷ [])) 54 (bin 9 (list_of int) (list 9 int (num 10 (pos 2) ∷ [])) 54 (list 16 int (num 17 (pos 3) ∷ [])))) ≡ is (row (pos 1) (pos 3) (i (pos 1) ∷ i (pos 2) ∷ i (pos 3) ∷ [])) 15
+  nested_lists : result (bin 1 (list_of int) (list 1 int (num 2 (pos 1) ∷ [])) op.append (bin 9 (list_of int) (list 9 int (num 10 (pos 2) ∷ [])) op.append (list 16 int (num 17 (pos 3) ∷ [])))) ≡ is (row (pos 1) (pos 3) (i (pos 1) ∷ i (pos 2) ∷ i (pos 3) ∷ [])) 15
 
 appending : Appending
 unfolding eval row_table level_table front_of front_in back_of back_in backed scalar_value made_value bounding_value equality is_bounded is_fixable as_bool as_int as_case as_set as_text as_items as_index as_row as_ordinal as_element as_pair as_option is_single enum_of at bool_at int_at case_at ordinal_at element_at option_at set_at enum_at text_at items_at row_at index_at pair connected ordered computed signed folded raised toward nearer quantified contains end_of up_to same_set fold_from summand instance place_count with_index shape_from is_mismatched negative is_failed limited scalar_counts made_counts bounding_counts counts_from cost bound_of bounds_of is_settled toward_ends arith_ends sign_ends extreme_from fold_ends folded_ends raised_ends index_tuples is_reached reached branch_bound branch_bounds if_bounds combined_upper bounds_at each ends_at upper_at elements_at all_ends_at all_uppers_at uppers_before scalar_bounds made_bounds lower_of upper_of value_by_bounds range_elements

@@ -1,5 +1,5 @@
 -- How the worked examples write typed trees. A place is a column of the one line of the example's text.
-use Rattle.std.specs.Prelude.{ℕ, ◌-◌, ℤ, pos, negsuc, Bool, true, false, List, [], ◌∷◌, Option, Some, None}
+use Rattle.std.specs.Prelude.{ℕ, ◌-◌, ℤ, pos, Bool, true, false, List, [], ◌∷◌, Option, Some, None}
 use Rattle.mz_base.specs.declared.fault.Span.{Span}
 use Rattle.mz_base.specs.declared.kind.Kind.{Kind}
 use Rattle.mz_value.specs.Ranges.{Range}
@@ -16,11 +16,11 @@ use Rattle.mz_core.specs.Tree as tree
 use Rattle.mz_operations.specs.Bounds.{Bound}
 use Rattle.mz_operations.specs.Bounds as bounds
 use Rattle.mz_meaning.specs.Runs.{Answer, Out, Stopped, fault, start}
-use Rattle.mz_meaning.specs.Cells.{Cell, Par, Var, Mode, Blank, Bare, Given, Env, bind, no_names}
-use Rattle.mz_meaning.specs.Domains.{Domain}
+use Rattle.mz_meaning.specs.Cells.{Cell, Par, Var, Mode, Bare, Given, Env, no_names}
 use Rattle.mz_meaning.specs.Contexts.{Positive}
 use Rattle.mz_meaning.specs.Forms.{World}
 use Rattle.mz_meaning.specs.Evaluation.{eval}
+use Rattle.mz_meaning.specs.RowNumbers as op
 
 abbrev pub col : ℕ → Span
 col n = record { file = 0; line = 1; col = n; byte = n - 1 }
@@ -122,7 +122,7 @@ let_in at t is e = tree.node (col at) t (tree.let_in (items is) e)
 
 -- from one number to another: the node has work 2, and each number 1
 abbrev pub range : ℕ → ℤ → ℤ → Tree
-range at a b = bin at ints (num at a) 20 (num at b)
+range at a b = bin at ints (num at a) op.up_to (num at b)
 
 -- ---- declarations
 
@@ -213,4 +213,4 @@ absent at t = tree.node (col at) t tree.absent
 
 -- 1 div 0, which has work 4
 abbrev pub by_zero : ℕ → Tree
-by_zero at = bin at int (num at (pos 1)) 30 (num at (pos 0))
+by_zero at = bin at int (num at (pos 1)) op.quotient (num at (pos 0))

@@ -3,4 +3,4 @@
 
 mod laws;
 
-pub use laws::evaluation_stops_at_few_kinds;
+pub use laws::{cells_have_their_type, evaluation_stops_at_few_kinds};
