@@ -17,6 +17,7 @@ use mz_base::{Memory, Name, Span};
 use mz_tree::{Data, DataItem, Datum, Item, SourceFile, Sources};
 use std::alloc::Global;
 
+#[tactic(auto, unfolding(mz_tree::specs::Data::value))]
 fn identifier(datum: &Datum) -> Option<Name>
     ensures { result ≡ identifier (value datum.now) }
 {
@@ -41,7 +42,7 @@ fn identifiers(alloc: Global, list: &[Datum]) -> Result<Option<Vec<Name>>, Memor
 }
 
 /// The cases that a value gives an enum, or None where it is no set or list of identifiers.
-#[tactic(auto, unfolding(crate::specs::Given::cases_in))]
+#[tactic(auto, unfolding(crate::specs::Given::cases_in, mz_tree::specs::Data::value))]
 pub fn cases_in(alloc: Global, datum: &Datum) -> Result<Option<Vec<Name>>, Memory>
     ensures { IfOk result (λ found. option_map (λ v. v.items) found ≡ cases_in (value datum.now)) }
 {
