@@ -1,5 +1,5 @@
 -- Worked examples of free locals: where they may be evaluated, and which choices they take.
-use Rattle.std.specs.Prelude.{◌≡◌, refl, ℕ, ◌+◌, pos, negsuc, true, false, List, [], ◌∷◌, Option, Some, None, filter}
+use Rattle.std.specs.Prelude.{◌≡◌, refl, ℕ, ◌+◌, pos, negsuc, true, false, List, [], ◌∷◌, Option, Some, None}
 use Rattle.mz_value.specs.Contents.{Content}
 use Rattle.mz_value.specs.Shown.{range_elements}
 use Rattle.mz_core.specs.Types.{PlainType}

@@ -26,7 +26,7 @@ use Rattle.mz_meaning.specs.Evaluation.{eval}
 use Rattle.mz_meaning.specs.Unbounded.{unbounded_in, in_form, in_maybe, in_trees, in_maybes, in_rows, in_branches, in_steps, in_gens, in_items, first_unbounded}
 use Rattle.mz_meaning.specs.Walk.{Limits, Assignment, Walked, walk}
 use Rattle.mz_meaning.specs.Solutions.{SolvesWith}
-use Rattle.mz_meaning.specs.Written.{col, int, var_int, bool, var_bool, var_opt_int, ints, var_ints, list_of, table_of, num, lit, slot, fun, call, bin, to_var, list, access, choose, let_in, range, plain, within, from, indexed, decl, param, function, i, b, set, fromto, row, no_choices, absent, by_zero}
+use Rattle.mz_meaning.specs.Written.{col, int, var_int, bool, var_bool, var_opt_int, ints, var_ints, list_of, table_of, num, lit, slot, fun, call, bin, to_var, list, access, choose, let_in, range, plain, within, from, indexed, decl, param, function, i, b, set, fromto, row, no_choices, by_zero}
 use Rattle.mz_base.specs.declared.kind.Kind.{Kind}
 use Rattle.mz_base.specs.declared.kind.Kind.TheVariants as kind
 use Rattle.mz_value.specs.Contents as values
