@@ -59,10 +59,10 @@ record IndexSets : Type 0 where
   not_as_many : result (declared (from_to 7 (pos 0) (pos 2) ∷ []) one_two (num 50 (pos 7))) ≡ stops kind.IndexMismatch 34 (pos 0)
   -- let { array[0..2] of int: a = [1 div 0] } in 7: an undefined array isn't tested
   undefined_array : result (declared (from_to 7 (pos 0) (pos 2) ∷ []) (list 34 int (by_zero 35 ∷ [])) (num 50 (pos 7))) ≡ is_undefined 14
-  -- let { array[1..4] of int: a = [| 1, 2 | 3, 4 |] } in a[3]: all elements count, whatever their dimensions
-  two_dimensions_in_one : result (declared (from_to 7 (pos 1) (pos 4) ∷ []) two_by_two (access 50 int a (num 52 (pos 3)))) ≡ is (i (pos 3)) 17
-  -- let { array[int] of int: a = [| 1, 2 | 3, 4 |] } in 7: but `int` takes the value's own set, and it has two
-  own_of_two : result (declared (None ∷ []) two_by_two (num 50 (pos 7))) ≡ stops kind.IndexMismatch 34 (pos 0)
+  -- let { array[1..4, 1..1] of int: a = [| 1, 2 | 3, 4 |] } in a[3, 1]: all elements count, whatever their rows
+  other_rows : result (let_in 1 int (declares (decl 30 1 (indexed (table_of int) (from_to 7 (pos 1) (pos 4) ∷ from_to 13 (pos 1) (pos 1) ∷ []) None) (Some two_by_two)) ∷ []) (tree.node (col 50) int (tree.access (slot 50 (table_of int) 1) (trees (num 52 (pos 3) ∷ num 55 (pos 1) ∷ []))))) ≡ is (i (pos 3)) 22
+  -- array[int, 1..1] of int: a = [1, 2], which a data file may say: `int` takes the value's own set of that place, and a list has one
+  own_of_two : result (let_in 1 int (declares (decl 30 1 (indexed (table_of int) (None ∷ from_to 13 (pos 1) (pos 1) ∷ []) None) (Some one_two)) ∷ []) (num 50 (pos 7))) ≡ stops kind.IndexMismatch 34 (pos 0)
   -- f([1, 2])
   argument : value (call 1 int 0 (one_two ∷ [])) ≡ is (i (pos 2)) 11
   -- f([]): at the argument
@@ -74,7 +74,7 @@ record IndexSets : Type 0 where
 
 index_sets : IndexSets
 unfolding eval row_table level_table front_of front_in back_of back_in backed scalar_value made_value bounding_value equality is_bounded is_fixable as_bool as_int as_case as_set as_text as_items as_index as_row as_ordinal as_element as_pair as_option is_single enum_of at bool_at int_at case_at ordinal_at element_at option_at set_at enum_at text_at items_at row_at index_at pair connected ordered computed signed folded raised toward nearer quantified contains end_of up_to same_set fold_from summand instance place_count with_index shape_from is_mismatched negative is_failed limited scalar_counts made_counts bounding_counts counts_from cost bound_of bounds_of is_settled toward_ends arith_ends sign_ends extreme_from fold_ends folded_ends raised_ends index_tuples is_reached reached branch_bound branch_bounds if_bounds combined_upper bounds_at each ends_at upper_at elements_at all_ends_at all_uppers_at uppers_before scalar_bounds made_bounds lower_of upper_of value_by_bounds range_elements
-index_sets = record { taken = refl; own = refl; not_as_many = refl; undefined_array = refl; two_dimensions_in_one = refl; own_of_two = refl; argument = refl; argument_not_as_long = refl; result_moved = refl; result_not_as_long = refl }
+index_sets = record { taken = refl; own = refl; not_as_many = refl; undefined_array = refl; other_rows = refl; own_of_two = refl; argument = refl; argument_not_as_long = refl; result_moved = refl; result_not_as_long = refl }
 
 -- Rows, `array2d` and `if`
 record Shapes : Type 0 where

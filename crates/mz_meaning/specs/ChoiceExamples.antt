@@ -20,21 +20,21 @@ use Rattle.mz_meaning.specs.Domains.{Domain}
 use Rattle.mz_meaning.specs.Operations.{row_table}
 use Rattle.mz_meaning.specs.Chains.{level_table, front_of, front_in, back_of, back_in, backed}
 use Rattle.mz_meaning.specs.Evaluation.{eval}
-use Rattle.mz_meaning.specs.Written.{int, var_int, var_bool, var_opt_int, ints, var_ints, list_of, num, lit, slot, fun, call, step, chain, bin, to_var, to_int, list, comp, gen, choose, let_in, range, plain, within, indexed, decl, function, i, set, fromto, row, between, var_number, var_set, var_row, run, gives, stops, by_zero}
+use Rattle.mz_meaning.specs.Written.{int, var_int, var_bool, var_opt_int, ints, var_ints, list_of, num, lit, slot, fun, call, step, chain, bin, to_var, to_int, list, comp, gen, choose, let_in, range, plain, within, from, indexed, decl, function, i, set, fromto, row, between, var_number, var_set, var_row, run, gives, stops, by_zero}
 use Rattle.mz_base.specs.declared.kind.Kind.TheVariants as kind
 use Rattle.mz_core.specs.declared.types.Base.TheVariants as base
 use Rattle.mz_meaning.specs.RowNumbers as op
 
--- let { var 1..2: y } in y = 1, whose y stands at 40
+-- let { var 1..2: y } in y = 1, whose declaration begins at 34
 abbrev y : Decl
-y = decl 40 20 (within var_int (range 35 (pos 1) (pos 2))) None
+y = decl 44 20 (from 34 (within var_int (range 38 (pos 1) (pos 2)))) None
 
 abbrev free : Tree
-free = let_in 28 var_bool (declares y ∷ []) (bin 43 var_bool (slot 43 var_int 20) op.equal (to_var (num 47 (pos 1))))
+free = let_in 28 var_bool (declares y ∷ []) (bin 51 var_bool (slot 51 var_int 20) op.equal (to_var (num 55 (pos 1))))
 
 -- let { var 1..2: y } in y
 abbrev free_number : Tree
-free_number = let_in 28 var_int (declares y ∷ []) (slot 43 var_int 20)
+free_number = let_in 28 var_int (declares y ∷ []) (slot 51 var_int 20)
 
 abbrev yes : Tree
 yes = to_var (lit 90 true)
@@ -44,7 +44,7 @@ abbrev noting : Tree → Answer Cell
 noting e = run [] (Blank true) no_names e
 
 abbrev refused : Tree → Type 0
-refused e = noting e ≡ stops kind.FreeInContext 40 (pos 0)
+refused e = noting e ≡ stops kind.FreeInContext 34 (pos 0)
 
 abbrev domain : Domain
 domain = record { base = base.Int; opt = false; set = fromto (pos 1) (pos 2) }
@@ -87,7 +87,7 @@ record RefusedPlaces : Type 0 where
   argument_of_clause : refused (fun 1 var_bool op.clause (bools (yes ∷ []) ∷ bools (free ∷ []) ∷ []))
   argument_of_count : refused (fun 1 var_int op.count (bools (free ∷ []) ∷ []))
   -- not f(), whose body is free: a body has the context of its call
-  in_a_body : run (function [] (plain var_bool) free ∷ []) (Blank true) no_names (fun 1 var_bool op.negation (call 5 var_bool 0 [] ∷ [])) ≡ stops kind.FreeInContext 40 (pos 0)
+  in_a_body : run (function [] (plain var_bool) free ∷ []) (Blank true) no_names (fun 1 var_bool op.negation (call 5 var_bool 0 [] ∷ [])) ≡ stops kind.FreeInContext 34 (pos 0)
   -- (free = true) = true: within a chain
   first_of_a_chain : refused (chain 1 var_bool free (step op.equal var_bool yes ∷ step op.equal var_bool yes ∷ []))
 

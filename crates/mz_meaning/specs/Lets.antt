@@ -125,15 +125,16 @@ chosen m n t (r ∷ rs) x =
     then free_array m t (declared_ranges (r ∷ rs) []) x (unless_empty (local_domain n t x))
     else no_choices t (declared_ranges (r ∷ rs) [])
 
+-- in a wrong place it is refused at the first token of its declaration, which is its type's
 abbrev pub free_local : World → Context → Span → PlainType → List Want → Want → Run (Cell × Sure)
 free_local w Untested at t ixs x = chosen w.mode w.int_range t ixs x
 free_local w Positive at t ixs x = chosen w.mode w.int_range t ixs x
 free_local w Other at t ixs x = stop kind.FreeInContext at (pos 0)
 
--- ---- a declaration: its index sets, its set, its value or choice, and then the number of its elements counts, at its name
+-- ---- a declaration: its index sets, its set, and its value. The elements of its array type count at its name: behind the value, and of a free local before its choices
 
 abbrev pub given_value : World → Eval → Context → Decl → List Want → Want → Env → Option Tree → Run (Cell × Sure)
-given_value w go ctx d ixs x env None = spend w.budget d.span (declared_count ixs undefined) >> free_local w ctx d.span d.ty.ty ixs x
+given_value w go ctx d ixs x env None = spend w.budget d.span (declared_count ixs undefined) >> free_local w ctx d.ty.span d.ty.ty ixs x
 given_value w go ctx d ixs x env (Some e) = do
   c ← go ctx e env
   spend w.budget d.span (declared_count ixs c)

@@ -26,7 +26,7 @@ use Rattle.mz_meaning.specs.Evaluation.{eval}
 use Rattle.mz_meaning.specs.Unbounded.{unbounded_in, in_form, in_maybe, in_trees, in_maybes, in_rows, in_branches, in_steps, in_gens, in_items, first_unbounded}
 use Rattle.mz_meaning.specs.Walk.{Limits, Assignment, Walked, walk}
 use Rattle.mz_meaning.specs.Solutions.{SolvesWith}
-use Rattle.mz_meaning.specs.Written.{col, int, var_int, bool, var_bool, var_opt_int, ints, var_ints, list_of, table_of, num, lit, slot, fun, call, bin, to_var, list, access, choose, let_in, range, plain, within, indexed, decl, param, function, i, b, set, fromto, row, no_choices, by_zero}
+use Rattle.mz_meaning.specs.Written.{col, int, var_int, bool, var_bool, var_opt_int, ints, var_ints, list_of, table_of, num, lit, slot, fun, call, bin, to_var, list, access, choose, let_in, range, plain, within, from, indexed, decl, param, function, i, b, set, fromto, row, no_choices, by_zero}
 use Rattle.mz_base.specs.declared.kind.Kind.{Kind}
 use Rattle.mz_base.specs.declared.kind.Kind.TheVariants as kind
 use Rattle.mz_value.specs.Contents as values
@@ -262,7 +262,7 @@ record Refusals : Type 0 where
   -- constraint let { array[int] of var int: z } in true: a local one, and before it in source order one in a function
   unbounded_locals : walked (model_with (function [] (plain int) (let_in 20 int (declares (decl 40 5 (indexed (list_of var_int) (None ∷ []) None) None) ∷ []) (num 50 (pos 1))) ∷ []) [] [] (let_in 60 bool (declares (decl 80 6 (indexed (list_of var_int) (None ∷ []) None) None) ∷ []) (lit 90 true) ∷ []) satisfy) ≡ fails kind.UnboundedSet 40 (pos 0)
   -- constraint not (let { var 1..2: y } in y = 1)
-  free_in_context : walked (model [] (fun 12 var_bool op.negation (let_in 17 var_bool (declares (decl 23 5 (within var_int (range 19 (pos 1) (pos 2))) None) ∷ []) (bin 33 var_bool (slot 33 var_int 5) op.equal (to_var (num 37 (pos 1)))) ∷ []) ∷ [])) ≡ fails kind.FreeInContext 23 (pos 0)
+  free_in_context : walked (model [] (fun 12 var_bool op.negation (let_in 17 var_bool (declares (decl 33 5 (from 23 (within var_int (range 27 (pos 1) (pos 2)))) None) ∷ []) (bin 40 var_bool (slot 40 var_int 5) op.equal (to_var (num 44 (pos 1)))) ∷ []) ∷ [])) ≡ fails kind.FreeInContext 23 (pos 0)
 
 refusals : Refusals
 unfolding eval row_table level_table front_of front_in back_of back_in backed scalar_value made_value bounding_value equality is_bounded is_fixable as_bool as_int as_case as_set as_text as_items as_index as_row as_ordinal as_element as_pair as_option is_single enum_of at bool_at int_at case_at ordinal_at element_at option_at set_at enum_at text_at items_at row_at index_at pair connected ordered computed signed folded raised toward nearer quantified contains end_of up_to same_set fold_from summand instance place_count with_index shape_from is_mismatched negative is_failed limited scalar_counts made_counts bounding_counts counts_from cost bound_of bounds_of is_settled toward_ends arith_ends sign_ends extreme_from fold_ends folded_ends raised_ends index_tuples is_reached reached branch_bound branch_bounds if_bounds combined_upper bounds_at each ends_at upper_at elements_at all_ends_at all_uppers_at uppers_before scalar_bounds made_bounds lower_of upper_of value_by_bounds range_elements union intersection difference combined union_from merged merged_from joined joined_from common common_from gaps first_unbounded unbounded_in in_form in_maybe in_trees in_maybes in_rows in_branches in_steps in_gens in_items lies_in all_lie_in

@@ -135,6 +135,10 @@ within t e = record { span = col 0; ty = t; index = []; set = Some e }
 abbrev pub indexed : PlainType → List (Option Tree) → Option Tree → DeclaredType
 indexed t ixs set = record { span = col 0; ty = t; index = ixs; set = set }
 
+-- a type whose first token stands at a column
+abbrev pub from : ℕ → DeclaredType → DeclaredType
+from at t = record { span = col at; ty = t.ty; index = t.index; set = t.set }
+
 -- a name at a column with its slot, which is its name too
 abbrev pub decl : ℕ → ℕ → DeclaredType → Option Tree → Decl
 decl at s t v = record { slot = s; name = s; span = col at; ty = t; value = v }
