@@ -1,9 +1,8 @@
 -- Worked examples of the bounds of nodes.
 use Rattle.std.specs.Prelude.{◌≡◌, refl, ℕ, ℤ, pos, neg_ℤ, List, [], ◌∷◌, Some, None}
 use Rattle.mz_value.specs.Ranges.{Range}
-use Rattle.mz_value.specs.StepsWalks.{merged, merged_from, joined, joined_from, common, common_from}
 use Rattle.mz_interval.specs.Ends.{Ends, least_number, greatest_number}
-use Rattle.mz_operations.specs.Sets.{union, intersection, end_of}
+use Rattle.mz_operations.specs.Sets.{union, intersection, end_of, complement, missing_from}
 use Rattle.mz_operations.specs.Numbers.{toward}
 use Rattle.mz_operations.specs.Bounds.{toward_ends, arith_ends, sign_ends, extreme_from, union_from, combined_upper}
 use Rattle.mz_arena.specs.declared.node.Node.{Node}
@@ -297,7 +296,7 @@ unfolding if_extent
 branches_of_truth_values = refl
 
 branches_of_sets : bounds_of If (open_truth ∷ within ((pos 1, pos 1) ∷ []) ∷ within ((pos 2, pos 2) ∷ []) ∷ []) ≡ within ((pos 1, pos 2) ∷ [])
-unfolding if_extent union merged merged_from joined joined_from
+unfolding if_extent union complement missing_from intersection
 branches_of_sets = refl
 
 branches_of_two_sorts : bounds_of If (open_truth ∷ int (pos 0) (pos 1) ∷ bool (pos 0) (pos 1) ∷ []) ≡ no_bounds
@@ -386,7 +385,7 @@ unfolding access_extent
 a_truth_value_of_a_list = refl
 
 a_set_of_a_list : bounds_of Access (int (pos 2) (pos 3) ∷ sets (((pos 1, pos 1) ∷ []) ∷ ((pos 2, pos 2) ∷ []) ∷ ((pos 4, pos 5) ∷ []) ∷ []) ∷ []) ≡ within ((pos 2, pos 2) ∷ (pos 4, pos 5) ∷ [])
-unfolding access_extent union_from union merged merged_from joined joined_from
+unfolding access_extent union_from union complement missing_from intersection
 a_set_of_a_list = refl
 
 a_place_of_an_integer : bounds_of Access (int (pos 1) (pos 1) ∷ int (pos 1) (pos 1) ∷ []) ≡ no_bounds
@@ -411,11 +410,11 @@ unfolding set_variable_extent
 a_set_variable_of_an_integer = refl
 
 a_union : bounds_of Union (within ((pos 1, pos 2) ∷ []) ∷ within ((pos 3, pos 3) ∷ []) ∷ []) ≡ within ((pos 1, pos 3) ∷ [])
-unfolding set_extent combined_upper union merged merged_from joined joined_from
+unfolding set_extent combined_upper union complement missing_from intersection
 a_union = refl
 
 an_intersection : bounds_of Intersect (within ((pos 1, pos 5) ∷ []) ∷ within ((pos 4, pos 9) ∷ []) ∷ []) ≡ within ((pos 4, pos 5) ∷ [])
-unfolding set_extent combined_upper intersection common common_from
+unfolding set_extent combined_upper intersection
 an_intersection = refl
 
 -- the first set's, whatever the second is
@@ -424,7 +423,7 @@ unfolding set_extent combined_upper
 a_difference = refl
 
 a_symmetric_difference : bounds_of Symdiff (within ((pos 1, pos 5) ∷ []) ∷ within ((pos 4, pos 9) ∷ []) ∷ []) ≡ within ((pos 1, pos 9) ∷ [])
-unfolding set_extent combined_upper union merged merged_from joined joined_from
+unfolding set_extent combined_upper union complement missing_from intersection
 a_symmetric_difference = refl
 
 a_union_with_an_integer : bounds_of Union (within ((pos 1, pos 2) ∷ []) ∷ int (pos 3) (pos 3) ∷ []) ≡ no_bounds

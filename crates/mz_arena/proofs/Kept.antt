@@ -2,14 +2,11 @@
 use Rattle.std.proofs.Common.{◌≡◌, ℕ, zero, suc, ◌<◌, List, [], ◌∷◌, ◌++◌, length, Bool, true, false, cond, Some, None, slice_get, get_or, refl, sym, ap, subst, ◌∙◌, inl, ⊎_elim, arith, length-append, Result, Ok, Err, IfOk}
 use Rattle.std.proofs.lemmas.Option.{slice_get-get_or}
 use Rattle.mz_value.specs.Ranges.{Range, AreCanonical, IsUnion, IsIntersection}
-use Rattle.mz_value.proofs.Common.{common_members}
-use Rattle.mz_value.proofs.Joined.{union_members}
-use Rattle.mz_value.proofs.Determined.{determined}
 use Rattle.std.specs.Option.{option_and_then}
 use Rattle.mz_operations.specs.declared.row.SetOp.{SetOp}
 use Rattle.mz_operations.specs.Bounds.{combined_upper, hull_of_set}
 use Rattle.mz_operations.specs.Sets.{union, intersection}
-use Rattle.mz_operations.proofs.SetBounds.{union_set, intersection_set}
+use Rattle.mz_operations.proofs.SetMembers.{union_is, intersection_is}
 use Rattle.mz_arena.specs.declared.table.Reach.{Reach}
 use Rattle.mz_arena.specs.declared.table.Reach.TheVariants.{Whole, Truth, Subset, Wholes, Truths, Subsets, Empty}
 use Rattle.mz_arena.specs.declared.table.Stored.{Stored}
@@ -21,22 +18,7 @@ use Rattle.mz_arena.specs.Tables.{Sets, set_at, set_place, seen, entries, Tells,
 
 -- ---- sets by their members
 
-pub union_is : (a b s : List Range) → IsSetList a → IsSetList b → IsUnion a b s → AreCanonical s → s ≡ union a b
-unfolding union
-union_is a b s p q h c =
-    let other = union_set a b p q in
-    let members = union_members a b p.0 p.1 q.0 q.1 in
-    determined s (union a b) c other.0 (λ x. (λ m. (members x).1 ((h x).0 m), λ m. (h x).1 ((members x).0 m)))
-
-pub intersection_is : (a b s : List Range) → IsSetList a → IsSetList b → IsIntersection a b s → AreCanonical s → s ≡ intersection a b
-unfolding intersection
-intersection_is a b s p q h c =
-    let other = intersection_set a b p q in
-    let members = common_members a b p.0 q.0 in
-    determined s (intersection a b) c other.0 (λ x. (λ m. (members x).1 ((h x).0 m), λ m. (h x).1 ((members x).0 m)))
-
 pub union_self : (a : List Range) → IsSetList a → union a a ≡ a
-unfolding union
 union_self a p = sym (union_is a a a p p (λ x. (λ m. inl m, λ m. ⊎_elim (λ l. l) (λ l. l) m)) p.0)
 
 -- ---- a table with one more set

@@ -1,8 +1,7 @@
 -- Worked examples of what nodes mean.
 use Rattle.std.specs.Prelude.{◌≡◌, refl, ℕ, ℤ, pos, neg_ℤ, nat_abs, List, [], ◌∷◌, Some, None}
 use Rattle.mz_value.specs.Ranges.{Range}
-use Rattle.mz_value.specs.StepsWalks.{merged, merged_from, joined, joined_from, common, common_from, gaps}
-use Rattle.mz_operations.specs.Sets.{union, intersection, difference, combined, contains, same_set}
+use Rattle.mz_operations.specs.Sets.{union, intersection, difference, combined, contains, same_set, complement, missing_from}
 use Rattle.mz_operations.specs.Numbers.{computed, signed, toward}
 use Rattle.mz_arena.specs.declared.node.Node.{Node}
 use Rattle.mz_arena.specs.declared.node.NodeKind.{NodeKind}
@@ -408,7 +407,7 @@ unfolding member_term
 no_element_of_an_undefined_set = refl
 
 a_union_of_sets_that_touch : means Union (members ((pos 1, pos 2) ∷ []) ∷ members ((pos 3, pos 4) ∷ []) ∷ []) ≡ members ((pos 1, pos 4) ∷ [])
-unfolding set_term combined union merged merged_from joined joined_from
+unfolding set_term combined union complement missing_from intersection
 a_union_of_sets_that_touch = refl
 
 a_union_with_an_undefined_set : means Union (members ((pos 1, pos 2) ∷ []) ∷ undefined ∷ []) ≡ undefined
@@ -416,15 +415,15 @@ unfolding set_term
 a_union_with_an_undefined_set = refl
 
 what_both_have : means Intersect (members ((pos 1, pos 3) ∷ []) ∷ members ((pos 2, pos 9) ∷ []) ∷ []) ≡ members ((pos 2, pos 3) ∷ [])
-unfolding set_term combined intersection common common_from
+unfolding set_term combined intersection
 what_both_have = refl
 
 what_the_second_has_not : means Diff (members ((pos 1, pos 5) ∷ []) ∷ members ((pos 2, pos 2) ∷ []) ∷ []) ≡ members ((pos 1, pos 1) ∷ (pos 3, pos 5) ∷ [])
-unfolding set_term combined difference common common_from gaps
+unfolding set_term combined difference intersection complement missing_from
 what_the_second_has_not = refl
 
 what_one_alone_has : means Symdiff (members ((pos 1, pos 3) ∷ []) ∷ members ((pos 3, pos 5) ∷ []) ∷ []) ≡ members ((pos 1, pos 2) ∷ (pos 4, pos 5) ∷ [])
-unfolding set_term combined difference union merged merged_from joined joined_from common common_from gaps
+unfolding set_term combined difference union complement missing_from intersection
 what_one_alone_has = refl
 
 an_undefined_first_set : means Diff (undefined ∷ members [] ∷ []) ≡ undefined
@@ -456,15 +455,15 @@ unfolding set_comparison_term
 two_undefined_sets_are_not_equal = refl
 
 the_empty_set_is_a_subset : means Subset (members [] ∷ members ((pos 1, pos 1) ∷ []) ∷ []) ≡ yes
-unfolding set_comparison_term difference common
+unfolding set_comparison_term difference intersection complement missing_from
 the_empty_set_is_a_subset = refl
 
 a_subset : means Subset (members ((pos 2, pos 2) ∷ []) ∷ members ((pos 1, pos 3) ∷ []) ∷ []) ≡ yes
-unfolding set_comparison_term difference common common_from gaps
+unfolding set_comparison_term difference intersection complement missing_from
 a_subset = refl
 
 not_a_subset : means Subset (members ((pos 1, pos 3) ∷ []) ∷ members ((pos 2, pos 9) ∷ []) ∷ []) ≡ no
-unfolding set_comparison_term difference common common_from gaps
+unfolding set_comparison_term difference intersection complement missing_from
 not_a_subset = refl
 
 an_undefined_set_is_no_subset : means Subset (undefined ∷ members ((pos 1, pos 3) ∷ []) ∷ []) ≡ no

@@ -3,7 +3,8 @@ use Rattle.mz_value.specs.Ranges.{Range, IsUnion}
 use Rattle.mz_operations.specs.Bounds.{union_from}
 use Rattle.mz_arena.specs.Tables.{set_at, subsets_of}
 use Rattle.mz_arena.proofs.Lists.{union_step, union_short, union_end}
-use Rattle.mz_arena.proofs.Kept.{set_read, set_there, union_is}
+use Rattle.mz_arena.proofs.Kept.{set_read, set_there}
+use Rattle.mz_operations.proofs.SetMembers.{union_is}
 use Rattle.mz_arena.proofs.table.Table.union_of_first.Goals as goal
 
 pub returns-in-None-clause-is : goal.returns-in-None-clause-is
