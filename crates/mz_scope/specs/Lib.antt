@@ -1,0 +1,4 @@
+pub mod Examples
+pub mod Spaces
+pub mod StepsTests
+pub mod Tests
