@@ -56,19 +56,29 @@ fn print_rows(alloc: Global, page: &mut Page) -> Result<(), Memory> {
 
 /// Linear rows, at the limit of 64 bits.
 fn print_linear_rows(alloc: Global, page: &mut Page) -> Result<(), Memory> {
-    let inside =
-        vec![in alloc; numbers(alloc, 1 << 61, 1 << 58)?, variables(alloc, 0, 1)?, Arg::Int(0)]?;
+    let inside = vec![in alloc;
+        numbers(alloc, 1 << 61, 1 << 58)?,
+        variables(alloc, 0, 1)?,
+        Arg::Int(0),
+    ]?;
     page.case(
         "a sum within 64 bits",
         with_row(alloc, RowName::IntLinLe, inside, None)?,
     );
-    let outside =
-        vec![in alloc; numbers(alloc, 1 << 61, 1 << 61)?, variables(alloc, 0, 1)?, Arg::Int(0)]?;
+    let outside = vec![in alloc;
+        numbers(alloc, 1 << 61, 1 << 61)?,
+        variables(alloc, 0, 1)?,
+        Arg::Int(0),
+    ]?;
     page.case(
         "a sum past 64 bits",
         with_row(alloc, RowName::IntLinLe, outside, None)?,
     );
-    let nested = vec![in alloc; numbers(alloc, 1, 1)?, Arg::Array(vec![in alloc; variables(alloc, 0, 1)?]?), Arg::Int(0)]?;
+    let nested = vec![in alloc;
+        numbers(alloc, 1, 1)?,
+        Arg::Array(vec![in alloc; variables(alloc, 0, 1)?]?),
+        Arg::Int(0),
+    ]?;
     page.case(
         "an array in an array",
         with_row(alloc, RowName::IntLinLe, nested, None)?,

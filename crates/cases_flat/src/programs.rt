@@ -91,7 +91,11 @@ pub fn base(alloc: Global) -> Result<FzProgram, AllocError> {
     row(
         &mut rows,
         RowName::IntLinLe,
-        vec![in alloc; numbers(alloc, 1, -1)?, variables(alloc, 0, 1)?, Arg::Int(5)]?,
+        vec![in alloc;
+            numbers(alloc, 1, -1)?,
+            variables(alloc, 0, 1)?,
+            Arg::Int(5),
+        ]?,
     )?;
     row(
         &mut rows,

@@ -3,7 +3,7 @@
 ghost use Rattle.std.specs.Prelude.{◌≡◌, ◌≤ℤ◌, [], ◌∷◌, ◌++◌, map, IfOk, OnOk, None};
 ghost use Rattle.std.specs.List.{AllByRecursion};
 ghost use Rattle.mz_value.specs.Ranges.{IsInLimit};
-ghost use Rattle.fz_program.specs.Arguments.{argument as argument_seen};
+ghost use Rattle.fz_program.specs.Arguments.{argument as argument_seen, one, var};
 ghost use Rattle.fz_program.specs.Flat.{row, variable, program};
 ghost use Rattle.mz_first.specs.Emission.{names, variables_of, variables, argument, rows_of, rows, row as row_of, variable as variable_of, program_of};
 ghost use Rattle.mz_first.specs.Proper.{IsProper, IsDeclaredIn, AreDeclaredIn};
@@ -87,6 +87,13 @@ fn row(alloc: Global, op: Comparison, a: Arg, b: Arg) -> Result<FzRow, AllocErro
     }
 }
 
+/// The variable at a place, as an argument.
+fn variable_at(place: usize) -> Arg
+    ensures { argument_seen result ≡ one (var place) }
+{
+    Arg::Var(place as u64)
+}
+
 /// An operand as an argument: a number, or the place of its name.
 fn argument<'a>(known: &NameTable<'a>, p: Operand<'a>) -> Arg
     requires { IsDeclaredIn known.now (operand p) }
@@ -95,7 +102,7 @@ fn argument<'a>(known: &NameTable<'a>, p: Operand<'a>) -> Arg
     match p {
         Operand::Number(n) => Arg::Int(n),
         Operand::Name(name) => match known.place(name) {
-            Some(place) => Arg::Var(place as u64),
+            Some(place) => variable_at(place),
             None => unreachable!(),
         },
     }
