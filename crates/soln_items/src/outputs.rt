@@ -9,7 +9,7 @@ ghost use Rattle.soln_items.specs.Tables.{Finds, FindsAlso};
 
 use crate::miss::Miss;
 use mz_value::{Shape, TextValue};
-use std::alloc::Global;
+use std::alloc::{AllocError, Global};
 use std::collections::HashMap;
 
 /// What is written under an output name: the occurrence of an option, or a value.
@@ -32,7 +32,7 @@ pub struct Slot {
 pub type Table = HashMap<String, Slot>;
 
 /// A text before a label.
-fn prefixed(alloc: Global, prefix: &str, label: &TextValue) -> Result<String, Miss>
+fn prefixed(alloc: Global, prefix: &str, label: &TextValue) -> Result<String, AllocError>
     ensures { IfOk result (λ name. string_bytes name ≡ prefix.now ++ text_bytes label.now) }
 {
     let mut name = String::from_str(alloc, prefix)?;
@@ -41,7 +41,7 @@ fn prefixed(alloc: Global, prefix: &str, label: &TextValue) -> Result<String, Mi
 }
 
 /// Adds a name, where it isn't there yet.
-fn add(table: &mut Table, name: String, slot: Slot) -> Result<(), Miss>
+fn add(table: &mut Table, name: String, slot: Slot) -> Result<(), AllocError>
     ensures { OnOk result (FindsAlso table.old table.new ((string_bytes name, slot) ∷ [])) }
 {
     match table.get(name.as_str()) {
@@ -54,7 +54,7 @@ fn add(table: &mut Table, name: String, slot: Slot) -> Result<(), Miss>
 }
 
 /// Adds the output names of a shape.
-fn add_shape(alloc: Global, table: &mut Table, k: usize, shape: &Shape) -> Result<(), Miss>
+fn add_shape(alloc: Global, table: &mut Table, k: usize, shape: &Shape) -> Result<(), AllocError>
     ensures { OnOk result (FindsAlso table.old table.new (outputs_of k (form shape.now))) }
 {
     let value = Slot {
@@ -78,7 +78,7 @@ fn add_shape(alloc: Global, table: &mut Table, k: usize, shape: &Shape) -> Resul
 }
 
 /// The table of shapes' output names. Where two are equal, the first counts.
-pub fn table_of(alloc: Global, shapes: &[Shape]) -> Result<Table, Miss>
+pub fn table_of(alloc: Global, shapes: &[Shape]) -> Result<Table, AllocError>
     ensures { IfOk result (λ table. Finds table (outputs_from 0 (forms shapes.now))) }
 {
     let mut table = HashMap::new(alloc);
