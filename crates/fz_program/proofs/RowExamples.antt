@@ -2,9 +2,8 @@
 use Rattle.std.proofs.Common.{◌≡◌, List, [], ◌∷◌, map, Bool, true, false, refl}
 use Rattle.std.specs.Prelude.{ℤ, pos, negsuc, Option, Some, None}
 use Rattle.mz_value.specs.Ranges.{Range}
-use Rattle.mz_value.specs.StepsWalks.{merged, merged_from, joined, joined_from, common, common_from, gaps}
 use Rattle.mz_operations.specs.Numbers.{computed, signed}
-use Rattle.mz_operations.specs.Sets.{combined, contains, difference, intersection, same_set, union}
+use Rattle.mz_operations.specs.Sets.{combined, complement, contains, difference, intersection, missing_from, same_set, union}
 use Rattle.fz_program.specs.declared.row_name.RowName.{RowName}
 use Rattle.fz_program.specs.declared.row_name.RowName.TheVariants.{IntEq, IntNe, IntLe, IntLt, IntEqReif, IntNeReif, IntLeReif, IntLtReif, IntLinEq, IntLinNe, IntLinLe, IntLinEqReif, IntLinNeReif, IntLinLeReif, IntTimes, IntDiv, IntMod, IntMin, IntMax, IntAbs, ArrayIntElement, ArrayVarIntElement, ArrayBoolElement, ArrayVarBoolElement, ArraySetElement, ArrayVarSetElement, BoolEq, BoolNot, BoolToInt, BoolXor, BoolEqReif, BoolLeReif, ArrayBoolAnd, ArrayBoolOr, BoolClause, SetIn, SetInReif, SetEq, SetNe, SetSubset, SetEqReif, SetNeReif, SetSubsetReif, SetUnion, SetIntersect, SetDiff, SetSymdiff, SetCard}
 use Rattle.fz_program.specs.Values.{Value, number, set, Given, one, many, linear}
@@ -103,19 +102,19 @@ truth_results = refl
 pub set_tests :
     holds SetIn (n (pos 3) ∷ s ((pos 1, pos 3) ∷ []) ∷ []) ∷ holds SetIn (n (pos 4) ∷ s ((pos 1, pos 3) ∷ []) ∷ []) ∷ holds SetIn (n (pos 0) ∷ s [] ∷ []) ∷ holds SetEq (s ((pos 1, pos 3) ∷ []) ∷ s ((pos 1, pos 3) ∷ []) ∷ []) ∷ holds SetEq (s ((pos 1, pos 3) ∷ []) ∷ s [] ∷ []) ∷ holds SetNe (s ((pos 1, pos 3) ∷ []) ∷ s ((pos 4, pos 5) ∷ []) ∷ []) ∷ holds SetNe (s [] ∷ s [] ∷ []) ∷ holds SetSubset (s [] ∷ s ((pos 1, pos 3) ∷ []) ∷ []) ∷ holds SetSubset (s ((pos 1, pos 3) ∷ []) ∷ s [] ∷ []) ∷ holds SetSubset (s ((pos 2, pos 3) ∷ []) ∷ s ((pos 1, pos 3) ∷ []) ∷ []) ∷ []
     ≡ true ∷ false ∷ false ∷ true ∷ false ∷ true ∷ false ∷ true ∷ false ∷ true ∷ []
-unfolding line contains same_set difference common common_from gaps
+unfolding line contains same_set difference intersection complement missing_from
 set_tests = refl
 
 -- each both ways
 pub reified_set_tests :
     result SetInReif (n (pos 1) ∷ s ((pos 1, pos 3) ∷ []) ∷ []) ∷ result SetInReif (n (pos 0) ∷ s ((pos 1, pos 3) ∷ []) ∷ []) ∷ result SetEqReif (s ((pos 1, pos 3) ∷ []) ∷ s ((pos 1, pos 3) ∷ []) ∷ []) ∷ result SetEqReif (s ((pos 1, pos 3) ∷ []) ∷ s ((pos 4, pos 5) ∷ []) ∷ []) ∷ result SetNeReif (s ((pos 1, pos 3) ∷ []) ∷ s ((pos 1, pos 3) ∷ []) ∷ []) ∷ result SetNeReif (s ((pos 1, pos 3) ∷ []) ∷ s ((pos 4, pos 5) ∷ []) ∷ []) ∷ result SetSubsetReif (s ((pos 1, pos 3) ∷ []) ∷ s ((pos 1, pos 3) ∷ []) ∷ []) ∷ result SetSubsetReif (s ((pos 1, pos 3) ∷ []) ∷ s ((pos 4, pos 5) ∷ []) ∷ []) ∷ []
     ≡ Some (number (pos 1)) ∷ Some (number (pos 0)) ∷ Some (number (pos 1)) ∷ Some (number (pos 0)) ∷ Some (number (pos 0)) ∷ Some (number (pos 1)) ∷ Some (number (pos 1)) ∷ Some (number (pos 0)) ∷ []
-unfolding line contains same_set difference common common_from gaps
+unfolding line contains same_set difference intersection complement missing_from
 reified_set_tests = refl
 
 -- sets that touch, that overlap, and that are empty
 pub set_results :
     result SetUnion (s ((pos 1, pos 3) ∷ []) ∷ s ((pos 4, pos 5) ∷ []) ∷ []) ∷ result SetUnion (s [] ∷ s ((pos 4, pos 5) ∷ []) ∷ []) ∷ result SetIntersect (s ((pos 1, pos 3) ∷ []) ∷ s ((pos 4, pos 5) ∷ []) ∷ []) ∷ result SetIntersect (s ((pos 1, pos 3) ∷ []) ∷ s ((pos 3, pos 5) ∷ []) ∷ []) ∷ result SetDiff (s ((pos 1, pos 3) ∷ []) ∷ s ((pos 2, pos 2) ∷ []) ∷ []) ∷ result SetDiff (s ((pos 1, pos 3) ∷ []) ∷ s ((pos 1, pos 3) ∷ []) ∷ []) ∷ result SetSymdiff (s ((pos 1, pos 3) ∷ []) ∷ s ((pos 3, pos 5) ∷ []) ∷ []) ∷ result SetSymdiff (s ((pos 1, pos 3) ∷ []) ∷ s [] ∷ []) ∷ result SetCard (s [] ∷ []) ∷ result SetCard (s ((pos 1, pos 2) ∷ (pos 5, pos 5) ∷ []) ∷ []) ∷ []
     ≡ Some (set ((pos 1, pos 5) ∷ [])) ∷ Some (set ((pos 4, pos 5) ∷ [])) ∷ Some (set []) ∷ Some (set ((pos 3, pos 3) ∷ [])) ∷ Some (set ((pos 1, pos 1) ∷ (pos 3, pos 3) ∷ [])) ∷ Some (set []) ∷ Some (set ((pos 1, pos 2) ∷ (pos 4, pos 5) ∷ [])) ∷ Some (set ((pos 1, pos 3) ∷ [])) ∷ Some (number (pos 0)) ∷ Some (number (pos 3)) ∷ []
-unfolding line combined union intersection difference merged merged_from joined joined_from common common_from gaps
+unfolding line combined union intersection difference complement missing_from
 set_results = refl
