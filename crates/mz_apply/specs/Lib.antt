@@ -1,0 +1,4 @@
+pub mod Lines
+pub mod Applied
+pub mod StepsLimits
+pub mod Numbers
