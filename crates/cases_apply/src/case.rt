@@ -65,11 +65,7 @@ fn item_value(alloc: Global, item: Item) -> Result<Value, Memory> {
     }
 }
 
-fn array_value(
-    alloc: Global,
-    index: &[(i64, i64)],
-    items: &[Item],
-) -> Result<Value, Memory> {
+fn array_value(alloc: Global, index: &[(i64, i64)], items: &[Item]) -> Result<Value, Memory> {
     let index = Vec::from_slice(alloc, index)?;
     let mut all = Vec::new(alloc);
     for item in items {

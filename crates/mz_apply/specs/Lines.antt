@@ -1,5 +1,7 @@
 -- The rows of the table's lines: the place of a line is its number there.
-use Rattle.std.specs.Prelude.{ℕ, List, [], ◌∷◌, map, codes, Option, slice_get}
+use Rattle.std.specs.Prelude.{◌≡◌, ℕ, List, [], ◌∷◌, map, codes, Option, slice_get}
+use Rattle.mz_builtin.specs.Entries.{PlainEntry}
+use Rattle.mz_builtin.specs.Table.{built_ins}
 use Rattle.mz_operations.specs.declared.row.Row.{Row}
 use Rattle.mz_operations.specs.declared.row.Row.TheVariants.{Scalar, Made, Bounding, Show, ShowArray}
 use Rattle.mz_operations.specs.declared.row.ScalarRow.TheVariants.{Logic, Not, Order, Equal, Unequal, In, Arith, Sign, Power, Fold, Extreme, SetExtreme, Quantified, Count, Clause, Ordinal, Card, Length, Occurs, Absent, Beside, Assert}
@@ -117,3 +119,7 @@ rows = map (λ l. l.1) lines
 -- the row of a line
 unfoldable pub row_of : ℕ → Option Row
 row_of number = slice_get rows number
+
+-- the lines are those of the table, in its order
+abbrev pub AreTheTables : Type 0
+AreTheTables = map (λ (l : List ℕ × Row). l.0) lines ≡ map (λ (e : PlainEntry). e.name) built_ins

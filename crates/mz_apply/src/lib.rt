@@ -12,6 +12,6 @@ mod rows;
 pub use applied::{apply, apply_row};
 pub use costs::{cost, cost_of};
 pub use faults::{is_applied, is_failed};
-pub use law::rows_lead_back;
+pub use law::{lines_are_the_tables, rows_lead_back};
 pub use numbers::number_of;
 pub use rows::{read_as, row_of};
