@@ -1,17 +1,10 @@
-// What operators and built-ins give of values, and what they cost: each line is a call and its answer. Each line of the table is called.
+// What operators and built-ins give of values, and what they cost: each line of the input is a call, and is written with its
+// answer. Each line of the table is called.
 #![tactic(auto)]
 
-mod arithmetic;
-mod arrays;
-mod bounds;
 mod case;
-mod cost;
-mod folds;
-mod logic;
-mod sets;
-mod texts;
 
-use crate::case::{Case, values_of};
+use crate::case::{arguments_of, sizes_of};
 use cases::Page;
 use mz_apply::{apply_row, cost_of, is_applied, is_failed, read_as, row_of};
 use mz_base::{Fault, Memory, Span, Stop};
@@ -68,48 +61,73 @@ fn called(
     answered(call, apply_row(alloc, row, args, Span::start(0)), page)
 }
 
-fn one(alloc: Global, case: Case, page: &mut Page) -> Result<(), Memory> {
-    let args = values_of(alloc, case.args)?;
-    match row_of(case.number) {
-        Some(row) => called(alloc, case.call, row, &args, page),
+/// The call of a line that begins with a row's number.
+fn one(
+    alloc: Global,
+    number: &str,
+    call: &str,
+    words: &str,
+    page: &mut Page,
+) -> Result<(), Memory> {
+    let Ok(number) = number.parse::<u32>() else {
+        return Ok(());
+    };
+    let args = arguments_of(alloc, words)?;
+    match row_of(number) {
+        Some(row) => called(alloc, call, row, &args, page),
         None => {
-            not_asked(case.call, page);
+            not_asked(call, page);
             Ok(())
         }
     }
 }
 
-fn group(alloc: Global, all: &[Case], page: &mut Page) -> Result<(), Memory> {
-    for case in all {
-        one(alloc, *case, page)?;
+/// The cost that a line of `cost` asks for.
+fn cost(
+    alloc: Global,
+    number: &str,
+    name: &str,
+    words: &str,
+    page: &mut Page,
+) -> Result<(), Memory> {
+    let Ok(number) = number.parse::<u32>() else {
+        return Ok(());
+    };
+    let sizes = sizes_of(alloc, words)?;
+    if let Some(row) = row_of(number) {
+        page.put("cost of ");
+        page.case(name, cost_of(row, &sizes));
     }
     Ok(())
 }
 
-fn costs(page: &mut Page) {
-    for c in cost::costs() {
-        if let Some(row) = row_of(c.number) {
-            page.put("cost of ");
-            page.case(c.name, cost_of(row, c.sizes));
-        }
+/// The answer of a line. A line of another kind, as a comment, has no answer.
+fn answer(alloc: Global, line: &str, page: &mut Page) -> Result<(), Memory> {
+    let Some((number, rest)) = line.split_once(';') else {
+        return Ok(());
+    };
+    let Some((call, words)) = rest.split_once(';') else {
+        return Ok(());
+    };
+    match number.strip_prefix("cost ") {
+        Some(number) => cost(alloc, number, call.trim(), words, page),
+        None => one(alloc, number, call.trim(), words, page),
     }
 }
 
-fn all(alloc: Global) -> Result<String, Memory> {
+/// All answers.
+fn all(alloc: Global, input: &str) -> Result<String, Memory> {
     let mut page = Page::new(alloc);
-    group(alloc, logic::logic_cases(), &mut page)?;
-    group(alloc, sets::sets_cases(), &mut page)?;
-    group(alloc, arithmetic::arithmetic_cases(), &mut page)?;
-    group(alloc, folds::folds_cases(), &mut page)?;
-    group(alloc, arrays::arrays_cases(), &mut page)?;
-    group(alloc, bounds::bounds_cases(), &mut page)?;
-    group(alloc, texts::texts_cases(), &mut page)?;
-    costs(&mut page);
+    for line in input.lines() {
+        answer(alloc, line, &mut page)?;
+    }
     Ok(page.into_text()?)
 }
 
 fn main(rt: HostRuntime) -> io::Result<()> {
-    match all(rt.alloc()) {
+    let alloc = rt.alloc();
+    let input = io::read_to_string(alloc, rt.reader())?;
+    match all(alloc, input.as_str()) {
         Ok(text) => rt.print(text),
         Err(Memory) => Err(io::Error::from(ErrorKind::OutOfMemory)),
     }
