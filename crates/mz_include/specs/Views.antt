@@ -1,11 +1,11 @@
 -- The files and mentions of the code, each name as its text.
-use Rattle.std.specs.Prelude.{◌≡◌, ℕ, ◌<◌, List, [], ◌∷◌, ◌++◌, length, map, nat_eq, slice_get, Some, All, if◌then◌else◌}
+use Rattle.std.specs.Prelude.{◌≡◌, ℕ, ◌<◌, List, [], ◌∷◌, ◌++◌, length, map, fold, nat_eq, slice_get, Some, All, if◌then◌else◌}
 use Rattle.std.specs.List.{list_any}
 use Rattle.mz_base.specs.Names.{text_of}
 use Rattle.mz_tree.specs.declared.source.SourceFile.{SourceFile}
 use Rattle.mz_tree.specs.Items.{item}
 use Rattle.mz_include.specs.declared.queue.Mention.{Mention as CodeMention}
-use Rattle.mz_include.specs.Naming.{Mention, File}
+use Rattle.mz_include.specs.Naming.{Mention, File, with_mention}
 use Rattle.mz_include.specs.Trees.{IsItemOf}
 
 abbrev pub file : List (List ℕ) → SourceFile → File
@@ -24,6 +24,10 @@ AreKnown names files = (turn : ℕ) (f : SourceFile) → slice_get files turn �
 
 abbrev pub mention : List (List ℕ) → CodeMention → Mention
 mention names m = record { name = text_of names m.name; span = m.span; owner = text_of names m.owner }
+
+-- these mentions were noted in a queue: each whose name is new there
+abbrev pub Notes : List (List ℕ) → List (List ℕ) → List CodeMention → List CodeMention → List Mention → Type 0
+Notes old new queue later ms = map (mention new) later ≡ fold with_mention (map (mention old) queue) ms
 
 -- the names of a mention are of this table
 pub record IsKnown (names : List (List ℕ)) (m : CodeMention) : Type 0 where

@@ -1,12 +1,12 @@
 // The files that a file includes.
 
-ghost use Rattle.std.specs.Prelude.{◌≡◌, ◌<◌, length, map, fold, OnOk, All};
+ghost use Rattle.std.specs.Prelude.{◌<◌, length, map, OnOk, All};
 ghost use Rattle.std.specs.List.{flat_map};
 ghost use Rattle.mz_base.specs.Names.{Grows, text_of};
 ghost use Rattle.mz_tree.specs.Items.{include, item as tree_of};
-ghost use Rattle.mz_include.specs.Naming.{with_mention, included_by};
+ghost use Rattle.mz_include.specs.Naming.{included_by};
 ghost use Rattle.mz_include.specs.Trees.{IsItemKnown};
-ghost use Rattle.mz_include.specs.Views.{mention, IsKnown};
+ghost use Rattle.mz_include.specs.Views.{Notes, IsKnown};
 
 use crate::joining::joined;
 use crate::library::is_library;
@@ -28,7 +28,7 @@ fn note_name(
     requires written { written < length names.old }
     requires owner { owner < length names.old }
     requires known { All (IsKnown names.old) queue.old }
-    ensures noted { OnOk result (map (mention names.new) queue.new ≡ fold with_mention (map (mention names.old) queue.old) (included_by names.old (text_of names.old owner) (include written span))) }
+    ensures noted { OnOk result (Notes names.old names.new queue.old queue.new (included_by names.old (text_of names.old owner) (include written span))) }
     ensures known { OnOk result (All (IsKnown names.new) queue.new) }
     ensures grows { Grows names.old names.new }
 {
@@ -51,7 +51,7 @@ fn note_item(
     requires owner { owner < length names.old }
     requires item { IsItemKnown names.old (tree_of item.now) }
     requires known { All (IsKnown names.old) queue.old }
-    ensures noted { OnOk result (map (mention names.new) queue.new ≡ fold with_mention (map (mention names.old) queue.old) (included_by names.old (text_of names.old owner) (tree_of item.now))) }
+    ensures noted { OnOk result (Notes names.old names.new queue.old queue.new (included_by names.old (text_of names.old owner) (tree_of item.now))) }
     ensures known { OnOk result (All (IsKnown names.new) queue.new) }
     ensures grows { Grows names.old names.new }
 {
@@ -72,7 +72,7 @@ pub fn note_included(
     requires owner { owner < length names.old }
     requires items { All (λ i. IsItemKnown names.old (tree_of i)) items.now }
     requires known { All (IsKnown names.old) queue.old }
-    ensures noted { OnOk result (map (mention names.new) queue.new ≡ fold with_mention (map (mention names.old) queue.old) (flat_map (included_by names.old (text_of names.old owner)) (map tree_of items.now))) }
+    ensures noted { OnOk result (Notes names.old names.new queue.old queue.new (flat_map (included_by names.old (text_of names.old owner)) (map tree_of items.now))) }
     ensures known { OnOk result (All (IsKnown names.new) queue.new) }
     ensures grows { Grows names.old names.new }
 {

@@ -5,7 +5,7 @@ use Rattle.mz_base.specs.declared.fault.Span.{Span}
 use Rattle.mz_base.specs.declared.kind.Kind.TheVariants.{Lexical, LeftOut, Bounds}
 use Rattle.mz_lexer.specs.declared.token.Symbol.TheVariants.{SRimp, SDots}
 use Rattle.mz_base.specs.Keywords.{keyword_of}
-use Rattle.mz_lexer.specs.Symbols.{symbol_at, less_at}
+use Rattle.mz_lexer.specs.StepsSymbols.{symbol_at, less_at}
 use Rattle.mz_lexer.specs.Texts.{content_from, meaning_from}
 use Rattle.std.specs.Str.{is_utf8, chars}
 use Rattle.std.proofs.Math.Utf8.{encode}

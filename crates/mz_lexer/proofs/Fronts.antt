@@ -13,7 +13,8 @@ use Rattle.mz_lexer.specs.Bytes.{front_byte, second_byte, third_byte, is_blank, 
 use Rattle.mz_base.specs.Words.{is_letter, is_digit, is_word_byte}
 use Rattle.mz_base.specs.Keywords.{keyword_text, keyword_of}
 use Rattle.mz_lexer.specs.LeftOut.{is_left_out_keyword}
-use Rattle.mz_lexer.specs.Symbols.{symbol_text, symbol_at}
+use Rattle.mz_lexer.specs.Symbols.{symbol_text}
+use Rattle.mz_lexer.specs.StepsSymbols.{symbol_at}
 use Rattle.mz_lexer.specs.Numbers.{number_of, goes_on}
 use Rattle.mz_lexer.specs.Texts.{is_plain, escape_value, content_len, content_from, meaning, meaning_from}
 use Rattle.mz_lexer.specs.Lexemes as lx

@@ -11,7 +11,7 @@ use Rattle.mz_lexer.specs.Bytes.{front_byte, second_byte, is_blank, is_hex_digit
 use Rattle.mz_base.specs.Words.{is_letter, is_digit, is_word_byte}
 use Rattle.mz_base.specs.Keywords.{keyword_text, keyword_of}
 use Rattle.mz_lexer.specs.LeftOut.{is_left_out_keyword}
-use Rattle.mz_lexer.specs.Symbols.{symbol_at}
+use Rattle.mz_lexer.specs.StepsSymbols.{symbol_at}
 use Rattle.mz_lexer.specs.Numbers.{goes_on}
 use Rattle.mz_lexer.specs.Steps.{Front, refusal, front_of, keyword_or_name, number_front}
 use Rattle.mz_base.specs.Words.{is_word}

@@ -11,7 +11,8 @@ use Rattle.mz_lexer.specs.declared.token.Symbol.{Symbol}
 use Rattle.mz_lexer.specs.declared.token.Symbol.TheVariants.{SLParen, SRParen, SLBrack, SRBrack, SLBrace, SRBrace, SLRows, SRRows, SBar, SComma, SSemi, SColon, SColons, SDots, SEq, SEqEq, SNe, SLt, SLe, SGt, SGe, SRimp, SImp, SIff, SOr, SAnd, SPlus, SMinus, SStar, SCaret, SConcat, SAbsent}
 use Rattle.mz_lexer.specs.Bytes.{front_byte, second_byte, third_byte}
 use Rattle.mz_base.specs.Keywords.{keyword_text, keyword_of, all_keywords}
-use Rattle.mz_lexer.specs.Symbols.{symbol_text, symbol_at, less_at}
+use Rattle.mz_lexer.specs.Symbols.{symbol_text}
+use Rattle.mz_lexer.specs.StepsSymbols.{symbol_at, less_at}
 use Rattle.mz_base.specs.Words.{is_word}
 
 found_passes : {A : Type 0} (p : A → Bool) (xs : List A) (x : A) → find p xs ≡ Some x → p x ≡ true

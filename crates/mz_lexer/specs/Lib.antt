@@ -3,6 +3,7 @@ pub mod LeftOut
 pub mod Lexemes
 pub mod Lexes
 pub mod Numbers
+pub mod StepsSymbols
 pub mod Symbols
 pub mod Texts
 pub mod Views

@@ -19,7 +19,7 @@ use Rattle.mz_lexer.specs.Bytes.{is_byte, quote, backslash, front_byte, second_b
 use Rattle.mz_base.specs.Words.{is_letter, is_digit, is_word_byte}
 use Rattle.mz_base.specs.Keywords.{keyword_of}
 use Rattle.mz_lexer.specs.LeftOut.{is_left_out_keyword}
-use Rattle.mz_lexer.specs.Symbols.{symbol_at}
+use Rattle.mz_lexer.specs.StepsSymbols.{symbol_at}
 use Rattle.mz_lexer.specs.Numbers.{limit, number_of, goes_on}
 use Rattle.mz_lexer.specs.Texts.{content_len, meaning}
 use Rattle.mz_lexer.specs.Lexemes.{Lexeme, word, sym, ident, int, text, text_head, text_mid, text_tail, Lex, begins_piece, passed, after, fault, opens_behind, Outcome, with_token}

@@ -6,7 +6,7 @@ ghost use Rattle.mz_base.specs.Names.{Grows};
 ghost use Rattle.mz_lexer.specs.Bytes.{front_byte, second_byte, third_byte};
 ghost use Rattle.mz_base.specs.Words.{is_letter, is_word_byte};
 ghost use Rattle.mz_lexer.specs.Steps.{word_front, symbol_or_fault, comment_len, comment_of, front_of};
-ghost use Rattle.mz_lexer.specs.Symbols.{symbol_at};
+ghost use Rattle.mz_lexer.specs.StepsSymbols.{symbol_at};
 ghost use Rattle.mz_lexer.specs.Views.{front, IsFrontNamed, Fits};
 
 use crate::byte::{

@@ -1,13 +1,13 @@
 // The longest symbol in front.
 
 ghost use Rattle.std.specs.Prelude.{◌≡◌, ◌≤◌, ◌<◌, IfSome};
-ghost use Rattle.mz_lexer.specs.Symbols.{less_at, longer, symbol_at};
+ghost use Rattle.mz_lexer.specs.StepsSymbols.{less_at, longer, symbol_at};
 ghost use Rattle.mz_lexer.specs.Views.{IsSpelled};
 
 use crate::token::Symbol;
 
 /// The longest symbol that begins with `<` and these two bytes, with its length.
-#[tactic(auto, unfolding(crate::specs::Symbols::less_at))]
+#[tactic(auto, unfolding(crate::specs::StepsSymbols::less_at))]
 fn less_at(second: u8, third: u8) -> Option<(Symbol, usize)>
     ensures value { result ≡ less_at second third }
     ensures len { IfSome result (λ s. IsSpelled second third s.1) }
@@ -22,7 +22,7 @@ fn less_at(second: u8, third: u8) -> Option<(Symbol, usize)>
 }
 
 /// The longest symbol that begins with these three bytes, 0 where there is none, with its length.
-#[tactic(auto, unfolding(crate::specs::Symbols::symbol_at))]
+#[tactic(auto, unfolding(crate::specs::StepsSymbols::symbol_at))]
 pub fn symbol_at(first: u8, second: u8, third: u8) -> Option<(Symbol, usize)>
     ensures value { result ≡ symbol_at first second third }
     ensures len { IfSome result (λ s. IsSpelled second third s.1) }
