@@ -1,16 +1,16 @@
 -- What is allowed in a tree is allowed in its parts, layer by layer.
-use Rattle.std.proofs.Common.{◌≡◌, ℕ, zero, suc, Bool, true, false, List, [], ◌∷◌, ◌++◌, map, flat_map, Option, Some, None, refl, ap, ◌∙◌, slice_get, if◌then◌else◌}
+use Rattle.std.proofs.Common.{◌≡◌, ℕ, zero, suc, Bool, true, false, List, [], ◌∷◌, ◌++◌, flat_map, Option, Some, None, refl, ap, ◌∙◌, slice_get, if◌then◌else◌}
 use Rattle.std.specs.Option.{option_map}
 use Rattle.mz_base.specs.declared.fault.Span.{Span}
 use Rattle.mz_core.specs.Types.{PlainType}
 use Rattle.mz_core.specs.Coercions.{PathLink}
-use Rattle.mz_core.specs.Program.{Function, Goal}
+use Rattle.mz_core.specs.Program.{Function}
 use Rattle.mz_core.specs.Tree.{Tree, Shape, Trees, Maybe, Maybes, Rows, Branches, Steps, Gens, Items, Step, Gen, Decl, Item, declares, constrains, maybe, steps, if_tree, all_trees, all_maybes, all_rows, all_branches, all_steps, all_gens, all_items, shape_of, inner_tree, inner_under}
 use Rattle.mz_core.specs.Tree as tree
-use Rattle.mz_meaning.specs.Chains.{Operator, Front, operators_at, with_left, fronted, coerced_front, front_of, front_in, with_right, last_backed, a_step_of, back_of, back_in, backed, chained, same_level, chain_level}
+use Rattle.mz_meaning.specs.Chains.{Front, operators_at, with_left, fronted, coerced_front, front_of, front_in, last_backed, a_step_of, back_of, back_in, backed, chained, same_level, chain_level}
 use Rattle.mz_meaning.specs.Solutions.{Each}
 use Rattle.mz_independence.specs.FreeLocals.{free_in, free_in_form, free_in_maybe, free_in_trees, free_in_maybes, free_in_rows, free_in_branches, free_in_steps, free_in_gens, free_in_value, free_in_items, free_if, free_in_decl, free_in_function}
-use Rattle.mz_independence.specs.Ties.{Tie, Equal, Untesting, Strict, Without, Allows, AllowsTree, AllowsIf, AllowsStep, AllowsOperator, AllowsFront, AllowsGen, AllowsBranch, AllowsType, AllowsValue, AllowsLocal, AllowsItem, AllowsDecl, AllowsFunction, AllowsFound}
+use Rattle.mz_independence.specs.Ties.{Tie, Equal, Untesting, Strict, Without, Allows, AllowsTree, AllowsIf, AllowsStep, AllowsOperator, AllowsFront, AllowsGen, AllowsBranch, AllowsValue, AllowsItem, AllowsDecl, AllowsFunction, AllowsFound}
 
 -- ---- lists of places
 

@@ -1,5 +1,5 @@
 -- Arrays, accesses, declared sets and branches over cells: they keep outlines.
-use Rattle.std.proofs.Common.{◌≡◌, ℕ, ◌+◌, ℤ, pos, Bool, true, false, not, ◌&&◌, List, [], ◌∷◌, ◌++◌, map, length, Option, Some, None, refl, sym, ap, ◌∙◌, subst, nat_eq, unwrap_or, option_map, if◌then◌else◌}
+use Rattle.std.proofs.Common.{◌≡◌, ℕ, ◌+◌, pos, Bool, true, false, not, ◌&&◌, List, [], ◌∷◌, ◌++◌, map, length, Option, Some, None, refl, sym, ap, ◌∙◌, nat_eq, unwrap_or, option_map, if◌then◌else◌}
 use Rattle.std.specs.List.{list_all}
 use Rattle.std.proofs.lemmas.List.{map-append, length-map}
 use Rattle.mz_base.specs.declared.fault.Span.{Span}
@@ -15,7 +15,7 @@ use Rattle.mz_operations.specs.Bounds.{Bounds, Bound}
 use Rattle.mz_operations.specs.Bounds as bounds
 use Rattle.mz_operations.specs.RowBounds.{line_of}
 use Rattle.mz_meaning.specs.Runs.{Run, give, stop}
-use Rattle.mz_meaning.specs.Cells.{Cell, Par, Var, Unshaped, Mode, Blank, held, undefined, all_par, is_par, is_there, value_of, bounds_in, bounds_as, scalar_bound, index_of, length_of, or_zero, Sure, both_sure}
+use Rattle.mz_meaning.specs.Cells.{Cell, Par, Var, Unshaped, Mode, Blank, held, undefined, all_par, is_par, is_there, value_of, bounds_in, scalar_bound, length_of, or_zero, both_sure}
 use Rattle.mz_meaning.specs.Arrays as arrays
 use Rattle.mz_meaning.specs.Arrays.{Want, Anything, Missing, Within, line_cell, line_value, table_cell, table_value, joined, row_length, table_ranges, par_undefined, all_there, ends_in, hull_over, elements_reached, accessed, access_cell, suits, has_set, own_ranges, declared_ranges, declared_count, fits_shape, no_missing, moved, fitted_to, fitted, branch_bounds_of, all_bounds, same_shape, branches_cell, chosen_value, choice_cell}
 use Rattle.mz_meaning.specs.Lets.{all_have_sets}
@@ -23,7 +23,7 @@ use Rattle.mz_meaning.specs.Calls.{argument_suits, all_lengths}
 use Rattle.mz_independence.specs.Outlines.{outline, outlines, outline_rows, outline_branch, outline_sure}
 use Rattle.mz_independence.specs.Ties.{Tie, HasOutline}
 use Rattle.mz_independence.proofs.Joins.{give_outlined, stop_outlined, if_outlined, at_same}
-use Rattle.mz_independence.proofs.Cells.{both_equal, par_outline, bounds_outline, bounds_as_outline, index_outline, length_outline, scalar_outline, all_par_outline, all_par_same, map_outline, push_outline, both_sure_outline}
+use Rattle.mz_independence.proofs.Cells.{both_equal, par_outline, bounds_outline, bounds_as_outline, index_outline, length_outline, scalar_outline, all_par_outline, all_par_same, map_outline, both_sure_outline}
 
 abbrev element_bound : Cell → Bound
 element_bound c = scalar_bound (bounds_in c)

@@ -4,7 +4,7 @@ use Rattle.mz_base.specs.declared.fault.Span.{Span}
 use Rattle.mz_core.specs.Program.{Function}
 use Rattle.mz_core.specs.Tree.{Tree, Decl, place_of}
 use Rattle.mz_meaning.specs.Runs.{Run, then_do, loop}
-use Rattle.mz_meaning.specs.Cells.{Cell, Blank, Env, undefined, Sure, both_sure, guarded}
+use Rattle.mz_meaning.specs.Cells.{Cell, Blank, Env, undefined, both_sure, guarded}
 use Rattle.mz_meaning.specs.Arrays.{Want, suits}
 use Rattle.mz_meaning.specs.Contexts.{Context}
 use Rattle.mz_meaning.specs.Forms.{World, Eval}

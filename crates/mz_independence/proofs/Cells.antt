@@ -1,7 +1,6 @@
 -- Readings of cells, types, coercions and guards: they keep outlines.
-use Rattle.std.proofs.Common.{◌≡◌, ℕ, suc, Bool, true, false, not, ◌&&◌, List, [], ◌∷◌, ◌++◌, map, length, Option, Some, None, refl, ap, ◌∙◌, nat_eq, if◌then◌else◌, cond}
+use Rattle.std.proofs.Common.{◌≡◌, ℕ, Bool, true, false, not, ◌&&◌, List, [], ◌∷◌, ◌++◌, map, length, Option, Some, None, refl, ap, ◌∙◌, nat_eq, if◌then◌else◌, cond}
 use Rattle.mz_value.specs.Ranges.{Range}
-use Rattle.mz_value.specs.Contents.{Content}
 use Rattle.mz_core.specs.declared.types.Base.{Base}
 use Rattle.mz_core.specs.declared.types.Base.TheVariants as base
 use Rattle.mz_core.specs.declared.types.Coercion.{Coercion}
@@ -9,8 +8,8 @@ use Rattle.mz_core.specs.declared.types.Coercion.TheVariants as coercion
 use Rattle.mz_core.specs.Types.{PlainType}
 use Rattle.mz_core.specs.Order.{no_dims}
 use Rattle.mz_core.specs.Coercions.{PathLink}
-use Rattle.mz_operations.specs.Bounds.{Bounds, Bound}
-use Rattle.mz_meaning.specs.Cells.{Cell, Par, Var, Unshaped, Mode, Blank, value_of, is_par, is_there, is_true, all_par, test_of, set_in, bounds_in, bounds_as, scalar_bound, index_of, length_of, or_zero, no_bounds, undefined_var, to_var, to_par, sealed, widened, risen, typed, is_truth, Sure, both_sure, kept_if, guarded_by, guarded, there, Env, bind, bind_all}
+use Rattle.mz_operations.specs.Bounds.{Bounds}
+use Rattle.mz_meaning.specs.Cells.{Cell, Par, Var, Unshaped, Mode, Blank, value_of, is_par, is_true, all_par, test_of, set_in, bounds_in, bounds_as, scalar_bound, index_of, length_of, no_bounds, to_var, to_par, sealed, widened, risen, typed, is_truth, Sure, both_sure, kept_if, guarded_by, guarded, there, Env, bind, bind_all}
 use Rattle.mz_meaning.specs.Coerced.{recast_cell, elements_of_set, coerced, coercion_work, set_size}
 use Rattle.mz_independence.specs.Outlines.{outline, outlines, outline_sure, HasOutlines}
 

@@ -1,18 +1,16 @@
 -- Comprehensions over parts that have outlines.
-use Rattle.std.proofs.Common.{◌≡◌, ℕ, ◌+◌, suc, ℤ, Bool, true, false, List, [], ◌∷◌, ◌++◌, map, Option, Some, None, refl, ap, ◌∙◌}
+use Rattle.std.proofs.Common.{◌≡◌, ℕ, Bool, true, false, List, [], ◌∷◌, ◌++◌, map, Option, Some, None, refl, ap, ◌∙◌}
 use Rattle.std.specs.List.{enumerate_from}
 use Rattle.mz_base.specs.declared.fault.Span.{Span}
-use Rattle.mz_value.specs.Ranges.{Range}
 use Rattle.mz_value.specs.Contents.{Content}
 use Rattle.mz_value.specs.Contents as values
 use Rattle.mz_value.specs.Shown.{elements}
 use Rattle.mz_core.specs.declared.types.Base.{Base}
-use Rattle.mz_core.specs.Types.{PlainType}
 use Rattle.mz_core.specs.Tree.{Tree, Gen, type_of}
 use Rattle.mz_operations.specs.Views.{items_in}
 use Rattle.mz_operations.specs.Bounds.{Bound, Bounds}
 use Rattle.mz_operations.specs.Bounds as bounds
-use Rattle.mz_meaning.specs.Runs.{Run, then_do, spend, loop}
+use Rattle.mz_meaning.specs.Runs.{Run, then_do, spend}
 use Rattle.mz_meaning.specs.Cells.{Cell, Par, Var, Unshaped, Mode, Blank, Env, bind, Test, Settled, Open, test_of, is_true, value_of, Sure, both_sure, there}
 use Rattle.mz_meaning.specs.Contexts.{Context}
 use Rattle.mz_meaning.specs.Forms.{World, Eval}

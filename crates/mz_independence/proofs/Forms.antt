@@ -1,17 +1,17 @@
 -- Forms of expressions over parts that have outlines: coercions, operators and built-ins, chains, arrays, accesses and `if`.
-use Rattle.std.proofs.Common.{◌≡◌, ℕ, Bool, true, false, List, [], ◌∷◌, ◌++◌, map, Option, Some, None, refl, ap, ◌∙◌, if◌then◌else◌}
+use Rattle.std.proofs.Common.{◌≡◌, ℕ, Bool, true, false, List, [], ◌∷◌, ◌++◌, map, Option, Some, None, refl, ap, ◌∙◌}
 use Rattle.mz_base.specs.declared.fault.Span.{Span}
 use Rattle.mz_value.specs.Contents as values
 use Rattle.mz_core.specs.declared.types.Base.{Base}
 use Rattle.mz_core.specs.Types.{PlainType}
 use Rattle.mz_core.specs.Coercions.{PathLink}
 use Rattle.mz_core.specs.Tree.{Tree, Step, place_of}
-use Rattle.mz_meaning.specs.Runs.{Run, then_do, give, spend, loop, when}
-use Rattle.mz_meaning.specs.Cells.{Cell, Par, Mode, Blank, Env, Test, Settled, Open, test_of, par_value, length_of, or_zero}
-use Rattle.mz_meaning.specs.Coerced.{coerced, coercion_work}
+use Rattle.mz_meaning.specs.Runs.{then_do, give, when}
+use Rattle.mz_meaning.specs.Cells.{Cell, Mode, Blank, Env, Test, Settled, Open, test_of, par_value}
+use Rattle.mz_meaning.specs.Coerced.{coerced}
 use Rattle.mz_meaning.specs.Operations.{row_at}
-use Rattle.mz_meaning.specs.Arrays.{line_cell, table_cell, access_cell, choice_cell}
-use Rattle.mz_meaning.specs.Contexts.{Context, Untested, Positive, Other, elsewhere, within_links}
+use Rattle.mz_meaning.specs.Arrays.{line_cell, access_cell}
+use Rattle.mz_meaning.specs.Contexts.{Context, Untested, Other, elsewhere, within_links}
 use Rattle.mz_meaning.specs.Chains.{Operator, Front, chained, same_level, before, right_in, operand_base}
 use Rattle.mz_meaning.specs.Forms as forms
 use Rattle.mz_meaning.specs.Forms.{World, Eval, Appended, done, handed}
@@ -20,7 +20,7 @@ use Rattle.mz_independence.specs.FreeLocals.{free_in}
 use Rattle.mz_independence.specs.Outlines.{outline, outlines, outline_rows, outline_branch, outline_placed, outline_left, outline_appended, blank_world, HasOutlines}
 use Rattle.mz_independence.specs.Ties.{Tie, Equal, Untesting, Strict, Without, Ties, HasOutline, HasNotes, Allows, AllowsTree, AllowsIf, AllowsStep, AllowsOperator, AllowsFront, AllowsBranch, EvalHasOutline}
 use Rattle.mz_independence.proofs.Joins.{then_outlined, give_outlined, when_outlined, at_same, same, spend_outlined, spend_same, loop_outlined, loop_over_outlines, loop_each_outlined, weigh_outlined}
-use Rattle.mz_independence.proofs.Cells.{both_equal, test_outline, push_outline, coerced_outline, work_outline}
+use Rattle.mz_independence.proofs.Cells.{test_outline, push_outline, coerced_outline, work_outline}
 use Rattle.mz_independence.proofs.Allowed.{chained_allows}
 use Rattle.mz_independence.proofs.Rows.{done_outlined, operated_by_outlined, operated_outlined}
 use Rattle.mz_independence.proofs.Arrays.{line_outline, table_cell_outlined, access_outline, elements_outline, choice_cell_outlined}

@@ -1,14 +1,13 @@
 -- Declared sets, free locals and lets over parts that have outlines.
-use Rattle.std.proofs.Common.{◌≡◌, ℕ, zero, suc, ℤ, pos, Bool, true, false, List, [], ◌∷◌, ◌++◌, map, length, replicate, Option, Some, None, refl, sym, ap, ◌∙◌, subst, if◌then◌else◌}
+use Rattle.std.proofs.Common.{◌≡◌, ℕ, zero, suc, ℤ, pos, Bool, List, [], ◌∷◌, ◌++◌, replicate, Option, Some, None, refl, sym, ap, ◌∙◌, subst}
 use Rattle.mz_base.specs.declared.fault.Span.{Span}
 use Rattle.mz_base.specs.declared.kind.Kind.TheVariants as kind
 use Rattle.mz_value.specs.Ranges.{Range}
-use Rattle.mz_value.specs.Contents.{Content}
 use Rattle.mz_core.specs.Types.{PlainType}
 use Rattle.mz_core.specs.Tree.{Tree, Decl, Item, declares, constrains, place_of}
 use Rattle.mz_operations.specs.Arrays.{place_count, is_contiguous}
 use Rattle.mz_operations.specs.Bounds as bounds
-use Rattle.mz_meaning.specs.Runs.{Run, State, Answer, Out, then_do, give, stop, spend, loop, noted}
+use Rattle.mz_meaning.specs.Runs.{State, Answer, Out}
 use Rattle.mz_meaning.specs.Cells.{Cell, Var, Mode, Blank, Env, undefined, is_par, is_true, value_of, set_in, Sure, sure, both_sure, guarded}
 use Rattle.mz_meaning.specs.Domains.{Domain, domain_bound}
 use Rattle.mz_meaning.specs.Arrays.{Want, Anything, Missing, Within, want_of, suits, declared_ranges, declared_count}
@@ -18,9 +17,9 @@ use Rattle.mz_meaning.specs.Lets as lets
 use Rattle.mz_meaning.specs.Lets.{Names, all_have_sets}
 use Rattle.mz_meaning.specs.Solutions.{Each}
 use Rattle.mz_independence.specs.FreeLocals.{free_in}
-use Rattle.mz_independence.specs.Outlines.{outline, outlines, outline_sure, outline_kept, outline_names, outline_state, blank_world, HasOutlines}
+use Rattle.mz_independence.specs.Outlines.{outline, outlines, outline_sure, outline_kept, outline_names, blank_world, HasOutlines}
 use Rattle.mz_independence.specs.Ties.{Tie, Equal, Untesting, Strict, Without, Ties, Takes, HasOutline, HasNotes, Allows, AllowsIf, AllowsValue, AllowsLocal, AllowsItem, EvalHasOutline}
-use Rattle.mz_independence.proofs.Joins.{then_outlined, give_outlined, stop_outlined, if_outlined, at_same, same, spend_outlined, spend_same, loop_outlined, loop_each_outlined, noted_outline, weigh_outlined}
+use Rattle.mz_independence.proofs.Joins.{then_outlined, give_outlined, stop_outlined, if_outlined, at_same, same, spend_outlined, spend_same, loop_each_outlined, noted_outline, weigh_outlined}
 use Rattle.mz_independence.proofs.Cells.{both_equal, set_outline, push_outline, truth_outline, both_sure_outline, guarded_outline, bind_all_outlined}
 use Rattle.mz_independence.proofs.Rows.{done_outlined}
 use Rattle.mz_independence.proofs.Arrays.{suits_outline, all_have_sets_outline, count_outline, fitted_outlined}

@@ -7,3 +7,7 @@ pub mod Forms
 pub mod Comprehensions
 pub mod Lets
 pub mod Calls
+pub mod Evaluation
+pub mod Walks
+pub mod Consequences
+pub mod Values

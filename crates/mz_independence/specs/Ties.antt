@@ -1,19 +1,18 @@
 -- TIES: how a run stands to a blank run of the same, which has outlines where the other has cells.
 use Rattle.std.specs.Prelude.{◌≡◌, ℕ, Bool, true, false, List, [], ◌∷◌, Option, Some, None, slice_get}
 use Rattle.mz_base.specs.declared.fault.Span.{Span}
-use Rattle.mz_base.specs.declared.fault.Fault.{Fault}
 use Rattle.mz_base.specs.declared.kind.Kind.{Kind}
 use Rattle.mz_base.specs.declared.kind.Kind.TheVariants as kind
 use Rattle.mz_core.specs.Program.{Function}
 use Rattle.mz_core.specs.Tree.{Tree, Step, Gen, Decl, DeclaredType, Item, declares, constrains}
 use Rattle.mz_meaning.specs.Runs.{Run, State, Answer, Out, Stopped}
-use Rattle.mz_meaning.specs.Cells.{Cell, Mode, Blank, Given, Env}
+use Rattle.mz_meaning.specs.Cells.{Mode, Blank, Given, Env}
 use Rattle.mz_meaning.specs.Contexts.{Context, Untested, Other}
 use Rattle.mz_meaning.specs.Chains.{Operator, Front}
 use Rattle.mz_meaning.specs.Forms.{World, Eval}
 use Rattle.mz_meaning.specs.Comprehensions.{Presence, Made, Rest}
 use Rattle.mz_meaning.specs.Solutions.{Each}
-use Rattle.mz_independence.specs.Outlines.{outline, outline_presence, outline_made, outline_state, blank_world, HasOutlines}
+use Rattle.mz_independence.specs.Outlines.{outline, outline_presence, outline_made, outline_state, HasOutlines}
 use Rattle.mz_independence.specs.FreeLocals.{free_in, free_if}
 
 -- ---- contexts
@@ -157,11 +156,3 @@ pub record EvalHasOutline (t : Tie) (n : Bool) (w : World) (top : Env) (go blank
   pub tops : HasOutlines w.top top
   pub functions : (k : ℕ) → AllowsFound t (slice_get w.functions k)
   pub by : {c d : Context} → Ties t c d → (e : Tree) → Allows t (free_in e) → {env : Env} {env' : Env} → HasOutlines env env' → HasOutline t n outline (go c e env) (blank d e env')
-
--- ---- FORMS THAT KEEP OUTLINES: over parts that have outlines, where they are allowed, the whole has one
-
-pub record KeepsOutlines (allowed : Tie → Type 0) (form : World → Eval → Context → Env → Run Cell) : Type 0 where
-  pub by : {t : Tie} {n : Bool} {w : World} {top : Env} {go blank : Eval} → EvalHasOutline t n w top go blank → allowed t → {c d : Context} → Ties t c d → {env env' : Env} → HasOutlines env env' → HasOutline t n outline (form w go c env) (form (blank_world n w top) blank d env')
-
-pub record RestKeepsOutlines (allowed : Tie → Type 0) (rest : World → Eval → Context → Rest) : Type 0 where
-  pub by : {t : Tie} {n : Bool} {w : World} {top : Env} {go blank : Eval} → EvalHasOutline t n w top go blank → allowed t → {c d : Context} → Ties t c d → RestHasOutline t n (rest w go c) (rest (blank_world n w top) blank d)

@@ -3,4 +3,7 @@
 
 mod laws;
 
-pub use laws::forms_keep_outlines;
+pub use laws::{
+    bare_runs_fit, models_without_free_locals_are_told, runs_are_alike,
+    solutions_are_told_by_one_walk,
+};
