@@ -18,7 +18,7 @@ use Rattle.mz_operations.specs.Bounds.{Bound, Bounds, nothing, hull_of_all, unio
 use Rattle.mz_operations.specs.Bounds as bounds
 use Rattle.mz_operations.specs.RowBounds.{line_of}
 use Rattle.mz_meaning.specs.Runs.{Run, give, stop}
-use Rattle.mz_meaning.specs.Cells.{Cell, Par, Var, Unshaped, Mode, held, undefined, all_par, is_par, is_there, is_true, value_of, bounds_in, bounds_as, scalar_bound, element_bounds, index_of, length_of, Sure, unsure}
+use Rattle.mz_meaning.specs.Cells.{Cell, Par, Var, Unshaped, Mode, held, undefined, all_par, is_par, is_there, is_true, value_of, par_value_of, bounds_in, bounds_as, scalar_bound, element_bounds, index_of, length_of, Sure, unsure}
 use Rattle.mz_meaning.specs.Coerced.{enum_in}
 
 -- ---- arrays
@@ -85,7 +85,7 @@ set_from s (v ∷ vs) = set_from (with_number s v) vs
 
 -- the set of par elements, at a node of this type
 abbrev pub set_cell : PlainType → List Cell → Cell
-set_cell t cs = Par (option_map (values.set (enum_in t.base)) (set_from (Some []) (map value_of cs)))
+set_cell t cs = Par (option_map (values.set (enum_in t.base)) (set_from (Some []) (map par_value_of cs)))
 
 -- ---- accesses
 

@@ -45,6 +45,12 @@ value_of (Par v) = v
 value_of (Var b v) = v
 value_of (Unshaped d) = None
 
+-- the value of a par cell, and none of a var one
+abbrev pub par_value_of : Cell → Option Content
+par_value_of (Par v) = v
+par_value_of (Var b v) = None
+par_value_of (Unshaped d) = None
+
 abbrev pub is_there : {A : Type 0} → Option A → Bool
 is_there None = false
 is_there (Some x) = true

@@ -1,0 +1,4 @@
+pub mod Outlines
+pub mod FreeLocals
+pub mod Ties
+pub mod Independence
