@@ -47,9 +47,9 @@ called_down functions g y us members a =
           record {
             counted = m.counted;
             used = subst (λ z. IsUsed z us)
-            (one_callee (names_in false [] functions) (names_in true [] functions) f.source (meant_by (sketch_at functions h)) f.number_of_it f.has
-            (callee_there functions h m.counted ∙ ap (λ z. Some z) (sym (number_at functions h m.counted) ∙ m.is)))
-            f.used;
+                (one_callee (names_in false [] functions) (names_in true [] functions) f.source (meant_by (sketch_at functions h)) f.number_of_it f.has
+                (callee_there functions h m.counted ∙ ap (λ z. Some z) (sym (number_at functions h m.counted) ∙ m.is)))
+                f.used;
           };
     }
 

@@ -24,9 +24,9 @@ names_all ns (s ∷ ss) p q r =
     let e : if_in false ns s ≡ ns ++ s.name ∷ [] = ap (λ z. if z then ns else with_name ns s.name) (p zero (omega arith)) ∙ ap (λ z. if z then ns else ns ++ s.name ∷ []) (q zero (omega arith)) in
     ap (λ z. names_in false z ss) e
     ∙ names_all (ns ++ s.name ∷ []) ss
-      (λ k h. p (suc k) (omega (arith, h)))
-      (λ k h. holds_more (sketch_at ss k).name s.name ns ∙ ap (λ z. z || nat_eq (sketch_at ss k).name s.name) (q (suc k) (omega (arith, h))) ∙ ne_eqb (sketch_at ss k).name s.name (λ i. r zero (suc k) (omega arith) (omega (arith, h)) (sym i)))
-      (λ j k h l i. r (suc j) (suc k) (omega (arith, h)) (omega (arith, l)) i)
+    (λ k h. p (suc k) (omega (arith, h)))
+    (λ k h. holds_more (sketch_at ss k).name s.name ns ∙ ap (λ z. z || nat_eq (sketch_at ss k).name s.name) (q (suc k) (omega (arith, h))) ∙ ne_eqb (sketch_at ss k).name s.name (λ i. r zero (suc k) (omega arith) (omega (arith, h)) (sym i)))
+    (λ j k h l i. r (suc j) (suc k) (omega (arith, h)) (omega (arith, l)) i)
     ∙ append_assoc ns (s.name ∷ []) (map (λ t. t.name) ss)
 
 names_of : (ss : List Sketch) → AreDeclarations ss → names_in false [] ss ≡ map (λ s. s.name) ss

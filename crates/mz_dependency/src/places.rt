@@ -67,11 +67,7 @@ impl Places {
 }
 
 /// The names of those in one space, in source order.
-pub(crate) fn names_in(
-    alloc: Global,
-    outlines: &[Outline],
-    applied: bool,
-) -> Result<Places, Memory>
+pub(crate) fn names_in(alloc: Global, outlines: &[Outline], applied: bool) -> Result<Places, Memory>
     ensures { IfOk result (λ p. p ≡ names_in applied [] (map sketch outlines.now)) }
 {
     let mut places = Places::new(alloc);

@@ -153,7 +153,13 @@ pub(crate) fn layers_of(
     let mut all = rows_of(alloc, calls, mentions, &parts.of, &parts.of, first, base)?;
     let mut members = members_of(alloc, &parts.of, count)?;
     let mut decls = rows_of(
-        alloc, decl_calls, decl_mentions, &parts.of, &none, first, base,
+        alloc,
+        decl_calls,
+        decl_mentions,
+        &parts.of,
+        &none,
+        first,
+        base,
     )?;
     all.append(&mut members)?;
     all.append(&mut decls)?;
