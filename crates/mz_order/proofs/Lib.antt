@@ -1,3 +1,5 @@
 pub mod Cycles
+pub mod Joining
 pub mod Layered
 pub mod Needed
+pub mod Reading

@@ -1,2 +1,4 @@
 pub mod Depends
+pub mod Evaluation
+pub mod Members
 pub mod StepsLayers

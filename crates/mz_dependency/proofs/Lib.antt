@@ -1,0 +1,10 @@
+pub mod Answering
+pub mod Building
+pub mod Closing
+pub mod Declaring
+pub mod Following
+pub mod Gathering
+pub mod Naming
+pub mod Placing
+pub mod Ranking
+pub mod Turns

@@ -1,0 +1,78 @@
+// The names of declarations or functions, and the place of each.
+
+ghost use Rattle.std.specs.Prelude.{◌≡◌, ℕ, ◌+◌, [], length, true, false, map, IfOk, OnOk};
+ghost use Rattle.mz_occurrence.specs.Sets.{with_name};
+ghost use Rattle.mz_uses.specs.Outlines.{sketch};
+ghost use Rattle.mz_dependency.specs.StepsPlaces.{if_in, names_in, place_of};
+
+use indexmap::IndexSet;
+use mz_base::{Memory, Name};
+use mz_uses::Outline;
+use std::alloc::Global;
+use std::marker::Model;
+
+/// Names, each once, in the order in which they came.
+#[derive(Drop)]
+pub(crate) struct Places {
+    names: IndexSet<Name>,
+}
+
+impl Model for Places {
+    ghost use Rattle.std.specs.Prelude.{List, ℕ};
+
+    ghost Value = { List ℕ };
+
+    ghost view = { λ t. t.names.keys };
+}
+
+impl Places {
+    pub fn new(alloc: Global) -> Places
+        ensures { result ≡ [] }
+    {
+        Places {
+            names: IndexSet::new(alloc),
+        }
+    }
+
+    /// Adds a name at the end, where it isn't there yet.
+    pub fn add(&mut self, name: Name) -> Result<(), Memory>
+        ensures { OnOk result (self.new ≡ with_name self.old name) }
+    {
+        self.names.insert_full(name)?;
+        Ok(())
+    }
+
+    pub fn len(&self) -> usize
+        ensures { result ≡ length self.now }
+    {
+        self.names.len()
+    }
+
+    /// The place of a name, from 0.
+    pub fn place(&self, name: Name) -> Option<usize>
+        ensures { result ≡ place_of name self.now }
+    {
+        self.names.get_index_of(&name)
+    }
+
+    /// Adds the name of one that is in this space: of functions with parameters, or of all else.
+    fn add_if(&mut self, o: &Outline, applied: bool) -> Result<(), Memory>
+        ensures { OnOk result (self.new ≡ if_in applied self.old (sketch o.now)) }
+    {
+        if o.applied == applied {
+            self.add(o.name)?;
+        }
+        Ok(())
+    }
+}
+
+/// The names of those in one space, in source order.
+pub(crate) fn names_in(alloc: Global, outlines: &[Outline], applied: bool) -> Result<Places, Memory>
+    ensures { IfOk result (λ p. p ≡ names_in applied [] (map sketch outlines.now)) }
+{
+    let mut places = Places::new(alloc);
+    for o in outlines {
+        places.add_if(o, applied)?;
+    }
+    Ok(places)
+}

@@ -1,0 +1,8 @@
+// What declarations and functions use of the names outside, where local names hide outer ones. Definitions alone.
+#![tactic(auto)]
+
+mod name_use;
+mod outline;
+
+pub use name_use::NameUse;
+pub use outline::Outline;
