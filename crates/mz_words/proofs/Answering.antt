@@ -1,40 +1,11 @@
--- From what `clap` finds to what was asked for.
-use Rattle.std.proofs.Common.{◌≡◌, ◌∙◌, ap, List, [], ◌∷◌, Option, Some, None, refl, sym, subst, codes, true, false, true≢false}
+-- From the first word to what was asked for.
+use Rattle.std.proofs.Common.{◌≡◌, ◌∙◌, ap, List, [], ◌∷◌, Option, Some, None, refl, sym, subst}
 use Rattle.std.specs.Prelude.{Result, String, slice_get, string_bytes}
-use Rattle.clap.specs.Walk.{Row, Text}
-use Rattle.mz_words.specs.Commands.{files_command}
-use Rattle.mz_words.specs.Parsed.{AreNumbers, HasNumbers, TakesNumbers}
-use Rattle.mz_words.specs.Requests.{Answers, Asked, asked, asked_of, request_of, text_of}
-use Rattle.mz_words.specs.declared.limits.TheConstants.{BUDGET_LIMIT, INT_RANGE_LIMIT}
+use Rattle.clap.specs.Walk.{Text}
+use Rattle.mz_command.specs.Found.{Answers, text_of}
+use Rattle.mz_command.specs.declared.error.WordsError.{WordsError}
+use Rattle.mz_words.specs.Requests.{Asked, asked, asked_of, request_of}
 use Rattle.mz_words.specs.declared.request.Request.{Request}
-use Rattle.mz_words.specs.declared.request.WordsError.{WordsError}
-
--- ---- the commands take numbers
-
-other : {A : Type 0} → false ≡ true → A
-other is = absurd (true≢false (sym is))
-
-takes_budget : (name : Text) → TakesNumbers (codes "budget") BUDGET_LIMIT (files_command name)
-takes_budget name = record {
-  named = λ empty. cc;
-  rules = (other, (other, ((λ same. refl), (other, tt))));
-  rules_built = (other, (other, ((λ same. refl), (other, tt))));
-}
-
-takes_int_range : (name : Text) → TakesNumbers (codes "int-range") INT_RANGE_LIMIT (files_command name)
-takes_int_range name = record {
-  named = λ empty. cc;
-  rules = (other, (other, (other, ((λ same. refl), tt))));
-  rules_built = (other, (other, (other, ((λ same. refl), tt))));
-}
-
-pub has_numbers : (name : Text) (rows : List Row) → AreNumbers (files_command name) rows → HasNumbers rows
-has_numbers name rows numbers = record {
-  budget = numbers (codes "budget") BUDGET_LIMIT (takes_budget name);
-  int_range = numbers (codes "int-range") INT_RANGE_LIMIT (takes_int_range name);
-}
-
--- ---- the first word decides
 
 asked_first : {Z : Type 0} (words : List (String Z)) (word : String Z) → Some word ≡ slice_get words 0
     → asked (text_of words) ≡ asked_of (string_bytes word) (text_of words)

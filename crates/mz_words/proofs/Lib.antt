@@ -1,4 +1,1 @@
 pub mod Answering
-pub mod Found
-pub mod Numbers
-pub mod Texts

@@ -1,4 +1,2 @@
-pub mod Commands
 pub mod Examples
-pub mod Parsed
 pub mod Requests

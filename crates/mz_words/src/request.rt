@@ -1,6 +1,10 @@
 // What the words of a command line ask for.
 
-use std::alloc::AllocError;
+/// The budget where none is given.
+pub const DEFAULT_BUDGET: u64 = 10_000_000;
+
+/// The range of an unbounded variable where none is given.
+pub const DEFAULT_INT_RANGE: u64 = 1_000_000_000;
 
 /// What is done, with the files and the options for it.
 #[derive(Debug, Drop)]
@@ -22,24 +26,4 @@ pub struct Options<'a> {
     pub budget: u64,
     /// The greatest value of a `var int` that has no domain, from 1 to 2^61. The least is its negative.
     pub int_range: i64,
-}
-
-/// Why words give no request.
-#[derive(Clone, Copy, Debug, PartialEq, Eq)]
-pub enum WordsError {
-    /// The words are used wrongly.
-    Usage,
-    /// Out of memory.
-    Memory,
-}
-
-impl From<AllocError> for WordsError {
-    ghost use Rattle.std.specs.Prelude.{◌≡◌};
-    ghost use Rattle.mz_words.specs.declared.request.WordsError.TheVariants.{Memory};
-
-    ghost from_gives = { λ _ e. e ≡ Memory };
-
-    fn from(_: AllocError) -> WordsError {
-        WordsError::Memory
-    }
 }

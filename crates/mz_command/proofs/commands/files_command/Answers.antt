@@ -1,8 +1,8 @@
 use Rattle.std.proofs.Common.{◌≡◌, ◌∙◌, ap, ap₂, true}
 use Rattle.std.proofs.lemmas.Result.{IfOk-weaker}
 use Rattle.clap.specs.Simple.{app_of, app_of_fields, on_top, with_rule}
-use Rattle.mz_words.specs.Commands.{bare_command}
-use Rattle.mz_words.proofs.commands.files_command.Goals as goal
+use Rattle.mz_command.specs.Commands.{bare_command}
+use Rattle.mz_command.proofs.commands.files_command.Goals as goal
 
 pub returns : goal.returns
 returns c =

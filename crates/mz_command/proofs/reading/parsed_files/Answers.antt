@@ -1,9 +1,9 @@
 use Rattle.std.proofs.Common.{subst}
 use Rattle.std.proofs.lemmas.Result.{IfOk-weaker}
 use Rattle.clap.specs.Simple.{App}
-use Rattle.mz_words.proofs.Answering.{has_numbers}
-use Rattle.mz_words.specs.Parsed.{AreNumbers, rows_in}
-use Rattle.mz_words.proofs.reading.parsed_files.Goals as goal
+use Rattle.mz_command.proofs.Taking.{has_numbers}
+use Rattle.mz_command.specs.Parsed.{AreNumbers, rows_in}
+use Rattle.mz_command.proofs.reading.parsed_files.Goals as goal
 
 pub returns-in-Ok-clause-numbers : goal.returns-in-Ok-clause-numbers
 returns-in-Ok-clause-numbers c =

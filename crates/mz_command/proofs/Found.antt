@@ -14,12 +14,12 @@ use Rattle.clap.specs.declared.builder.command.Command.TheViews.{out-Command}
 use Rattle.clap.specs.declared.error.kind.ErrorKind.{ErrorKind}
 use Rattle.clap.specs.declared.error.kind.ErrorKind.TheVariants.{OutOfMemory}
 use Rattle.clap.specs.declared.parser.matches.ArgMatches.{ArgMatches}
-use Rattle.mz_words.proofs.Numbers.{is_number}
-use Rattle.mz_words.specs.Commands.{has_any, rows_found}
-use Rattle.mz_words.specs.Parsed.{AreNumberRules, AreNumbers, IsExact, refusal_of, rows_in}
-use Rattle.mz_words.specs.Requests.{Answers}
-use Rattle.mz_words.specs.declared.request.WordsError.{WordsError}
-use Rattle.mz_words.specs.declared.request.WordsError.TheVariants.{Usage, Memory}
+use Rattle.mz_command.proofs.Numbers.{is_number}
+use Rattle.mz_command.specs.Commands.{has_any, rows_found}
+use Rattle.mz_command.specs.Parsed.{AreNumberRules, AreNumbers, IsExact, refusal_of, rows_in}
+use Rattle.mz_command.specs.Found.{Answers}
+use Rattle.mz_command.specs.declared.error.WordsError.{WordsError}
+use Rattle.mz_command.specs.declared.error.WordsError.TheVariants.{Usage, Memory}
 
 -- ---- refused or not
 

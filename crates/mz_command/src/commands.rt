@@ -2,7 +2,7 @@
 
 ghost use Rattle.std.specs.Prelude.{◌≡◌, IfOk, false};
 ghost use Rattle.clap.specs.Words.{app_of, rule_of};
-ghost use Rattle.mz_words.specs.Commands.{model_rule, data_rule, number_rule, files_command};
+ghost use Rattle.mz_command.specs.Commands.{model_rule, data_rule, number_rule, files_command};
 
 use crate::limits::{BUDGET_LIMIT, INT_RANGE_LIMIT};
 use clap::builder::ValueParser;

@@ -10,9 +10,9 @@ use Rattle.clap.specs.declared.builder.value_parser.ValueParser.TheVariants.{Uns
 use Rattle.clap.specs.declared.error.kind.ErrorKind.{ErrorKind}
 use Rattle.clap.specs.declared.error.kind.ErrorKind.TheVariants.{OutOfMemory}
 use Rattle.clap.specs.declared.parser.matches.ArgMatches.{ArgMatches}
-use Rattle.mz_words.specs.declared.limits.TheConstants.{BUDGET_LIMIT, INT_RANGE_LIMIT}
-use Rattle.mz_words.specs.declared.request.WordsError.{WordsError}
-use Rattle.mz_words.specs.declared.request.WordsError.TheVariants.{Usage, Memory}
+use Rattle.mz_command.specs.declared.limits.TheConstants.{BUDGET_LIMIT, INT_RANGE_LIMIT}
+use Rattle.mz_command.specs.declared.error.WordsError.{WordsError}
+use Rattle.mz_command.specs.declared.error.WordsError.TheVariants.{Usage, Memory}
 
 -- `clap` tells exactly what it finds in the words of this command, and which words it refuses
 pub record IsExact (command : App) : Type 0 where

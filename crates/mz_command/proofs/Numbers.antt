@@ -2,7 +2,7 @@
 use Rattle.std.proofs.Common.{◌≡◌, ◌<◌, ◌∙◌, ap, ℕ, List, [], ◌∷◌, length, zero, suc, Option, Some, None, map, refl, sym, subst, true, inl, inr, arith}
 use Rattle.std.specs.List.{All, slice_index_or}
 use Rattle.std.specs.Borrow.{Bor}
-use Rattle.std.specs.Prelude.{IfSome, option_map, slice_get, unwrap_or}
+use Rattle.std.specs.Prelude.{option_map, slice_get}
 use Rattle.std.proofs.lemmas.List.Elements.{All-get_or}
 use Rattle.std.proofs.lemmas.Slice.Eq.{bytes_eq-Decides}
 use Rattle.clap.proofs.CallerLemmas.{entry_by_id}
@@ -10,15 +10,15 @@ use Rattle.clap.proofs.WalkLemmas.{first_value-rows}
 use Rattle.clap.specs.Facts.{Entry, EntryPasses, PassesArg, ValuesPass, args_of, groups_of, parser_of, parser_of_value}
 use Rattle.clap.specs.Matches.{first_value, matched_of}
 use Rattle.clap.specs.Values.{Accepts, IsUnsignedIn}
-use Rattle.clap.specs.Walk.{Row, Text, first_of, rows_of, rule_of}
+use Rattle.clap.specs.Walk.{Text, rows_of, rule_of}
 use Rattle.clap.specs.declared.builder.arg.Arg.{Arg}
 use Rattle.clap.specs.declared.builder.command.Command.{Command}
 use Rattle.clap.specs.declared.builder.value_parser.ValueParser.{ValueParser}
 use Rattle.clap.specs.declared.builder.value_parser.ValueParser.TheVariants.{Unsigned}
 use Rattle.clap.specs.declared.parser.matches.Found.{Found}
 use Rattle.clap.specs.declared.parser.matches.MatchedArg.{MatchedArg}
-use Rattle.mz_words.specs.Parsed.{AreNumberRules, IsNumber, IsNumberRule}
-use Rattle.mz_words.specs.Requests.{IsWithin, number_in, number_or}
+use Rattle.mz_command.specs.Parsed.{AreNumberRules, IsNumber, IsNumberRule}
+use Rattle.mz_command.specs.Found.{IsWithin, number_found, number_in}
 
 -- ---- what an argument of this name accepts
 
@@ -95,24 +95,19 @@ widened limit text number =
     let fits = number.1 in
     (number.0, number.1, number.2, omega (arith, fits))
 
-pub may_be_parsed : (o : Option (Bor Text)) (found : Found) (name : Text) (limit : ℕ) → option_map (λ v. v.now) o ≡ first_value found name
-    → IsNumber name limit (rows_of found) → IfSome o (λ t. IsUnsignedIn 1 18446744073709551615 t.now)
-may_be_parsed None found name limit is number = tt
-may_be_parsed (Some t) found name limit is number = widened limit t.now (number t.now (sym (first_value-rows found name) ∙ sym is))
+pub may_be_parsed : (t : Text) (found : Found) (name : Text) (limit : ℕ) → Some t ≡ first_value found name → IsNumber name limit (rows_of found)
+    → IsUnsignedIn 1 18446744073709551615 t
+may_be_parsed t found name limit read number = widened limit t (number t (sym (first_value-rows found name) ∙ sym read))
 
-same_number : (o : Option (Bor Text)) (value : Option Text) (default : ℕ) → option_map (λ v. v.now) o ≡ value
-    → unwrap_or (option_map (λ t. number_in t.now) o) default ≡ unwrap_or (option_map number_in value) default
-same_number None value default is = rw (← is) refl
-same_number (Some t) value default is = rw (← is) refl
+-- ---- the number that is found
 
-pub is_number_or : (o : Option (Bor Text)) (found : Found) (name : Text) (default n : ℕ) → n ≡ unwrap_or (option_map (λ t. number_in t.now) o) default
-    → option_map (λ v. v.now) o ≡ first_value found name → n ≡ number_or default name (rows_of found)
-is_number_or o found name default n is read = is ∙ same_number o (first_of name (rows_of found)) default (read ∙ first_value-rows found name)
+pub number_is_found : (t : Text) (n : ℕ) (found : Found) (name : Text) → n ≡ number_in t → Some t ≡ first_value found name → Some n ≡ number_found name (rows_of found)
+number_is_found t n found name is read = rw is (ap (option_map number_in) (read ∙ first_value-rows found name))
 
-pub number_is_within : (name : Text) (limit default : ℕ) (rows : List Row) → IsNumber name limit rows → IsWithin limit default
-    → IsWithin limit (number_or default name rows)
-number_is_within name limit default rows number fits = by_value (first_of name rows) refl
-  where
-    by_value : (o : Option Text) → first_of name rows ≡ o → IsWithin limit (unwrap_or (option_map number_in o) default)
-    by_value None is = fits
-    by_value (Some text) is = ((number text is).2, (number text is).3)
+pub nothing_is_found : (found : Found) (name : Text) → None ≡ first_value found name → None ≡ number_found name (rows_of found)
+nothing_is_found found name read = ap (option_map number_in) (read ∙ first_value-rows found name)
+
+pub number_is_within : (t : Text) (n limit : ℕ) (found : Found) (name : Text) → n ≡ number_in t → Some t ≡ first_value found name → IsNumber name limit (rows_of found) → IsWithin limit n
+number_is_within t n limit found name is read number =
+    let within = number t (sym (read ∙ first_value-rows found name)) in
+    rw is (within.2, within.3)

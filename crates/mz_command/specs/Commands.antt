@@ -6,7 +6,7 @@ use Rattle.clap.specs.Simple.{App, matches_of, new_app, new_rule, on_top, with_r
 use Rattle.clap.specs.Walk.{Row, Rule, Text}
 use Rattle.clap.specs.declared.builder.action.ArgAction.TheVariants.{Append, Set}
 use Rattle.clap.specs.declared.builder.value_parser.ValueParser.TheVariants.{Unsigned}
-use Rattle.mz_words.specs.declared.limits.TheConstants.{BUDGET_LIMIT, INT_RANGE_LIMIT}
+use Rattle.mz_command.specs.declared.limits.TheConstants.{BUDGET_LIMIT, INT_RANGE_LIMIT}
 
 -- the file of the model, which is required
 abbrev pub model_rule : Rule
@@ -33,12 +33,6 @@ abbrev pub files_command : Text → App
 files_command name =
     with_rule (with_rule (with_rule (with_rule (bare_command name) model_rule) data_rule)
     (number_rule (codes "budget") BUDGET_LIMIT)) (number_rule (codes "int-range") INT_RANGE_LIMIT)
-
-abbrev pub compile_command : App
-compile_command = files_command (codes "compile")
-
-abbrev pub check_command : App
-check_command = files_command (codes "check")
 
 abbrev pub has_any : Kinds → Bool
 has_any [] = false

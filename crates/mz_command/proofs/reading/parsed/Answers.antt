@@ -1,6 +1,6 @@
 use Rattle.clap.specs.Words.{kind_of}
-use Rattle.mz_words.proofs.Found.{are_numbers, is_found, refusal_answers}
-use Rattle.mz_words.proofs.reading.parsed.Goals as goal
+use Rattle.mz_command.proofs.Found.{are_numbers, is_found, refusal_answers}
+use Rattle.mz_command.proofs.reading.parsed.Goals as goal
 
 pub returns-in-Ok : goal.returns-in-Ok
 returns-in-Ok c = record {

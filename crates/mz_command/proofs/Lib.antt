@@ -1,0 +1,4 @@
+pub mod Found
+pub mod Numbers
+pub mod Taking
+pub mod Texts

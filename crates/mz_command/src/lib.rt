@@ -1,0 +1,11 @@
+// A command with files: its words as `clap` finds them.
+#![tactic(auto)]
+
+mod commands;
+mod error;
+mod limits;
+mod reading;
+
+pub use error::WordsError;
+pub use limits::{BUDGET_LIMIT, INT_RANGE_LIMIT};
+pub use reading::{FileWords, read_files};
