@@ -1,13 +1,14 @@
 -- What the constraints of the table ask, at the edges.
 use Rattle.std.proofs.Common.{◌≡◌, List, [], ◌∷◌, map, Bool, true, false, refl}
-use Rattle.std.specs.Prelude.{ℤ, pos, negsuc, Option, Some, None}
-use Rattle.mz_value.specs.Ranges.{Range}
+use Rattle.std.specs.Prelude.{ℤ, pos, negsuc, ◌+ℤ◌, Option, Some, None}
+use Rattle.mz_value.specs.Ranges.{Range, greatest}
 use Rattle.mz_operations.specs.Numbers.{computed, signed}
 use Rattle.mz_operations.specs.Sets.{combined, complement, contains, difference, intersection, missing_from, same_set, union}
 use Rattle.fz_program.specs.declared.row_name.RowName.{RowName}
 use Rattle.fz_program.specs.declared.row_name.RowName.TheVariants.{IntEq, IntNe, IntLe, IntLt, IntEqReif, IntNeReif, IntLeReif, IntLtReif, IntLinEq, IntLinNe, IntLinLe, IntLinEqReif, IntLinNeReif, IntLinLeReif, IntTimes, IntDiv, IntMod, IntMin, IntMax, IntAbs, ArrayIntElement, ArrayVarIntElement, ArrayBoolElement, ArrayVarBoolElement, ArraySetElement, ArrayVarSetElement, BoolEq, BoolNot, BoolToInt, BoolXor, BoolEqReif, BoolLeReif, ArrayBoolAnd, ArrayBoolOr, BoolClause, SetIn, SetInReif, SetEq, SetNe, SetSubset, SetEqReif, SetNeReif, SetSubsetReif, SetUnion, SetIntersect, SetDiff, SetSymdiff, SetCard}
 use Rattle.fz_program.specs.Values.{Value, number, set, Given, one, many, linear}
 use Rattle.fz_program.specs.Table.{line, result_of, answer_of}
+use Rattle.fz_program.specs.Flat.{is_set}
 
 -- an integer, a set, an array of integers, an array of sets
 abbrev n : ℤ → Given
@@ -118,3 +119,10 @@ pub set_results :
     ≡ Some (set ((pos 1, pos 5) ∷ [])) ∷ Some (set ((pos 4, pos 5) ∷ [])) ∷ Some (set []) ∷ Some (set ((pos 3, pos 3) ∷ [])) ∷ Some (set ((pos 1, pos 1) ∷ (pos 3, pos 3) ∷ [])) ∷ Some (set []) ∷ Some (set ((pos 1, pos 2) ∷ (pos 4, pos 5) ∷ [])) ∷ Some (set ((pos 1, pos 3) ∷ [])) ∷ Some (number (pos 0)) ∷ Some (number (pos 3)) ∷ []
 unfolding line combined union intersection difference complement missing_from
 set_results = refl
+
+-- a set that stands in a row: apart, touching, empty ranges, the limit and past it
+pub row_sets :
+    is_set [] ∷ is_set ((pos 1, pos 2) ∷ (pos 4, pos 4) ∷ []) ∷ is_set ((pos 1, pos 2) ∷ (pos 3, pos 4) ∷ []) ∷ is_set ((pos 2, pos 1) ∷ []) ∷ is_set ((pos 0, greatest) ∷ []) ∷ is_set ((pos 0, greatest +ℤ pos 1) ∷ []) ∷ []
+    ≡ true ∷ true ∷ false ∷ false ∷ true ∷ false ∷ []
+unfolding is_set
+row_sets = refl

@@ -1,5 +1,5 @@
 -- FlatZinc programs: their parts, when they are well formed, and what solves them.
-use Rattle.std.specs.Prelude.{◌≡◌, ◌≢◌, ℕ, ◌+◌, ◌*◌, ◌^◌, ◌-◌, ℤ, pos, max, unsigned_abs, nat_eq, nat_le, List, [], ◌∷◌, ◌++◌, ◌<◌, ◌≤◌, ◌≤ℤ◌, length, map, zip, Bool, true, false, not, ◌&&◌, ◌||◌, Option, Some, None, string_bytes, slice_index_or, slice_get, int_le}
+use Rattle.std.specs.Prelude.{◌≡◌, ◌≢◌, ℕ, ◌+◌, ◌*◌, ◌^◌, ◌-◌, ℤ, pos, ◌+ℤ◌, max, unsigned_abs, nat_eq, nat_le, List, [], ◌∷◌, ◌++◌, ◌<◌, ◌≤◌, ◌≤ℤ◌, length, map, zip, Bool, true, false, not, ◌&&◌, ◌||◌, Option, Some, None, string_bytes, slice_index_or, slice_get, int_le, int_lt}
 use Rattle.std.specs.List.{AllByRecursion, Contains, list_all, list_any}
 use Rattle.std.specs.Ordering.{int_eq}
 use Rattle.mz_value.specs.Ranges.{Range, AreCanonical, Has, IsInLimit, AreInLimit, cardinality, range_of, least, greatest}
@@ -134,11 +134,25 @@ is_kind (Some v) kind = same_kind kind (kind_of_domain v.domain)
 abbrev pub is_variable_of : List Variable → Kind → ℕ → Bool
 is_variable_of vs kind k = is_kind (slice_get vs k) kind
 
+-- a range that isn't empty, of numbers that may be written
+abbrev pub is_literal_range : Range → Bool
+is_literal_range r = int_le r.0 r.1 && (is_literal r.0 && is_literal r.1)
+
+-- some integer above a range lies below all ranges behind it
+abbrev pub is_apart : Range → List Range → Bool
+is_apart r [] = true
+is_apart r (s ∷ ss) = int_lt (r.1 +ℤ pos 1) s.0
+
+-- the same test of a set that stands in a row as `IsSet` of a domain's: canonical, and within the numbers that may be written
+unfoldable pub is_set : List Range → Bool
+is_set [] = true
+is_set (r ∷ rs) = is_literal_range r && (is_apart r rs && is_set rs)
+
 -- an element of an array, or an argument, that is constant
 unfoldable pub is_constant : Kind → Plain → Bool
 is_constant kind (bool b) = same_kind kind Truth
 is_constant kind (int n) = same_kind kind Int && is_literal n
-is_constant kind (set s) = same_kind kind Set
+is_constant kind (set s) = same_kind kind Set && is_set s
 is_constant kind (var k) = false
 is_constant kind nested = false
 

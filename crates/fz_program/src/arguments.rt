@@ -2,7 +2,7 @@
 
 ghost use Rattle.std.specs.Prelude.{◌≡◌, List, map};
 ghost use Rattle.std.specs.List.{list_all, list_any};
-ghost use Rattle.fz_program.specs.Arguments.{argument, plain};
+ghost use Rattle.fz_program.specs.Arguments.{argument, plain, set};
 ghost use Rattle.fz_program.specs.Flat.{
   are_all_of,
   are_arguments,
@@ -22,7 +22,7 @@ ghost use Rattle.fz_program.specs.Flat.{
 
 use crate::program::{Arg, Domain, FzVar};
 use crate::row_name::Kind;
-use mz_value::{GREATEST, LEAST};
+use mz_value::{GREATEST, LEAST, RangeSet};
 
 pub(crate) fn is_literal(n: i64) -> bool
     ensures { result ≡ is_literal n }
@@ -71,10 +71,19 @@ fn is_constant(kind: Kind, a: &Arg) -> bool
     match a {
         Arg::Bool(_) => same_kind(kind, Kind::Bool),
         Arg::Int(n) => same_kind(kind, Kind::Int) && is_literal(*n),
-        Arg::Set(_) => same_kind(kind, Kind::Set),
+        Arg::Set(s) => is_constant_set(kind, s),
         Arg::Var(_) => false,
         Arg::Array(_) => false,
     }
+}
+
+// The same of a set. Its ranges are canonical and in the limit, so no test of them is made.
+#[tactic(auto, unfolding(crate::specs::Flat::is_constant), using(crate::proofs::Sets::with_set))]
+fn is_constant_set(kind: Kind, s: &RangeSet) -> bool
+    ensures { result ≡ is_constant kind (set s.now) }
+{
+    let _ranges = s.ranges();
+    same_kind(kind, Kind::Set)
 }
 
 #[tactic(auto, unfolding(crate::specs::Flat::is_plain))]

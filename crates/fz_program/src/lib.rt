@@ -14,4 +14,4 @@ pub use mz_base::is_identifier;
 pub use program::{Arg, Domain, FzArray, FzGoal, FzName, FzProgram, FzRow, FzVar};
 pub use row_name::{Kind, RowName};
 pub use table::{kinds_of, name_of};
-pub use well_formedness::well_formed;
+pub use well_formedness::{are_parts, well_formed};

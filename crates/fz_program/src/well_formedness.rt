@@ -47,8 +47,10 @@ pub fn well_formed(p: &FzProgram) -> bool
     are_distinct(&p.vars, &p.arrays) && are_parts(p)
 }
 
-// Whether all but the names that stand twice is well formed.
-fn are_parts(p: &FzProgram) -> bool
+/// Whether all but the names that stand twice is well formed. It takes no memory, and its time grows
+/// with the size of the program: with a test of the names by a table it is a whole test in linear
+/// time.
+pub fn are_parts(p: &FzProgram) -> bool
     ensures { IsTrue result ↔ AreParts (program p.now) }
 {
     are_variables(&p.vars)

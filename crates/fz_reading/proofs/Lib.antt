@@ -1,0 +1,5 @@
+pub mod PartLoops
+pub mod LineLoops
+pub mod NameLoops
+pub mod Mapped
+pub mod ReadingExamples

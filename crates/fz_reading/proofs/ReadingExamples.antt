@@ -1,0 +1,48 @@
+-- What texts are read to.
+use Rattle.std.proofs.Common.{◌≡◌, List, [], ◌∷◌, Bool, true, false, Some, None, codes, refl}
+use Rattle.std.specs.Prelude.{ℤ, pos, negsuc}
+use Rattle.mz_value.specs.StepsWalks.{joined, merged}
+use Rattle.soln_items.specs.Items.{digits_at, set_of}
+use Rattle.fz_program.specs.declared.program.Domain.TheVariants.{Bool as Truths, Ints, SetOf}
+use Rattle.fz_program.specs.declared.program.FzGoal.TheVariants.{Satisfy, Maximize}
+use Rattle.fz_program.specs.declared.row_name.RowName.TheVariants.{IntLt, SetIn}
+use Rattle.fz_program.specs.Names.{Name}
+use Rattle.fz_program.specs.Arguments.{Argument, bool, int, set, var, one, array}
+use Rattle.fz_program.specs.Table.{line}
+use Rattle.fz_program.specs.Flat.{Variable, Program}
+use Rattle.fz_reading.specs.Tokens.{behind, interval_at, interval_from, name_at, natural_at, negative_at, number_at, range_at}
+use Rattle.fz_reading.specs.Lists.{braces_at, closed_at, filled_at, parts_at, set_at}
+use Rattle.fz_reading.specs.Tables.{are_new}
+use Rattle.fz_reading.specs.Arguments.{argument_at, array_at, braces_set_at, interval_set_at, number_or_interval_at, number_or_set_at, place_at, plain_at, word_at, word_of}
+use Rattle.fz_reading.specs.Lines.{array_item_at, body_at, definition_at, domain_at, from_colon, goal_at, integers_at, lines_at, mark_at, marked_at, objective_at, optimum_at, program_at, row_at, row_name_at, row_named, satisfy_at, set_of_at, undefined_at, variable_at}
+
+abbrev names : List Name
+names = codes "x" ∷ codes "true1" ∷ []
+
+pub number_of_text : number_at (codes "-120,") ≡ Some (negsuc 119, codes ",")
+unfolding behind digits_at natural_at negative_at number_at
+number_of_text = refl
+
+-- behind a number there is no letter
+pub no_number : number_at (codes "x1") ≡ None
+unfolding behind digits_at natural_at negative_at number_at
+no_number = refl
+
+-- an interval that is empty is read, whatever its ends: more is read than is spelled
+pub sets_of_text : set_at (codes "5..2;") ∷ set_at (codes "1..3;") ∷ [] ≡ Some ([], codes ";") ∷ Some ((pos 1, pos 3) ∷ [], codes ";") ∷ []
+unfolding behind digits_at interval_at interval_from natural_at negative_at number_at set_at
+sets_of_text = refl
+
+-- a variable whose name begins as a truth value does
+pub words_of_text : plain_at names (codes "true,") ∷ plain_at names (codes "true1,") ∷ plain_at names (codes "y,") ∷ [] ≡ Some (one (bool true), codes ",") ∷ Some (one (var 1), codes ",") ∷ None ∷ []
+unfolding name_at plain_at word_at word_of
+words_of_text = refl
+
+pub arrays_of_text : argument_at names (codes "[])") ∷ argument_at names (codes "[x,2])") ∷ argument_at names (codes "[x,])") ∷ [] ≡ Some (array [], codes ")") ∷ Some (array (var 0 ∷ int (pos 2) ∷ []), codes ")") ∷ None ∷ []
+unfolding argument_at array_at behind braces_set_at closed_at digits_at filled_at interval_set_at name_at natural_at negative_at number_at number_or_interval_at number_or_set_at parts_at plain_at word_at word_of
+arrays_of_text = refl
+
+-- a program with no variable, and one with a name that stands twice
+pub programs_of_text : program_at (codes "solve satisfy;\n") ∷ program_at (codes "var bool: x;\nvar bool: x;\nsolve satisfy;\n") ∷ [] ≡ Some (record { vars = []; arrays = []; rows = []; goal = Satisfy }) ∷ None ∷ []
+unfolding are_new behind body_at domain_at goal_at lines_at mark_at marked_at name_at optimum_at program_at satisfy_at variable_at
+programs_of_text = refl

@@ -1,0 +1,154 @@
+// Lists of parts with commas between them, and sets.
+
+ghost use Rattle.std.specs.Prelude.{◌≡◌, IfOk, IsTrue, codes, length, All};
+ghost use Rattle.std.specs.List.{list_all};
+ghost use Rattle.mz_value.specs.Ranges.{IsInLimit};
+ghost use Rattle.soln_items.specs.Gives.{Gives, with_rest};
+ghost use Rattle.soln_items.specs.Items.{interval, is_in_limit, listed};
+ghost use Rattle.fz_reading.specs.Tokens.{interval_at, interval_from, number_at, range_at};
+ghost use Rattle.fz_reading.specs.Lists.{all_at, braces_at, filled_at, set_at};
+
+use crate::token::{behind, expect, number, range};
+use mz_value::{GREATEST, LEAST, RangeSet};
+use soln_items::Miss;
+use std::alloc::Global;
+
+fn is_in_limit(n: i64) -> bool
+    ensures { result ≡ is_in_limit n }
+{
+    LEAST <= n && n <= GREATEST
+}
+
+/// The integers from `low` to `high`.
+fn interval(alloc: Global, low: i64, high: i64) -> Result<RangeSet, Miss>
+    ensures { Gives (λ s. s) result (interval low high) }
+{
+    if high < low {
+        return Ok(RangeSet::range(alloc, 1, 0)?);
+    }
+    if is_in_limit(low) && is_in_limit(high) {
+        Ok(RangeSet::range(alloc, low, high)?)
+    } else {
+        Err(Miss::Unfit)
+    }
+}
+
+/// The set from `low` to the number that stands first.
+#[tactic(auto, unfolding(crate::specs::Tokens::interval_from))]
+pub(crate) fn interval_from(
+    alloc: Global,
+    low: i64,
+    bytes: &[u8],
+) -> Result<(RangeSet, &[u8]), Miss>
+    ensures { Gives (with_rest (λ s. s)) result (interval_from low bytes.now) }
+{
+    let (high, rest) = number(bytes)?;
+    Ok((interval(alloc, low, high)?, rest))
+}
+
+/// `l..u`
+#[tactic(auto, unfolding(crate::specs::Tokens::interval_at))]
+fn interval_of(alloc: Global, bytes: &[u8]) -> Result<(RangeSet, &[u8]), Miss>
+    ensures { Gives (with_rest (λ s. s)) result (interval_at bytes.now) }
+{
+    let (low, rest) = number(bytes)?;
+    let rest = expect(b"..", rest)?;
+    interval_from(alloc, low, rest)
+}
+
+/// Numbers with commas between them. Each takes a byte.
+fn numbers(alloc: Global, bytes: &[u8]) -> Result<(Vec<i64>, &[u8]), Miss>
+    ensures { Gives (with_rest (λ v. v.items)) result (all_at number_at bytes.now) }
+{
+    let mut items = Vec::new(alloc);
+    let mut rest = bytes;
+    for _turn in 0..bytes.len() {
+        let (x, next) = match number(rest) {
+            Ok(read) => read,
+            Err(miss) => return Err(miss),
+        };
+        items.push(x)?;
+        match behind(b",", next) {
+            Some(more) => rest = more,
+            None => return Ok((items, next)),
+        }
+    }
+    Err(Miss::Unfit)
+}
+
+/// Numbers and the closing brace.
+#[tactic(auto, unfolding(crate::specs::Lists::filled_at))]
+fn filled(alloc: Global, bytes: &[u8]) -> Result<(Vec<i64>, &[u8]), Miss>
+    ensures { Gives (with_rest (λ v. v.items)) result (filled_at (codes "}") number_at bytes.now) }
+{
+    let (items, rest) = numbers(alloc, bytes)?;
+    let rest = expect(b"}", rest)?;
+    Ok((items, rest))
+}
+
+fn are_in_limit(items: &[i64]) -> bool
+    ensures value { result ≡ list_all is_in_limit items.now }
+    ensures each { IsTrue result → All IsInLimit items.now }
+{
+    items.iter().all(|x| is_in_limit(*x))
+}
+
+/// The set of some numbers.
+fn listed(alloc: Global, items: &[i64]) -> Result<RangeSet, Miss>
+    ensures { Gives (λ s. s) result (listed items.now) }
+{
+    if !are_in_limit(items) {
+        return Err(Miss::Unfit);
+    }
+    Ok(RangeSet::of(alloc, items)?)
+}
+
+/// What stands behind an opening brace.
+#[tactic(auto, unfolding(crate::specs::Lists::braces_at))]
+pub(crate) fn braces(alloc: Global, bytes: &[u8]) -> Result<(RangeSet, &[u8]), Miss>
+    ensures { Gives (with_rest (λ s. s)) result (braces_at bytes.now) }
+{
+    let (items, rest) = filled(alloc, bytes)?;
+    Ok((listed(alloc, &items)?, rest))
+}
+
+/// A set.
+#[tactic(auto, unfolding(crate::specs::Lists::set_at))]
+pub(crate) fn set(alloc: Global, bytes: &[u8]) -> Result<(RangeSet, &[u8]), Miss>
+    ensures { Gives (with_rest (λ s. s)) result (set_at bytes.now) }
+{
+    match behind(b"{", bytes) {
+        Some(rest) => braces(alloc, rest),
+        None => interval_of(alloc, bytes),
+    }
+}
+
+/// Ranges of indices with commas between them. Each takes a byte.
+fn ranges(alloc: Global, bytes: &[u8]) -> Result<(Vec<(i64, i64)>, &[u8]), Miss>
+    ensures { Gives (with_rest (λ v. v.items)) result (all_at range_at bytes.now) }
+{
+    let mut items = Vec::new(alloc);
+    let mut rest = bytes;
+    for _turn in 0..bytes.len() {
+        let (x, next) = match range(rest) {
+            Ok(read) => read,
+            Err(miss) => return Err(miss),
+        };
+        items.push(x)?;
+        match behind(b",", next) {
+            Some(more) => rest = more,
+            None => return Ok((items, next)),
+        }
+    }
+    Err(Miss::Unfit)
+}
+
+/// The ranges of an array's indices, up to its elements.
+#[tactic(auto, unfolding(crate::specs::Lists::filled_at))]
+pub(crate) fn index(alloc: Global, bytes: &[u8]) -> Result<(Vec<(i64, i64)>, &[u8]), Miss>
+    ensures { Gives (with_rest (λ v. v.items)) result (filled_at (codes "]) = [") range_at bytes.now) }
+{
+    let (items, rest) = ranges(alloc, bytes)?;
+    let rest = expect(b"]) = [", rest)?;
+    Ok((items, rest))
+}

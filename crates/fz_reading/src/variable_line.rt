@@ -1,0 +1,125 @@
+// The lines of variables.
+
+ghost use Rattle.std.specs.Prelude.{◌≡◌, codes, map, string_bytes};
+ghost use Rattle.soln_items.specs.Gives.{Gives, with_rest};
+ghost use Rattle.fz_program.specs.Flat.{variable};
+ghost use Rattle.fz_reading.specs.Lines.{
+  defined_mark,
+  domain_at,
+  every_at,
+  integers_at,
+  introduced_mark,
+  mark_at,
+  marked_at,
+  output_mark,
+  set_of_at,
+  variable_at,
+};
+
+use crate::list::set;
+use crate::token::{behind, expect, name};
+use fz_program::{Domain, FzName, FzVar};
+use soln_items::Miss;
+use std::alloc::Global;
+
+#[tactic(auto, unfolding(crate::specs::Lines::set_of_at))]
+fn set_of(alloc: Global, bytes: &[u8]) -> Result<(Domain, &[u8]), Miss>
+    ensures { Gives (with_rest (λ d. d)) result (set_of_at bytes.now) }
+{
+    let (s, rest) = set(alloc, bytes)?;
+    Ok((Domain::SetOf(s), rest))
+}
+
+#[tactic(auto, unfolding(crate::specs::Lines::integers_at))]
+fn integers(alloc: Global, bytes: &[u8]) -> Result<(Domain, &[u8]), Miss>
+    ensures { Gives (with_rest (λ d. d)) result (integers_at bytes.now) }
+{
+    let (s, rest) = set(alloc, bytes)?;
+    Ok((Domain::Ints(s), rest))
+}
+
+/// `bool`, a set, or `set of` a set.
+#[tactic(auto, unfolding(crate::specs::Lines::domain_at))]
+fn domain_of(alloc: Global, bytes: &[u8]) -> Result<(Domain, &[u8]), Miss>
+    ensures { Gives (with_rest (λ d. d)) result (domain_at bytes.now) }
+{
+    match behind(b"bool", bytes) {
+        Some(rest) => Ok((Domain::Bool, rest)),
+        None => match behind(b"set of ", bytes) {
+            Some(rest) => set_of(alloc, rest),
+            None => integers(alloc, bytes),
+        },
+    }
+}
+
+/// Whether a mark stands first, and the bytes behind it, where it does.
+#[tactic(auto, unfolding(crate::specs::Lines::mark_at))]
+fn mark<'a>(text: &[u8], bytes: &'a [u8]) -> (bool, &'a [u8])
+    ensures { (result.0, (result.1).now) ≡ mark_at text.now bytes.now }
+{
+    match behind(text, bytes) {
+        Some(rest) => (true, rest),
+        None => (false, bytes),
+    }
+}
+
+/// The marks of a variable and the end of its line.
+#[tactic(auto, unfolding(crate::specs::Lines::marked_at))]
+fn marked<'a>(
+    alloc: Global,
+    domain: Domain,
+    label: &str,
+    bytes: &'a [u8],
+) -> Result<(FzVar, &'a [u8]), Miss>
+    ensures { Gives (with_rest variable) result (marked_at domain label.now bytes.now) }
+{
+    let (output, rest) = mark(b" :: output_var", bytes);
+    let (introduced, rest) = mark(b" :: var_is_introduced", rest);
+    let (defined, rest) = mark(b" :: is_defined_var", rest);
+    let rest = expect(b";\n", rest)?;
+    let label = FzName {
+        text: String::from_str(alloc, label)?,
+    };
+    Ok((
+        FzVar {
+            label,
+            domain,
+            introduced,
+            defined,
+            output,
+        },
+        rest,
+    ))
+}
+
+/// A variable's line, behind `var `.
+#[tactic(auto, unfolding(crate::specs::Lines::variable_at))]
+fn variable(alloc: Global, bytes: &[u8]) -> Result<(FzVar, &[u8]), Miss>
+    ensures { Gives (with_rest variable) result (variable_at bytes.now) }
+{
+    let (domain, rest) = domain_of(alloc, bytes)?;
+    let rest = expect(b": ", rest)?;
+    let (label, rest) = name(rest)?;
+    marked(alloc, domain, label, rest)
+}
+
+/// The lines of all variables. Each takes a byte.
+pub(crate) fn variables(alloc: Global, bytes: &[u8]) -> Result<(Vec<FzVar>, &[u8]), Miss>
+    ensures { Gives (with_rest (λ v. map variable v.items)) result (every_at (codes "var ") variable_at bytes.now) }
+{
+    let mut vars = Vec::new(alloc);
+    let mut rest = bytes;
+    for _turn in 0..bytes.len() {
+        let inside = match behind(b"var ", rest) {
+            Some(inside) => inside,
+            None => return Ok((vars, rest)),
+        };
+        let (v, next) = match variable(alloc, inside) {
+            Ok(read) => read,
+            Err(miss) => return Err(miss),
+        };
+        vars.push(v)?;
+        rest = next;
+    }
+    Ok((vars, rest))
+}
