@@ -1,11 +1,11 @@
 -- Names that are hidden stay hidden further in, at the same places of the list.
-use Rattle.std.proofs.Common.{◌≡◌, ℕ, zero, suc, ◌+◌, Bool, true, false, List, [], ◌∷◌, ◌++◌, refl, ap, sym, ◌∙◌, length, take, append_assoc, append-nil}
+use Rattle.std.proofs.Common.{◌≡◌, ℕ, Bool, true, false, List, [], ◌∷◌, ◌++◌, refl, ap, sym, ◌∙◌, length, take, append_assoc, append-nil}
 use Rattle.std.specs.Prelude.{if◌then◌else◌}
 use Rattle.mz_base.specs.declared.fault.Span.{Span}
 use Rattle.mz_tree.specs.Tree as pure
 use Rattle.mz_tree.specs.Tree.{Name, Generator, Gens, Let, Lets, Declaration}
 use Rattle.mz_occurrence.specs.Sets.{holds, with_name}
-use Rattle.mz_uses.specs.Uses.{with_bound, with_generator, with_gens, with_let, with_lets, with_declaration}
+use Rattle.mz_uses.specs.Uses.{with_bound, with_generator, with_gens, with_let, with_lets}
 
 -- a list that begins with another
 pub record Begins (h g : List Name) : Type 0 where

@@ -1,5 +1,5 @@
 -- What an expression uses, by its form, where two parts or more are read one after the other.
-use Rattle.std.proofs.Common.{◌≡◌, suc, Bool, true, false, arith, length, List, [], ◌∷◌, ◌++◌, refl, ap, sym, ◌∙◌, map, append_assoc, Vec, Box, Option, Some, None}
+use Rattle.std.proofs.Common.{◌≡◌, suc, Bool, false, arith, length, List, [], ◌∷◌, ◌++◌, refl, ap, sym, ◌∙◌, map, append_assoc, Vec, Box, Option, Some}
 use Rattle.std.specs.Global.{Global}
 use Rattle.std.specs.List.{flat_map}
 use Rattle.std.specs.Prelude.{nat_eq}
@@ -15,7 +15,7 @@ use Rattle.mz_tree.specs.Tree.{Name, Shape}
 use Rattle.mz_tree.specs.Views.{tree, shape, let_of, part, based, declaration, generator, written, link, branch, tree_row}
 use Rattle.mz_tree.proofs.Looks.{tree_is, shape_is}
 use Rattle.mz_uses.specs.declared.name_use.NameUse.{NameUse}
-use Rattle.mz_uses.specs.Uses.{with_gens, with_lets, applied, is_empty, in_tree, in_trees, in_links, in_shape, in_gens, in_lets, in_branches, in_rows}
+use Rattle.mz_uses.specs.Uses.{with_gens, with_lets, applied, is_empty, in_tree, in_trees, in_links, in_shape, in_gens, in_lets, in_branches}
 use Rattle.mz_outline.proofs.Lists.{rows_flat}
 
 form_is : (h : List Name) (e : Expr) (f : Form) (s : Shape) → e.form ≡ f → shape f ≡ s → in_tree h (tree e) ≡ in_shape h s
