@@ -1,0 +1,114 @@
+-- What an expression uses, by its form, where two parts or more are read one after the other.
+use Rattle.std.proofs.Common.{◌≡◌, suc, Bool, false, arith, length, List, [], ◌∷◌, ◌++◌, refl, ap, sym, ◌∙◌, map, append_assoc, Vec, Box, Option, Some}
+use Rattle.std.specs.Global.{Global}
+use Rattle.std.specs.List.{flat_map}
+use Rattle.std.specs.Prelude.{nat_eq}
+use Rattle.std.proofs.lemmas.Bool.{ne_eqb}
+use Rattle.mz_tree.specs.declared.expr.BinOp.{BinOp}
+use Rattle.mz_tree.specs.declared.expr.Expr.{Expr}
+use Rattle.mz_tree.specs.declared.expr.Gen.{Gen}
+use Rattle.mz_tree.specs.declared.expr.LetItem.{LetItem}
+use Rattle.mz_tree.specs.declared.expr.Form.{Form, the_lemmas as form_lemmas}
+use Rattle.mz_tree.specs.declared.expr.Form.TheVariants as forms
+use Rattle.mz_tree.specs.Tree as pure
+use Rattle.mz_tree.specs.Tree.{Name, Shape}
+use Rattle.mz_tree.specs.Views.{tree, shape, let_of, part, based, declaration, generator, written, link, branch, tree_row}
+use Rattle.mz_tree.proofs.Looks.{tree_is, shape_is}
+use Rattle.mz_uses.specs.declared.name_use.NameUse.{NameUse}
+use Rattle.mz_uses.specs.Uses.{with_gens, with_lets, applied, is_empty, in_tree, in_trees, in_links, in_shape, in_gens, in_lets, in_branches}
+use Rattle.mz_outline.proofs.Lists.{rows_flat}
+
+form_is : (h : List Name) (e : Expr) (f : Form) (s : Shape) → e.form ≡ f → shape f ≡ s → in_tree h (tree e) ≡ in_shape h s
+unfolding in_tree
+form_is h e f s i is = ap (in_tree h) (tree_is e) ∙ ap (λ z. in_shape h (shape z)) i ∙ ap (λ z. in_shape h z) is
+
+-- two parts under the same hidden names
+pub after_both : (old first all a b whole : List NameUse) → first ≡ old ++ a → all ≡ first ++ b → whole ≡ a ++ b → all ≡ old ++ whole
+after_both old first all a b whole p q r = q ∙ ap (λ z. z ++ b) p ∙ append_assoc old a b ∙ ap (λ z. old ++ z) (sym r)
+
+-- a part, and one under the names that it hides
+pub after_scope : (old first all a whole : List NameUse) (g with_it : List Name) (f : List Name → List NameUse) → first ≡ old ++ a → all ≡ first ++ f g → g ≡ with_it → whole ≡ a ++ f with_it → all ≡ old ++ whole
+after_scope old first all a whole g with_it f p q i r = after_both old first all a (f with_it) whole p (q ∙ ap (λ z. first ++ f z) i) r
+
+array_comp_is : (x : Box Expr Global) (gs : Vec Gen Global) → shape (forms.ArrayComp x gs) ≡ pure.array_comp (tree x.value) (pure.gens (map generator gs.items))
+unfolding tree shape let_of part based declaration generator written
+array_comp_is x gs = simp form_lemmas refl
+
+set_comp_is : (x : Box Expr Global) (gs : Vec Gen Global) → shape (forms.SetComp x gs) ≡ pure.set_comp (tree x.value) (pure.gens (map generator gs.items))
+unfolding tree shape let_of part based declaration generator written
+set_comp_is x gs = simp form_lemmas refl
+
+let_is : (ls : Vec LetItem Global) (x : Box Expr Global) → shape (forms.Let ls x) ≡ pure.let_in (pure.lets (map let_of ls.items)) (tree x.value)
+unfolding tree shape let_of part based declaration generator written
+let_is ls x = simp form_lemmas refl
+
+rows_is : (rs : Vec (Vec Expr Global) Global) → shape (forms.Rows rs) ≡ pure.rows (pure.rows_of (map tree_row rs.items))
+rows_is rs = shape_is (forms.Rows rs) ∙ simp form_lemmas refl
+
+pub in_array_comp : (h : List Name) (e x : Expr) (b : Box Expr Global) (gs : Vec Gen Global) (hs : List Gen) → e.form ≡ forms.ArrayComp b gs → x ≡ b.value → hs ≡ gs.items → in_tree h (tree e) ≡ in_gens h (pure.gens (map generator hs)) ++ in_tree (with_gens h (pure.gens (map generator hs))) (tree x)
+unfolding in_tree
+in_array_comp h e x b gs hs i p q = form_is h e (forms.ArrayComp b gs) (pure.array_comp (tree b.value) (pure.gens (map generator gs.items))) i (array_comp_is b gs)
+    ∙ ap (λ z. in_gens h (pure.gens (map generator gs.items)) ++ in_tree (with_gens h (pure.gens (map generator gs.items))) (tree z)) (sym p)
+    ∙ ap (λ z. in_gens h (pure.gens (map generator z)) ++ in_tree (with_gens h (pure.gens (map generator z))) (tree x)) (sym q)
+
+pub in_set_comp : (h : List Name) (e x : Expr) (b : Box Expr Global) (gs : Vec Gen Global) (hs : List Gen) → e.form ≡ forms.SetComp b gs → x ≡ b.value → hs ≡ gs.items → in_tree h (tree e) ≡ in_gens h (pure.gens (map generator hs)) ++ in_tree (with_gens h (pure.gens (map generator hs))) (tree x)
+unfolding in_tree
+in_set_comp h e x b gs hs i p q = form_is h e (forms.SetComp b gs) (pure.set_comp (tree b.value) (pure.gens (map generator gs.items))) i (set_comp_is b gs)
+    ∙ ap (λ z. in_gens h (pure.gens (map generator gs.items)) ++ in_tree (with_gens h (pure.gens (map generator gs.items))) (tree z)) (sym p)
+    ∙ ap (λ z. in_gens h (pure.gens (map generator z)) ++ in_tree (with_gens h (pure.gens (map generator z))) (tree x)) (sym q)
+
+pub in_let_form : (h : List Name) (e x : Expr) (b : Box Expr Global) (ls : Vec LetItem Global) (ms : List LetItem) → e.form ≡ forms.Let ls b → x ≡ b.value → ms ≡ ls.items → in_tree h (tree e) ≡ in_lets h (pure.lets (map let_of ms)) ++ in_tree (with_lets h (pure.lets (map let_of ms))) (tree x)
+unfolding in_tree
+in_let_form h e x b ls ms i p q = form_is h e (forms.Let ls b) (pure.let_in (pure.lets (map let_of ls.items)) (tree b.value)) i (let_is ls b)
+    ∙ ap (λ z. in_lets h (pure.lets (map let_of ls.items)) ++ in_tree (with_lets h (pure.lets (map let_of ls.items))) (tree z)) (sym p)
+    ∙ ap (λ z. in_lets h (pure.lets (map let_of z)) ++ in_tree (with_lets h (pure.lets (map let_of z))) (tree x)) (sym q)
+
+pub in_rows_form : (h : List Name) (e : Expr) (rs : Vec (Vec Expr Global) Global) (ss : List (Vec Expr Global)) → e.form ≡ forms.Rows rs → ss ≡ rs.items → in_tree h (tree e) ≡ flat_map (λ x. in_trees h (pure.trees (map tree x.items))) ss
+unfolding in_tree
+in_rows_form h e rs ss i q = form_is h e (forms.Rows rs) (pure.rows (pure.rows_of (map tree_row rs.items))) i (rows_is rs) ∙ rows_flat h tree_row rs.items ∙ ap (λ z. flat_map (λ x. in_trees h (pure.trees (map tree x.items))) z) (sym q)
+
+gen_call_is : (n : Name) (x : Box Expr Global) (gs : Vec Gen Global) → shape (forms.GenCall n gs x) ≡ pure.gen_call n (pure.gens (map generator gs.items)) (tree x.value)
+unfolding tree shape let_of part based declaration generator written
+gen_call_is n x gs = simp form_lemmas refl
+
+pub in_gen_call : (h : List Name) (e x : Expr) (n : Name) (b : Box Expr Global) (gs : Vec Gen Global) (hs : List Gen) → e.form ≡ forms.GenCall n gs b → x ≡ b.value → hs ≡ gs.items → in_tree h (tree e) ≡ (applied h n false ++ in_gens h (pure.gens (map generator hs))) ++ in_tree (with_gens h (pure.gens (map generator hs))) (tree x)
+unfolding in_tree
+in_gen_call h e x n b gs hs i p q = form_is h e (forms.GenCall n gs b) (pure.gen_call n (pure.gens (map generator gs.items)) (tree b.value)) i (gen_call_is n b gs)
+    ∙ ap (λ z. (applied h n false ++ in_gens h (pure.gens (map generator gs.items))) ++ in_tree (with_gens h (pure.gens (map generator gs.items))) (tree z)) (sym p)
+    ∙ ap (λ z. (applied h n false ++ in_gens h (pure.gens (map generator z))) ++ in_tree (with_gens h (pure.gens (map generator z))) (tree x)) (sym q)
+
+chain_is : (x : Box Expr Global) (ls : Vec (BinOp × Expr) Global) → shape (forms.Chain x ls) ≡ pure.chain (tree x.value) (pure.links (map link ls.items))
+unfolding tree shape let_of part based declaration generator written
+chain_is x ls = simp form_lemmas refl
+
+call_is : (n : Name) (es : Vec Expr Global) → shape (forms.Call n es) ≡ pure.call n (pure.trees (map tree es.items))
+unfolding tree shape let_of part based declaration generator written
+call_is n es = simp form_lemmas refl
+
+access_is : (x : Box Expr Global) (es : Vec Expr Global) → shape (forms.Access x es) ≡ pure.access (tree x.value) (pure.trees (map tree es.items))
+unfolding tree shape let_of part based declaration generator written
+access_is x es = simp form_lemmas refl
+
+if_is : (bs : Vec (Expr × Expr) Global) (x : Box Expr Global) → shape (forms.If bs (Some x)) ≡ pure.choice (pure.branches (map branch bs.items)) (pure.just (tree x.value))
+unfolding tree shape let_of part based declaration generator written
+if_is bs x = simp form_lemmas refl
+
+pub in_chain : (h : List Name) (e x : Expr) (b : Box Expr Global) (ls : Vec (BinOp × Expr) Global) (ms : List (BinOp × Expr)) → e.form ≡ forms.Chain b ls → x ≡ b.value → ms ≡ ls.items → in_tree h (tree e) ≡ in_tree h (tree x) ++ in_links h (pure.links (map link ms))
+unfolding in_tree
+in_chain h e x b ls ms i p q = form_is h e (forms.Chain b ls) (pure.chain (tree b.value) (pure.links (map link ls.items))) i (chain_is b ls) ∙ ap (λ z. in_tree h (tree z) ++ in_links h (pure.links (map link ls.items))) (sym p) ∙ ap (λ z. in_tree h (tree x) ++ in_links h (pure.links (map link z))) (sym q)
+
+pub empty_same : (es : List Expr) → is_empty (pure.trees (map tree es)) ≡ nat_eq (length es) 0
+empty_same [] = refl
+empty_same (e ∷ es) = sym (ne_eqb (suc (length es)) 0 (λ i. absurd (omega (arith, i))))
+
+pub in_call : (h : List Name) (e : Expr) (n : Name) (es : Vec Expr Global) (fs : List Expr) (empty : Bool) → e.form ≡ forms.Call n es → fs ≡ es.items → empty ≡ is_empty (pure.trees (map tree fs)) → in_tree h (tree e) ≡ applied h n empty ++ in_trees h (pure.trees (map tree fs))
+unfolding in_tree
+in_call h e n es fs empty i q m = form_is h e (forms.Call n es) (pure.call n (pure.trees (map tree es.items))) i (call_is n es) ∙ ap (λ z. applied h n (is_empty (pure.trees (map tree z))) ++ in_trees h (pure.trees (map tree z))) (sym q) ∙ ap (λ z. applied h n z ++ in_trees h (pure.trees (map tree fs))) (sym m)
+
+pub in_access : (h : List Name) (e x : Expr) (b : Box Expr Global) (es : Vec Expr Global) (fs : List Expr) → e.form ≡ forms.Access b es → x ≡ b.value → fs ≡ es.items → in_tree h (tree e) ≡ in_tree h (tree x) ++ in_trees h (pure.trees (map tree fs))
+unfolding in_tree
+in_access h e x b es fs i p q = form_is h e (forms.Access b es) (pure.access (tree b.value) (pure.trees (map tree es.items))) i (access_is b es) ∙ ap (λ z. in_tree h (tree z) ++ in_trees h (pure.trees (map tree es.items))) (sym p) ∙ ap (λ z. in_tree h (tree x) ++ in_trees h (pure.trees (map tree z))) (sym q)
+
+pub in_if : (h : List Name) (e x : Expr) (b : Box Expr Global) (bs : Vec (Expr × Expr) Global) (cs : List (Expr × Expr)) (other : Option (Box Expr Global)) → e.form ≡ forms.If bs other → other ≡ Some b → x ≡ b.value → cs ≡ bs.items → in_tree h (tree e) ≡ in_branches h (pure.branches (map branch cs)) ++ in_tree h (tree x)
+unfolding in_tree
+in_if h e x b bs cs other i o p q = form_is h e (forms.If bs (Some b)) (pure.choice (pure.branches (map branch bs.items)) (pure.just (tree b.value))) (i ∙ ap (λ z. forms.If bs z) o) (if_is bs b) ∙ ap (λ z. in_branches h (pure.branches (map branch bs.items)) ++ in_tree h (tree z)) (sym p) ∙ ap (λ z. in_branches h (pure.branches (map branch z)) ++ in_tree h (tree x)) (sym q)

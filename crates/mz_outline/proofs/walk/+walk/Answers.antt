@@ -1,0 +1,99 @@
+use Rattle.std.proofs.Common.{refl, false, ◌+◌, ◌++◌, drop, map, ap, sym, ◌∙◌}
+use Rattle.std.specs.Prelude.{nat_eq}
+use Rattle.mz_tree.specs.Tree.{trees, links, branches, gens, lets}
+use Rattle.mz_tree.specs.Views.{tree, part, generator, let_of, based, link, branch}
+use Rattle.mz_uses.specs.Uses.{applied, in_links, in_branches, in_tree, in_trees, in_part, in_generator, in_gens, in_let, in_lets, in_based, with_generator, with_gens, with_let, with_lets}
+use Rattle.mz_outline.proofs.Lists.{one_read, all_read, trees_flat, links_flat, branches_flat, parts_flat, bases_flat, step, gens_from, with_gens_from, lets_from, with_lets_from, gens_read, lets_read, with_gens_read, with_lets_read}
+use Rattle.mz_outline.proofs.Extending.{begins_gens, begins_lets, left_after}
+use Rattle.mz_outline.proofs.Seen.{after_both, after_scope, in_array_comp, in_set_comp, in_let_form, in_rows_form, in_gen_call, in_chain, empty_same, in_call, in_access, in_if}
+use Rattle.mz_outline.proofs.walk.+walk.Goals as goal
+
+pub in_all-loop-e-preserved : goal.in_all-loop-e-preserved
+in_all-loop-e-preserved t c = record {
+  uses = one_read (λ x. in_tree c.args.hidden.now (tree x)) c.args.es.now c.loop-e.e-index c.e-item.result c.args.out.now.items c.loop-e.out.items c.in_expression.new.out.items c.loop-e.invariant.uses c.loop-e-test.true c.e-item.is (c.in_ok-in_expression.ensures.uses ∙ ap (λ z. c.loop-e.out.items ++ in_tree z (tree c.e-item.result)) c.loop-e.invariant.hidden);
+  hidden = c.in_ok-in_expression.ensures.hidden ∙ c.loop-e.invariant.hidden;
+}
+
+pub in_all-returns-clause-uses : goal.in_all-returns-clause-uses
+in_all-returns-clause-uses t c = all_read (λ x. in_tree c.args.hidden.now (tree x)) c.args.es.now c.loop-e.e-index c.args.out.now.items c.loop-e.out.items _ c.loop-e.invariant.uses c.loop-e-test.false (trees_flat c.args.hidden.now tree c.args.es.now)
+
+pub in_operands-returns-clause-uses : goal.in_operands-returns-clause-uses
+in_operands-returns-clause-uses t c = all_read (λ x. in_tree c.args.hidden.now (tree x.1)) c.args.rest.now c.loop-operand.operand-index c.args.out.now.items c.loop-operand.out.items _ c.loop-operand.invariant.uses c.loop-operand-test.false (links_flat c.args.hidden.now link c.args.rest.now)
+
+pub in_choices-returns-clause-uses : goal.in_choices-returns-clause-uses
+in_choices-returns-clause-uses t c = all_read (λ x. in_tree c.args.hidden.now (tree x.0) ++ in_tree c.args.hidden.now (tree x.1)) c.args.choices.now c.loop-choice.choice-index c.args.out.now.items c.loop-choice.out.items _ c.loop-choice.invariant.uses c.loop-choice-test.false (branches_flat c.args.hidden.now branch c.args.choices.now)
+
+pub in_pieces-returns-clause-uses : goal.in_pieces-returns-clause-uses
+in_pieces-returns-clause-uses t c = all_read (λ x. in_part c.args.hidden.now (part x)) c.args.pieces.now c.loop-piece.piece-index c.args.out.now.items c.loop-piece.out.items _ c.loop-piece.invariant.uses c.loop-piece-test.false (parts_flat c.args.hidden.now part c.args.pieces.now)
+
+pub in_dims-returns-clause-uses : goal.in_dims-returns-clause-uses
+in_dims-returns-clause-uses t c = all_read (λ x. in_based c.args.hidden.now (based x)) c.args.dims.now c.loop-dim.dim-index c.args.out.now.items c.loop-dim.out.items _ c.loop-dim.invariant.uses c.loop-dim-test.false (bases_flat c.args.hidden.now based c.args.dims.now)
+
+pub in_generators-loop-g-preserved : goal.in_generators-loop-g-preserved
+in_generators-loop-g-preserved t c = record {
+  uses = step (λ h xs. in_gens h (gens (map generator xs))) (λ h x. in_generator h (generator x)) (λ h x. with_generator h (generator x)) c.args.gs.now c.loop-g.g-index c.g-item.result c.loop-g.hidden c.in_one.new.hidden _ c.loop-g.out.items c.in_one.new.out.items
+      (gens_from c.loop-g.hidden generator c.args.gs.now c.loop-g.g-index c.g-item.result c.loop-g-test.true c.g-item.is)
+      c.loop-g.invariant.uses c.in_ok-in_one.ensures.uses c.in_ok-in_one.ensures.hidden;
+  hidden = c.loop-g.invariant.hidden ∙ with_gens_from c.loop-g.hidden generator c.args.gs.now c.loop-g.g-index c.g-item.result c.loop-g-test.true c.g-item.is
+      ∙ ap (λ z. with_gens z (gens (map generator (drop (c.loop-g.g-index + 1) c.args.gs.now)))) (sym c.in_ok-in_one.ensures.hidden);
+}
+
+pub in_generators-returns-clause-uses : goal.in_generators-returns-clause-uses
+in_generators-returns-clause-uses t c = gens_read c.loop-g.hidden generator c.args.gs.now c.loop-g.g-index _ c.loop-g.out.items c.loop-g.invariant.uses c.loop-g-test.false
+
+pub in_generators-returns-clause-hidden : goal.in_generators-returns-clause-hidden
+in_generators-returns-clause-hidden t c = with_gens_read c.loop-g.hidden generator c.args.gs.now c.loop-g.g-index _ c.loop-g.invariant.hidden c.loop-g-test.false
+
+pub in_let_items-loop-item-preserved : goal.in_let_items-loop-item-preserved
+in_let_items-loop-item-preserved t c = record {
+  uses = step (λ h xs. in_lets h (lets (map let_of xs))) (λ h x. in_let h (let_of x)) (λ h x. with_let h (let_of x)) c.args.items.now c.loop-item.item-index c.item-item.result c.loop-item.hidden c.in_let_item.new.hidden _ c.loop-item.out.items c.in_let_item.new.out.items
+      (lets_from c.loop-item.hidden let_of c.args.items.now c.loop-item.item-index c.item-item.result c.loop-item-test.true c.item-item.is)
+      c.loop-item.invariant.uses c.in_ok-in_let_item.ensures.uses c.in_ok-in_let_item.ensures.hidden;
+  hidden = c.loop-item.invariant.hidden ∙ with_lets_from c.loop-item.hidden let_of c.args.items.now c.loop-item.item-index c.item-item.result c.loop-item-test.true c.item-item.is
+      ∙ ap (λ z. with_lets z (lets (map let_of (drop (c.loop-item.item-index + 1) c.args.items.now)))) (sym c.in_ok-in_let_item.ensures.hidden);
+}
+
+pub in_let_items-returns-clause-uses : goal.in_let_items-returns-clause-uses
+in_let_items-returns-clause-uses t c = lets_read c.loop-item.hidden let_of c.args.items.now c.loop-item.item-index _ c.loop-item.out.items c.loop-item.invariant.uses c.loop-item-test.false
+
+pub in_let_items-returns-clause-hidden : goal.in_let_items-returns-clause-hidden
+in_let_items-returns-clause-hidden t c = with_lets_read c.loop-item.hidden let_of c.args.items.now c.loop-item.item-index _ c.loop-item.invariant.hidden c.loop-item-test.false
+
+pub in_expression-returns-in_ok-in_expression-in-ArrayComp-clause-uses : goal.in_expression-returns-in_ok-in_expression-in-ArrayComp-clause-uses
+in_expression-returns-in_ok-in_expression-in-ArrayComp-clause-uses t c = after_scope c.args.out.now.items c.in_generators-in-ArrayComp.new.out.items c.in_expression-in-ArrayComp.new.out.items (in_gens c.args.hidden.now (gens (map generator c.as_slice-in-ArrayComp.result.now))) (in_tree c.args.hidden.now (tree c.args.e.now)) c.in_generators-in-ArrayComp.new.hidden (with_gens c.args.hidden.now (gens (map generator c.as_slice-in-ArrayComp.result.now))) (λ z. in_tree z (tree c.deref-in-ArrayComp.result.now)) c.in_ok-in_generators-in-ArrayComp.ensures.uses c.in_ok-in_expression-in-ArrayComp.ensures.uses c.in_ok-in_generators-in-ArrayComp.ensures.hidden (in_array_comp c.args.hidden.now c.args.e.now c.deref-in-ArrayComp.result.now c.in-ArrayComp.x c.in-ArrayComp.gs c.as_slice-in-ArrayComp.result.now c.in-ArrayComp.is c.deref-in-ArrayComp.ensures c.as_slice-in-ArrayComp.ensures.value)
+
+pub in_expression-returns-in_ok-in_expression-in-ArrayComp-clause-hidden : goal.in_expression-returns-in_ok-in_expression-in-ArrayComp-clause-hidden
+in_expression-returns-in_ok-in_expression-in-ArrayComp-clause-hidden t c = left_after c.args.hidden.now (with_gens c.args.hidden.now (gens (map generator c.as_slice-in-ArrayComp.result.now))) c.in_generators-in-ArrayComp.new.hidden c.in_expression-in-ArrayComp.new.hidden c.leave-in-ArrayComp.new.self c.len-depth-in-ArrayComp.result c.len-depth-in-ArrayComp.ensures (begins_gens c.args.hidden.now (gens (map generator c.as_slice-in-ArrayComp.result.now))) c.in_ok-in_generators-in-ArrayComp.ensures.hidden c.in_ok-in_expression-in-ArrayComp.ensures.hidden c.leave-in-ArrayComp.ensures
+
+pub in_expression-returns-in_ok-in_expression-in-SetComp-clause-uses : goal.in_expression-returns-in_ok-in_expression-in-SetComp-clause-uses
+in_expression-returns-in_ok-in_expression-in-SetComp-clause-uses t c = after_scope c.args.out.now.items c.in_generators-in-SetComp.new.out.items c.in_expression-in-SetComp.new.out.items (in_gens c.args.hidden.now (gens (map generator c.as_slice-in-SetComp.result.now))) (in_tree c.args.hidden.now (tree c.args.e.now)) c.in_generators-in-SetComp.new.hidden (with_gens c.args.hidden.now (gens (map generator c.as_slice-in-SetComp.result.now))) (λ z. in_tree z (tree c.deref-in-SetComp.result.now)) c.in_ok-in_generators-in-SetComp.ensures.uses c.in_ok-in_expression-in-SetComp.ensures.uses c.in_ok-in_generators-in-SetComp.ensures.hidden (in_set_comp c.args.hidden.now c.args.e.now c.deref-in-SetComp.result.now c.in-SetComp.x c.in-SetComp.gs c.as_slice-in-SetComp.result.now c.in-SetComp.is c.deref-in-SetComp.ensures c.as_slice-in-SetComp.ensures.value)
+
+pub in_expression-returns-in_ok-in_expression-in-SetComp-clause-hidden : goal.in_expression-returns-in_ok-in_expression-in-SetComp-clause-hidden
+in_expression-returns-in_ok-in_expression-in-SetComp-clause-hidden t c = left_after c.args.hidden.now (with_gens c.args.hidden.now (gens (map generator c.as_slice-in-SetComp.result.now))) c.in_generators-in-SetComp.new.hidden c.in_expression-in-SetComp.new.hidden c.leave-in-SetComp.new.self c.len-depth-in-SetComp.result c.len-depth-in-SetComp.ensures (begins_gens c.args.hidden.now (gens (map generator c.as_slice-in-SetComp.result.now))) c.in_ok-in_generators-in-SetComp.ensures.hidden c.in_ok-in_expression-in-SetComp.ensures.hidden c.leave-in-SetComp.ensures
+
+pub in_expression-returns-in_ok-in_expression-in-GenCall-clause-uses : goal.in_expression-returns-in_ok-in_expression-in-GenCall-clause-uses
+in_expression-returns-in_ok-in_expression-in-GenCall-clause-uses t c = after_scope c.args.out.now.items c.in_generators.new.out.items c.in_expression-in-GenCall.new.out.items (applied c.args.hidden.now c.in-GenCall.n false ++ in_gens c.args.hidden.now (gens (map generator c.as_slice-in-GenCall.result.now))) (in_tree c.args.hidden.now (tree c.args.e.now)) c.in_generators.new.hidden (with_gens c.args.hidden.now (gens (map generator c.as_slice-in-GenCall.result.now))) (λ z. in_tree z (tree c.deref-in-GenCall.result.now)) (after_both c.args.out.now.items c.applied-in-GenCall.new.out.items c.in_generators.new.out.items (applied c.args.hidden.now c.in-GenCall.n false) (in_gens c.args.hidden.now (gens (map generator c.as_slice-in-GenCall.result.now))) _ c.in_ok-applied-in-GenCall.ensures c.in_ok-in_generators-in-GenCall.ensures.uses refl) c.in_ok-in_expression-in-GenCall.ensures.uses c.in_ok-in_generators-in-GenCall.ensures.hidden (in_gen_call c.args.hidden.now c.args.e.now c.deref-in-GenCall.result.now c.in-GenCall.n c.in-GenCall.x c.in-GenCall.gs c.as_slice-in-GenCall.result.now c.in-GenCall.is c.deref-in-GenCall.ensures c.as_slice-in-GenCall.ensures.value)
+
+pub in_expression-returns-in_ok-in_expression-in-GenCall-clause-hidden : goal.in_expression-returns-in_ok-in_expression-in-GenCall-clause-hidden
+in_expression-returns-in_ok-in_expression-in-GenCall-clause-hidden t c = left_after c.args.hidden.now (with_gens c.args.hidden.now (gens (map generator c.as_slice-in-GenCall.result.now))) c.in_generators.new.hidden c.in_expression-in-GenCall.new.hidden c.leave.new.self c.len-depth.result c.len-depth.ensures (begins_gens c.args.hidden.now (gens (map generator c.as_slice-in-GenCall.result.now))) c.in_ok-in_generators-in-GenCall.ensures.hidden c.in_ok-in_expression-in-GenCall.ensures.hidden c.leave.ensures
+
+pub in_expression-returns-in_ok-in_expression-in-Let-clause-uses : goal.in_expression-returns-in_ok-in_expression-in-Let-clause-uses
+in_expression-returns-in_ok-in_expression-in-Let-clause-uses t c = after_scope c.args.out.now.items c.in_let_items.new.out.items c.in_expression-in-Let.new.out.items (in_lets c.args.hidden.now (lets (map let_of c.as_slice-in-Let.result.now))) (in_tree c.args.hidden.now (tree c.args.e.now)) c.in_let_items.new.hidden (with_lets c.args.hidden.now (lets (map let_of c.as_slice-in-Let.result.now))) (λ z. in_tree z (tree c.deref-in-Let.result.now)) c.in_ok-in_let_items-in-Let.ensures.uses c.in_ok-in_expression-in-Let.ensures.uses c.in_ok-in_let_items-in-Let.ensures.hidden (in_let_form c.args.hidden.now c.args.e.now c.deref-in-Let.result.now c.in-Let.x c.in-Let.ls c.as_slice-in-Let.result.now c.in-Let.is c.deref-in-Let.ensures c.as_slice-in-Let.ensures.value)
+
+pub in_expression-returns-in_ok-in_expression-in-Let-clause-hidden : goal.in_expression-returns-in_ok-in_expression-in-Let-clause-hidden
+in_expression-returns-in_ok-in_expression-in-Let-clause-hidden t c = left_after c.args.hidden.now (with_lets c.args.hidden.now (lets (map let_of c.as_slice-in-Let.result.now))) c.in_let_items.new.hidden c.in_expression-in-Let.new.hidden c.leave-in-Let.new.self c.len-depth-in-Let.result c.len-depth-in-Let.ensures (begins_lets c.args.hidden.now (lets (map let_of c.as_slice-in-Let.result.now))) c.in_ok-in_let_items-in-Let.ensures.hidden c.in_ok-in_expression-in-Let.ensures.hidden c.leave-in-Let.ensures
+
+pub in_expression-returns-in_ok-in_operands-in-Chain-clause-uses : goal.in_expression-returns-in_ok-in_operands-in-Chain-clause-uses
+in_expression-returns-in_ok-in_operands-in-Chain-clause-uses t c = after_scope c.args.out.now.items c.in_expression-in-Chain.new.out.items c.in_operands.new.out.items (in_tree c.args.hidden.now (tree c.deref-in-Chain.result.now)) (in_tree c.args.hidden.now (tree c.args.e.now)) c.in_expression-in-Chain.new.hidden c.args.hidden.now (λ z. in_links z (links (map link c.as_slice-in-Chain.result.now))) c.in_ok-in_expression-in-Chain.ensures.uses c.in_ok-in_operands-in-Chain.ensures.uses c.in_ok-in_expression-in-Chain.ensures.hidden (in_chain c.args.hidden.now c.args.e.now c.deref-in-Chain.result.now c.in-Chain.x c.in-Chain.rest c.as_slice-in-Chain.result.now c.in-Chain.is c.deref-in-Chain.ensures c.as_slice-in-Chain.ensures.value)
+
+pub in_expression-returns-in_ok-in_all-in-Access-clause-uses : goal.in_expression-returns-in_ok-in_all-in-Access-clause-uses
+in_expression-returns-in_ok-in_all-in-Access-clause-uses t c = after_scope c.args.out.now.items c.in_expression-in-Access.new.out.items c.in_all-in-Access.new.out.items (in_tree c.args.hidden.now (tree c.deref-in-Access.result.now)) (in_tree c.args.hidden.now (tree c.args.e.now)) c.in_expression-in-Access.new.hidden c.args.hidden.now (λ z. in_trees z (trees (map tree c.as_slice-in-Access.result.now))) c.in_ok-in_expression-in-Access.ensures.uses c.in_ok-in_all-in-Access.ensures.uses c.in_ok-in_expression-in-Access.ensures.hidden (in_access c.args.hidden.now c.args.e.now c.deref-in-Access.result.now c.in-Access.x c.in-Access.xs c.as_slice-in-Access.result.now c.in-Access.is c.deref-in-Access.ensures c.as_slice-in-Access.ensures.value)
+
+pub in_expression-returns-in_ok-in_expression-in-If-clause-uses : goal.in_expression-returns-in_ok-in_expression-in-If-clause-uses
+in_expression-returns-in_ok-in_expression-in-If-clause-uses t c = after_scope c.args.out.now.items c.in_choices.new.out.items c.in_expression-in-Some.new.out.items (in_branches c.args.hidden.now (branches (map branch c.as_slice-in-If.result.now))) (in_tree c.args.hidden.now (tree c.args.e.now)) c.in_choices.new.hidden c.args.hidden.now (λ z. in_tree z (tree c.deref-in-Some.result.now)) c.in_ok-in_choices-in-If.ensures.uses c.in_ok-in_expression-in-If.ensures.uses c.in_ok-in_choices-in-If.ensures.hidden (in_if c.args.hidden.now c.args.e.now c.deref-in-Some.result.now c.in-Some.x c.in-If.bs c.as_slice-in-If.result.now c.in-If.other c.in-If.is c.in-Some.is c.deref-in-Some.ensures c.as_slice-in-If.ensures.value)
+
+pub in_expression-returns-after-loop-row-clause-uses : goal.in_expression-returns-after-loop-row-clause-uses
+in_expression-returns-after-loop-row-clause-uses t c = all_read (λ x. in_trees c.args.hidden.now (trees (map tree x.items))) c.as_slice-row-items.result.now c.loop-row.row-index c.args.out.now.items c.loop-row.out.items _ c.loop-row.invariant.uses c.loop-row-test.false (in_rows_form c.args.hidden.now c.args.e.now c.in-Rows.rs c.as_slice-row-items.result.now c.in-Rows.is c.as_slice-row-items.ensures.value)
+
+pub in_expression-returns-in_ok-in_all-in-Call-clause-uses : goal.in_expression-returns-in_ok-in_all-in-Call-clause-uses
+in_expression-returns-in_ok-in_all-in-Call-clause-uses t c = after_both c.args.out.now.items c.applied.new.out.items c.in_all.new.out.items (applied c.args.hidden.now c.in-Call.n c.is_empty.result) (in_trees c.args.hidden.now (trees (map tree c.as_slice-in-Call.result.now))) (in_tree c.args.hidden.now (tree c.args.e.now)) c.in_ok-applied-in-Call.ensures c.in_ok-in_all-in-Call.ensures.uses (in_call c.args.hidden.now c.args.e.now c.in-Call.n c.in-Call.xs c.as_slice-in-Call.result.now c.is_empty.result c.in-Call.is c.as_slice-in-Call.ensures.value (c.is_empty.ensures ∙ ap (λ z. nat_eq z 0) (sym c.as_slice-in-Call.ensures.len) ∙ sym (empty_same c.as_slice-in-Call.result.now)))
