@@ -3,3 +3,11 @@ pub mod Sets
 pub mod Appends
 pub mod Commas
 pub mod SpellingExamples
+pub mod Prefixes
+pub mod PartsAgain
+pub mod SetsAgain
+pub mod ArgumentsAgain
+pub mod WellFormedTexts
+pub mod LinesAgain
+pub mod NamesOnce
+pub mod ProgramAgain

@@ -42,7 +42,7 @@ pub fn write<S: Sink>(alloc: Global, p: &FzProgram, out: &mut S) -> Wrote
 }
 
 // The program's one spelling.
-fn text(alloc: Global, p: &FzProgram) -> Result<Vec<u8>, AllocError>
+pub(crate) fn text(alloc: Global, p: &FzProgram) -> Result<Vec<u8>, AllocError>
     ensures { IfOk result (λ t. t.items ≡ spelling (program p.now)) }
 {
     let mut out = Vec::new(alloc);
