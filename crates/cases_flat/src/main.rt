@@ -1,33 +1,19 @@
 // What the calls on FlatZinc programs answer: each line is a program and whether it is well formed, and the program that is
-// is written.
+// is written; then the texts of the input are read, and written again.
 #![tactic(auto)]
 
 mod programs;
+mod reading;
+mod written;
 
 use crate::programs::{base, numbers, objective, places, second_name, variables, with_row};
+use crate::written::print_written;
 use cases::Page;
-use fz_program::{Arg, FzGoal, FzProgram, RowName, is_identifier, well_formed};
-use fz_text::write;
+use fz_program::{Arg, FzGoal, RowName, is_identifier};
 use mz_base::Memory;
-use mz_io::MemSink;
 use std::alloc::Global;
 use std::io;
 use std::io::ErrorKind;
-
-/// Writes a program to a sink of which the puts of these numbers fail.
-fn print_written(alloc: Global, p: &FzProgram, fails: u64, page: &mut Page) -> Result<(), Memory> {
-    if !well_formed(p) {
-        page.line("not well formed");
-        return Ok(());
-    }
-    let mut sink = MemSink::new(alloc, vec![in alloc; fails]?);
-    page.case("written", write(alloc, p, &mut sink));
-    match str::from_utf8(sink.bytes()) {
-        Ok(text) => page.put(text),
-        Err(_) => page.line("no text"),
-    }
-    Ok(())
-}
 
 /// Rows that the table takes, or doesn't.
 fn print_rows(alloc: Global, page: &mut Page) -> Result<(), Memory> {
@@ -86,7 +72,7 @@ fn print_linear_rows(alloc: Global, page: &mut Page) -> Result<(), Memory> {
     Ok(())
 }
 
-fn all(alloc: Global) -> Result<String, Memory> {
+fn all(alloc: Global, input: &str) -> Result<String, Memory> {
     let mut page = Page::new(alloc);
     for word in ["x", "X_1b", "variable", "var", "_x", "1x", "x-y", ""] {
         page.case(word, is_identifier(word.as_bytes()));
@@ -108,11 +94,14 @@ fn all(alloc: Global) -> Result<String, Memory> {
     let p = base(alloc)?;
     print_written(alloc, &p, 9, &mut page)?;
     print_written(alloc, &p, 0, &mut page)?;
+    reading::print(alloc, input, &mut page)?;
     Ok(page.into_text()?)
 }
 
 fn main(rt: HostRuntime) -> io::Result<()> {
-    match all(rt.alloc()) {
+    let alloc = rt.alloc();
+    let input = io::read_to_string(alloc, rt.reader())?;
+    match all(alloc, input.as_str()) {
         Ok(text) => rt.print(text),
         Err(Memory) => Err(io::Error::from(ErrorKind::OutOfMemory)),
     }

@@ -1,22 +1,22 @@
 -- The arguments of rows are read again, where variables have these names.
-use Rattle.std.proofs.Common.{◌≡◌, ℕ, zero, suc, ◌<◌, List, [], ◌∷◌, ◌++◌, length, get_or, map, Bool, true, false, cond, refl, sym, ap, subst, ◌∙◌, arith, tests, rules, Some, None, append_assoc, flat_map, codes, position, Contains}
-use Rattle.std.specs.Prelude.{◌&&◌, ◌||◌, ℤ, pos, not, nat_eq, nat_lt, slice_get, slice_index_or}
-use Rattle.std.specs.List.{AllByRecursion, list_all, prefix_len}
+use Rattle.std.proofs.Common.{◌≡◌, ℕ, zero, suc, ◌<◌, List, [], ◌∷◌, ◌++◌, length, map, Bool, true, false, refl, sym, ap, subst, ◌∙◌, arith, tests, Some, None, append_assoc, flat_map, codes, Contains}
+use Rattle.std.specs.Prelude.{◌||◌, ℤ, pos, not, nat_eq, nat_lt}
+use Rattle.std.specs.List.{AllByRecursion, prefix_len}
 use Rattle.std.specs.Fmt.{signed_decimal}
 use Rattle.std.specs.Str.{bytes_eq}
 use Rattle.std.proofs.lemmas.Bool.{false≢true}
 use Rattle.std.proofs.lemmas.Slice.Eq.{bytes_eq-Decides}
 use Rattle.mz_base.specs.Words.{is_identifier, is_keyword, is_word}
-use Rattle.mz_value.specs.Ranges.{Range, AreCanonical, AreInLimit, IsInLimit}
+use Rattle.mz_value.specs.Ranges.{Range, IsInLimit}
 use Rattle.soln_items.specs.Bytes.{first_byte, is_digit, is_letter, is_name_byte}
 use Rattle.fz_program.specs.Names.{Name}
 use Rattle.fz_program.specs.Arguments.{Plain, bool, int, set as set_of, var, nested, Argument, one, array, plain_of}
 use Rattle.fz_program.specs.Flat.{AreDistinct, IsSet}
 use Rattle.soln_items.specs.Items.{interval as interval_set}
-use Rattle.fz_reading.specs.Tokens.{behind, name_at}
+use Rattle.fz_reading.specs.Tokens.{behind}
 use Rattle.fz_reading.specs.Lists.{closed_at}
 use Rattle.fz_reading.specs.Arguments.{argument_at, array_at, braces_set_at, interval_set_at, number_or_interval_at, number_or_set_at, place_at, place_of, plain_at, word_at, word_of}
-use Rattle.fz_text.specs.Spelling.{argument_text, array_text, commas, elements, interval, label_at, numbers, plain_text, set, truth}
+use Rattle.fz_text.specs.Spelling.{argument_text, array_text, commas, elements, interval, label_at, numbers, plain_text, set}
 use Rattle.fz_text.proofs.Prefixes.{both, first_is, name_again, not_behind, number_again, other_byte, word_is}
 use Rattle.fz_text.proofs.PartsAgain.{Again, none_again, pieces, some_again, is_stop, stop_is_no_digit, stop_is_no_dot, stop_is_no_name_byte}
 use Rattle.fz_text.proofs.SetsAgain.{brace, braces_again, braces_text, dots, empty_text, from_again, interval_parts, is_set_byte, no_brace, number_first, one_in_limit, one_range, set_first, zero_in_limit}

@@ -1,16 +1,14 @@
 -- The lines of a well-formed program are read again.
-use Rattle.std.proofs.Common.{◌≡◌, ◌≢◌, ℕ, zero, suc, ◌+◌, ◌<◌, ◌≤◌, List, [], ◌∷◌, ◌++◌, length, map, drop, Bool, true, false, refl, sym, ap, subst, ◌∙◌, arith, tests, rules, Some, None, append_assoc, flat_map, codes}
-use Rattle.std.specs.Prelude.{◌&&◌, ◌||◌, ℤ, pos, int_le, nat_eq, not, slice_get, Option, decimal}
-use Rattle.std.specs.List.{AllByRecursion, list_all, prefix_len}
-use Rattle.std.specs.Fmt.{digits, signed_decimal}
-use Rattle.std.specs.Str.{bytes_eq}
+use Rattle.std.proofs.Common.{◌≡◌, ℕ, ◌<◌, List, [], ◌∷◌, ◌++◌, length, map, Bool, true, false, refl, sym, ap, subst, ◌∙◌, Some, None, append_assoc, codes}
+use Rattle.std.specs.Prelude.{◌&&◌, ℤ, pos, int_le, nat_eq, slice_get, Option, decimal}
+use Rattle.std.specs.List.{AllByRecursion, list_all}
+use Rattle.std.specs.Fmt.{signed_decimal}
 use Rattle.std.proofs.lemmas.Bool.{false≢true}
-use Rattle.mz_base.specs.Words.{is_identifier, is_word}
+use Rattle.mz_base.specs.Words.{is_word}
 use Rattle.mz_interval.specs.Ends.{Ends}
 use Rattle.mz_value.specs.Ranges.{Range, AreCanonical, AreInLimit, IsInLimit}
 use Rattle.soln_items.specs.Bytes.{first_byte, is_digit, is_letter, is_name_byte}
 use Rattle.fz_program.specs.declared.row_name.Kind.TheVariants.{Int}
-use Rattle.soln_items.specs.Items.{Read}
 use Rattle.fz_program.specs.declared.program.Domain.{Domain}
 use Rattle.fz_program.specs.declared.program.Domain.TheVariants.{Bool as Truths, Ints, SetOf}
 use Rattle.fz_program.specs.declared.program.FzGoal.{FzGoal}
@@ -21,11 +19,11 @@ use Rattle.fz_program.specs.Names.{Name}
 use Rattle.fz_program.specs.Arguments.{Argument}
 use Rattle.fz_program.specs.Table.{line}
 use Rattle.fz_program.specs.Flat.{Variable, ArrayItem, Row, IsWellFormedVariable, IsWellFormedArray, IsWellFormedRow, IsOfSet, are_arguments, is_definition, is_literal, labels_of, is_goal, is_index, is_index_range}
-use Rattle.fz_reading.specs.Tokens.{behind, name_at, range_at}
-use Rattle.fz_reading.specs.Lists.{filled_at, closed_at, set_at}
+use Rattle.fz_reading.specs.Tokens.{behind, range_at}
+use Rattle.fz_reading.specs.Lists.{filled_at, closed_at}
 use Rattle.fz_reading.specs.Arguments.{argument_at, place_at}
-use Rattle.fz_reading.specs.Lines.{all_rows, array_item_at, defined_at, defined_mark, definition_at, domain_at, from_colon, goal_at, integers_at, introduced_mark, is_no_colon, mark_at, marked_at, objective_at, optimum_at, output_mark, row_at, row_name_at, row_named, satisfy_at, set_of_at, undefined_at, variable_at}
-use Rattle.fz_text.specs.Spelling.{argument_list, argument_text, array_line, commas, definition, domain_text, element_by, element_of, element_text, goal_line, hull, hull_text, interval, label_at, mark, row_line, set, variable_line}
+use Rattle.fz_reading.specs.Lines.{array_item_at, defined_at, definition_at, domain_at, from_colon, goal_at, integers_at, is_no_colon, mark_at, marked_at, objective_at, optimum_at, row_at, row_name_at, row_named, satisfy_at, set_of_at, undefined_at, variable_at}
+use Rattle.fz_text.specs.Spelling.{argument_list, argument_text, commas, definition, domain_text, element_by, element_of, element_text, goal_line, hull, hull_text, interval, label_at, mark, set}
 use Rattle.fz_text.proofs.Prefixes.{all_append, both, decimal_has_no_colon, drop_front, first_is, other_byte, name_again, not_behind, run_is, signed_has_no_colon, word_is}
 use Rattle.fz_text.proofs.PartsAgain.{Again, either, filled_again, none_again, pieces, some_again, stop_is_no_digit, stop_is_no_name_byte}
 use Rattle.fz_text.proofs.SetsAgain.{is_set_byte, one_in_limit, range_again, set_again, set_first, zero_in_limit}

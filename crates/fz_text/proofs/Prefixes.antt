@@ -1,14 +1,14 @@
 -- What stands behind a text, a run of bytes, a number and a name.
-use Rattle.std.proofs.Common.{◌≡◌, ◌≢◌, ℕ, zero, suc, ◌+◌, ◌-◌, ◌*◌, ◌/◌, ◌%◌, ◌^◌, ◌<◌, ◌≤◌, ◌==◌, List, [], ◌∷◌, ◌++◌, length, length-append, take, drop, Bool, true, false, cond, refl, sym, ap, subst, ◌∙◌, arith, tests, rules, Some, None, append_assoc}
-use Rattle.std.specs.Prelude.{◌&&◌, nat_eq, min, ℤ, pos, negsuc, ◌≤ℤ◌, codes}
-use Rattle.std.specs.List.{prefix_len, list_all, starts_with}
+use Rattle.std.proofs.Common.{◌≡◌, ℕ, zero, suc, ◌+◌, ◌-◌, ◌*◌, ◌/◌, ◌%◌, ◌^◌, ◌<◌, ◌≤◌, ◌==◌, List, [], ◌∷◌, ◌++◌, length, length-append, take, drop, Bool, true, false, cond, refl, sym, ap, ◌∙◌, arith, tests, Some, None}
+use Rattle.std.specs.Prelude.{◌&&◌, nat_eq, min, ℤ, pos, negsuc, ◌≤ℤ◌}
+use Rattle.std.specs.List.{prefix_len, list_all}
 use Rattle.std.specs.Fmt.{decimal, digit_glyph, digits, digits_onto, signed_decimal}
 use Rattle.std.proofs.lemmas.Bool.{false≢true, eqb-true}
 use Rattle.std.proofs.lemmas.Int.{ints}
 use Rattle.std.proofs.lemmas.Nat.{div-add-mod'}
-use Rattle.std.proofs.lemmas.Fmt.{decimal_by_steps, decimal_nonempty}
+use Rattle.std.proofs.lemmas.Fmt.{decimal_by_steps}
 use Rattle.mz_value.specs.Ranges.{IsInLimit}
-use Rattle.mz_base.specs.Words.{is_identifier, is_word, is_keyword}
+use Rattle.mz_base.specs.Words.{is_word}
 use Rattle.soln_items.specs.Bytes.{is_digit, is_letter, is_name_byte, first_byte}
 use Rattle.soln_items.specs.Items.{digits_at, number_from, past}
 use Rattle.fz_reading.specs.Lines.{is_no_colon}

@@ -1,5 +1,5 @@
 -- A well-formed program's text is read again, so bytes spell at most one program.
-use Rattle.std.proofs.Common.{◌≡◌, ℕ, zero, suc, ◌+◌, ◌<◌, ◌≤◌, List, [], ◌∷◌, ◌++◌, length, length-append, map, Bool, true, false, refl, sym, ap, subst, ◌∙◌, arith, Some, None, append_assoc, flat_map, codes}
+use Rattle.std.proofs.Common.{◌≡◌, ℕ, zero, suc, ◌+◌, ◌<◌, ◌≤◌, List, [], ◌∷◌, ◌++◌, length, length-append, Bool, true, false, refl, sym, ap, subst, ◌∙◌, arith, Some, None, append_assoc, flat_map, codes}
 use Rattle.std.specs.Prelude.{Option}
 use Rattle.std.specs.List.{AllByRecursion}
 use Rattle.std.proofs.lemmas.Option.{none-some, same_Some}
@@ -10,8 +10,8 @@ use Rattle.fz_program.specs.declared.program.FzGoal.TheVariants.{Satisfy, Minimi
 use Rattle.fz_program.specs.Names.{Name}
 use Rattle.fz_program.specs.Flat.{Variable, ArrayItem, Row, Program, WellFormed, AreDistinct, AreParts, IsWellFormedVariable, IsWellFormedArray, IsWellFormedRow, array_labels, labels, labels_of}
 use Rattle.fz_reading.specs.Tokens.{behind}
-use Rattle.fz_reading.specs.Tables.{are_new, named_items, named_variables}
-use Rattle.fz_reading.specs.Lines.{Body, array_item_at, body_at, every_at, goal_at, lines_at, named_at, program_at, row_at, variable_at, with_variables}
+use Rattle.fz_reading.specs.Tables.{are_new, named_items}
+use Rattle.fz_reading.specs.Lines.{Body, array_item_at, body_at, every_at, lines_at, named_at, program_at, row_at, variable_at, with_variables}
 use Rattle.fz_reading.proofs.LineLoops.{more_at, stop_at}
 use Rattle.fz_reading.proofs.NameLoops.{named_unit, new_append}
 use Rattle.fz_text.specs.Spelling.{Spells, array_line, goal_line, row_line, spelling, variable_line}

@@ -1,10 +1,9 @@
 -- Sets are read again.
-use Rattle.std.proofs.Common.{◌≡◌, ℕ, zero, suc, ◌+◌, ◌<◌, ◌≤◌, List, [], ◌∷◌, ◌++◌, length, get_or, map, Bool, true, false, refl, sym, ap, subst, ◌∙◌, arith, tests, rules, inl, inr, Some, None, append_assoc, flat_map, codes, Contains}
-use Rattle.std.specs.Prelude.{◌⊎◌, ◌&&◌, ◌||◌, ℤ, pos, negsuc, ◌+ℤ◌, ◌-ℤ◌, ◌≤ℤ◌, ◌<ℤ◌, nat_abs, nat_eq, int_lt, int_le}
+use Rattle.std.proofs.Common.{◌≡◌, ℕ, zero, suc, List, [], ◌∷◌, ◌++◌, map, Bool, true, false, refl, sym, ap, subst, ◌∙◌, arith, rules, inl, inr, Some, None, append_assoc, flat_map, codes, Contains}
+use Rattle.std.specs.Prelude.{◌⊎◌, ◌||◌, ℤ, pos, negsuc, ◌+ℤ◌, ◌-ℤ◌, ◌≤ℤ◌, ◌<ℤ◌, nat_abs, nat_eq, int_le}
 use Rattle.std.specs.List.{AllByRecursion, list_all}
 use Rattle.std.specs.Fmt.{digits, decimal, signed_decimal}
 use Rattle.std.proofs.lemmas.Int.{ints}
-use Rattle.std.proofs.lemmas.Bool.{false≢true}
 use Rattle.mz_value.specs.Ranges.{Range, AreCanonical, AreInLimit, Has, IsIn, IsInLimit, IsSetOf, least, greatest}
 use Rattle.mz_value.proofs.Comparisons.{int_le_true, int_lt_false}
 use Rattle.soln_items.specs.Bytes.{first_byte, is_digit}
@@ -15,7 +14,7 @@ use Rattle.fz_reading.specs.Lists.{braces_at, filled_at, set_at}
 use Rattle.fz_text.specs.Spelling.{braces, commas, elements, interval, numbers, numbers_from, set}
 use Rattle.fz_text.proofs.Commas.{after_first, join_is}
 use Rattle.fz_text.proofs.Prefixes.{all_append, below_past, both, is_wide, first_digit, not_behind, number_again, numeral, other_byte}
-use Rattle.fz_text.proofs.PartsAgain.{Again, filled_again, is_stop, stop_is_no_digit}
+use Rattle.fz_text.proofs.PartsAgain.{Again, filled_again, stop_is_no_digit}
 
 -- ---- `l..u`
 

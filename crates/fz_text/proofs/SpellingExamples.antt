@@ -7,7 +7,7 @@ use Rattle.fz_program.specs.declared.program.Domain.{Domain}
 use Rattle.fz_program.specs.declared.program.Domain.TheVariants.{Bool as Truths, Ints, SetOf}
 use Rattle.fz_program.specs.declared.program.FzGoal.TheVariants.{Satisfy, Minimize, Maximize}
 use Rattle.fz_program.specs.declared.row_name.RowName.TheVariants.{IntEq, IntNe, IntLe, IntLt, IntLinLe, ArrayBoolAnd, ArraySetElement, SetInReif, BoolToInt}
-use Rattle.fz_program.specs.Arguments.{Argument, bool, int, set as a_set, var, one, array}
+use Rattle.fz_program.specs.Arguments.{bool, int, set as a_set, var, one, array}
 use Rattle.fz_program.specs.Names.{Name}
 use Rattle.fz_program.specs.Table.{line}
 use Rattle.fz_program.specs.Flat.{Variable, ArrayItem, Row, Program}

@@ -1,11 +1,11 @@
 -- The arguments of a well-formed program have texts.
-use Rattle.std.proofs.Common.{◌≡◌, ℕ, zero, suc, ◌<◌, List, [], ◌∷◌, length, map, Bool, true, false, refl, ap, sym, ◌∙◌, arith, tests, Some, None}
-use Rattle.std.specs.Prelude.{◌&&◌, ◌||◌, slice_get, Option}
+use Rattle.std.proofs.Common.{◌≡◌, ℕ, zero, suc, ◌<◌, List, [], ◌∷◌, length, Bool, true, false, refl, arith, Some}
+use Rattle.std.specs.Prelude.{◌||◌}
 use Rattle.std.specs.List.{AllByRecursion, list_all, list_any}
 use Rattle.std.proofs.lemmas.Bool.{false≢true, eqb-true}
 use Rattle.std.proofs.lemmas.List.{length-map}
 use Rattle.fz_program.specs.Arguments.{Plain, bool, int, set, var, nested, Argument, one, array}
-use Rattle.fz_program.specs.Flat.{Variable, are_arguments, are_alike, are_variables_of, has_variable, is_argument, is_constant, is_definition, is_kind, is_literal, is_plain, is_set, is_variable, is_variable_of, labels_of, same_kind}
+use Rattle.fz_program.specs.Flat.{Variable, are_arguments, are_alike, are_variables_of, has_variable, is_argument, is_constant, is_definition, is_literal, is_plain, is_set, is_variable, is_variable_of, labels_of, same_kind}
 use Rattle.fz_program.specs.declared.row_name.Kind.{Kind}
 use Rattle.fz_program.specs.declared.row_name.Kind.TheVariants.{Int, Bool as Truth, Set, ConstInt, Ints, Bools, Sets, ConstInts, ConstBools, ConstSets}
 use Rattle.fz_program.proofs.Sets.{both, literal_in, set_in}

@@ -1,8 +1,8 @@
-use Rattle.std.proofs.Common.{◌<◌, ◌++◌, ◌∙◌, refl, sym, ap, map, length, arith}
+use Rattle.std.proofs.Common.{◌<◌, refl, sym, map, length, arith}
 use Rattle.std.proofs.lemmas.List.{append-nil, nil_from_length}
 use Rattle.fz_program.specs.Flat.{labels_of, variable}
 use Rattle.fz_text.specs.Spelling.{commas, label_at}
-use Rattle.fz_text.proofs.Commas.{listed, map_map, plains_map}
+use Rattle.fz_text.proofs.Commas.{listed}
 use Rattle.fz_text.proofs.array.push_labels.Goals as goal
 
 pub returns-in-empty : goal.returns-in-empty

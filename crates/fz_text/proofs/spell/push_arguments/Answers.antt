@@ -1,9 +1,9 @@
-use Rattle.std.proofs.Common.{◌<◌, ◌++◌, ◌∙◌, refl, sym, ap, map, length, arith}
+use Rattle.std.proofs.Common.{◌<◌, ◌++◌, ◌∙◌, sym, ap, map, length, arith}
 use Rattle.std.proofs.lemmas.List.{append-nil, nil_from_length}
 use Rattle.fz_program.specs.Flat.{labels_of, variable}
 use Rattle.fz_program.specs.Arguments.{argument}
 use Rattle.fz_text.specs.Spelling.{commas, argument_text}
-use Rattle.fz_text.proofs.Commas.{listed, map_map, plains_map}
+use Rattle.fz_text.proofs.Commas.{listed, map_map}
 use Rattle.fz_text.proofs.spell.push_arguments.Goals as goal
 
 pub returns-in-empty : goal.returns-in-empty
