@@ -25,7 +25,8 @@ fn decls_at(alloc: Global, decls: &[Decl], order: &[usize]) -> Result<Vec<Decl>,
     Ok(out)
 }
 
-/// The scoped model of these parts, with the declarations in this order: their places in the text, from 0.
+/// The scoped model of these parts, with the declarations in this order: their places in the text, from 0. It fails only where
+/// memory runs out.
 pub fn arranged(alloc: Global, parts: ModelParts, order: &[usize]) -> Result<Scoped, Memory>
     requires { All (λ k. k < length parts.decls.items) order.now }
     ensures { IfOk result (λ s. scoped_tree s ≡ in_order (parts_tree parts) order.now) }

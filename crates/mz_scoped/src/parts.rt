@@ -30,7 +30,8 @@ pub struct ModelParts {
     pub given: Vec<DataItem>,
 }
 
-/// The parts of a model with its data, copied.
+/// The parts of a model with its data, copied. Where a name has two assignment items, or two items of the data, the first counts.
+/// It fails only where memory runs out.
 pub fn model_parts(
     alloc: Global,
     sources: &Sources,
