@@ -110,7 +110,7 @@ module _ (decls functions : List Sketch) (calls mentions decl_calls decl_mention
           | inl l ↦
               let i : length functions + (x - length functions) ≡ x = omega (arith, h) in
               let e = ap (λ z. heads types z) (sym i) ∙ building.types_on_name decls functions calls mentions decl_calls decl_mentions types d k (x - length functions) (omega (arith, h, l)) in
-              let c = (k.sorted.down (x - length functions) y (subst (λ z. IsIn y z) e a)).counted in
+              let c = (k.sorted_again.down (x - length functions) y (subst (λ z. IsIn y z) e a)).counted in
               omega (arith, c, s)
           | inr l ↦ elim (below_or_not x (length types)) [
             | inl t ↦
