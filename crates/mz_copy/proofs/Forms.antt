@@ -1,5 +1,5 @@
 -- The tree of an expression by its form, once the trees of its parts are known, where more than one level is looked at.
-use Rattle.std.proofs.Common.{◌≡◌, ◌∙◌, List, Vec, Box, Option, Some, None, Result, Ok, Err, IfOk, map, refl, sym, ap}
+use Rattle.std.proofs.Common.{◌≡◌, ◌∙◌, List, Vec, Box, Option, Some, None, Result, Ok, Err, IfOk, map, sym, ap}
 use Rattle.std.specs.Global.{Global}
 use Rattle.mz_tree.specs.declared.expr.BinOp.{BinOp}
 use Rattle.mz_tree.specs.declared.expr.Expr.{Expr}

@@ -1,5 +1,5 @@
 -- The value of a table, once the values of its rows are known.
-use Rattle.std.proofs.Common.{◌≡◌, ◌∙◌, List, Vec, map, refl, sym, ap}
+use Rattle.std.proofs.Common.{◌≡◌, ◌∙◌, List, Vec, map, sym, ap}
 use Rattle.std.specs.Global.{Global}
 use Rattle.mz_tree.specs.declared.data.Datum.{Datum, the_lemmas as datum_lemmas}
 use Rattle.mz_tree.specs.declared.data.Datum.TheVariants as forms

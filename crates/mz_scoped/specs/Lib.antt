@@ -1,2 +1,4 @@
 pub mod Parts
 pub mod Scoped
+pub mod StepsParts
+pub mod StepsTables

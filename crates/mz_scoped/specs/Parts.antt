@@ -1,12 +1,12 @@
 -- The parts of a model: what its items declare, constrain and show, in the order of the text, with the values that assignments give
 -- and the cases that data gives.
-use Rattle.std.specs.Prelude.{◌≡◌, ℕ, List, [], ◌∷◌, ◌++◌, Bool, true, false, if◌then◌else◌, Option, Some, None, map, nat_eq, slice_index_or, refl}
+use Rattle.std.specs.Prelude.{◌≡◌, ℕ, List, [], ◌∷◌, Bool, true, false, if◌then◌else◌, Option, Some, None, map, nat_eq, slice_index_or, refl}
 use Rattle.std.specs.List.{flat_map}
 use Rattle.mz_base.specs.declared.fault.Span.{Span}
 use Rattle.mz_base.specs.Faults.{start_of}
 use Rattle.mz_tree.specs.Tree as pure
 use Rattle.mz_tree.specs.Tree.{Name, Tree, Maybe, Declaration}
-use Rattle.mz_tree.specs.Items.{GoalTree, satisfy, minimize, maximize, FunctionTree, ItemTree, include, declare, assign, constraint, solve, output, function, enum, annotation}
+use Rattle.mz_tree.specs.Items.{GoalTree, satisfy, FunctionTree, ItemTree, declare, assign, constraint, solve, output, function, enum}
 use Rattle.mz_tree.specs.Data as data_tree
 use Rattle.mz_tree.specs.Data.{Given}
 use Rattle.mz_occurrence.specs.Given.{cases_in, enum_of, identifiers}

@@ -1,7 +1,6 @@
 -- What the scoped model of a model and its data is.
 use Rattle.std.specs.Prelude.{◌≡◌, ℕ, List, [], ◌∷◌, ◌++◌, Bool, true, false, map}
 use Rattle.std.specs.List.{flat_map, All}
-use Rattle.mz_base.specs.declared.fault.Span.{Span}
 use Rattle.mz_base.specs.declared.fault.Fault.{Fault}
 use Rattle.mz_base.specs.declared.kind.Kind.TheVariants.{Cyclic}
 use Rattle.mz_base.specs.Faults.{fault_at}
@@ -12,6 +11,7 @@ use Rattle.mz_tree.specs.Data.{Given, given}
 use Rattle.mz_occurrence.specs.Sets.{holds}
 use Rattle.mz_uses.specs.Outlines.{Sketch, decl_sketch, function_sketch, has_parameters}
 use Rattle.mz_dependency.specs.Dependencies.{IsSequence, IsStuckAt, IsBackAt, AreRanks}
+use Rattle.mz_scoped.specs.declared.parts.ModelParts.{ModelParts}
 use Rattle.mz_scoped.specs.declared.scoped.Scoped.{Scoped}
 use Rattle.mz_scoped.specs.declared.scoped.ScopedEnum.{ScopedEnum}
 use Rattle.mz_scoped.specs.Parts.{EnumTree, decls_of, functions_of, constraint_in, output_in, goal_of, enums_of, given_of, name_of, place_of, decl_at, function_at}
@@ -39,6 +39,34 @@ scoped_tree s = record {
   outputs = map tree s.outputs.items;
   given = map given s.given.items;
 }
+
+-- the parts, gathered in the order of the text, without where they lie in memory
+abbrev pub parts_tree : ModelParts → ScopedTree
+parts_tree p = record {
+  enums = map enum_tree p.enums.items;
+  decls = map declaration p.decls.items;
+  functions = map function_of p.functions.items;
+  constraints = map tree p.constraints.items;
+  goal = goal p.goal;
+  outputs = map tree p.outputs.items;
+  given = map given p.given.items;
+}
+
+-- the parts of a model with its data, each in the order of the text
+abbrev pub source_parts : List ItemTree → List Given → ScopedTree
+source_parts is ds = record {
+  enums = enums_of is ds;
+  decls = decls_of is;
+  functions = functions_of is;
+  constraints = flat_map constraint_in is;
+  goal = goal_of is;
+  outputs = flat_map output_in is;
+  given = given_of is ds;
+}
+
+-- the same with its declarations in this order of their places
+abbrev pub in_order : ScopedTree → List ℕ → ScopedTree
+in_order s order = record s { decls = map (decl_at s.decls) order }
 
 -- no name stands twice in the list
 abbrev pub AreDistinct : List Name → Type 0

@@ -1,0 +1,5 @@
+pub mod Assigning
+pub mod Gathering
+pub mod Tables
+pub mod Walked
+pub mod Whole

@@ -1,0 +1,52 @@
+// The scoped model, from its parts and the order of its declarations.
+
+ghost use Rattle.std.specs.Prelude.{◌≡◌, ◌<◌, IfOk, All, length, map};
+ghost use Rattle.mz_tree.specs.Views.{declaration};
+ghost use Rattle.mz_scoped.specs.Parts.{decl_at};
+ghost use Rattle.mz_scoped.specs.Scoped.{scoped_tree, parts_tree, in_order};
+
+use crate::parts::ModelParts;
+use crate::scoped::Scoped;
+use mz_base::Memory;
+use mz_copy::copy_declaration;
+use mz_tree::Decl;
+use std::alloc::Global;
+
+/// Copies of the declarations at these places, from 0.
+fn decls_at(alloc: Global, decls: &[Decl], order: &[usize]) -> Result<Vec<Decl>, Memory>
+    requires { All (λ k. k < length decls.now) order.now }
+    ensures { IfOk result (λ out. map declaration out.items ≡ map (decl_at (map declaration decls.now)) order.now) }
+{
+    let mut out = Vec::new(alloc);
+    for k in order {
+        let copy = copy_declaration(alloc, &decls[*k])?;
+        out.push(copy)?;
+    }
+    Ok(out)
+}
+
+/// The scoped model of these parts, with the declarations in this order: their places in the text, from 0.
+pub fn arranged(alloc: Global, parts: ModelParts, order: &[usize]) -> Result<Scoped, Memory>
+    requires { All (λ k. k < length parts.decls.items) order.now }
+    ensures { IfOk result (λ s. scoped_tree s ≡ in_order (parts_tree parts) order.now) }
+{
+    let decls = decls_at(alloc, parts.decls.as_slice(), order)?;
+    let ModelParts {
+        enums,
+        decls: _decls,
+        functions,
+        constraints,
+        goal,
+        outputs,
+        given,
+    } = parts;
+    Ok(Scoped {
+        enums,
+        decls,
+        functions,
+        constraints,
+        goal,
+        outputs,
+        given,
+    })
+}

@@ -1,0 +1,56 @@
+// The items of the data that are not of enums.
+
+ghost use Rattle.std.specs.Prelude.{◌≡◌, IfOk, map};
+ghost use Rattle.std.specs.List.{flat_map};
+ghost use Rattle.mz_tree.specs.Data.{given};
+ghost use Rattle.mz_occurrence.specs.Sets.{holds};
+ghost use Rattle.mz_scoped.specs.Parts.{unless};
+
+use crate::scoped::ScopedEnum;
+use mz_base::{Memory, Name};
+use mz_copy::copy_data_item;
+use mz_occurrence::NameSet;
+use mz_tree::DataItem;
+use std::alloc::Global;
+
+fn names_of(alloc: Global, enums: &[ScopedEnum]) -> Result<Vec<Name>, Memory>
+    ensures { IfOk result (λ out. out.items ≡ map (λ e. e.name) enums.now) }
+{
+    let mut out = Vec::new(alloc);
+    for e in enums {
+        out.push(e.name)?;
+    }
+    Ok(out)
+}
+
+/// The items of the data whose names are not in the set.
+fn items_besides(
+    alloc: Global,
+    names: &NameSet,
+    items: &[DataItem],
+) -> Result<Vec<DataItem>, Memory>
+    ensures { IfOk result (λ out. map given out.items ≡ flat_map (λ d. unless (holds d.name names.now) (given d)) items.now) }
+{
+    let mut out = Vec::new(alloc);
+    for d in items {
+        if !names.has(d.name) {
+            let copy = copy_data_item(alloc, d)?;
+            out.push(copy)?;
+        }
+    }
+    Ok(out)
+}
+
+/// The items of the data for other names than those of these enums.
+pub(crate) fn given_of(
+    alloc: Global,
+    enums: &[ScopedEnum],
+    items: &[DataItem],
+) -> Result<Vec<DataItem>, Memory>
+    ensures { IfOk result (λ out. map given out.items ≡ flat_map (λ d. unless (holds d.name (map (λ e. e.name) enums.now)) (given d)) items.now) }
+{
+    let names = names_of(alloc, enums)?;
+    let set = NameSet::of(alloc, names.as_slice())?;
+    let out = items_besides(alloc, &set, items)?;
+    Ok(out)
+}

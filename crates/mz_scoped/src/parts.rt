@@ -1,0 +1,59 @@
+// The parts of a model with its data, gathered in the order of the text.
+
+ghost use Rattle.std.specs.Prelude.{◌≡◌, IfOk, map};
+ghost use Rattle.mz_tree.specs.Data.{given};
+ghost use Rattle.mz_occurrence.specs.StepsWalk.{items_of};
+ghost use Rattle.mz_scoped.specs.Scoped.{parts_tree, source_parts};
+
+use crate::decls::decls_of;
+use crate::enums::enums_of;
+use crate::given::given_of;
+use crate::items::{constraints_of, functions_of, goal_of, outputs_of};
+use crate::scoped::ScopedEnum;
+use mz_base::Memory;
+use mz_tree::{Data, DataItem, Decl, Expr, Function, Goal, Sources};
+use std::alloc::Global;
+
+/// The parts of a model with its data, each in the order of the text, the files one after the other.
+#[derive(Debug, Drop)]
+pub struct ModelParts {
+    /// The enums, with the cases that their items or the data give.
+    pub enums: Vec<ScopedEnum>,
+    /// Each declaration at top level. The value that an assignment item gives is the declaration's.
+    pub decls: Vec<Decl>,
+    pub functions: Vec<Function>,
+    pub constraints: Vec<Expr>,
+    /// What the first solve item asks for.
+    pub goal: Goal,
+    pub outputs: Vec<Expr>,
+    /// The items of the data, but for those of enums.
+    pub given: Vec<DataItem>,
+}
+
+/// The parts of a model with its data, copied.
+pub fn model_parts(
+    alloc: Global,
+    sources: &Sources,
+    given_data: &Data,
+) -> Result<ModelParts, Memory>
+    ensures { IfOk result (λ p. parts_tree p ≡ source_parts (items_of sources.now.files.items) (map given given_data.now.items.items)) }
+{
+    let files = sources.files.as_slice();
+    let items = given_data.items.as_slice();
+    let enums = enums_of(alloc, files, items)?;
+    let decls = decls_of(alloc, files)?;
+    let functions = functions_of(alloc, files)?;
+    let constraints = constraints_of(alloc, files)?;
+    let outputs = outputs_of(alloc, files)?;
+    let given = given_of(alloc, enums.as_slice(), items)?;
+    let goal = goal_of(alloc, files)?;
+    Ok(ModelParts {
+        enums,
+        decls,
+        functions,
+        constraints,
+        goal,
+        outputs,
+        given,
+    })
+}
