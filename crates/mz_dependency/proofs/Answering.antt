@@ -1,5 +1,5 @@
 -- What the order and the cycles of the graphs say of the declarations and functions.
-use Rattle.std.proofs.Common.{◌≡◌, ℕ, ◌+◌, ◌<◌, ◌≤◌, List, length, ap, sym, subst, arith}
+use Rattle.std.proofs.Common.{◌≡◌, ℕ, ◌+◌, ◌<◌, List, length, subst, arith}
 use Rattle.mz_graph.specs.Graph.{Graph, number_of}
 use Rattle.mz_graph.specs.Order.{IsOrder, IsComplete, IsFirstLeft}
 use Rattle.mz_order.specs.Depends.{DependsOn, IsWholeOrder, IsCyclicAt, NoneOnCycle, IsFirstOnCycle, HaveComponents}

@@ -1,20 +1,19 @@
 -- The graphs of dependencies hold what the uses say that they are made from.
-use Rattle.std.proofs.Common.{◌≡◌, ℕ, ◌+◌, ◌-◌, ◌<◌, ◌≤◌, inl, inr, List, [], ◌∷◌, ◌++◌, true, false, Option, Some, None, length, map, replicate, get_or, refl, ap, sym, ◌∙◌, subst, arith}
+use Rattle.std.proofs.Common.{◌≡◌, ℕ, ◌+◌, ◌-◌, ◌<◌, inl, inr, List, [], ◌++◌, true, false, Some, length, map, replicate, ap, sym, ◌∙◌, subst, arith}
 use Rattle.std.proofs.lemmas.List.{get_or-map, length-map, get_or-replicate, get_or_past, length-replicate}
 use Rattle.mz_graph.specs.Graph.{Graph, heads, IsIn, Edge, number_of}
 use Rattle.mz_graph.proofs.Membership.{below_or_not, in_front, in_back, in_either}
 use Rattle.mz_order.specs.Members.{IsMember}
 use Rattle.mz_order.proofs.Joining.{both_sized, in_first, in_second}
 use Rattle.mz_uses.specs.declared.name_use.NameUse.{NameUse}
-use Rattle.mz_uses.specs.declared.name_use.NameUse.TheVariants.{Mention, Call}
 use Rattle.mz_uses.specs.Outlines.{Sketch, all_of}
 use Rattle.mz_dependency.specs.Dependencies.{sketch_at, meant_by, IsUsed, RefersTo, AreDeclarations}
-use Rattle.mz_dependency.specs.StepsFaithful.{IsName, HaveNames, AreFaithful, HasTypes, of_function, of_decl, TypeEdge, to_name, to_decl, AreTypes}
+use Rattle.mz_dependency.specs.StepsFaithful.{IsName, AreFaithful, HasTypes, of_function, of_decl, to_name, to_decl, AreTypes}
 use Rattle.mz_dependency.specs.StepsPlaces.{names_in, callee, or_zero}
 use Rattle.mz_dependency.specs.StepsGraphs.{name_count, base_of, numbers_of, node_of, called_by, mentioned_by, types_by, AreGraphs}
-use Rattle.mz_dependency.proofs.Placing.{IsFrom, from_row, to_row, one_callee, callee_within}
+use Rattle.mz_dependency.proofs.Placing.{from_row, to_row, one_callee, callee_within}
 use Rattle.mz_dependency.proofs.Naming.{callee_there}
-use Rattle.mz_dependency.proofs.Declaring.{IsMentioned, mention_up, mention_down}
+use Rattle.mz_dependency.proofs.Declaring.{mention_up, mention_down}
 
 pub row_at : (f : Sketch → List ℕ) (ss : List Sketch) (x : ℕ) → x < length ss → heads (map f ss) x ≡ f (sketch_at ss x)
 row_at f ss x h = get_or-map f ss x (sketch_at [] 0) [] h

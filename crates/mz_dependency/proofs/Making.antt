@@ -1,10 +1,10 @@
 -- What code makes for each outline: loops, rows, and the graphs that are made of them.
-use Rattle.std.proofs.Common.{◌≡◌, ℕ, zero, suc, ◌+◌, ◌<◌, ◌≤◌, Bool, true, false, List, [], ◌∷◌, ◌++◌, Vec, refl, ap, sym, ◌∙◌, map, length, drop, get_or, append_assoc, append-nil, replicate, subst, arith}
+use Rattle.std.proofs.Common.{◌≡◌, ℕ, ◌+◌, ◌<◌, ◌≤◌, Bool, true, false, List, [], ◌∷◌, ◌++◌, ap, sym, ◌∙◌, map, length, drop, get_or, append_assoc, append-nil, replicate, subst, arith}
 use Rattle.std.specs.Prelude.{if◌then◌else◌, Option, Some, None, MatchOption}
 use Rattle.std.specs.List.{flat_map}
 use Rattle.std.proofs.lemmas.Grind.{flat_map-append}
 use Rattle.std.proofs.lemmas.List.{drop_more, length-map}
-use Rattle.mz_graph.specs.Graph.{Graph, graph_of, number_of}
+use Rattle.mz_graph.specs.Graph.{Graph, number_of}
 use Rattle.mz_graph.proofs.Membership.{one_longer}
 use Rattle.mz_order.specs.Members.{AreMembers}
 use Rattle.mz_order.specs.Depends.{NoneOnCycle, IsFirstOnCycle}
@@ -15,7 +15,7 @@ use Rattle.mz_uses.specs.declared.name_use.NameUse.{NameUse}
 use Rattle.mz_uses.specs.declared.outline.Outline.{Outline}
 use Rattle.mz_uses.specs.Outlines.{Sketch, sketch}
 use Rattle.mz_dependency.specs.Dependencies.{meant_by}
-use Rattle.mz_dependency.specs.StepsPlaces.{if_in, names_in, callee, callees_in, or_zero}
+use Rattle.mz_dependency.specs.StepsPlaces.{if_in, names_in, callee, or_zero}
 use Rattle.mz_dependency.specs.StepsGraphs.{name_count, base_of, numbers_of, numbers_by, call_rows, mention_rows, type_rows, HasMembers, AreGraphs}
 use Rattle.mz_dependency.proofs.Gathering.{dropped}
 use Rattle.mz_dependency.proofs.Building.{number_counted}

@@ -1,5 +1,5 @@
 -- Which declarations a declaration depends on, what the types of a function lead to, and in which order declarations are evaluated.
-use Rattle.std.specs.Prelude.{◌≡◌, ℕ, ◌<◌, List, [], ◌∷◌, ◌++◌, ◌⊎◌, Bool, true, false, if◌then◌else◌, length, slice_index_or}
+use Rattle.std.specs.Prelude.{◌≡◌, ℕ, ◌<◌, List, [], ◌∷◌, ◌⊎◌, false, if◌then◌else◌, length, slice_index_or}
 use Rattle.mz_graph.specs.Order.{IsOrder, IsComplete, IsFirstLeft}
 use Rattle.mz_uses.specs.declared.name_use.NameUse.{NameUse}
 use Rattle.mz_uses.specs.declared.name_use.NameUse.TheVariants.{Mention, Call}
