@@ -1,20 +1,19 @@
 -- The graphs of dependencies hold what the uses say that they are made from.
-use Rattle.std.proofs.Common.{◌≡◌, ℕ, ◌+◌, ◌-◌, ◌<◌, ◌≤◌, inl, inr, List, [], ◌∷◌, ◌++◌, true, false, Option, Some, None, length, map, replicate, get_or, refl, ap, sym, ◌∙◌, subst, arith}
+use Rattle.std.proofs.Common.{◌≡◌, ℕ, ◌+◌, ◌-◌, ◌<◌, inl, inr, List, [], ◌++◌, true, false, Some, length, map, replicate, ap, sym, ◌∙◌, subst, arith}
 use Rattle.std.proofs.lemmas.List.{get_or-map, length-map, get_or-replicate, get_or_past, length-replicate}
 use Rattle.mz_graph.specs.Graph.{Graph, heads, IsIn, Edge, number_of}
 use Rattle.mz_graph.proofs.Membership.{below_or_not, in_front, in_back, in_either}
 use Rattle.mz_order.specs.Members.{IsMember}
 use Rattle.mz_order.proofs.Joining.{both_sized, in_first, in_second}
 use Rattle.mz_uses.specs.declared.name_use.NameUse.{NameUse}
-use Rattle.mz_uses.specs.declared.name_use.NameUse.TheVariants.{Mention, Call}
 use Rattle.mz_uses.specs.Outlines.{Sketch, all_of}
 use Rattle.mz_dependency.specs.Dependencies.{sketch_at, meant_by, IsUsed, RefersTo, AreDeclarations}
-use Rattle.mz_dependency.specs.StepsFaithful.{IsName, HaveNames, AreFaithful, HasTypes, of_function, of_decl, TypeEdge, to_name, to_decl, AreTypes}
+use Rattle.mz_dependency.specs.StepsFaithful.{IsName, AreFaithful, HasTypes, of_function, of_decl, to_name, to_decl, AreTypes}
 use Rattle.mz_dependency.specs.StepsPlaces.{names_in, callee, or_zero}
 use Rattle.mz_dependency.specs.StepsGraphs.{name_count, base_of, numbers_of, node_of, called_by, mentioned_by, types_by, AreGraphs}
-use Rattle.mz_dependency.proofs.Placing.{IsFrom, from_row, to_row, one_callee, callee_within}
+use Rattle.mz_dependency.proofs.Placing.{from_row, to_row, one_callee, callee_within}
 use Rattle.mz_dependency.proofs.Naming.{callee_there}
-use Rattle.mz_dependency.proofs.Declaring.{IsMentioned, mention_up, mention_down}
+use Rattle.mz_dependency.proofs.Declaring.{mention_up, mention_down}
 
 pub row_at : (f : Sketch → List ℕ) (ss : List Sketch) (x : ℕ) → x < length ss → heads (map f ss) x ≡ f (sketch_at ss x)
 row_at f ss x h = get_or-map f ss x (sketch_at [] 0) [] h
@@ -72,6 +71,13 @@ mentioned_down decls e us d a =
     let same : m.decl ≡ e = omega (arith, i) in
     subst (λ z. RefersTo us decls z) same m.refers
 
+-- the number of a function's name is the number of a name
+pub number_counted : (functions : List Sketch) (h : ℕ) → h < length functions → number_of (numbers_of functions) h < name_count functions
+number_counted functions h l =
+    let w = callee_within (names_in false [] functions) (names_in true [] functions) (meant_by (sketch_at functions h)) _ (callee_there functions h l) in
+    let e = number_at functions h l in
+    omega (arith, w, e)
+
 module _ (decls functions : List Sketch) (calls mentions decl_calls decl_mentions types : Graph) (d : AreDeclarations decls) (k : AreGraphs decls functions calls mentions decl_calls decl_mentions types) where
   pub rows_sized : (f : Sketch → List ℕ) (ss : List Sketch) → length (map f ss) ≡ length ss
   rows_sized f ss = length-map ss f
@@ -105,16 +111,16 @@ module _ (decls functions : List Sketch) (calls mentions decl_calls decl_mention
     decl_mention_down = λ c e l u. mentioned_down decls e (all_of (sketch_at decls c)) d (subst (λ z. IsIn e z) (ap (λ z. heads z c) k.decl_mentions_are ∙ row_at (λ s. mentioned_by decls 0 (all_of s)) decls c l) u.listed);
   }
 
-  front_sized : length (map (λ s. types_by decls functions s.types) functions ++ k.members) ≡ base_of functions
+  front_sized : length (map (λ s. types_by decls functions s.types) functions ++ k.again) ≡ base_of functions
   front_sized =
-      let a = both_sized (map (λ s. types_by decls functions s.types) functions) k.members in
+      let a = both_sized (map (λ s. types_by decls functions s.types) functions) k.again in
       let b = rows_sized (λ s. types_by decls functions s.types) functions in
-      let c = k.sorted.sized in
+      let c = k.sorted_again.sized in
       omega (arith, a, b, c)
 
   pub types_sized : length types ≡ base_of functions + length decls
   types_sized =
-      let a = ap (λ z. length z) k.types_are ∙ both_sized (map (λ s. types_by decls functions s.types) functions ++ k.members) (map (λ s. types_by decls functions s.types) decls) in
+      let a = ap (λ z. length z) k.types_are ∙ both_sized (map (λ s. types_by decls functions s.types) functions ++ k.again) (map (λ s. types_by decls functions s.types) decls) in
       let b = rows_sized (λ s. types_by decls functions s.types) decls in
       let c = front_sized in
       omega (arith, a, b, c)
@@ -122,34 +128,28 @@ module _ (decls functions : List Sketch) (calls mentions decl_calls decl_mention
   pub types_on : (x : ℕ) (us : List NameUse) → HasTypes decls functions (base_of functions) x us → heads types x ≡ types_by decls functions us
   types_on _ _ (of_function f h) =
       ap (λ z. heads z f) k.types_are
-      ∙ in_first (map (λ s. types_by decls functions s.types) functions ++ k.members) (map (λ s. types_by decls functions s.types) decls) f (let l = front_sized in omega (arith, l, h))
-      ∙ in_first (map (λ s. types_by decls functions s.types) functions) k.members f (let l = rows_sized (λ s. types_by decls functions s.types) functions in omega (arith, l, h))
+      ∙ in_first (map (λ s. types_by decls functions s.types) functions ++ k.again) (map (λ s. types_by decls functions s.types) decls) f (let l = front_sized in omega (arith, l, h))
+      ∙ in_first (map (λ s. types_by decls functions s.types) functions) k.again f (let l = rows_sized (λ s. types_by decls functions s.types) functions in omega (arith, l, h))
       ∙ row_at (λ s. types_by decls functions s.types) functions f h
   types_on _ _ (of_decl c h) =
       ap (λ z. heads z (base_of functions + c)) k.types_are
-      ∙ in_second (map (λ s. types_by decls functions s.types) functions ++ k.members) (map (λ s. types_by decls functions s.types) decls) (base_of functions + c) c (let l = front_sized in omega (arith, l))
+      ∙ in_second (map (λ s. types_by decls functions s.types) functions ++ k.again) (map (λ s. types_by decls functions s.types) decls) (base_of functions + c) c (let l = front_sized in omega (arith, l))
       ∙ row_at (λ s. types_by decls functions s.types) decls c h
 
-  pub types_on_name : (a : ℕ) → a < name_count functions → heads types (length functions + a) ≡ heads k.members a
+  pub types_on_name : (a : ℕ) → a < name_count functions → heads types (length functions + a) ≡ heads k.again a
   types_on_name a w =
       ap (λ z. heads z (length functions + a)) k.types_are
-      ∙ in_first (map (λ s. types_by decls functions s.types) functions ++ k.members) (map (λ s. types_by decls functions s.types) decls) (length functions + a) (let l = front_sized in omega (arith, l, w))
-      ∙ in_second (map (λ s. types_by decls functions s.types) functions) k.members (length functions + a) a (let l = rows_sized (λ s. types_by decls functions s.types) functions in omega (arith, l))
-
-  number_counted : (h : ℕ) → h < length functions → number_of (numbers_of functions) h < name_count functions
-  number_counted h l =
-      let w = callee_within (names_in false [] functions) (names_in true [] functions) (meant_by (sketch_at functions h)) _ (callee_there functions h l) in
-      let e = number_at functions h l in
-      omega (arith, w, e)
+      ∙ in_first (map (λ s. types_by decls functions s.types) functions ++ k.again) (map (λ s. types_by decls functions s.types) decls) (length functions + a) (let l = front_sized in omega (arith, l, w))
+      ∙ in_second (map (λ s. types_by decls functions s.types) functions) k.again (length functions + a) a (let l = rows_sized (λ s. types_by decls functions s.types) functions in omega (arith, l))
 
   pub faithful_types : AreTypes decls functions (node_of functions) (base_of functions) types
   faithful_types = record {
-    names = record { leads = λ h l. record { listed = subst (λ z. IsIn h z) (sym (types_on_name (number_of (numbers_of functions) h) (number_counted h l))) (k.sorted.up h l) } };
+    names = record { leads = λ h l. record { listed = subst (λ z. IsIn h z) (sym (types_on_name (number_of (numbers_of functions) h) (number_counted functions h l))) (k.sorted_again.up h l) } };
     later = omega arith;
     up_name = λ x h us t r. record { listed = subst (λ z. IsIn (node_of functions h) z) (sym (types_on x us t)) (in_front (node_of functions h) (called_by functions us) (mentioned_by decls (base_of functions) us) (called_up functions h us r)) };
     up_decl = λ x e us t r. record { listed = subst (λ z. IsIn (base_of functions + e) z) (sym (types_on x us t)) (in_back (base_of functions + e) (called_by functions us) (mentioned_by decls (base_of functions) us) (mention_up decls (base_of functions) e us d r)) };
     down = λ x y us t u. elim (in_either y (called_by functions us) (mentioned_by decls (base_of functions) us) (subst (λ z. IsIn y z) (types_on x us t) u.listed)) [
-      | inl a ↦ to_name (called_before functions y us a) (called_down functions types y us (λ a h w e. k.sorted.down a h (subst (λ z. IsIn h z) (types_on_name a w) e.listed)) a)
+      | inl a ↦ to_name (called_before functions y us a) (called_down functions types y us (λ a h w e. k.sorted_again.down a h (subst (λ z. IsIn h z) (types_on_name a w) e.listed)) a)
       | inr a ↦ let q = mention_down decls (base_of functions) y us d a in to_decl q.decl q.refers q.is
     ];
   }

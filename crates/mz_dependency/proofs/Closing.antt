@@ -1,9 +1,9 @@
 -- The graphs of dependencies lead only to what there is.
-use Rattle.std.proofs.Common.{◌≡◌, ℕ, ◌+◌, ◌-◌, ◌<◌, ◌≤◌, inl, inr, List, [], ◌∷◌, ◌++◌, length, map, replicate, ap, sym, ◌∙◌, subst, arith}
+use Rattle.std.proofs.Common.{◌≡◌, ℕ, ◌+◌, ◌-◌, ◌<◌, ◌≤◌, inl, inr, List, [], ◌++◌, length, map, replicate, ap, sym, ◌∙◌, subst, arith}
 use Rattle.std.proofs.lemmas.List.{length-map, length-replicate, get_or_past}
 use Rattle.mz_graph.specs.Graph.{Graph, heads, IsIn, IsGraph}
 use Rattle.mz_graph.proofs.Membership.{below_or_not, in_either}
-use Rattle.mz_order.specs.Depends.{AllBelow, AreUses}
+use Rattle.mz_order.specs.Depends.{AreUses}
 use Rattle.mz_order.proofs.Joining.{both_sized, in_second}
 use Rattle.mz_uses.specs.Outlines.{Sketch, all_of}
 use Rattle.mz_dependency.specs.Dependencies.{sketch_at, AreDeclarations}
@@ -110,7 +110,7 @@ module _ (decls functions : List Sketch) (calls mentions decl_calls decl_mention
           | inl l ↦
               let i : length functions + (x - length functions) ≡ x = omega (arith, h) in
               let e = ap (λ z. heads types z) (sym i) ∙ building.types_on_name decls functions calls mentions decl_calls decl_mentions types d k (x - length functions) (omega (arith, h, l)) in
-              let c = (k.sorted.down (x - length functions) y (subst (λ z. IsIn y z) e a)).counted in
+              let c = (k.sorted_again.down (x - length functions) y (subst (λ z. IsIn y z) e a)).counted in
               omega (arith, c, s)
           | inr l ↦ elim (below_or_not x (length types)) [
             | inl t ↦

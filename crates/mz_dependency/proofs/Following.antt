@@ -1,5 +1,5 @@
 -- What declarations depend on, by the graphs and by the uses that they are made from.
-use Rattle.std.proofs.Common.{◌≡◌, ℕ, zero, suc, ◌+◌, ◌<◌, ◌≤◌, List, [], length, refl, subst, arith}
+use Rattle.std.proofs.Common.{◌≡◌, ℕ, zero, suc, ◌+◌, ◌<◌, List, [], length, refl, subst, arith}
 use Rattle.mz_graph.specs.Graph.{Graph, Edge, Path, arrived, onward}
 use Rattle.mz_graph.specs.Order.{IsOrder}
 use Rattle.mz_order.specs.Depends.{DependsOn, directly, by_call, IsOnCycle}
@@ -7,7 +7,7 @@ use Rattle.mz_order.specs.Depends as graph
 use Rattle.mz_uses.specs.declared.name_use.NameUse.{NameUse}
 use Rattle.mz_uses.specs.Outlines.{Sketch, all_of}
 use Rattle.mz_dependency.specs.Dependencies.{sketch_at, RefersTo, LeadsTo, itself, through, Depends, TypesLeadTo, called, by_decl, by_function, LeadsBack}
-use Rattle.mz_dependency.specs.StepsFaithful.{IsName, AreFaithful, HasTypes, of_function, of_decl, TypeEdge, to_name, to_decl, AreTypes}
+use Rattle.mz_dependency.specs.StepsFaithful.{AreFaithful, HasTypes, of_function, of_decl, to_name, to_decl, AreTypes}
 use Rattle.mz_dependency.proofs.Turns.{same_turns}
 
 module _ (decls functions : List Sketch) (node : ℕ → ℕ) (calls mentions decl_calls decl_mentions : Graph) (k : AreFaithful decls functions node calls mentions decl_calls decl_mentions) where

@@ -5,7 +5,7 @@ use Rattle.mz_uses.specs.declared.outline.Outline.{Outline}
 use Rattle.mz_uses.specs.Outlines.{sketch}
 use Rattle.mz_dependency.specs.StepsPlaces.{if_in, names_in}
 
-dropped : (xs : List Outline) (i : ℕ) → length xs ≤ i → drop i xs ≡ []
+pub dropped : (xs : List Outline) (i : ℕ) → length xs ≤ i → drop i xs ≡ []
 dropped [] zero h = refl
 dropped [] (suc i) h = refl
 dropped (x ∷ xs) zero h = absurd (omega (arith, h))

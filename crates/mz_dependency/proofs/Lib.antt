@@ -4,6 +4,7 @@ pub mod Closing
 pub mod Declaring
 pub mod Following
 pub mod Gathering
+pub mod Making
 pub mod Naming
 pub mod Placing
 pub mod Ranking

@@ -1,5 +1,5 @@
 -- Places of names, and what rows of nodes hold.
-use Rattle.std.proofs.Common.{◌≡◌, ℕ, zero, suc, ◌+◌, ◌<◌, ◌≤◌, ◌⊎◌, inl, inr, List, [], ◌∷◌, ◌++◌, Bool, true, false, Option, Some, None, cond, length, map, get_or, refl, ap, sym, ◌∙◌, subst, arith}
+use Rattle.std.proofs.Common.{◌≡◌, ℕ, ◌+◌, ◌<◌, inl, inr, List, [], ◌∷◌, Option, Some, None, cond, length, get_or, refl, ap, sym, ◌∙◌, subst, arith}
 use Rattle.std.specs.Prelude.{nat_eq, not}
 use Rattle.std.specs.List.{flat_map, position_or_len}
 use Rattle.std.proofs.lemmas.List.Quantifiers.{position-Some}
@@ -10,7 +10,7 @@ use Rattle.mz_graph.proofs.Membership.{same_or_not, in_front, in_back, in_either
 use Rattle.mz_uses.specs.declared.name_use.NameUse.{NameUse}
 use Rattle.mz_uses.specs.declared.name_use.NameUse.TheVariants.{Mention, Call}
 use Rattle.mz_dependency.specs.Dependencies.{IsUsed}
-use Rattle.mz_dependency.specs.StepsPlaces.{place_of, callee, mentioned, raised_from, callees_in, mentions_in}
+use Rattle.mz_dependency.specs.StepsPlaces.{place_of, callee, raised_from}
 
 -- what a row has: the raised number of a use that has one
 pub record IsFrom (number : NameUse → Option ℕ) (by y : ℕ) (us : List NameUse) : Type 0 where

@@ -1,12 +1,12 @@
 -- Where all declarations have their turn, and no function's types lead back to it, there is no cycle of types at all.
-use Rattle.std.proofs.Common.{◌≡◌, ℕ, zero, suc, ◌+◌, ◌<◌, ◌≤◌, ◌⊎◌, inl, inr, List, [], ◌∷◌, ◌++◌, Bool, length, refl, ap, sym, ◌∙◌, subst, arith}
+use Rattle.std.proofs.Common.{◌≡◌, ℕ, suc, ◌+◌, ◌<◌, ◌≤◌, ◌⊎◌, inl, inr, List, [], ◌∷◌, ◌++◌, length, refl, ap, subst, arith}
 use Rattle.std.specs.Prelude.{if◌then◌else◌, nat_eq}
 use Rattle.std.proofs.lemmas.Bool.{eq-eqb, ne_eqb}
-use Rattle.mz_graph.specs.Graph.{Graph, heads, IsIn, Edge, IsGraph, Path, arrived, onward, AreComponents, number_of}
-use Rattle.mz_graph.specs.Order.{Continues, over, turn, IsOrder, IsComplete}
+use Rattle.mz_graph.specs.Graph.{Graph, IsIn, Edge, IsGraph, Path, arrived, onward, AreComponents, number_of}
+use Rattle.mz_graph.specs.Order.{Continues, turn, IsOrder, IsComplete}
 use Rattle.mz_graph.proofs.Membership.{below_or_not, same_or_not, old_or_last}
 use Rattle.mz_uses.specs.declared.name_use.NameUse.{NameUse}
-use Rattle.mz_uses.specs.Outlines.{Sketch, all_of}
+use Rattle.mz_uses.specs.Outlines.{Sketch}
 use Rattle.mz_dependency.specs.Dependencies.{sketch_at, IsUsed, RefersTo, itself, Depends, LeadsBack, AreRanks}
 use Rattle.mz_dependency.specs.StepsFaithful.{IsName, of_function, of_decl, to_name, to_decl, AreTypes}
 use Rattle.mz_dependency.proofs.Following.{steps, leads}

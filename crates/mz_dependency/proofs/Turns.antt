@@ -1,6 +1,6 @@
 -- The order of turns is the same for two relations that say the same.
-use Rattle.std.proofs.Common.{◌≡◌, ℕ, ◌<◌, List, [], ◌∷◌, ◌++◌}
-use Rattle.mz_graph.specs.Order.{IsReady, IsNext, Continues, over, turn}
+use Rattle.std.proofs.Common.{ℕ, ◌<◌, List, [], ◌∷◌, ◌++◌}
+use Rattle.mz_graph.specs.Order.{IsReady, Continues, over, turn}
 
 abbrev Within : (ℕ → ℕ → Type 0) → (ℕ → ℕ → Type 0) → ℕ → Type 0
 Within R S count = (x y : ℕ) → x < count → R x y → S x y

@@ -1,5 +1,5 @@
 -- Which declarations a declaration depends on, what the types of a function lead to, and in which order declarations are evaluated.
-use Rattle.std.specs.Prelude.{◌≡◌, ℕ, ◌<◌, List, [], ◌∷◌, ◌++◌, ◌⊎◌, Bool, true, false, if◌then◌else◌, length, slice_index_or}
+use Rattle.std.specs.Prelude.{◌≡◌, ℕ, ◌<◌, List, [], ◌∷◌, ◌⊎◌, false, if◌then◌else◌, length, slice_index_or}
 use Rattle.mz_graph.specs.Order.{IsOrder, IsComplete, IsFirstLeft}
 use Rattle.mz_uses.specs.declared.name_use.NameUse.{NameUse}
 use Rattle.mz_uses.specs.declared.name_use.NameUse.TheVariants.{Mention, Call}
@@ -49,11 +49,17 @@ pub record AreRanks (decls functions : List Sketch) (of_decl of_function : ℕ �
   pub function_decl : (f e : ℕ) → f < length functions → RefersTo (sketch_at functions f).types decls e → of_decl e < of_function f
   pub function_function : (f h : ℕ) → f < length functions → RefersTo (sketch_at functions f).types functions h → of_function h < of_function f
 
--- all declarations have their turn in this order, and no function's types lead back to its name
+pub record HaveRanks (decls functions : List Sketch) : Type 0 where
+  pub of_decl : ℕ → ℕ
+  pub of_function : ℕ → ℕ
+  pub are : AreRanks decls functions of_decl of_function
+
+-- all declarations have their turn in this order, no function's types lead back to its name, and so there are ranks of types
 pub record IsSequence (decls functions : List Sketch) (order : List ℕ) : Type 0 where
   pub is : IsOrder (Depends decls functions) (length decls) order
   pub complete : IsComplete (length decls) order
   pub acyclic : (f : ℕ) → f < length functions → LeadsBack decls functions f → ⊥
+  pub ranked : HaveRanks decls functions
 
 -- not all declarations have their turn, and this is the first that hasn't
 pub record IsStuckAt (decls functions : List Sketch) (d : ℕ) : Type 0 where

@@ -33,11 +33,32 @@ mentioned_by decls base us = mentions_in base (names_in false [] decls) us
 abbrev pub types_by : List Sketch → List Sketch → List NameUse → List ℕ
 types_by decls functions us = called_by functions us ++ mentioned_by decls (base_of functions) us
 
+-- the numbers of functions' names, by the names of functions without and with parameters
+abbrev pub numbers_by : List ℕ → List ℕ → List Sketch → List ℕ
+numbers_by bare applied ss = map (λ s. or_zero (callee bare applied (meant_by s))) ss
+
+abbrev pub call_rows : ℕ → List ℕ → List ℕ → List Sketch → Graph
+call_rows first bare applied ss = map (λ s. callees_in first bare applied (all_of s)) ss
+
+abbrev pub mention_rows : List ℕ → List Sketch → Graph
+mention_rows named ss = map (λ s. mentions_in 0 named (all_of s)) ss
+
+abbrev pub type_rows : ℕ → ℕ → List ℕ → List ℕ → List ℕ → List Sketch → Graph
+type_rows first base bare applied named ss = map (λ s. callees_in first bare applied s.types ++ mentions_in base named s.types) ss
+
+-- a graph that is followed by the members of the sets that numbers are sorted into
+pub record HasMembers (front : Graph) (of : List ℕ) (count : ℕ) (g : Graph) : Type 0 where
+  pub members : Graph
+  pub sorted : AreMembers of count (length of) members
+  pub is : g ≡ front ++ members
+
 pub record AreGraphs (decls functions : List Sketch) (calls mentions decl_calls decl_mentions types : Graph) : Type 0 where
   pub members : Graph
   pub sorted : AreMembers (numbers_of functions) (name_count functions) (length functions) members
+  pub again : Graph
+  pub sorted_again : AreMembers (numbers_of functions) (name_count functions) (length functions) again
   pub calls_are : calls ≡ map (λ s. called_by functions (all_of s)) functions ++ members
   pub mentions_are : mentions ≡ map (λ s. mentioned_by decls 0 (all_of s)) functions ++ replicate (name_count functions) []
   pub decl_calls_are : decl_calls ≡ map (λ s. called_by functions (all_of s)) decls
   pub decl_mentions_are : decl_mentions ≡ map (λ s. mentioned_by decls 0 (all_of s)) decls
-  pub types_are : types ≡ (map (λ s. types_by decls functions s.types) functions ++ members) ++ map (λ s. types_by decls functions s.types) decls
+  pub types_are : types ≡ (map (λ s. types_by decls functions s.types) functions ++ again) ++ map (λ s. types_by decls functions s.types) decls

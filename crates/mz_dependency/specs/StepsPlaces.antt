@@ -1,13 +1,11 @@
 -- The nodes of the graphs of dependencies. Mirror of src/places.rt and src/graphs.rt; private clauses only.
-use Rattle.std.specs.Prelude.{◌≡◌, ℕ, ◌+◌, ◌<◌, List, [], ◌∷◌, ◌++◌, Bool, true, false, ◌&&◌, not, if◌then◌else◌, Option, Some, None, length, map, nat_eq, position, slice_index_or}
+use Rattle.std.specs.Prelude.{ℕ, ◌+◌, List, [], ◌∷◌, Bool, true, false, if◌then◌else◌, Option, Some, None, length, nat_eq, position}
 use Rattle.std.specs.List.{flat_map}
 use Rattle.std.specs.Option.{option_map}
-use Rattle.mz_graph.specs.Graph.{Graph, heads, IsIn}
 use Rattle.mz_occurrence.specs.Sets.{with_name}
 use Rattle.mz_uses.specs.declared.name_use.NameUse.{NameUse}
 use Rattle.mz_uses.specs.declared.name_use.NameUse.TheVariants.{Mention, Call}
-use Rattle.mz_uses.specs.Outlines.{Sketch, all_of}
-use Rattle.mz_dependency.specs.Dependencies.{sketch_at, meant_by}
+use Rattle.mz_uses.specs.Outlines.{Sketch}
 
 -- the names of those of one space, each once, in source order
 abbrev pub if_in : Bool → List ℕ → Sketch → List ℕ

@@ -3,7 +3,7 @@
 ghost use Rattle.std.specs.Prelude.{◌≡◌, ℕ, ◌+◌, ◌<◌, List, length};
 ghost use Rattle.mz_graph.specs.Graph.{Graph, IsGraph, AreComponents, number_of};
 ghost use Rattle.mz_graph.specs.Order.{IsOrder, IsComplete};
-ghost use Rattle.mz_order.specs.Depends.{DependsOn, IsOnCycle, AreUses, IsWholeOrder, IsCyclicAt, NoneOnCycle, IsFirstOnCycle};
+ghost use Rattle.mz_order.specs.Depends.{DependsOn, IsOnCycle, AreUses, IsWholeOrder, IsCyclicAt, NoneOnCycle, IsFirstOnCycle, HaveComponents};
 ghost use Rattle.mz_uses.specs.Outlines.{Sketch};
 ghost use Rattle.mz_dependency.specs.Dependencies.{Depends, LeadsBack, AreRanks, AreDeclarations, IsSequence, IsStuckAt, IsBackAt};
 ghost use Rattle.mz_dependency.specs.StepsFaithful.{AreFaithful, AreTypes};
@@ -40,7 +40,7 @@ pub fn graphs_are_closed()
 
 /// What the graphs' order and cycles answer is the answer by the uses.
 pub fn answers_by_uses()
-    ensures sequence { (decls functions : List Sketch) (calls mentions decl_calls decl_mentions types : Graph) (order : List ℕ) → AreDeclarations decls → AreGraphs decls functions calls mentions decl_calls decl_mentions types → IsWholeOrder (DependsOn calls mentions decl_calls decl_mentions) (length decl_mentions) order → NoneOnCycle types 0 (length functions) → IsSequence decls functions order }
+    ensures sequence { (decls functions : List Sketch) (calls mentions decl_calls decl_mentions types : Graph) (order : List ℕ) → AreDeclarations decls → AreGraphs decls functions calls mentions decl_calls decl_mentions types → IsWholeOrder (DependsOn calls mentions decl_calls decl_mentions) (length decl_mentions) order → NoneOnCycle types 0 (length functions) → HaveComponents types → IsSequence decls functions order }
     ensures stuck { (decls functions : List Sketch) (calls mentions decl_calls decl_mentions types : Graph) (d : ℕ) → AreDeclarations decls → AreGraphs decls functions calls mentions decl_calls decl_mentions types → IsCyclicAt (DependsOn calls mentions decl_calls decl_mentions) (length decl_mentions) d → IsStuckAt decls functions d }
     ensures back { (decls functions : List Sketch) (calls mentions decl_calls decl_mentions types : Graph) (order : List ℕ) (f : ℕ) → AreDeclarations decls → AreGraphs decls functions calls mentions decl_calls decl_mentions types → IsWholeOrder (DependsOn calls mentions decl_calls decl_mentions) (length decl_mentions) order → IsFirstOnCycle types 0 (length functions) f → IsBackAt decls functions f }
 {}

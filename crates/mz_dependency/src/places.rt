@@ -1,6 +1,6 @@
 // The names of declarations or functions, and the place of each.
 
-ghost use Rattle.std.specs.Prelude.{◌≡◌, ℕ, ◌+◌, [], length, true, false, map, IfOk, OnOk};
+ghost use Rattle.std.specs.Prelude.{◌≡◌, ℕ, ◌+◌, ◌<◌, ◌^◌, [], length, true, false, map, IfOk, OnOk, IfSome};
 ghost use Rattle.mz_occurrence.specs.Sets.{with_name};
 ghost use Rattle.mz_uses.specs.Outlines.{sketch};
 ghost use Rattle.mz_dependency.specs.StepsPlaces.{if_in, names_in, place_of};
@@ -42,16 +42,21 @@ impl Places {
         Ok(())
     }
 
+    /// How many names there are.
     pub fn len(&self) -> usize
-        ensures { result ≡ length self.now }
+        ensures is { result ≡ length self.now }
+        ensures small { result < 2 ^ 63 }
     {
         self.names.len()
     }
 
     /// The place of a name, from 0.
     pub fn place(&self, name: Name) -> Option<usize>
-        ensures { result ≡ place_of name self.now }
+        ensures is { result ≡ place_of name self.now }
+        ensures within { IfSome result (λ k. k < length self.now) }
+        ensures small { IfSome result (λ k. k < 2 ^ 63) }
     {
+        let _count = self.names.len();
         self.names.get_index_of(&name)
     }
 

@@ -1,6 +1,6 @@
 -- What declarations depend on, directly and through the functions that they call.
 use Rattle.std.specs.Prelude.{◌≡◌, ℕ, ◌<◌, ◌≤◌, List, ◌++◌, ◌∷◌, [], length}
-use Rattle.mz_graph.specs.Graph.{Graph, heads, IsIn, Edge, Path}
+use Rattle.mz_graph.specs.Graph.{Graph, heads, IsIn, Edge, Path, AreComponents}
 use Rattle.mz_graph.specs.Order.{IsOrder, IsComplete, IsFirstLeft}
 
 -- a function leads to what it mentions, and to what the functions that it calls lead to
@@ -41,6 +41,12 @@ pub record IsFirstOnCycle (g : Graph) (from till x : ℕ) : Type 0 where
   pub within : x < till
   pub cycle : IsOnCycle g x
   pub before : NoneOnCycle g from x
+
+-- numbers of the components of a graph
+pub record HaveComponents (g : Graph) : Type 0 where
+  pub count : ℕ
+  pub number : List ℕ
+  pub are : AreComponents g count number
 
 -- all have their turn, in this order
 pub record IsWholeOrder (Needs : ℕ → ℕ → Type 0) (n : ℕ) (order : List ℕ) : Type 0 where

@@ -2,7 +2,7 @@
 
 ghost use Rattle.std.specs.Prelude.{◌≡◌, ℕ, ◌<◌, ◌≤◌, ◌↔◌, IsTrue, length, MatchOption, IfOk};
 ghost use Rattle.mz_graph.specs.Graph.{graph_of, IsIn, IsGraph};
-ghost use Rattle.mz_order.specs.Depends.{IsFirstOnCycle, NoneOnCycle};
+ghost use Rattle.mz_order.specs.Depends.{IsFirstOnCycle, NoneOnCycle, HaveComponents};
 ghost use Rattle.mz_order.specs.StepsLayers.{LeadsWithin};
 
 use mz_graph::components_of;
@@ -30,7 +30,8 @@ pub fn first_on_cycle(
 ) -> Result<Option<usize>, AllocError>
     requires graph { IsGraph (graph_of graph.now) }
     requires till { till ≤ length (graph_of graph.now) }
-    ensures { IfOk result (λ found. MatchOption found (NoneOnCycle (graph_of graph.now) from till) (IsFirstOnCycle (graph_of graph.now) from till)) }
+    ensures found { IfOk result (λ found. MatchOption found (NoneOnCycle (graph_of graph.now) from till) (IsFirstOnCycle (graph_of graph.now) from till)) }
+    ensures components { IfOk result (λ found. HaveComponents (graph_of graph.now)) }
 {
     let parts = components_of(alloc, graph)?;
     for x in from..till {

@@ -97,7 +97,7 @@ fn rows_of(
 }
 
 /// `count` empty lists.
-fn empty_rows(alloc: Global, count: usize) -> Result<Vec<Vec<usize>>, AllocError>
+pub fn empty_rows(alloc: Global, count: usize) -> Result<Vec<Vec<usize>>, AllocError>
     ensures { IfOk result (λ v. graph_of v.items ≡ replicate count []) }
 {
     let mut rows = Vec::new(alloc);

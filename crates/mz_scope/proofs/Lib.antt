@@ -1,3 +1,11 @@
+pub mod Arranging
+pub mod Counting
+pub mod Distinct
+pub mod Inner
+pub mod Naming
+pub mod Parting
 pub mod Same
+pub mod Scanning
 pub mod Tracking
+pub mod Turned
 pub mod Whole

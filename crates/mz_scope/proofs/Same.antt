@@ -1,7 +1,6 @@
 -- Tests that ask sets with the same names find the same.
-use Rattle.std.proofs.Common.{◌≡◌, ℕ, Bool, true, false, List, [], ◌∷◌, ◌++◌, refl, ap, sym, ◌∙◌, not, Option, Some, None}
+use Rattle.std.proofs.Common.{◌≡◌, ℕ, Bool, List, [], ◌∷◌, refl, ap, ◌∙◌, not, Some}
 use Rattle.std.specs.Prelude.{◌&&◌, if◌then◌else◌}
-use Rattle.mz_base.specs.declared.fault.Span.{Span}
 use Rattle.mz_occurrence.specs.declared.occurrence.Occurrence.{Occurrence}
 use Rattle.mz_occurrence.specs.declared.occurrence.Role.{Role}
 use Rattle.mz_occurrence.specs.declared.occurrence.Role.TheVariants.{Declared, Overloaded, Valued, Used, Local, Lacking, Wanting, Caseless, Listed, Misfit}
@@ -13,20 +12,20 @@ unfolding first
 same_first f g e [] = refl
 same_first f g e (o ∷ os) = ap (λ z. if z then Some o.span else first f os) (e o) ∙ ap (λ z. if g o then Some o.span else z) (same_first f g e os)
 
-unknown_same : (a b d e : List ℕ) → ((n : ℕ) → holds n a ≡ holds n b) → ((n : ℕ) → holds n d ≡ holds n e) → (r : Role) (tables : List ℕ) (n : ℕ) → unknown_as r tables a d n ≡ unknown_as r tables b e n
-unknown_same a b d e p q Used tables n = ap (λ z. not z && not (holds n tables)) (p n)
-unknown_same a b d e p q Valued tables n = ap (λ z. not z) (q n)
-unknown_same a b d e p q Declared tables n = refl
-unknown_same a b d e p q Overloaded tables n = refl
-unknown_same a b d e p q Local tables n = refl
-unknown_same a b d e p q Lacking tables n = refl
-unknown_same a b d e p q Wanting tables n = refl
-unknown_same a b d e p q Caseless tables n = refl
-unknown_same a b d e p q Listed tables n = refl
-unknown_same a b d e p q Misfit tables n = refl
+unknown_same : (a b d e : List ℕ) → ((n : ℕ) → holds n a ≡ holds n b) → ((n : ℕ) → holds n d ≡ holds n e) → (r : Role) (known : ℕ → Bool) (n : ℕ) → unknown_as r known a d n ≡ unknown_as r known b e n
+unknown_same a b d e p q Used known n = ap (λ z. not z && not (known n)) (p n)
+unknown_same a b d e p q Valued known n = ap (λ z. not z) (q n)
+unknown_same a b d e p q Declared known n = refl
+unknown_same a b d e p q Overloaded known n = refl
+unknown_same a b d e p q Local known n = refl
+unknown_same a b d e p q Lacking known n = refl
+unknown_same a b d e p q Wanting known n = refl
+unknown_same a b d e p q Caseless known n = refl
+unknown_same a b d e p q Listed known n = refl
+unknown_same a b d e p q Misfit known n = refl
 
-pub same_unknown : (tables a b d e : List ℕ) (os : List Occurrence) → ((n : ℕ) → holds n a ≡ holds n b) → ((n : ℕ) → holds n d ≡ holds n e) → first (is_unknown tables a d) os ≡ first (is_unknown tables b e) os
-same_unknown tables a b d e os p q = same_first (is_unknown tables a d) (is_unknown tables b e) (λ o. unknown_same a b d e p q o.role tables o.name) os
+pub same_unknown : (known : ℕ → Bool) (a b d e : List ℕ) (os : List Occurrence) → ((n : ℕ) → holds n a ≡ holds n b) → ((n : ℕ) → holds n d ≡ holds n e) → first (is_unknown known a d) os ≡ first (is_unknown known b e) os
+same_unknown known a b d e os p q = same_first (is_unknown known a d) (is_unknown known b e) (λ o. unknown_same a b d e p q o.role known o.name) os
 
 missing_same : (a b d e : List ℕ) → ((n : ℕ) → holds n a ≡ holds n b) → ((n : ℕ) → holds n d ≡ holds n e) → (r : Role) (n : ℕ) → missing_as r a d n ≡ missing_as r b e n
 missing_same a b d e p q Wanting n = ap (λ z. not z) (p n)

@@ -1,5 +1,5 @@
 -- Worked examples: small models with each fault, and with two of them.
-use Rattle.std.specs.Prelude.{◌≡◌, ℕ, ◌+◌, List, [], ◌∷◌, ◌++◌, Bool, true, false, Option, Some, None, codes, refl, pos}
+use Rattle.std.specs.Prelude.{◌≡◌, ℕ, ◌+◌, List, [], ◌∷◌, true, false, Option, Some, None, codes, nat_eq, refl, pos}
 use Rattle.std.specs.List.{flat_map}
 use Rattle.mz_base.specs.declared.fault.Span.{Span}
 use Rattle.mz_base.specs.declared.fault.Fault.{Fault}
@@ -9,12 +9,12 @@ use Rattle.mz_tree.specs.Tree as pure
 use Rattle.mz_tree.specs.Tree.{Tree, Maybe, Declaration}
 use Rattle.mz_tree.specs.Data as data_tree
 use Rattle.mz_tree.specs.Data.{Given, Value}
-use Rattle.mz_tree.specs.Items.{ItemTree, satisfy, declare, assign, constraint, solve, function, enum}
+use Rattle.mz_tree.specs.Items.{ItemTree, satisfy, declare, assign, constraint, solve, enum}
 use Rattle.mz_occurrence.specs.Occurrences.{in_tree, in_parameter, in_top}
 use Rattle.mz_occurrence.specs.Given.{identifiers, cases_in, occurrences}
 use Rattle.mz_scope.specs.Tests.{first, first_after, refusal, solve_in}
 
--- a, b, X_a, E, A, f, z, max; the tables have max alone
+-- a, b, X_a, E, A, f, z, max; max alone is known
 abbrev texts : List (List ℕ)
 texts = codes "a" ∷ codes "b" ∷ codes "X_a" ∷ codes "E" ∷ codes "A" ∷ codes "f" ∷ codes "z" ∷ codes "max" ∷ []
 
@@ -46,7 +46,7 @@ solved = solve (at 90) satisfy
 
 -- what is refused of these items and these data, where the model ends at 100
 abbrev refused : List ItemTree → List Given → Option Fault
-refused is ds = refusal texts (7 ∷ []) (at 100) (flat_map solve_in is) (occurrences is ds)
+refused is ds = refusal texts (nat_eq 7) (at 100) (flat_map solve_in is) (occurrences is ds)
 
 abbrev no_data : List Given
 no_data = []
@@ -94,10 +94,10 @@ pub unknown : refused (constraint (name 6 1) ∷ solved ∷ []) no_data ≡ Some
 unfolding in_tree in_top in_parameter identifiers cases_in first first_after
 unknown = refl
 
--- a name of the tables is known
-pub known_in_the_tables : refused (constraint (name 7 1) ∷ solved ∷ []) no_data ≡ None
+-- a known name
+pub known_name : refused (constraint (name 7 1) ∷ solved ∷ []) no_data ≡ None
 unfolding in_tree in_top in_parameter identifiers cases_in first first_after
-known_in_the_tables = refl
+known_name = refl
 
 -- data for a name that nothing declares
 pub data_for_nothing : refused (solved ∷ []) (datum 0 1 (data_tree.int (pos 1)) ∷ []) ≡ Some (fault_at UnknownName (at 1))

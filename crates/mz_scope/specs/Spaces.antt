@@ -1,9 +1,9 @@
 -- The spaces of names: which roles of a name count for which question.
-use Rattle.std.specs.Prelude.{◌≡◌, ℕ, List, [], ◌∷◌, Bool, true, false, if◌then◌else◌}
+use Rattle.std.specs.Prelude.{ℕ, List, [], ◌∷◌, Bool, true, false, if◌then◌else◌}
 use Rattle.std.specs.List.{flat_map}
 use Rattle.mz_occurrence.specs.declared.occurrence.Occurrence.{Occurrence}
 use Rattle.mz_occurrence.specs.declared.occurrence.Role.{Role}
-use Rattle.mz_occurrence.specs.declared.occurrence.Role.TheVariants.{Declared, Overloaded, Valued, Used, Local, Lacking, Wanting, Caseless, Listed, Misfit}
+use Rattle.mz_occurrence.specs.declared.occurrence.Role.TheVariants.{Declared, Overloaded, Valued, Local, Listed}
 
 -- variables, enums, cases and functions without parameters share one space
 abbrev pub declares : Role → Bool

@@ -1,8 +1,8 @@
 -- Mirror of src/repeated.rt; private clauses only.
-use Rattle.std.specs.Prelude.{◌≡◌, ℕ, List, Bool, true, false, if◌then◌else◌}
+use Rattle.std.specs.Prelude.{◌≡◌, ℕ, List, Bool, false}
 use Rattle.mz_occurrence.specs.declared.occurrence.Occurrence.{Occurrence}
 use Rattle.mz_occurrence.specs.declared.occurrence.Role.{Role}
-use Rattle.mz_occurrence.specs.declared.occurrence.Role.TheVariants.{Declared, Overloaded, Valued, Used, Local, Lacking, Wanting, Caseless, Listed, Misfit}
+use Rattle.mz_occurrence.specs.declared.occurrence.Role.TheVariants.{Declared, Valued}
 use Rattle.mz_occurrence.specs.Sets.{holds, with_name}
 use Rattle.mz_scope.specs.Spaces.{declares, gives, names_with}
 

@@ -1,5 +1,5 @@
 -- The tests of names, each over all occurrences in the order of the text, and the order of the tests.
-use Rattle.std.specs.Prelude.{◌≡◌, ℕ, ◌<◌, List, [], ◌∷◌, ◌++◌, Bool, true, false, ◌&&◌, ◌||◌, not, if◌then◌else◌, Option, Some, None, take, codes, length, map, refl}
+use Rattle.std.specs.Prelude.{ℕ, ◌<◌, List, [], ◌∷◌, ◌++◌, Bool, true, false, ◌&&◌, ◌||◌, not, if◌then◌else◌, Option, Some, None, take, codes, length, map}
 use Rattle.std.specs.List.{flat_map, All}
 use Rattle.std.specs.Str.{bytes_eq}
 use Rattle.mz_base.specs.declared.fault.Span.{Span}
@@ -8,13 +8,14 @@ use Rattle.mz_base.specs.declared.kind.Kind.{Kind}
 use Rattle.mz_base.specs.declared.kind.Kind.TheVariants.{ReservedName, DuplicateName, SolveItems, UnknownName, DataForm, MissingData}
 use Rattle.mz_base.specs.Faults.{fault_at, start_of}
 use Rattle.mz_base.specs.Names.{text_of}
+use Rattle.mz_builtin.specs.Signatures.{is_known}
 use Rattle.mz_tree.specs.declared.source.SourceFile.{SourceFile}
 use Rattle.mz_tree.specs.declared.data.DataItem.{DataItem}
 use Rattle.mz_tree.specs.Data.{given}
-use Rattle.mz_tree.specs.Items.{ItemTree, include, declare, assign, constraint, solve, output, function, enum, annotation}
+use Rattle.mz_tree.specs.Items.{ItemTree, solve}
 use Rattle.mz_occurrence.specs.declared.occurrence.Occurrence.{Occurrence}
 use Rattle.mz_occurrence.specs.declared.occurrence.Role.{Role}
-use Rattle.mz_occurrence.specs.declared.occurrence.Role.TheVariants.{Declared, Overloaded, Valued, Used, Local, Lacking, Wanting, Caseless, Listed, Misfit}
+use Rattle.mz_occurrence.specs.declared.occurrence.Role.TheVariants.{Valued, Used, Lacking, Wanting, Caseless, Misfit}
 use Rattle.mz_occurrence.specs.Given.{occurrences}
 use Rattle.mz_occurrence.specs.StepsWalk.{items_of}
 use Rattle.mz_occurrence.specs.Sets.{holds}
@@ -32,15 +33,19 @@ is_reserved texts o = introduces o.role && begins_reserved (text_of texts o.name
 abbrev pub is_repeated : List Occurrence → Occurrence → Bool
 is_repeated before o = (declares o.role && holds o.name (names_with declares before)) || (gives o.role && holds o.name (names_with gives before))
 
--- A name is used that nothing declares, and that is no operator, built-in or global of the tables; or one is given a value that
--- isn't a declaration or an enum.
-abbrev pub unknown_as : Role → List ℕ → List ℕ → List ℕ → ℕ → Bool
-unknown_as Used tables bound declared n = not (holds n bound) && not (holds n tables)
-unknown_as Valued tables bound declared n = not (holds n declared)
-unknown_as r tables bound declared n = false
+-- an operator, a built-in or a global has this name
+abbrev pub known_in : List (List ℕ) → ℕ → Bool
+known_in texts n = is_known (text_of texts n)
 
-abbrev pub is_unknown : List ℕ → List ℕ → List ℕ → Occurrence → Bool
-is_unknown tables bound declared o = unknown_as o.role tables bound declared o.name
+-- A name is used that nothing declares, and that isn't known; or one is given a value that
+-- isn't a declaration or an enum.
+abbrev pub unknown_as : Role → (ℕ → Bool) → List ℕ → List ℕ → ℕ → Bool
+unknown_as Used known bound declared n = not (holds n bound) && not (known n)
+unknown_as Valued known bound declared n = not (holds n declared)
+unknown_as r known bound declared n = false
+
+abbrev pub is_unknown : (ℕ → Bool) → List ℕ → List ℕ → Occurrence → Bool
+is_unknown known bound declared o = unknown_as o.role known bound declared o.name
 
 -- data for an enum that is no set or list of identifiers
 abbrev pub misfits : Role → Bool
@@ -90,32 +95,32 @@ abbrev pub or_refused : Kind → Option Span → Option Fault → Option Fault
 or_refused kind (Some s) later = Some (fault_at kind s)
 or_refused kind None later = later
 
-abbrev pub first_unknown_of : List ℕ → List Occurrence → Option Span
-first_unknown_of tables os = first (is_unknown tables (names_with binds os) (names_with declares os)) os
+abbrev pub first_unknown_of : (ℕ → Bool) → List Occurrence → Option Span
+first_unknown_of known os = first (is_unknown known (names_with binds os) (names_with declares os)) os
 
 abbrev pub first_missing_of : List Occurrence → Option Span
 first_missing_of os = first (is_missing (names_with gives os) (names_with lists os)) os
 
 -- what the tests after the one of solve items refuse
-abbrev pub refusal_after_solves : List ℕ → List Occurrence → Option Fault
-refusal_after_solves tables os =
-    or_refused UnknownName (first_unknown_of tables os)
+abbrev pub refusal_after_solves : (ℕ → Bool) → List Occurrence → Option Fault
+refusal_after_solves known os =
+    or_refused UnknownName (first_unknown_of known os)
     (or_refused DataForm (first is_misfit os)
     (or_refused MissingData (first_missing_of os)
     None))
 
 -- What is refused: the first test, in this order, that finds something.
-abbrev pub refusal : List (List ℕ) → List ℕ → Span → List Span → List Occurrence → Option Fault
-refusal texts tables end solves os =
+abbrev pub refusal : List (List ℕ) → (ℕ → Bool) → Span → List Span → List Occurrence → Option Fault
+refusal texts known end solves os =
     or_refused ReservedName (first (is_reserved texts) os)
     (or_refused DuplicateName (first_after is_repeated [] os)
     (or_refused SolveItems (solve_fault end solves)
-    (refusal_after_solves tables os)))
+    (refusal_after_solves known os)))
 
 -- each name is one of the table
 abbrev pub AreNamed : List (List ℕ) → List Occurrence → Type 0
 AreNamed texts os = All (λ o. o.name < length texts) os
 
 -- what is refused of a model with its data
-abbrev pub refusal_of : List (List ℕ) → List ℕ → List SourceFile → List DataItem → Option Fault
-refusal_of texts tables fs ds = refusal texts tables (end_of fs) (flat_map solve_in (items_of fs)) (occurrences (items_of fs) (map given ds))
+abbrev pub refusal_of : List (List ℕ) → List SourceFile → List DataItem → Option Fault
+refusal_of texts fs ds = refusal texts (known_in texts) (end_of fs) (flat_map solve_in (items_of fs)) (occurrences (items_of fs) (map given ds))

@@ -4,10 +4,11 @@ ghost use Rattle.std.specs.Prelude.{◌≡◌, ℕ, ◌<◌, length, IfOk};
 ghost use Rattle.mz_base.specs.Names.{text_of};
 ghost use Rattle.mz_occurrence.specs.Sets.{holds};
 ghost use Rattle.mz_scope.specs.Spaces.{binds, declares, gives, lists, names_with};
-ghost use Rattle.mz_scope.specs.Tests.{begins_reserved, is_reserved, unknown_as, is_unknown, misfits, is_misfit, missing_as, is_missing, first, AreNamed};
+ghost use Rattle.mz_scope.specs.Tests.{begins_reserved, is_reserved, known_in, unknown_as, is_unknown, misfits, is_misfit, missing_as, is_missing, first, AreNamed};
 
 use crate::spaces::introduces;
 use mz_base::{Name, Names, Span};
+use mz_builtin::known;
 use mz_occurrence::{NameSet, Occurrence, Role};
 
 fn begins_reserved(text: &[u8]) -> bool
@@ -37,29 +38,31 @@ pub(crate) fn first_reserved(names: &Names, os: &[Occurrence]) -> Option<Span>
     None
 }
 
-fn is_unknown(tables: &NameSet, bound: &NameSet, declared: &NameSet, o: &Occurrence) -> bool
-    ensures { result ≡ is_unknown tables.now bound.now declared.now o.now }
+fn is_unknown(names: &Names, bound: &NameSet, declared: &NameSet, o: &Occurrence) -> bool
+    requires { o.now.name < length names.now }
+    ensures { result ≡ is_unknown (known_in names.now) bound.now declared.now o.now }
 {
     match o.role {
-        Role::Used => !bound.has(o.name) && !tables.has(o.name),
+        Role::Used => !bound.has(o.name) && !known(names.text(o.name)),
         Role::Valued => !declared.has(o.name),
         _ => false,
     }
 }
 
-/// The first name that is used or given a value, and that nothing declares. `tables` has the names of operators, built-ins and
-/// globals.
+/// The first name that is used, that nothing declares, and that is no operator, built-in or global; or that is given a value, and
+/// that isn't declared at top level.
 #[tactic(auto, unfolding(crate::specs::Tests::first))]
 pub(crate) fn first_unknown(
-    tables: &NameSet,
+    names: &Names,
     bound: &NameSet,
     declared: &NameSet,
     os: &[Occurrence],
 ) -> Option<Span>
-    ensures { result ≡ first (is_unknown tables.now bound.now declared.now) os.now }
+    requires { AreNamed names.now os.now }
+    ensures { result ≡ first (is_unknown (known_in names.now) bound.now declared.now) os.now }
 {
     for o in os {
-        if is_unknown(tables, bound, declared, o) {
+        if is_unknown(names, bound, declared, o) {
             return Some(o.span);
         }
     }

@@ -2,11 +2,13 @@
 #![tactic(auto)]
 
 mod first;
+mod law;
 mod refusals;
 mod repeated;
+mod scoping;
 mod solves;
 mod spaces;
 mod testing;
 
-pub use refusals::refusal;
-pub use testing::test_names;
+pub use law::all_named;
+pub use scoping::scope;

@@ -1,30 +1,28 @@
 // The tests of names, in their order.
 
 ghost use Rattle.std.specs.Prelude.{◌≡◌, IfOk};
-ghost use Rattle.mz_scope.specs.Tests.{refusal, refusal_after_solves, first_unknown_of, first_missing_of, AreNamed};
+ghost use Rattle.mz_scope.specs.Tests.{known_in, refusal, refusal_after_solves, first_unknown_of, first_missing_of, AreNamed};
 
 use crate::first::{first_misfit, first_missing, first_reserved, first_unknown};
 use crate::repeated::first_repeated;
 use crate::solves::solve_fault;
 use crate::spaces::{bound_names, declared_names, listed_names, valued_names};
 use mz_base::{Fault, Kind, Memory, Names, Span};
-use mz_occurrence::{NameSet, Occurrence};
+use mz_occurrence::Occurrence;
 use std::alloc::Global;
 
-/// What the tests of names refuse, of a model whose file ends at `end` and whose solve items have the places `solves`, where `tables`
-/// has the names of operators, built-ins and globals: a
+/// What the tests of names refuse, of a model whose file ends at `end` and whose solve items have the places `solves`: a
 /// reserved name, a second declaration or value of a name, a missing or a second solve item, an unknown name, data that doesn't
 /// fit an enum, and a declaration or an enum that lacks its value, in this order, each over the whole in the order of the text.
-pub fn refusal(
+pub(crate) fn refusal(
     alloc: Global,
     names: &Names,
-    tables: &NameSet,
     end: Span,
     solves: &[Span],
     os: &[Occurrence],
 ) -> Result<Option<Fault>, Memory>
     requires { AreNamed names.now os.now }
-    ensures { IfOk result (λ found. found ≡ refusal names.now tables.now end solves.now os.now) }
+    ensures { IfOk result (λ found. found ≡ refusal names.now (known_in names.now) end solves.now os.now) }
 {
     if let Some(span) = first_reserved(names, os) {
         return Ok(Some(Fault::at(Kind::ReservedName, span)));
@@ -35,14 +33,15 @@ pub fn refusal(
     if let Some(span) = solve_fault(end, solves) {
         return Ok(Some(Fault::at(Kind::SolveItems, span)));
     }
-    after_solves(alloc, tables, os)
+    after_solves(alloc, names, os)
 }
 
 /// What the tests after the one of solve items refuse.
-fn after_solves(alloc: Global, tables: &NameSet, os: &[Occurrence]) -> Result<Option<Fault>, Memory>
-    ensures { IfOk result (λ found. found ≡ refusal_after_solves tables.now os.now) }
+fn after_solves(alloc: Global, names: &Names, os: &[Occurrence]) -> Result<Option<Fault>, Memory>
+    requires { AreNamed names.now os.now }
+    ensures { IfOk result (λ found. found ≡ refusal_after_solves (known_in names.now) os.now) }
 {
-    if let Some(span) = unknown(alloc, tables, os)? {
+    if let Some(span) = unknown(alloc, names, os)? {
         return Ok(Some(Fault::at(Kind::UnknownName, span)));
     }
     if let Some(span) = first_misfit(os) {
@@ -55,12 +54,13 @@ fn after_solves(alloc: Global, tables: &NameSet, os: &[Occurrence]) -> Result<Op
 }
 
 /// The first name that is used or given a value, and that nothing declares.
-fn unknown(alloc: Global, tables: &NameSet, os: &[Occurrence]) -> Result<Option<Span>, Memory>
-    ensures { IfOk result (λ found. found ≡ first_unknown_of tables.now os.now) }
+fn unknown(alloc: Global, names: &Names, os: &[Occurrence]) -> Result<Option<Span>, Memory>
+    requires { AreNamed names.now os.now }
+    ensures { IfOk result (λ found. found ≡ first_unknown_of (known_in names.now) os.now) }
 {
     let bound = bound_names(alloc, os)?;
     let declared = declared_names(alloc, os)?;
-    Ok(first_unknown(tables, &bound, &declared, os))
+    Ok(first_unknown(names, &bound, &declared, os))
 }
 
 /// The first par declaration without a value, or enum without cases.

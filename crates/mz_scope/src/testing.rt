@@ -10,7 +10,7 @@ ghost use Rattle.mz_scope.specs.Tests.{AreNamed, refusal_of};
 use crate::refusals::refusal;
 use crate::solves::{end_of, solves_of};
 use mz_base::{Fault, Memory, Names, Stop};
-use mz_occurrence::{NameSet, occurrences};
+use mz_occurrence::occurrences;
 use mz_tree::{Data, Sources};
 use std::alloc::Global;
 
@@ -20,33 +20,31 @@ fn first_refusal(
     sources: &Sources,
     given_data: &Data,
     names: &Names,
-    tables: &NameSet,
 ) -> Result<Option<Fault>, Memory>
     requires { AreNamed names.now (occurrences (items_of sources.now.files.items) (map given given_data.now.items.items)) }
-    ensures { IfOk result (λ found. found ≡ refusal_of names.now tables.now sources.now.files.items given_data.now.items.items) }
+    ensures { IfOk result (λ found. found ≡ refusal_of names.now sources.now.files.items given_data.now.items.items) }
 {
     let os = occurrences(alloc, sources, given_data)?;
     let solves = solves_of(alloc, sources.files.as_slice())?;
     let end = end_of(sources.files.as_slice());
-    let found = refusal(alloc, names, tables, end, solves.as_slice(), os.as_slice())?;
+    let found = refusal(alloc, names, end, solves.as_slice(), os.as_slice())?;
     Ok(found)
 }
 
 /// Tests the names of a model with its data: reserved names, names that are declared or given a value a second time, solve
-/// items, unknown names, data for enums, and missing values, in this order, each over the whole in the order of the text. `tables` has the names
-/// of operators, built-ins and globals.
-pub fn test_names(
+/// items, unknown names, data for enums, and missing values, in this order, each over the whole in the order of
+/// the text.
+pub(crate) fn test_names(
     alloc: Global,
     sources: &Sources,
     given_data: &Data,
     names: &Names,
-    tables: &NameSet,
 ) -> Result<(), Stop>
     requires { AreNamed names.now (occurrences (items_of sources.now.files.items) (map given given_data.now.items.items)) }
-    ensures passed { IfOk result (λ _. refusal_of names.now tables.now sources.now.files.items given_data.now.items.items ≡ None) }
-    ensures refused { IfErr result (λ s. IfRefused s (λ f. refusal_of names.now tables.now sources.now.files.items given_data.now.items.items ≡ Some f)) }
+    ensures passed { IfOk result (λ _. refusal_of names.now sources.now.files.items given_data.now.items.items ≡ None) }
+    ensures refused { IfErr result (λ s. IfRefused s (λ f. refusal_of names.now sources.now.files.items given_data.now.items.items ≡ Some f)) }
 {
-    match first_refusal(alloc, sources, given_data, names, tables)? {
+    match first_refusal(alloc, sources, given_data, names)? {
         Some(fault) => Err(Stop::Refused(fault)),
         None => Ok(()),
     }

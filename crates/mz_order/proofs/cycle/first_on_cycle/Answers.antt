@@ -15,8 +15,8 @@ leads_within-requires c =
     let m = ap length c.as_slice-in-loop-x.ensures.value in
     omega (arith, k, m, c.in_ok-parts.ensures.sized)
 
-pub returns-then-leads_within : goal.returns-then-leads_within
-returns-then-leads_within c =
+pub returns-then-leads_within-clause-found : goal.returns-then-leads_within-clause-found
+returns-then-leads_within-clause-found c =
     let l : c.loop-x.x < length (graph_of c.args.graph.now) = omega (arith, c.requires.till, c.loop-x-test.true) in
     let h : c.loop-x.x < length c.args.graph.now = omega (arith, l, as_many c.args.graph.now) in
     let of : c.loop-x.x < length c.in_ok-parts.parts.of.items = omega (arith, l, c.in_ok-parts.ensures.sized) in
@@ -43,5 +43,11 @@ loop-x-preserved c =
     (c.index.ensures ∙ get_or_default_zero c.in_ok-parts.parts.of.items c.loop-x.x c.index.result.now of)
     (λ (s : LeadsWithin c.as_slice.result.now c.as_slice-in-loop-x.result.now c.index.result.now). let t = c.leads_within.ensures.1 s in let f = c.if-leads_within.false in absurd (cc)))
 
-pub returns : goal.returns
-returns c = λ x l h. c.loop-x.invariant x l (omega (arith, h, c.loop-x-test.false))
+pub returns-clause-found : goal.returns-clause-found
+returns-clause-found c = λ x l h. c.loop-x.invariant x l (omega (arith, h, c.loop-x-test.false))
+
+pub returns-then-leads_within-clause-components : goal.returns-then-leads_within-clause-components
+returns-then-leads_within-clause-components c = record { count = length c.in_ok-parts.parts.leaders.items; number = c.in_ok-parts.parts.of.items; are = c.in_ok-parts.ensures }
+
+pub returns-clause-components : goal.returns-clause-components
+returns-clause-components c = record { count = length c.in_ok-parts.parts.leaders.items; number = c.in_ok-parts.parts.of.items; are = c.in_ok-parts.ensures }

@@ -1,4 +1,4 @@
-use Rattle.std.proofs.Common.{refl, sym, ◌∙◌, ap}
+use Rattle.std.proofs.Common.{refl, sym, ◌∙◌}
 use Rattle.mz_scope.proofs.Tracking.{tracks_none, not_repeated, repeated_here, none_repeated}
 use Rattle.mz_scope.proofs.repeated.first_repeated.Goals as goal
 

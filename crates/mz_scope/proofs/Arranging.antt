@@ -1,0 +1,186 @@
+-- Parts with their declarations in order of evaluation are a scoped model.
+use Rattle.std.proofs.Common.{◌≡◌, ℕ, zero, suc, ◌+◌, ◌<◌, ◌≤◌, Bool, true, List, [], ◌∷◌, ◌++◌, Vec, refl, ap, sym, ◌∙◌, subst, map, length, get_or, drop, append_assoc, append-nil, arith}
+use Rattle.std.specs.Prelude.{All, Result, Ok, Err, IfOk, IfErr}
+use Rattle.std.proofs.lemmas.List.{drop_more, length-map, get_or-map, map-append}
+use Rattle.mz_base.specs.declared.fault.Span.{Span}
+use Rattle.mz_base.specs.declared.fault.Fault.{Fault}
+use Rattle.std.specs.Global.{Global}
+use Rattle.mz_base.specs.declared.kind.Kind.TheVariants.{Cyclic}
+use Rattle.mz_base.specs.declared.stop.Stop.{Stop}
+use Rattle.mz_base.specs.declared.stop.Stop.TheVariants.{Refused, Memory}
+use Rattle.mz_base.specs.Faults.{fault_at, IfRefused}
+use Rattle.mz_tree.specs.declared.expr.Decl.{Decl, out-Decl}
+use Rattle.mz_tree.specs.declared.item.Function.{Function}
+use Rattle.mz_tree.specs.Tree.{Declaration}
+use Rattle.mz_tree.specs.Items.{ItemTree, function_of}
+use Rattle.mz_tree.specs.Views.{declaration}
+use Rattle.mz_tree.specs.Data.{Given}
+use Rattle.mz_tree.proofs.Looks.{declaration_is}
+use Rattle.mz_graph.specs.Graph.{IsIn}
+use Rattle.mz_graph.proofs.Membership.{in_at}
+use Rattle.mz_occurrence.specs.Given.{occurrences}
+use Rattle.mz_occurrence.specs.Sets.{holds}
+use Rattle.mz_uses.specs.declared.name_use.NameUse.{NameUse}
+use Rattle.mz_uses.specs.Uses.{in_tree}
+use Rattle.mz_uses.specs.Outlines.{Sketch, decl_sketch, function_sketch}
+use Rattle.mz_dependency.specs.Dependencies.{sketch_at, meant_by, IsUsed, RefersTo, AreRanks, HaveRanks, IsSequence, IsStuckAt, IsBackAt}
+use Rattle.mz_dependency.specs.declared.sequence.Sequence.{Sequence}
+use Rattle.mz_dependency.specs.declared.sequence.Sequence.TheVariants.{Ordered, CyclicDecl, CyclicFunction}
+use Rattle.mz_dependency.specs.Answer.{IsAnswer}
+use Rattle.mz_scoped.specs.declared.parts.ModelParts.{ModelParts}
+use Rattle.mz_scoped.specs.Parts.{name_of, place_of, decl_at, function_at}
+use Rattle.mz_scoped.specs.Scoped.{ScopedTree, AreDistinct, shared_names, parts_tree, source_parts, IsScoped, AreRanked, IsCyclic, at_decl, at_function}
+use Rattle.mz_scope.specs.StepsScope.{IsArranged, HasCycle, of_decl, of_function}
+use Rattle.mz_scope.proofs.Turned.{in_order_counted, all_counted}
+use Rattle.mz_scope.proofs.Distinct.{HavePassed}
+use Rattle.mz_scope.proofs.Distinct as names
+
+pub scoped : (is : List ItemTree) (ds : List Given) (known : ℕ → Bool) (t s : ScopedTree) → HavePassed known (occurrences is ds) → t ≡ source_parts is ds → IsArranged t s → IsScoped is ds s
+scoped is ds known t s h e k =
+    let a = subst (λ z. IsArranged z s) e k in
+    record {
+      order = a.order;
+      sequence = a.sequence;
+      decls = ap (λ z. z.decls) a.is;
+      enums = ap (λ z. z.enums) a.is;
+      functions = ap (λ z. z.functions) a.is;
+      constraints = ap (λ z. z.constraints) a.is;
+      goal = ap (λ z. z.goal) a.is;
+      outputs = ap (λ z. z.outputs) a.is;
+      given = ap (λ z. z.given) a.is;
+      distinct = subst (λ z. AreDistinct (shared_names z)) (sym a.is) (names.distinct is ds known h a.order a.sequence.is);
+      declared = subst (λ z. All (λ d. holds d.name (map name_of z.decls) ≡ true) z.given) (sym a.is) (names.declared is ds known h a.order a.sequence.complete);
+    }
+
+cyclic_in : (is : List ItemTree) (ds : List Given) (f : Fault) → HasCycle (source_parts is ds) f → IsCyclic is f
+cyclic_in is ds _ (of_decl d k) = at_decl d k
+cyclic_in is ds _ (of_function f k) = at_function f k
+
+pub cyclic : (is : List ItemTree) (ds : List Given) (t : ScopedTree) (f : Fault) → t ≡ source_parts is ds → HasCycle t f → IsCyclic is f
+cyclic is ds t f e k = cyclic_in is ds f (subst (λ z. HasCycle z f) e k)
+
+-- ranks of types, by the places in the order of evaluation
+
+sketch_of : (ds : List Declaration) (k : ℕ) → decl_sketch (decl_at ds k) ≡ sketch_at (map decl_sketch ds) k
+unfolding in_tree
+sketch_of [] zero = refl
+sketch_of [] (suc k) = refl
+sketch_of (d ∷ ds) zero = refl
+sketch_of (d ∷ ds) (suc k) = sketch_of ds k
+
+sketches_of : (ds : List Declaration) (order : List ℕ) → map decl_sketch (map (decl_at ds) order) ≡ map (sketch_at (map decl_sketch ds)) order
+sketches_of ds [] = refl
+sketches_of ds (k ∷ order) = ap (λ z. z ∷ map decl_sketch (map (decl_at ds) order)) (sketch_of ds k) ∙ ap (λ z. sketch_at (map decl_sketch ds) k ∷ z) (sketches_of ds order)
+
+module _ (decls functions : List Sketch) (order : List ℕ) (counted : (x : ℕ) → IsIn x order → x < length decls) (r : HaveRanks decls functions) where
+  abbrev turned : List Sketch
+  turned = map (sketch_at decls) order
+
+  abbrev place : ℕ → ℕ
+  place k = get_or order k 0
+
+  within : (k : ℕ) → k < length turned → k < length order
+  within k l = let m = length-map order (sketch_at decls) in omega (arith, l, m)
+
+  there : (k : ℕ) → k < length turned → sketch_at turned k ≡ sketch_at decls (place k)
+  there k l = get_or-map (sketch_at decls) order k 0 (sketch_at [] 0) (within k l)
+
+  refers : (us : List NameUse) (k : ℕ) → RefersTo us turned k → RefersTo us decls (place k)
+  refers us k u = record {
+    counted = counted (place k) (in_at order k 0 (within k u.counted));
+    used = subst (λ z. IsUsed (meant_by z) us) (there k u.counted) u.used;
+  }
+
+  from : (d : ℕ) → d < length turned → place d < length decls
+  from d l = counted (place d) (in_at order d 0 (within d l))
+
+  pub ranks_turned : AreRanks turned functions (λ k. r.of_decl (place k)) r.of_function
+  ranks_turned = record {
+    decl_decl = λ d e l u. r.are.decl_decl (place d) (place e) (from d l) (refers (sketch_at decls (place d)).types e (subst (λ z. RefersTo z.types turned e) (there d l) u));
+    decl_function = λ d f l u. r.are.decl_function (place d) f (from d l) (subst (λ z. RefersTo z.types functions f) (there d l) u);
+    function_decl = λ f e l u. r.are.function_decl f (place e) l (refers (sketch_at functions f).types e u);
+    function_function = λ f h l u. r.are.function_function f h l u;
+  }
+
+pub ranked : (t s : ScopedTree) → IsArranged t s → AreRanked s
+ranked t s k =
+    let r = k.sequence.ranked in
+    subst (λ z. AreRanked z) (sym k.is) (record {
+      of_decl = λ d. r.of_decl (get_or k.order d 0);
+      of_function = r.of_function;
+      are = subst (λ z. AreRanks z (map function_sketch t.functions) (λ d. r.of_decl (get_or k.order d 0)) r.of_function) (sym (sketches_of t.decls k.order))
+          (ranks_turned (map decl_sketch t.decls) (map function_sketch t.functions) k.order (λ x a. in_order_counted (length (map decl_sketch t.decls)) k.order x k.sequence.is a) r);
+    })
+
+-- what the code reads of the parts
+
+place_is : (d : Decl) → place_of (declaration d) ≡ (out-Decl d).span
+place_is d = ap (λ z. place_of z) (declaration_is d)
+
+pub decl_counted : (ds : List Decl) (k : ℕ) → k < length (map decl_sketch (map declaration ds)) → k < length ds
+decl_counted ds k l = let a = length-map (map declaration ds) decl_sketch in let b = length-map ds declaration in omega (arith, a, b, l)
+
+pub function_counted : (fs : List Function) (k : ℕ) → k < length (map function_sketch (map function_of fs)) → k < length fs
+function_counted fs k l = let a = length-map (map function_of fs) function_sketch in let b = length-map fs function_of in omega (arith, a, b, l)
+
+pub decl_place : (ds : List Decl) (k : ℕ) (d : Decl) → k < length ds → d ≡ get_or ds k d → (out-Decl d).span ≡ place_of (decl_at (map declaration ds) k)
+decl_place ds k d l e = sym (ap (λ z. place_of z) (get_or-map declaration ds k d (decl_at [] 0) l ∙ ap (λ z. declaration z) (sym e)) ∙ place_is d)
+
+pub function_place : (fs : List Function) (k : ℕ) (f : Function) → k < length fs → f ≡ get_or fs k f → f.span ≡ (function_at (map function_of fs) k).span
+function_place fs k f l e = sym (ap (λ z. z.span) (get_or-map function_of fs k f (function_at [] 0) l ∙ ap (λ z. function_of z) (sym e)))
+
+-- what an order, or what has none, says of the parts
+
+pub within_parts : (p : ModelParts) (s : Sequence) (order : Vec ℕ Global) (read : List ℕ) → IsAnswer (map decl_sketch (parts_tree p).decls) (map function_sketch (parts_tree p).functions) s → s ≡ Ordered order → read ≡ order.items → All (λ k. k < length p.decls.items) read
+within_parts p s order read k e r =
+    let q : IsSequence (map decl_sketch (parts_tree p).decls) (map function_sketch (parts_tree p).functions) order.items = subst (λ z. IsAnswer (map decl_sketch (parts_tree p).decls) (map function_sketch (parts_tree p).functions) z) e k in
+    let n : length (map decl_sketch (map declaration p.decls.items)) ≡ length p.decls.items = length-map (map declaration p.decls.items) decl_sketch ∙ length-map p.decls.items declaration in
+    subst (λ z. All (λ k. k < length p.decls.items) z) (sym r) (subst (λ z. All (λ k. k < z) order.items) n (all_counted (length (map decl_sketch (map declaration p.decls.items))) order.items q.is))
+
+pub cyclic_decl : (p : ModelParts) (s : Sequence) (d : ℕ) (x : Decl) (at : Span) (stop : Stop) → IsAnswer (map decl_sketch (parts_tree p).decls) (map function_sketch (parts_tree p).functions) s → s ≡ CyclicDecl d → x ≡ get_or p.decls.items d x → at ≡ (out-Decl x).span → stop ≡ Refused (fault_at Cyclic at) → IfRefused stop (HasCycle (parts_tree p))
+cyclic_decl p s d x at stop k e i a r =
+    let q : IsStuckAt (map decl_sketch (parts_tree p).decls) (map function_sketch (parts_tree p).functions) d = subst (λ z. IsAnswer (map decl_sketch (parts_tree p).decls) (map function_sketch (parts_tree p).functions) z) e k in
+    let l = decl_counted p.decls.items d q.first.counted in
+    subst (λ z. IfRefused z (HasCycle (parts_tree p))) (sym (r ∙ ap (λ z. Refused (fault_at Cyclic z)) (a ∙ decl_place p.decls.items d x l i))) (of_decl d q)
+
+pub cyclic_function : (p : ModelParts) (s : Sequence) (f : ℕ) (x : Function) (stop : Stop) → IsAnswer (map decl_sketch (parts_tree p).decls) (map function_sketch (parts_tree p).functions) s → s ≡ CyclicFunction f → x ≡ get_or p.functions.items f x → stop ≡ Refused (fault_at Cyclic x.span) → IfRefused stop (HasCycle (parts_tree p))
+cyclic_function p s f x stop k e i r =
+    let q : IsBackAt (map decl_sketch (parts_tree p).decls) (map function_sketch (parts_tree p).functions) f = subst (λ z. IsAnswer (map decl_sketch (parts_tree p).decls) (map function_sketch (parts_tree p).functions) z) e k in
+    let l = function_counted p.functions.items f q.counted in
+    subst (λ z. IfRefused z (HasCycle (parts_tree p))) (sym (r ∙ ap (λ z. Refused (fault_at Cyclic z)) (function_place p.functions.items f x l i))) (of_function f q)
+
+-- a loop that makes the outline of each
+
+pub one_outlined : {X Y R : Type 0} (g : Y → R) (f : X → R) (all : List R) (so_far now : List Y) (y : Y) (xs : List X) (i : ℕ) (x : X) → all ≡ map g so_far ++ map f (drop i xs) → i < length xs → x ≡ get_or xs i x → g y ≡ f x → now ≡ so_far ++ y ∷ [] → all ≡ map g now ++ map f (drop (i + 1) xs)
+one_outlined g f all so_far now y xs i x k l e is n =
+    k ∙ ap (λ z. map g so_far ++ map f z) (drop_more xs i x l ∙ ap (λ z. z ∷ drop (i + 1) xs) (sym e))
+    ∙ ap (λ z. map g so_far ++ z ∷ map f (drop (i + 1) xs)) (sym is)
+    ∙ sym (append_assoc (map g so_far) (g y ∷ []) (map f (drop (i + 1) xs)))
+    ∙ ap (λ z. z ++ map f (drop (i + 1) xs)) (sym (map-append g so_far (y ∷ [])) ∙ ap (λ z. map g z) (sym n))
+
+dropped : {X : Type 0} (xs : List X) (i : ℕ) → length xs ≤ i → drop i xs ≡ []
+dropped [] zero h = refl
+dropped [] (suc i) h = refl
+dropped (x ∷ xs) zero h = absurd (omega (arith, h))
+dropped (x ∷ xs) (suc i) h = dropped xs i (omega (arith, h))
+
+pub all_outlined : {X Y R : Type 0} (g : Y → R) (f : X → R) (all : List R) (so_far : List Y) (xs : List X) (i : ℕ) → all ≡ map g so_far ++ map f (drop i xs) → length xs ≤ i → map g so_far ≡ all
+all_outlined g f all so_far xs i k l = sym (k ∙ ap (λ z. map g so_far ++ map f z) (dropped xs i l) ∙ append-nil (map g so_far))
+
+pub mapped_twice : {X Y R : Type 0} (g : Y → R) (f : X → Y) (xs : List X) → map g (map f xs) ≡ map (λ x. g (f x)) xs
+mapped_twice g f [] = refl
+mapped_twice g f (x ∷ xs) = ap (λ z. g (f x) ∷ z) (mapped_twice g f xs)
+
+-- what is said of an answer
+
+pub if_ok : {X E : Type 0} (P Q : X → Type 0) (r : Result X E) → ((x : X) → P x → Q x) → IfOk r P → IfOk r Q
+if_ok P Q (Ok x) f h = f x h
+if_ok P Q (Err e) f h = tt
+
+if_refused : (P Q : Fault → Type 0) (s : Stop) → ((f : Fault) → P f → Q f) → IfRefused s P → IfRefused s Q
+if_refused P Q (Refused f) g h = g f h
+if_refused P Q Memory g h = tt
+
+pub if_err_refused : {X : Type 0} (P Q : Fault → Type 0) (r : Result X Stop) → ((f : Fault) → P f → Q f) → IfErr r (λ s. IfRefused s P) → IfErr r (λ s. IfRefused s Q)
+if_err_refused P Q (Ok x) g h = tt
+if_err_refused P Q (Err s) g h = if_refused P Q s g h

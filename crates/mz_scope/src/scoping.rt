@@ -1,0 +1,109 @@
+// The scoped model of a model's files and data.
+
+ghost use Rattle.std.specs.Prelude.{◌≡◌, None, map, IfOk, IfErr};
+ghost use Rattle.mz_base.specs.Faults.{IfRefused, fault_at};
+ghost use Rattle.mz_base.specs.declared.kind.Kind.TheVariants.{Cyclic};
+ghost use Rattle.mz_base.specs.declared.stop.Stop.TheVariants.{Refused};
+ghost use Rattle.mz_tree.specs.Data.{given};
+ghost use Rattle.mz_tree.specs.Items.{function_of};
+ghost use Rattle.mz_tree.specs.Views.{declaration};
+ghost use Rattle.mz_occurrence.specs.Given.{occurrences};
+ghost use Rattle.mz_occurrence.specs.StepsWalk.{items_of};
+ghost use Rattle.mz_uses.specs.Outlines.{sketch, decl_sketch, function_sketch};
+ghost use Rattle.mz_dependency.specs.Answer.{IsAnswer};
+ghost use Rattle.mz_dependency.specs.Dependencies.{AreDeclarations};
+ghost use Rattle.mz_scoped.specs.Scoped.{scoped_tree, parts_tree, IsScoped, AreRanked};
+ghost use Rattle.mz_scope.specs.Scope.{IsRefused};
+ghost use Rattle.mz_scope.specs.StepsScope.{IsArranged, HasCycle};
+ghost use Rattle.mz_scope.specs.Tests.{AreNamed, refusal_of};
+
+use crate::testing::test_names;
+use mz_base::{Fault, Kind, Memory, Names, Span, Stop};
+use mz_dependency::{Sequence, sequence_of};
+use mz_outline::{outline_of_decl, outline_of_function};
+use mz_scoped::{ModelParts, Scoped, arranged, model_parts};
+use mz_tree::{Data, Decl, Function, Sources};
+use mz_uses::Outline;
+use std::alloc::Global;
+
+/// What each declaration uses.
+fn decl_outlines(alloc: Global, decls: &[Decl]) -> Result<Vec<Outline>, Memory>
+    ensures { IfOk result (λ v. map sketch v.items ≡ map decl_sketch (map declaration decls.now)) }
+{
+    let mut all = Vec::new(alloc);
+    for d in decls {
+        let o = outline_of_decl(alloc, d)?;
+        all.push(o)?;
+    }
+    Ok(all)
+}
+
+/// What each function uses.
+fn function_outlines(alloc: Global, functions: &[Function]) -> Result<Vec<Outline>, Memory>
+    ensures { IfOk result (λ v. map sketch v.items ≡ map function_sketch (map function_of functions.now)) }
+{
+    let mut all = Vec::new(alloc);
+    for f in functions {
+        let o = outline_of_function(alloc, f)?;
+        all.push(o)?;
+    }
+    Ok(all)
+}
+
+/// The refusal of what is cyclic.
+fn cyclic(at: Span) -> Stop
+    ensures { result ≡ Refused (fault_at Cyclic at) }
+{
+    Stop::Refused(Fault::at(Kind::Cyclic, at))
+}
+
+/// The parts with their declarations in this order, or the refusal of what has none.
+fn in_sequence(alloc: Global, parts: ModelParts, sequence: Sequence) -> Result<Scoped, Stop>
+    requires { IsAnswer (map decl_sketch (parts_tree parts).decls) (map function_sketch (parts_tree parts).functions) sequence }
+    ensures arranged { IfOk result (λ s. IsArranged (parts_tree parts) (scoped_tree s)) }
+    ensures cyclic { IfErr result (λ s. IfRefused s (HasCycle (parts_tree parts))) }
+{
+    match sequence {
+        Sequence::Ordered(order) => {
+            let scoped = arranged(alloc, parts, order.as_slice())?;
+            Ok(scoped)
+        }
+        Sequence::CyclicDecl(d) => Err(cyclic(parts.decls[d].span)),
+        Sequence::CyclicFunction(f) => Err(cyclic(parts.functions[f].span)),
+    }
+}
+
+/// The order in which the declarations of these parts are evaluated, or what has none.
+fn sequence_in(alloc: Global, parts: &ModelParts) -> Result<Sequence, Memory>
+    requires { AreDeclarations (map decl_sketch (parts_tree parts.now).decls) }
+    ensures { IfOk result (IsAnswer (map decl_sketch (parts_tree parts.now).decls) (map function_sketch (parts_tree parts.now).functions)) }
+{
+    let decls = decl_outlines(alloc, parts.decls.as_slice())?;
+    let functions = function_outlines(alloc, parts.functions.as_slice())?;
+    let sequence = sequence_of(alloc, decls.as_slice(), functions.as_slice())?;
+    Ok(sequence)
+}
+
+/// The scoped model of a model's files and data.
+///
+/// Refused, in this order, each over the whole in the order of the text: a reserved name, a name that is declared or given a value
+/// a second time, a missing or a second solve item, an unknown name, data that doesn't fit an enum, a declaration or an enum that
+/// lacks its value, and what is cyclic: the first declaration that never has its turn, or else the first function whose types lead
+/// back to its name. After an error nothing is kept.
+pub fn scope(
+    alloc: Global,
+    sources: &Sources,
+    given_data: &Data,
+    names: &Names,
+) -> Result<Scoped, Stop>
+    requires { AreNamed names.now (occurrences (items_of sources.now.files.items) (map given given_data.now.items.items)) }
+    ensures tested { IfOk result (λ _. refusal_of names.now sources.now.files.items given_data.now.items.items ≡ None) }
+    ensures scoped { IfOk result (λ s. IsScoped (items_of sources.now.files.items) (map given given_data.now.items.items) (scoped_tree s)) }
+    ensures ranked { IfOk result (λ s. AreRanked (scoped_tree s)) }
+    ensures refused { IfErr result (λ s. IfRefused s (IsRefused names.now sources.now.files.items given_data.now.items.items)) }
+{
+    test_names(alloc, sources, given_data, names)?;
+    let parts = model_parts(alloc, sources, given_data)?;
+    let sequence = sequence_in(alloc, &parts)?;
+    in_sequence(alloc, parts, sequence)
+}
