@@ -1,22 +1,21 @@
 -- Each solution goes on to one in which a defined variable is what its row gives.
-use Rattle.std.proofs.Common.{◌≡◌, ℕ, ◌+◌, ◌<◌, ◌≤◌, List, [], ◌∷◌, ◌++◌, length, map, take, slice_get, slice_index_or, Bool, true, false, refl, sym, ap, ap₂, subst, ◌∙◌, arith, Some, Option}
-use Rattle.std.specs.Prelude.{◌↔◌, ◌-ℤ◌, ◌||◌, pos, negsuc}
+use Rattle.std.proofs.Common.{◌≡◌, ℕ, List, [], ◌∷◌, ◌++◌, length, map, take, slice_index_or, Bool, true, false, refl, sym, ap, ap₂, subst, ◌∙◌, arith, Some}
+use Rattle.std.specs.Prelude.{◌-ℤ◌, ◌||◌, pos, negsuc}
 use Rattle.std.specs.List.{AllByRecursion}
 use Rattle.std.proofs.lemmas.List.{take_at, map_push, length_push}
 use Rattle.fz_program.specs.declared.row_name.RowName.{RowName}
-use Rattle.fz_program.specs.declared.row_name.RowName.TheVariants.{IntLinEq}
 use Rattle.fz_program.specs.declared.row_name.Kind.TheVariants.{Int, ConstInt, Ints, ConstInts}
 use Rattle.fz_program.specs.declared.program.Domain.{Domain}
 use Rattle.fz_program.specs.Arguments.{Plain, int, var, Argument, one, array, plain_of}
 use Rattle.fz_program.specs.Values as values
 use Rattle.fz_program.specs.Values.{Value, Values, Given, number_in, number_at, linear}
-use Rattle.fz_program.specs.Table.{Meaning, Line, line, Holds, result_of, sum_equals, sum_at}
-use Rattle.fz_program.specs.Flat.{Variable, Row, Program, plain_value, given, RowHolds, IsInDomain, AreInDomains, FlatSolves, WellFormed, is_variable_of, is_kind, same_kind, kind_of_domain, are_arguments, is_within, IsWellFormedRow}
-use Rattle.fz_build.specs.Build.{argument_at, elements_at, is_sum, sum_with, args_by, args_with, defining, defined_variable, with_defined, AreOver}
+use Rattle.fz_program.specs.Table.{Line, line, Holds, result_of, sum_equals, sum_at}
+use Rattle.fz_program.specs.Flat.{Variable, Program, plain_value, given, RowHolds, IsInDomain, FlatSolves, WellFormed, is_variable_of, same_kind, kind_of_domain, are_arguments, is_within, IsWellFormedRow}
+use Rattle.fz_build.specs.Build.{argument_at, elements_at, is_sum, sum_with, args_by, args_with, defining, defined_variable, with_defined}
 use Rattle.fz_build.specs.Results.{is_giving, has_result, result_by, result_given, MayDefine}
-use Rattle.fz_build.specs.Growth.{GoesOn, Grows, HasResult, Defines, value_of}
-use Rattle.fz_build.proofs.Lists.{get_wider, at_last, each_push, each_before, each_last}
-use Rattle.fz_build.proofs.Values.{value_is, values_are, all_given_over, rows_before, rows_after, domains_length, domains_push, Split, split, gives_last, last_given}
+use Rattle.fz_build.specs.Growth.{GoesOn, HasResult, Defines}
+use Rattle.fz_build.proofs.Lists.{at_last, each_push, each_before, each_last}
+use Rattle.fz_build.proofs.Values.{value_is, values_are, all_given_over, rows_before, rows_after, domains_length, domains_push, split, gives_last, last_given}
 use Rattle.fz_build.proofs.Sums.{IsSum, sum_of_inputs, sum_line, number_of, sum_holds, holds_sum}
 
 -- a row that is no sum, over the values of all variables

@@ -1,6 +1,6 @@
 -- The names of introduced variables are identifiers, and new.
-use Rattle.std.proofs.Common.{◌≡◌, ℕ, zero, suc, ◌<◌, ◌≤◌, ◌+◌, ◌*◌, ◌-◌, ◌^◌, List, [], ◌∷◌, ◌++◌, length, map, Bool, true, false, refl, sym, ap, subst, ◌∙◌, arith, inl, inr, codes, decimal, append_assoc, append-nil, rules}
-use Rattle.std.specs.Prelude.{◌⊎◌, ◌&&◌, not}
+use Rattle.std.proofs.Common.{◌≡◌, ℕ, zero, suc, ◌<◌, ◌≤◌, ◌+◌, ◌*◌, ◌-◌, ◌^◌, List, [], ◌∷◌, ◌++◌, length, Bool, true, false, refl, sym, ap, subst, ◌∙◌, arith, inl, inr, codes, decimal, append_assoc, append-nil, rules}
+use Rattle.std.specs.Prelude.{◌⊎◌, not}
 use Rattle.std.specs.Str.{all_ascii_digits}
 use Rattle.std.specs.Char.{is_ascii_digit}
 use Rattle.std.specs.List.{AllByRecursion, Contains, list_all}
@@ -8,8 +8,8 @@ use Rattle.std.proofs.lemmas.Bool.{and_parts, and_from}
 use Rattle.std.proofs.lemmas.Bool.Decides.{nat_tests}
 use Rattle.std.proofs.lemmas.Fmt.{decimal_injective, digits_decimal}
 use Rattle.std.proofs.lemmas.Str.Parse.{IsNumeralModel, numerals_by_fold}
-use Rattle.std.proofs.lemmas.List.{append_cancel_left, append_cancel_right, length-map, map_push}
-use Rattle.mz_base.specs.Words.{is_word, is_word_byte, is_digit, is_letter, is_keyword, is_identifier}
+use Rattle.std.proofs.lemmas.List.{append_cancel_left, append_cancel_right, map_push}
+use Rattle.mz_base.specs.Words.{is_word, is_word_byte, is_keyword, is_identifier}
 use Rattle.fz_program.specs.Names.{Name}
 use Rattle.fz_program.specs.Flat.{Variable, ArrayItem, Program, labels, labels_of, array_labels, AreDistinct}
 use Rattle.fz_program.proofs.Labels.{contains_both, contains_one}

@@ -1,6 +1,5 @@
 -- What a builder promises, where an item more stands.
-use Rattle.std.proofs.Common.{◌≡◌, ℕ, ◌<◌, ◌≤◌, ◌+◌, ◌^◌, List, [], ◌∷◌, ◌++◌, length, map, Bool, true, false, refl, sym, ap, subst, ◌∙◌, arith, Some, None}
-use Rattle.std.specs.List.{AllByRecursion, Contains}
+use Rattle.std.proofs.Common.{◌≡◌, ℕ, ◌<◌, ◌≤◌, ◌^◌, List, [], ◌∷◌, ◌++◌, length, map, true, false, refl, sym, ap, subst, ◌∙◌, arith, Some}
 use Rattle.std.proofs.lemmas.List.{map_push, length-map}
 use Rattle.fz_program.specs.declared.program.FzVar.{FzVar}
 use Rattle.fz_program.specs.declared.program.FzArray.{FzArray}
@@ -11,7 +10,7 @@ use Rattle.fz_program.specs.declared.program.Domain.{Domain}
 use Rattle.fz_program.specs.declared.row_name.RowName.{RowName}
 use Rattle.fz_program.specs.Names.{Name}
 use Rattle.fz_program.specs.Arguments.{Argument}
-use Rattle.fz_program.specs.Flat.{Variable, ArrayItem, Row, Program, WellFormed, IsWellFormedVariable, IsWellFormedArray, IsWellFormedRow, IsOfSet, AreParts, variable, array_item, row, is_goal}
+use Rattle.fz_program.specs.Flat.{Variable, ArrayItem, Row, Program, WellFormed, IsWellFormedVariable, IsWellFormedArray, IsWellFormedRow, IsOfSet, variable, array_item, row, is_goal}
 use Rattle.fz_build.specs.Naming.{IsNamed, introduced_name, number_after, next_number}
 use Rattle.fz_build.specs.Build.{items, empty, with_variable, with_array, with_row, with_goal, with_defined, defined_variable, defining, args_with, IsBuilt, MayDeclare, MayAdd}
 use Rattle.fz_build.specs.Results.{MayDefine}

@@ -1,23 +1,21 @@
 -- A sum with -1 times a variable is its constant where the variable is what the sum passes it by.
-use Rattle.std.proofs.Common.{◌≡◌, ℕ, ◌+◌, ◌<◌, ℤ, pos, negsuc, ◌+ℤ◌, ◌-ℤ◌, ◌*ℤ◌, List, [], ◌∷◌, ◌++◌, length, map, slice_get, slice_index_or, Bool, true, false, refl, sym, ap, ap₂, subst, ◌∙◌, arith, Some, None, Option, nat_eq, int_eq}
+use Rattle.std.proofs.Common.{◌≡◌, ℕ, ◌+◌, ℤ, negsuc, ◌+ℤ◌, ◌-ℤ◌, ◌*ℤ◌, List, [], ◌∷◌, ◌++◌, length, map, Bool, true, refl, sym, ap, ap₂, ◌∙◌, arith, Some, nat_eq, int_eq}
 use Rattle.std.specs.Prelude.{◌&&◌, nat_le}
-use Rattle.std.specs.List.{AllByRecursion, list_all}
+use Rattle.std.specs.List.{list_all}
 use Rattle.std.proofs.lemmas.Bool.{and_parts}
 use Rattle.std.proofs.lemmas.Bool.Decides.{nat_tests, Decides-int_eq}
 use Rattle.std.proofs.lemmas.Int.{ints}
 use Rattle.std.proofs.lemmas.List.{map_push, length_push, length-map}
-use Rattle.mz_value.specs.Ranges.{Range}
 use Rattle.fz_program.specs.declared.row_name.RowName.{RowName}
 use Rattle.fz_program.specs.declared.row_name.RowName.TheVariants.{IntLinEq}
-use Rattle.fz_program.specs.declared.row_name.Kind.{Kind}
 use Rattle.fz_program.specs.declared.row_name.Kind.TheVariants.{Int, ConstInt, Ints, ConstInts}
 use Rattle.fz_program.specs.declared.program.Domain.{Domain}
 use Rattle.fz_program.specs.declared.program.Domain.TheVariants.{Bool as Truths, Ints as Integers, SetOf}
 use Rattle.fz_program.specs.Arguments.{Plain, int, var, Argument, one, array, plain_of}
 use Rattle.fz_program.specs.Values as values
 use Rattle.fz_program.specs.Values.{Value, Values, Given, number_in, linear}
-use Rattle.fz_program.specs.Table.{Meaning, tests, Line, line, Holds, sum_equals, sum_at}
-use Rattle.fz_program.specs.Flat.{Variable, Row, plain_value, given, kind_of_domain, same_kind, is_kind, is_variable_of, is_plain, is_constant, is_argument, are_arguments, are_all_of, is_one_of, is_within, is_linear, weight, magnitude, most, IsInDomain, IsWellFormedRow}
+use Rattle.fz_program.specs.Table.{line, sum_equals, sum_at}
+use Rattle.fz_program.specs.Flat.{Variable, plain_value, given, kind_of_domain, same_kind, is_variable_of, is_plain, is_constant, is_argument, are_arguments, is_one_of, is_within, is_linear, weight, magnitude, most, IsInDomain}
 use Rattle.fz_build.specs.Build.{is_sum, sum_with, argument_at, elements_at}
 
 pub linear_push : (bs ys : List ℤ) (a y : ℤ) → length bs ≡ length ys → linear (bs ++ a ∷ []) (ys ++ y ∷ []) ≡ linear bs ys +ℤ (a *ℤ y)

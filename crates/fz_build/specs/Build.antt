@@ -1,5 +1,5 @@
 -- A program that is being built, and what each call adds to it.
-use Rattle.std.specs.Prelude.{◌≡◌, ℕ, ◌<◌, negsuc, List, [], ◌∷◌, ◌++◌, length, map, slice_get, Bool, true, false, Option, Some, None}
+use Rattle.std.specs.Prelude.{ℕ, ◌<◌, negsuc, List, [], ◌∷◌, ◌++◌, length, map, slice_get, Bool, true, false, Option, Some, None}
 use Rattle.std.specs.List.{AllByRecursion, Contains}
 use Rattle.fz_program.specs.declared.program.FzGoal.{FzGoal}
 use Rattle.fz_program.specs.declared.program.FzGoal.TheVariants.{Satisfy}
@@ -10,7 +10,7 @@ use Rattle.fz_program.specs.declared.program.FzRow.{FzRow}
 use Rattle.fz_program.specs.declared.row_name.RowName.{RowName}
 use Rattle.fz_program.specs.declared.row_name.RowName.TheVariants.{IntLinEq}
 use Rattle.fz_program.specs.Arguments.{Plain, bool, int, set, var, nested, Argument, one, array}
-use Rattle.fz_program.specs.Flat.{Variable, ArrayItem, Row, Program, labels, IsSome, IsWellFormedVariable, IsWellFormedArray, IsWellFormedRow, WellFormed, variable, array_item, row}
+use Rattle.fz_program.specs.Flat.{Variable, ArrayItem, Row, Program, labels, IsWellFormedVariable, IsWellFormedArray, WellFormed, variable, array_item, row}
 use Rattle.fz_build.specs.Naming.{introduced_name, IsNamed, AreNamed, next_number}
 
 -- ---- programs with one item more

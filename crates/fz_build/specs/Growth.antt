@@ -1,9 +1,9 @@
 -- How the solutions of a program go on as it grows.
-use Rattle.std.specs.Prelude.{◌≡◌, ◌≤◌, List, ◌++◌, length, map, take, Option, Some}
+use Rattle.std.specs.Prelude.{◌≡◌, ◌≤◌, List, ◌++◌, length, map, take, Some}
 use Rattle.fz_program.specs.declared.program.Domain.{Domain}
 use Rattle.fz_program.specs.declared.row_name.RowName.{RowName}
-use Rattle.fz_program.specs.Arguments.{Plain, Argument, plain_of}
-use Rattle.fz_program.specs.Values.{Value, Values, Given}
+use Rattle.fz_program.specs.Arguments.{Argument, plain_of}
+use Rattle.fz_program.specs.Values.{Value, Values}
 use Rattle.fz_program.specs.Flat.{Program, FlatSolves, IsInDomain, plain_value, given}
 use Rattle.fz_build.specs.Build.{IsArgumentOver}
 use Rattle.fz_build.specs.Results.{result_given}

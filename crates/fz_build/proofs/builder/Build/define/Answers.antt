@@ -2,8 +2,8 @@ use Rattle.std.proofs.Common.{◌≡◌, ◌<◌, ◌^◌, length, map, subst, a
 use Rattle.std.proofs.lemmas.List.{length-map}
 use Rattle.fz_program.specs.declared.program.Arg.{the_lemmas}
 use Rattle.fz_program.specs.declared.program.FzRow.{FzRow}
-use Rattle.fz_program.specs.Arguments.{Argument, argument, one, var}
-use Rattle.fz_program.specs.Flat.{Program, Row, WellFormed, variable, row}
+use Rattle.fz_program.specs.Arguments.{argument, one, var}
+use Rattle.fz_program.specs.Flat.{Program, variable, row}
 use Rattle.fz_build.specs.Naming.{introduced_name, next_number}
 use Rattle.fz_build.specs.Build.{IsBuilt, items, defined_variable, defining, with_defined}
 use Rattle.fz_build.specs.Growth.{Defines}
