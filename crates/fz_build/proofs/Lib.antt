@@ -1,0 +1,8 @@
+pub mod Lists
+pub mod Copies
+pub mod FreshNames
+pub mod Wider
+pub mod Grown
+pub mod Values
+pub mod Sums
+pub mod Defined

@@ -1,0 +1,22 @@
+use Rattle.std.proofs.Common.{◌≡◌, length, ap, sym, ◌∙◌, arith}
+use Rattle.std.proofs.lemmas.List.{length-map}
+use Rattle.fz_program.specs.declared.program.Arg.{the_lemmas}
+use Rattle.fz_program.specs.Arguments.{one, var}
+use Rattle.fz_program.specs.Flat.{Program, variable}
+use Rattle.fz_build.proofs.Grown.{next_below, stands_variable}
+use Rattle.fz_build.proofs.builder.Build.declare.Goals as goal
+
+pub number_after-self-inside-requires : goal.number_after-self-inside-requires
+number_after-self-inside-requires c =
+    let below = next_below c.self.inside.vars.items c.self.inside.next c.self.invariant.1 in
+    omega (arith, below, c.self.inside.vars.ok.0, c.self.inside.vars.ok.1, c.self.inside.vars.small)
+
+pub invariant_of-self-2 : goal.invariant_of-self-2
+invariant_of-self-2 c =
+    let stands = stands_variable c.self.inside.vars.items c.push.new.self.items c.self.inside.arrays.items c.self.inside.rows.items c.self.inside.next c.args.var c.args.self.now c.in_ok-push.ensures.items c.self.view_is c.self.invariant c.requires in
+    (stands.0, c.number_after-self-inside.ensures ∙ stands.1)
+
+pub returns-clause-place : goal.returns-clause-place
+returns-clause-place c =
+    let place : c.len-k.result ≡ length c.args.self.now.vars = c.len-k.ensures ∙ c.self.inside.vars.ok.0 ∙ sym (length-map c.self.inside.vars.items variable) ∙ ap (λ (p : Program). length p.vars) c.self.view_is in
+    simp the_lemmas (ap (λ k. one (var k)) place)

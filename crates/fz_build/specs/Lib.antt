@@ -1,0 +1,4 @@
+pub mod Naming
+pub mod Build
+pub mod Results
+pub mod Growth

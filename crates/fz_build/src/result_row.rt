@@ -1,0 +1,102 @@
+// The arguments of rows that define a variable.
+
+ghost use Rattle.std.specs.Prelude.{◌≡◌, ◌∷◌, ◌++◌, [], IfOk, map};
+ghost use Rattle.fz_program.specs.Arguments.{argument, array, one, plain, plains, var};
+ghost use Rattle.fz_build.specs.Build.{argument_at, args_with, elements_at, elements_in, is_sum, sum_with};
+
+use crate::copy::{copied, copied_all, copied_elements};
+use fz_program::{Arg, RowName};
+use mz_base::Memory;
+use std::alloc::Global;
+
+// Whether the result of a row is a term of its sum.
+#[tactic(auto, unfolding(crate::specs::Build::is_sum))]
+pub(crate) fn is_sum(name: RowName) -> bool
+    ensures { result ≡ is_sum name }
+{
+    matches!(name, RowName::IntLinEq)
+}
+
+// The elements and one more.
+fn with_element(alloc: Global, items: &[Arg], last: Arg) -> Result<Arg, Memory>
+    ensures { IfOk result (λ a. argument a ≡ array (plains items.now ++ plain last ∷ [])) }
+{
+    let mut all = copied_elements(alloc, items)?;
+    all.push(last)?;
+    Ok(Arg::Array(all))
+}
+
+// The arguments, and the variable last.
+fn with_last(alloc: Global, inputs: &[Arg], k: u64) -> Result<Vec<Arg>, Memory>
+    ensures { IfOk result (λ all. map argument all.items ≡ map argument inputs.now ++ one (var k) ∷ []) }
+{
+    let mut all = copied_all(alloc, inputs)?;
+    all.push(Arg::Var(k))?;
+    Ok(all)
+}
+
+// The elements of an array; none of anything else.
+fn elements_of(a: &Arg) -> &[Arg]
+    ensures { plains result.now ≡ elements_in (argument a.now) }
+{
+    match a {
+        Arg::Array(items) => items.as_slice(),
+        _ => &[],
+    }
+}
+
+// The elements of the input at a place.
+fn elements_at(inputs: &[Arg], k: usize) -> &[Arg]
+    ensures { plains result.now ≡ elements_at (map argument inputs.now) k }
+{
+    match inputs.get(k) {
+        Some(a) => elements_of(a),
+        None => &[],
+    }
+}
+
+fn empty_array(alloc: Global) -> Arg
+    ensures { argument result ≡ array [] }
+{
+    Arg::Array(Vec::new(alloc))
+}
+
+// The input at a place, or an empty array where there is none.
+fn copied_at(alloc: Global, inputs: &[Arg], k: usize) -> Result<Arg, Memory>
+    ensures { IfOk result (λ a. argument a ≡ argument_at (map argument inputs.now) k) }
+{
+    match inputs.get(k) {
+        Some(a) => copied(alloc, a),
+        None => Ok(empty_array(alloc)),
+    }
+}
+
+// The coefficients, the integers and the constant, with -1 times the variable.
+fn sum_with(alloc: Global, inputs: &[Arg], k: u64) -> Result<Vec<Arg>, Memory>
+    ensures { IfOk result (λ all. map argument all.items ≡ sum_with (map argument inputs.now) k) }
+{
+    let coefficients = with_element(alloc, elements_at(inputs, 0), Arg::Int(-1))?;
+    let integers = with_element(alloc, elements_at(inputs, 1), Arg::Var(k))?;
+    let constant = copied_at(alloc, inputs, 2)?;
+    let mut all = Vec::new(alloc);
+    all.push(coefficients)?;
+    all.push(integers)?;
+    all.push(constant)?;
+    Ok(all)
+}
+
+// The arguments of the row that defines the variable by the inputs.
+pub(crate) fn args_with(
+    alloc: Global,
+    name: RowName,
+    inputs: &[Arg],
+    k: u64,
+) -> Result<Vec<Arg>, Memory>
+    ensures { IfOk result (λ all. map argument all.items ≡ args_with name (map argument inputs.now) k) }
+{
+    if is_sum(name) {
+        sum_with(alloc, inputs, k)
+    } else {
+        with_last(alloc, inputs, k)
+    }
+}
