@@ -1,0 +1,3 @@
+pub mod Meets
+pub mod StepsSeals
+pub mod Views
