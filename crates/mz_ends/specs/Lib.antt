@@ -1,0 +1,2 @@
+pub mod StepsLists
+pub mod StepsPowers
