@@ -1,5 +1,5 @@
 -- How many places index ranges have, by division.
-use Rattle.std.proofs.Common.{◌≡◌, ◌≢◌, ℕ, ◌+◌, ◌*◌, ◌<◌, ◌≤◌, length, get_or, ◌/◌, ◌%◌, List, [], ◌∷◌, Bool, true, false, refl, sym, subst, arith, mul_comm, IsTrue}
+use Rattle.std.proofs.Common.{◌≡◌, ◌≢◌, ℕ, ◌+◌, ◌*◌, ◌<◌, ◌≤◌, length, get_or, ◌/◌, ◌%◌, List, [], ◌∷◌, true, refl, sym, subst, arith, mul_comm}
 use Rattle.std.specs.Prelude.{pos}
 use Rattle.std.specs.List.{list_all}
 use Rattle.std.proofs.lemmas.Nat.{div-add-mod', div-mul-add, mod-mul-add}

@@ -1,8 +1,7 @@
 -- The test of a set that stands in a row, and what it says.
-use Rattle.std.proofs.Common.{◌≡◌, List, [], ◌∷◌, ℤ, pos, Bool, true, false, ◌&&◌, refl, sym, rules, arith}
-use Rattle.std.specs.Prelude.{int_le, int_lt, ◌+ℤ◌, ◌≤ℤ◌, ◌<ℤ◌}
+use Rattle.std.proofs.Common.{◌≡◌, List, [], ◌∷◌, ℤ, Bool, true, false, ◌&&◌, refl, sym, rules}
+use Rattle.std.specs.Prelude.{int_le, ◌≤ℤ◌}
 use Rattle.std.proofs.lemmas.Bool.{false≢true}
-use Rattle.std.proofs.lemmas.Int.{ints}
 use Rattle.mz_value.specs.Ranges.{Range, AreCanonical, AreInLimit, IsApart, IsInLimit, least, greatest}
 use Rattle.mz_value.proofs.Comparisons.{int_le_true}
 use Rattle.fz_program.specs.Flat.{is_set, is_apart, is_literal, is_literal_range, IsSet}

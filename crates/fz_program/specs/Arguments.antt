@@ -1,5 +1,5 @@
 -- The arguments of rows, without where they lie in memory.
-use Rattle.std.specs.Prelude.{ℕ, ℤ, List, [], ◌∷◌, map, Bool}
+use Rattle.std.specs.Prelude.{ℕ, ℤ, List, map, Bool}
 use Rattle.mz_value.specs.Ranges.{Range}
 use Rattle.fz_program.specs.declared.program.Arg.{Arg, Arg-F, fold-Arg}
 use Rattle.fz_program.specs.declared.program.Arg.TheOpen.{Bool as Truth, Int, Set, Var, Array}

@@ -1,5 +1,5 @@
 -- FlatZinc programs: their parts, when they are well formed, and what solves them.
-use Rattle.std.specs.Prelude.{◌≡◌, ◌≢◌, ℕ, ◌+◌, ◌*◌, ◌^◌, ◌-◌, ℤ, pos, ◌+ℤ◌, max, unsigned_abs, nat_eq, nat_le, List, [], ◌∷◌, ◌++◌, ◌<◌, ◌≤◌, ◌≤ℤ◌, length, map, zip, Bool, true, false, not, ◌&&◌, ◌||◌, Option, Some, None, string_bytes, slice_index_or, slice_get, int_le, int_lt}
+use Rattle.std.specs.Prelude.{◌≡◌, ◌≢◌, ℕ, ◌+◌, ◌*◌, ◌^◌, ◌-◌, ℤ, pos, ◌+ℤ◌, max, unsigned_abs, nat_eq, nat_le, List, [], ◌∷◌, ◌++◌, ◌≤ℤ◌, length, map, Bool, true, false, ◌&&◌, ◌||◌, Option, Some, None, string_bytes, slice_index_or, slice_get, int_le, int_lt}
 use Rattle.std.specs.List.{AllByRecursion, Contains, list_all, list_any}
 use Rattle.std.specs.Ordering.{int_eq}
 use Rattle.mz_value.specs.Ranges.{Range, AreCanonical, Has, IsInLimit, AreInLimit, cardinality, range_of, least, greatest}

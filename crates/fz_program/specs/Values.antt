@@ -1,5 +1,5 @@
 -- The values of variables and of arguments.
-use Rattle.std.specs.Prelude.{◌≡◌, ℕ, zero, suc, ℤ, pos, negsuc, ◌+ℤ◌, ◌*ℤ◌, List, [], ◌∷◌, map, Bool, Option, None, slice_get, slice_index_or}
+use Rattle.std.specs.Prelude.{ℕ, zero, suc, ℤ, pos, negsuc, ◌+ℤ◌, ◌*ℤ◌, List, [], ◌∷◌, map, Bool, Option, None, slice_get, slice_index_or}
 use Rattle.std.specs.Ordering.{int_eq}
 use Rattle.mz_value.specs.Ranges.{Range}
 

@@ -1,8 +1,8 @@
 -- A loop that puts names into a table, where none stands twice.
-use Rattle.std.proofs.Common.{◌≡◌, ℕ, ◌+◌, ◌<◌, ◌≤◌, List, [], ◌∷◌, ◌++◌, length, take, drop, get_or, map, Bool, true, false, cond, not, refl, sym, ap, ◌∙◌, subst, arith, append_assoc, string_bytes, Some, None, Result}
+use Rattle.std.proofs.Common.{◌≡◌, ℕ, ◌+◌, ◌<◌, ◌≤◌, List, [], ◌∷◌, ◌++◌, length, take, drop, get_or, Bool, true, false, cond, not, refl, sym, ap, ◌∙◌, append_assoc, Some, None, Result}
 use Rattle.std.specs.Prelude.{◌&&◌, Ok, Err, Option}
 use Rattle.std.proofs.lemmas.Bool.{false≢true}
-use Rattle.std.proofs.lemmas.List.{append-nil, drop_all, take_all, take_more, length-map}
+use Rattle.std.proofs.lemmas.List.{append-nil, drop_all, take_all, take_more}
 use Rattle.soln_items.proofs.Loops.{cut}
 use Rattle.soln_items.specs.declared.miss.Miss.{Miss}
 use Rattle.soln_items.specs.declared.miss.Miss.TheVariants.{Unfit, Memory}

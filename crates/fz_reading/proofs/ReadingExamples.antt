@@ -1,20 +1,15 @@
 -- What texts are read to.
-use Rattle.std.proofs.Common.{◌≡◌, List, [], ◌∷◌, Bool, true, false, Some, None, codes, refl}
-use Rattle.std.specs.Prelude.{ℤ, pos, negsuc}
-use Rattle.mz_value.specs.StepsWalks.{joined, merged}
-use Rattle.soln_items.specs.Items.{digits_at, set_of}
-use Rattle.fz_program.specs.declared.program.Domain.TheVariants.{Bool as Truths, Ints, SetOf}
-use Rattle.fz_program.specs.declared.program.FzGoal.TheVariants.{Satisfy, Maximize}
-use Rattle.fz_program.specs.declared.row_name.RowName.TheVariants.{IntLt, SetIn}
+use Rattle.std.proofs.Common.{◌≡◌, List, [], ◌∷◌, true, Some, None, codes, refl}
+use Rattle.std.specs.Prelude.{pos, negsuc}
+use Rattle.soln_items.specs.Items.{digits_at}
+use Rattle.fz_program.specs.declared.program.FzGoal.TheVariants.{Satisfy}
 use Rattle.fz_program.specs.Names.{Name}
-use Rattle.fz_program.specs.Arguments.{Argument, bool, int, set, var, one, array}
-use Rattle.fz_program.specs.Table.{line}
-use Rattle.fz_program.specs.Flat.{Variable, Program}
-use Rattle.fz_reading.specs.Tokens.{behind, interval_at, interval_from, name_at, natural_at, negative_at, number_at, range_at}
-use Rattle.fz_reading.specs.Lists.{braces_at, closed_at, filled_at, parts_at, set_at}
+use Rattle.fz_program.specs.Arguments.{bool, int, var, one, array}
+use Rattle.fz_reading.specs.Tokens.{behind, interval_at, interval_from, name_at, natural_at, negative_at, number_at}
+use Rattle.fz_reading.specs.Lists.{closed_at, filled_at, parts_at, set_at}
 use Rattle.fz_reading.specs.Tables.{are_new}
-use Rattle.fz_reading.specs.Arguments.{argument_at, array_at, braces_set_at, interval_set_at, number_or_interval_at, number_or_set_at, place_at, plain_at, word_at, word_of}
-use Rattle.fz_reading.specs.Lines.{array_item_at, body_at, definition_at, domain_at, from_colon, goal_at, integers_at, lines_at, mark_at, marked_at, objective_at, optimum_at, program_at, row_at, row_name_at, row_named, satisfy_at, set_of_at, undefined_at, variable_at}
+use Rattle.fz_reading.specs.Arguments.{argument_at, array_at, braces_set_at, interval_set_at, number_or_interval_at, number_or_set_at, plain_at, word_at, word_of}
+use Rattle.fz_reading.specs.Lines.{body_at, domain_at, goal_at, lines_at, mark_at, marked_at, optimum_at, program_at, satisfy_at, variable_at}
 
 abbrev names : List Name
 names = codes "x" ∷ codes "true1" ∷ []

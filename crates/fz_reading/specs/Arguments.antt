@@ -1,5 +1,5 @@
 -- The arguments of rows, where variables have these names.
-use Rattle.std.specs.Prelude.{ℕ, ℤ, List, [], ◌∷◌, map, Bool, true, false, Option, Some, None, codes, position, if◌then◌else◌}
+use Rattle.std.specs.Prelude.{ℕ, ℤ, List, map, true, false, Option, Some, codes, position, if◌then◌else◌}
 use Rattle.std.specs.Option.{option_map}
 use Rattle.std.specs.Str.{bytes_eq}
 use Rattle.soln_items.specs.Bytes.{is_letter, first_byte}
@@ -7,7 +7,7 @@ use Rattle.soln_items.specs.Items.{◌>>=◌, Read, choose}
 use Rattle.fz_program.specs.Names.{Name}
 use Rattle.fz_program.specs.Arguments.{bool, int, set, var, Argument, one, array, plain_of}
 use Rattle.fz_reading.specs.Tokens.{behind, number_at, name_at, interval_from}
-use Rattle.fz_reading.specs.Lists.{all_at, closed_at, filled_at, braces_at}
+use Rattle.fz_reading.specs.Lists.{closed_at, braces_at}
 
 -- the place of the first variable with a name
 abbrev pub place_of : List Name → Name → Option ℕ

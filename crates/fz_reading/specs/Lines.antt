@@ -1,13 +1,11 @@
 -- The lines of a program, and all of it.
-use Rattle.std.specs.Prelude.{◌≡◌, ℕ, zero, suc, List, [], ◌∷◌, ◌++◌, length, drop, map, find, Bool, true, false, not, nat_eq, Option, Some, None, codes, if◌then◌else◌}
+use Rattle.std.specs.Prelude.{ℕ, zero, suc, List, [], ◌∷◌, length, drop, find, Bool, true, false, not, nat_eq, Option, Some, None, codes, if◌then◌else◌}
 use Rattle.std.specs.List.{prefix_len}
 use Rattle.std.specs.Str.{bytes_eq}
-use Rattle.mz_value.specs.Ranges.{Range}
 use Rattle.soln_items.specs.Items.{◌>>=◌, Read, choose}
 use Rattle.fz_program.specs.Names.{Name}
-use Rattle.fz_program.specs.Arguments.{Argument}
 use Rattle.fz_program.specs.Table.{line}
-use Rattle.fz_program.specs.Flat.{Variable, ArrayItem, Row, Program, labels_of}
+use Rattle.fz_program.specs.Flat.{Variable, ArrayItem, Row, Program}
 use Rattle.fz_program.specs.declared.program.Domain.{Domain}
 use Rattle.fz_program.specs.declared.program.Domain.TheVariants.{Bool as Truths, Ints, SetOf}
 use Rattle.fz_program.specs.declared.program.FzGoal.{FzGoal}
@@ -15,7 +13,7 @@ use Rattle.fz_program.specs.declared.program.FzGoal.TheVariants.{Satisfy, Minimi
 use Rattle.fz_program.specs.declared.row_name.RowName.{RowName}
 use Rattle.fz_program.specs.declared.row_name.RowName.TheVariants.{IntEq, IntNe, IntLe, IntLt, IntEqReif, IntNeReif, IntLeReif, IntLtReif, IntLinEq, IntLinNe, IntLinLe, IntLinEqReif, IntLinNeReif, IntLinLeReif, IntTimes, IntDiv, IntMod, IntMin, IntMax, IntAbs, ArrayIntElement, ArrayVarIntElement, ArrayBoolElement, ArrayVarBoolElement, ArraySetElement, ArrayVarSetElement, BoolEq, BoolNot, BoolToInt, BoolXor, BoolEqReif, BoolLeReif, ArrayBoolAnd, ArrayBoolOr, BoolClause, SetIn, SetInReif, SetEq, SetNe, SetSubset, SetEqReif, SetNeReif, SetSubsetReif, SetUnion, SetIntersect, SetDiff, SetSymdiff, SetCard}
 use Rattle.fz_reading.specs.Tokens.{behind, name_at, range_at}
-use Rattle.fz_reading.specs.Lists.{all_at, closed_at, filled_at, set_at}
+use Rattle.fz_reading.specs.Lists.{closed_at, filled_at, set_at}
 use Rattle.fz_reading.specs.Arguments.{argument_at, place_at}
 use Rattle.fz_reading.specs.Tables.{named_variables, named_items}
 

@@ -1,5 +1,5 @@
 -- Lists of parts with commas between them, and sets in braces.
-use Rattle.std.specs.Prelude.{ℕ, zero, suc, ℤ, List, [], ◌∷◌, ◌++◌, length, Option, Some, None, codes}
+use Rattle.std.specs.Prelude.{ℕ, zero, suc, List, [], ◌∷◌, length, Some, None, codes}
 use Rattle.mz_value.specs.Ranges.{Range}
 use Rattle.soln_items.specs.Items.{◌>>=◌, Read, choose, listed}
 use Rattle.fz_reading.specs.Tokens.{behind, number_at, interval_at}

@@ -1,7 +1,7 @@
 -- What texts, numbers, names and sets are read to. Each function reads what its name says from the first bytes, and gives
 -- it with the bytes after it; None where the bytes don't begin so. More is read than is spelled: who asks for the one
 -- spelling compares it with the bytes.
-use Rattle.std.specs.Prelude.{ℕ, ℤ, pos, neg_ℤ, List, [], ◌∷◌, Option, Some, None, codes}
+use Rattle.std.specs.Prelude.{ℕ, ℤ, pos, neg_ℤ, List, Option, Some, codes}
 use Rattle.std.specs.List.{prefix_len}
 use Rattle.mz_value.specs.Ranges.{Range}
 use Rattle.soln_items.specs.Bytes.{is_name_byte}

@@ -1,4 +1,4 @@
-use Rattle.std.proofs.Common.{◌≡◌, ◌-◌, ◌+◌, ◌++◌, ◌∷◌, [], List, ℕ, length, map, ap, sym, subst, ◌∙◌, rules, Some}
+use Rattle.std.proofs.Common.{◌≡◌, ◌-◌, ◌+◌, List, length, map, ap, sym, subst, ◌∙◌, Some}
 use Rattle.fz_program.specs.Arguments.{Argument}
 use Rattle.std.proofs.lemmas.List.{map_push}
 use Rattle.fz_program.specs.Arguments.{argument}

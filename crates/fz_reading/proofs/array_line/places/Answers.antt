@@ -1,4 +1,4 @@
-use Rattle.std.proofs.Common.{◌≡◌, ◌-◌, ◌+◌, ◌++◌, ◌∷◌, [], List, ℕ, length, map, ap, sym, subst, ◌∙◌, rules, Some}
+use Rattle.std.proofs.Common.{◌≡◌, ◌-◌, ◌+◌, List, ℕ, length, ap, sym, subst, ◌∙◌, Some}
 use Rattle.fz_reading.specs.Arguments.{place_at}
 use Rattle.fz_reading.specs.Lists.{all_at, parts_at}
 use Rattle.soln_items.proofs.IntLists.{fails_along}

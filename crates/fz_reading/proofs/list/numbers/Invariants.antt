@@ -1,4 +1,4 @@
-use Rattle.std.proofs.Common.{◌≡◌, ◌-◌, length, map}
+use Rattle.std.proofs.Common.{◌≡◌, ◌-◌, length}
 use Rattle.fz_reading.specs.Tokens.{number_at}
 use Rattle.fz_reading.specs.Lists.{all_at, parts_at}
 use Rattle.fz_reading.proofs.PartLoops.{with_front}

@@ -1,4 +1,4 @@
-use Rattle.std.proofs.Common.{◌≡◌, ◌-◌, ◌+◌, ◌++◌, ◌∷◌, [], List, ℕ, length, map, ap, sym, subst, ◌∙◌, rules, Some}
+use Rattle.std.proofs.Common.{◌≡◌, ◌-◌, ◌+◌, List, length, ap, sym, subst, ◌∙◌, Some}
 use Rattle.mz_value.specs.Ranges.{Range}
 use Rattle.fz_reading.specs.Tokens.{range_at}
 use Rattle.fz_reading.specs.Lists.{all_at, parts_at}

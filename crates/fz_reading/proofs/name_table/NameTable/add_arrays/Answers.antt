@@ -1,4 +1,4 @@
-use Rattle.std.proofs.Common.{◌≡◌, List, ℕ, map, ap, sym, ◌∙◌, string_bytes, rules}
+use Rattle.std.proofs.Common.{map, ap, sym, ◌∙◌, string_bytes}
 use Rattle.std.proofs.lemmas.List.{length-map}
 use Rattle.fz_program.specs.Flat.{array_labels, array_item}
 use Rattle.fz_program.proofs.Labels.{array_label_is}
