@@ -1,11 +1,11 @@
 -- How the solutions of a program go on as it grows.
-use Rattle.std.specs.Prelude.{◌≡◌, ◌≤◌, List, ◌++◌, length, map, take, Some}
+use Rattle.std.specs.Prelude.{◌≡◌, ◌⊎◌, ◌≤◌, List, ◌++◌, length, map, take, Some}
 use Rattle.fz_program.specs.declared.program.Domain.{Domain}
 use Rattle.fz_program.specs.declared.row_name.RowName.{RowName}
 use Rattle.fz_program.specs.Arguments.{Argument, plain_of}
 use Rattle.fz_program.specs.Values.{Value, Values}
 use Rattle.fz_program.specs.Flat.{Program, FlatSolves, IsInDomain, plain_value, given}
-use Rattle.fz_build.specs.Build.{IsArgumentOver}
+use Rattle.fz_build.specs.Build.{IsArgumentOver, with_defined}
 use Rattle.fz_build.specs.Results.{result_given}
 
 -- the values go on to a solution
@@ -35,3 +35,7 @@ pub record Defines (old new : Program) (name : RowName) (inputs : List Argument)
   pub grows : Grows old new (HasResult name inputs domain)
   pub place : IsArgumentOver (length new.vars) out
   pub value : (f : Values) → FlatSolves new f → result_given name (map (given f) inputs) ≡ Some (value_of f out)
+
+-- the program with the variable and its row, or the old one, where such a row stood in it
+abbrev pub IsAdded : Program → Program → RowName → List Argument → Domain → Type 0
+IsAdded old new name inputs domain = (new ≡ old) ⊎ (new ≡ with_defined old name inputs domain)

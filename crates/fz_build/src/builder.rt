@@ -3,10 +3,10 @@
 ghost use Rattle.std.specs.Prelude.{◌≡◌, ◌∷◌, ◌++◌, [], IfOk, OnOk, OnErr, map, length, string_bytes, true, false};
 ghost use Rattle.fz_program.specs.Arguments.{argument, one, var as variable_at};
 ghost use Rattle.fz_program.specs.Flat.{IsOfSet, IsWellFormedRow, WellFormed, array_item, is_goal, program, row, variable};
-ghost use Rattle.fz_build.specs.Build.{MayAdd, MayDeclare, constraint, empty, with_array, with_defined, with_goal, with_row, with_variable};
+ghost use Rattle.fz_build.specs.Build.{MayAdd, MayDeclare, constraint, empty, with_array, with_goal, with_row, with_variable};
 ghost use Rattle.fz_build.specs.Naming.{introduced_name, next_number};
 ghost use Rattle.fz_build.specs.Results.{MayDefine};
-ghost use Rattle.fz_build.specs.Growth.{Defines};
+ghost use Rattle.fz_build.specs.Growth.{Defines, IsAdded};
 
 use crate::copy::copied_all;
 use crate::naming::{introduced_name, number_after};
@@ -119,11 +119,11 @@ impl Build {
     /// formed with the new variable.
     ///
     /// Each solution of the program before, under which the inputs have a result in the domain, goes
-    /// on to one solution, in which the variable is that result.
+    /// on to one solution, in which the variable is that result. The clauses would hold as well of an
+    /// older variable that such a row defines already, with the program unchanged.
     pub fn define(&mut self, name: RowName, inputs: &[Arg], domain: Domain) -> Result<Arg, Memory>
         requires { MayDefine self.old name (map argument inputs.now) domain }
-        ensures added { OnOk result (self.new ≡ with_defined self.old name (map argument inputs.now) domain) }
-        ensures place { IfOk result (λ out. argument out ≡ one (variable_at (length self.old.vars))) }
+        ensures added { OnOk result (IsAdded self.old self.new name (map argument inputs.now) domain) }
         ensures defines { IfOk result (λ out. Defines self.old self.new name (map argument inputs.now) domain (argument out)) }
         ensures err { OnErr result (self.new ≡ self.old) }
     {

@@ -1,4 +1,4 @@
-use Rattle.std.proofs.Common.{◌≡◌, ◌<◌, ◌^◌, length, map, subst, ap, sym, ◌∙◌, Some, arith}
+use Rattle.std.proofs.Common.{inr, ◌≡◌, ◌<◌, ◌^◌, length, map, subst, ap, sym, ◌∙◌, Some, arith}
 use Rattle.std.proofs.lemmas.List.{length-map}
 use Rattle.fz_program.specs.declared.program.Arg.{the_lemmas}
 use Rattle.fz_program.specs.declared.program.FzRow.{FzRow}
@@ -42,10 +42,7 @@ invariant_of-self-2 c =
     (stands.0, c.number_after-self-inside.ensures ∙ stands.1)
 
 pub returns-clause-added : goal.returns-clause-added
-returns-clause-added c = added c
-
-pub returns-clause-place : goal.returns-clause-place
-returns-clause-place c = simp the_lemmas (ap (λ k. one (var k)) (place c))
+returns-clause-added c = inr (added c)
 
 pub returns-clause-defines : goal.returns-clause-defines
 returns-clause-defines c =
