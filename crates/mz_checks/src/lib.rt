@@ -1,0 +1,8 @@
+// What typing a scoped model gives: the typed program, or the first fault of types. Definitions alone.
+#![tactic(auto)]
+
+mod callee;
+mod meaning;
+
+pub use callee::Callee;
+pub use meaning::Meaning;
