@@ -53,8 +53,9 @@ fn elements_of_set(alloc: Global, b: Base, k: &Known) -> Result<Known, AllocErro
     }
 }
 
+/// A cell after one step of coercion, to the type `t`.
 #[tactic(auto, unfolding(mz_core::specs::Types::plain_type))]
-fn coerced_to(alloc: Global, c: Coercion, t: &TypeInst, k: Known) -> Result<Known, AllocError>
+pub fn coerced_to(alloc: Global, c: Coercion, t: &TypeInst, k: Known) -> Result<Known, AllocError>
     ensures { IfOk result (λ x. cell_of x ≡ coercions.coerced Bare (c, plain_type t.now) (cell_of k)) }
 {
     match c {

@@ -13,7 +13,7 @@ mod types;
 pub use bounding::{
     all_bounds, bound_of, bounds_as, bounds_in, empty_bound, is_set_base, no_bounds, scalar_bound,
 };
-pub use coercing::{coerced, coercion_work, enum_in};
+pub use coercing::{coerced, coerced_to, coercion_work, enum_in};
 pub use making::{array, known_of, one, seen, set, text, undefined, var_cell};
 pub use reading::{
     all_par, index_of, is_par, is_there, is_true, length_of, ranges_of, set_in, test_of, there,
