@@ -16,9 +16,11 @@ pub mod Headings
 pub mod Duplicates
 pub mod Items
 pub mod Texts
+pub mod Checks
 pub mod ExampleTrees
 pub mod NameExamples
 pub mod OperatorExamples
 pub mod ArrayExamples
 pub mod ComprehensionExamples
 pub mod LetExamples
+pub mod ModelExamples
