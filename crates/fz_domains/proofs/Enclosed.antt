@@ -1,10 +1,10 @@
 -- A row's result lies in the domain that its inputs' domains give.
-use Rattle.std.proofs.Common.{◌≡◌, ℕ, zero, suc, ◌<◌, ◌≤◌, ◌+◌, ◌-◌, ℤ, pos, negsuc, neg_ℤ, ◌≤ℤ◌, ◌+ℤ◌, ◌-ℤ◌, ◌*ℤ◌, List, [], ◌∷◌, length, map, slice_get, slice_index_or, Bool, true, false, cond, Option, Some, None, option_map, int_le, int_lt, int_eq, is_some, unsigned_abs, refl, sym, ap, ap₂, subst, ◌∙◌, arith, inl, inr}
-use Rattle.std.specs.Prelude.{◌⊎◌, ◌&&◌, unwrap_or}
-use Rattle.std.specs.List.{AllByRecursion, list_all}
-use Rattle.std.proofs.lemmas.Bool.{and_parts, and_from}
+use Rattle.std.proofs.Common.{◌≡◌, ℕ, zero, suc, ◌≤◌, ◌+◌, ◌-◌, ℤ, pos, negsuc, neg_ℤ, ◌≤ℤ◌, ◌+ℤ◌, ◌*ℤ◌, List, [], ◌∷◌, map, slice_get, Bool, true, false, cond, Option, Some, None, int_le, refl, sym, subst, arith, inl}
+use Rattle.std.specs.Prelude.{◌&&◌, unwrap_or}
+use Rattle.std.specs.List.{AllByRecursion}
+use Rattle.std.proofs.lemmas.Bool.{and_from}
 use Rattle.std.proofs.lemmas.Int.{ints}
-use Rattle.mz_value.specs.Ranges.{Range, AreCanonical, Has, range_of, cardinality}
+use Rattle.mz_value.specs.Ranges.{Range, Has, range_of, cardinality}
 use Rattle.mz_value.proofs.Comparisons.{int_le_true}
 use Rattle.mz_interval.specs.Ends.{Ends, Encloses, hull_of, if_in_limit, if_interval, is_number}
 use Rattle.mz_interval.specs.Rows.{sum_of, negation_of, product_of}
@@ -17,7 +17,7 @@ use Rattle.mz_operations.specs.declared.row.SetOp.TheVariants.{Union, Intersect,
 use Rattle.mz_operations.specs.Views.{number_of_bool}
 use Rattle.mz_operations.specs.Numbers.{computed, signed}
 use Rattle.mz_operations.specs.Sets.{union, difference, combined, is_within}
-use Rattle.mz_operations.specs.Bounds.{truth, nothing, arith_ends, sign_ends, card_ends, combined_upper}
+use Rattle.mz_operations.specs.Bounds.{nothing, arith_ends, sign_ends, card_ends, combined_upper}
 use Rattle.mz_operations.specs.Laws.{IsSet, IsPart}
 use Rattle.mz_operations.proofs.Arithmetic.{sum_in, arith_encloses, sign_encloses}
 use Rattle.mz_operations.proofs.CardBounds.{card_encloses}
@@ -25,13 +25,13 @@ use Rattle.mz_operations.proofs.SetBounds.{union_left, union_right, part_part, p
 use Rattle.mz_operations.proofs.SetMembers.{union_set, intersection_set, difference_set}
 use Rattle.fz_program.specs.declared.program.Domain.{Domain}
 use Rattle.fz_program.specs.declared.program.Domain.TheVariants.{Bool as Truths, Ints as Integers, SetOf}
-use Rattle.fz_program.specs.Arguments.{Plain, Argument}
+use Rattle.fz_program.specs.Arguments.{Plain}
 use Rattle.fz_program.specs.Values as values
 use Rattle.fz_program.specs.Values.{Value, Values, number, set, number_in, set_in, element_at, is_one, linear}
-use Rattle.fz_program.specs.Flat.{Variable, IsWellFormedVariable, plain_value, given, IsInDomain, AreInDomains}
+use Rattle.fz_program.specs.Flat.{Variable, IsWellFormedVariable, plain_value, IsInDomain, AreInDomains}
 use Rattle.fz_domains.specs.Bounds.{ends_of, upper_of, joined, hull_reached, element_ends, plus, times, sum_ends, arith_by, magnitude_by, negative, union_reached, whole}
 use Rattle.fz_domains.proofs.InputValues.{each_there}
-use Rattle.fz_domains.proofs.InputValues.{ends_enclose, LiesInSet, upper_holds, IsCanonical, IsFlag, plain_flag}
+use Rattle.fz_domains.proofs.InputValues.{ends_enclose, LiesInSet, upper_holds, IsCanonical, IsFlag}
 
 -- ---- domains of integers
 

@@ -1,5 +1,5 @@
 -- The domain of a result holds it.
-use Rattle.std.proofs.Common.{◌≡◌, ℕ, ◌+◌, ◌-◌, ℤ, pos, neg_ℤ, ◌+ℤ◌, ◌-ℤ◌, List, [], ◌∷◌, map, take, length, Bool, true, false, Option, Some, None, option_map, refl, sym, ap, subst, ◌∙◌, arith}
+use Rattle.std.proofs.Common.{◌≡◌, ◌+◌, ◌-◌, ℤ, pos, neg_ℤ, ◌+ℤ◌, ◌-ℤ◌, List, [], ◌∷◌, map, Bool, true, Option, Some, None, option_map, refl, sym, ap, subst, ◌∙◌, arith}
 use Rattle.std.specs.Prelude.{◌&&◌, Result, Ok, Err, IfOk}
 use Rattle.std.specs.List.{AllByRecursion, list_all}
 use Rattle.std.proofs.lemmas.Bool.{and_parts}
@@ -11,20 +11,20 @@ use Rattle.mz_operations.specs.Numbers.{computed, signed}
 use Rattle.mz_operations.specs.Sets.{combined}
 use Rattle.mz_operations.specs.Bounds.{nothing}
 use Rattle.fz_program.specs.declared.program.Domain.{Domain}
-use Rattle.fz_program.specs.declared.program.Domain.TheVariants.{Bool as Truths, Ints as Integers, SetOf}
+use Rattle.fz_program.specs.declared.program.Domain.TheVariants.{Bool as Truths, SetOf}
 use Rattle.fz_program.specs.declared.row_name.RowName.{RowName}
 use Rattle.fz_program.specs.declared.row_name.RowName.TheVariants.{BoolToInt, ArrayBoolElement, ArrayVarBoolElement}
 use Rattle.fz_program.specs.declared.row_name.Kind.{Kind}
 use Rattle.fz_program.specs.declared.row_name.Kind.TheVariants.{Int, Bool as Truth, ConstBools, Bools}
 use Rattle.fz_program.specs.Arguments.{Plain, bool, int, set as a_set, var, nested, Argument, one, array}
-use Rattle.fz_program.specs.Values.{Value, Values, Given, number, set, number_in, set_in, number_at, numbers_at, set_at, sets_at, element_at, linear}
-use Rattle.fz_program.specs.Table.{line, truth, is_true, sum_at, arithmetic, magnitude, number_element, set_element, set_result, size}
+use Rattle.fz_program.specs.Values.{Value, Values, number, set, number_in, set_in, number_at, numbers_at, set_at, sets_at, element_at, linear}
+use Rattle.fz_program.specs.Table.{line, sum_at}
 use Rattle.fz_program.specs.Flat.{Variable, IsWellFormedVariable, plain_value, given, is_plain, is_constant, is_argument, are_arguments, IsInDomain, AreInDomains}
 use Rattle.fz_domains.specs.declared.form.Form.{Form}
 use Rattle.fz_domains.specs.declared.form.Form.TheVariants.{Test, Truth as TruthForm, TruthElement, Arithmetic, Magnitude, Flag, Element, Size, Sum, Combined, SetElement}
-use Rattle.fz_domains.specs.Inputs.{is_sum, argument_at, elements_at}
+use Rattle.fz_domains.specs.Inputs.{is_sum, elements_at}
 use Rattle.fz_domains.specs.Results.{result_given}
-use Rattle.fz_domains.specs.Bounds.{form_of, domain_by, result_domain, input_kinds, AreInputs, HoldsResults, plain_at, number_ends, upper_at, whole, arith_by, magnitude_by, element_ends, excess_ends, plus, negative, sum_ends}
+use Rattle.fz_domains.specs.Bounds.{form_of, domain_by, result_domain, input_kinds, AreInputs, HoldsResults, plain_at, number_ends, upper_at, arith_by, magnitude_by, element_ends, excess_ends, negative, sum_ends}
 use Rattle.fz_domains.proofs.InputValues.{value_is, values_are}
 use Rattle.fz_domains.proofs.InputValues.{number_encloses, set_holds, elements_canonical, IsFlag, plain_flag}
 use Rattle.fz_domains.proofs.Forms.{IsValueOf, value_by_form}

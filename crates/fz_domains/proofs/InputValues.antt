@@ -1,12 +1,11 @@
 -- The values of inputs lie in the inputs' bounds.
-use Rattle.std.proofs.Common.{◌≡◌, ℕ, zero, suc, ◌<◌, ◌≤◌, ℤ, pos, ◌≤ℤ◌, List, [], ◌∷◌, length, map, slice_get, slice_index_or, Bool, true, false, Option, Some, None, refl, sym, ap, subst, ◌∙◌, arith, inl, inr}
-use Rattle.std.specs.Prelude.{◌⊎◌, ◌&&◌}
+use Rattle.std.proofs.Common.{◌≡◌, ℕ, zero, suc, ◌≤◌, ℤ, pos, ◌≤ℤ◌, List, [], ◌∷◌, map, slice_get, slice_index_or, Bool, true, false, Some, refl, sym, ap, subst, ◌∙◌, arith, inl, inr}
 use Rattle.std.specs.List.{AllByRecursion, list_all}
 use Rattle.std.proofs.lemmas.Bool.{and_parts}
 use Rattle.std.proofs.lemmas.Int.{ints}
-use Rattle.mz_value.specs.Ranges.{Range, AreCanonical, AreInLimit, IsIn, Has, IsInLimit, least, greatest}
-use Rattle.mz_interval.specs.Ends.{Ends, Encloses}
-use Rattle.mz_operations.specs.Bounds.{truth, nothing, hull_of_set}
+use Rattle.mz_value.specs.Ranges.{Range, AreCanonical, AreInLimit, Has, IsInLimit}
+use Rattle.mz_interval.specs.Ends.{Encloses}
+use Rattle.mz_operations.specs.Bounds.{nothing, hull_of_set}
 use Rattle.mz_operations.specs.Laws.{IsPart}
 use Rattle.mz_operations.proofs.SetBounds.{hull_of_set-has, part_same}
 use Rattle.fz_program.specs.declared.program.Domain.{Domain}
@@ -15,8 +14,8 @@ use Rattle.fz_program.specs.declared.row_name.Kind.{Kind}
 use Rattle.fz_program.specs.declared.row_name.Kind.TheVariants.{Int, Bool as Truth, Set, ConstInt, Ints, Bools, Sets, ConstInts, ConstBools, ConstSets}
 use Rattle.fz_program.specs.Arguments.{Plain, bool, int, set, var, nested, Argument, one, array, plain_of}
 use Rattle.fz_program.specs.Values as values
-use Rattle.fz_program.specs.Values.{Value, Values, Given, number_in, set_in, value_in, values_in, value_at, values_at}
-use Rattle.fz_program.specs.Flat.{Variable, IsSet, IsOfSet, IsWellFormedVariable, is_set, is_constant, is_plain, is_one_of, are_all_of, is_argument, are_arguments, number_of_truth, plain_value, given, IsInDomain, AreInDomains, same_kind, kind_of_domain, is_kind, is_variable_of}
+use Rattle.fz_program.specs.Values.{Value, Values, number_in, set_in, value_in, values_in, value_at, values_at}
+use Rattle.fz_program.specs.Flat.{Variable, IsSet, IsOfSet, IsWellFormedVariable, is_set, is_constant, is_plain, is_one_of, are_all_of, is_argument, are_arguments, number_of_truth, plain_value, given, IsInDomain, AreInDomains, same_kind, kind_of_domain, is_variable_of}
 use Rattle.fz_program.proofs.Sets as canonical
 use Rattle.fz_domains.specs.Inputs.{argument_at, elements_in, elements_at}
 use Rattle.fz_domains.specs.Bounds.{domain_ends, variable_ends, ends_of, domain_upper, variable_upper, upper_of, plain_at, number_ends, upper_at}

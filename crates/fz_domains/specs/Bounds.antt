@@ -1,5 +1,5 @@
 -- The domain of a row's result, from the domains of its inputs.
-use Rattle.std.specs.Prelude.{◌≡◌, ℕ, ◌+◌, ◌-◌, ℤ, pos, neg_ℤ, ◌+ℤ◌, List, [], ◌∷◌, length, map, take, Bool, true, false, ◌&&◌, int_le, Option, Some, None, unwrap_or, option_map, slice_get, slice_index_or, if◌then◌else◌}
+use Rattle.std.specs.Prelude.{◌≡◌, ℕ, ◌+◌, ◌-◌, ℤ, pos, ◌+ℤ◌, List, [], ◌∷◌, length, map, take, Bool, true, false, Option, Some, None, unwrap_or, option_map, slice_get, if◌then◌else◌}
 use Rattle.mz_value.specs.Ranges.{Range, range_of}
 use Rattle.mz_interval.specs.Ends.{Ends, hull_of, if_in_limit, if_interval}
 use Rattle.mz_interval.specs.Rows.{sum_of, negation_of, product_of}
@@ -14,10 +14,10 @@ use Rattle.fz_program.specs.declared.program.Domain.TheVariants.{Bool as Truths,
 use Rattle.fz_program.specs.declared.row_name.RowName.{RowName}
 use Rattle.fz_program.specs.declared.row_name.RowName.TheVariants.{IntEq, IntNe, IntLe, IntLt, IntEqReif, IntNeReif, IntLeReif, IntLtReif, IntLinEq, IntLinNe, IntLinLe, IntLinEqReif, IntLinNeReif, IntLinLeReif, IntTimes, IntDiv, IntMod, IntMin, IntMax, IntAbs, ArrayIntElement, ArrayVarIntElement, ArrayBoolElement, ArrayVarBoolElement, ArraySetElement, ArrayVarSetElement, BoolEq, BoolNot, BoolToInt, BoolXor, BoolEqReif, BoolLeReif, ArrayBoolAnd, ArrayBoolOr, BoolClause, SetIn, SetInReif, SetEq, SetNe, SetSubset, SetEqReif, SetNeReif, SetSubsetReif, SetUnion, SetIntersect, SetDiff, SetSymdiff, SetCard}
 use Rattle.fz_program.specs.declared.row_name.Kind.{Kind}
-use Rattle.fz_program.specs.Arguments.{Plain, bool, int, set, var, nested, Argument, one, array, plain_of}
+use Rattle.fz_program.specs.Arguments.{Plain, bool, int, set, var, nested, Argument, plain_of}
 use Rattle.fz_program.specs.Table.{line}
 use Rattle.fz_program.specs.Values.{Value, Values}
-use Rattle.fz_program.specs.Flat.{Variable, number_of_truth, given, are_arguments, AreInDomains, IsInDomain, IsSome}
+use Rattle.fz_program.specs.Flat.{Variable, number_of_truth, given, are_arguments, AreInDomains, IsInDomain}
 use Rattle.fz_domains.specs.declared.form.Form.{Form}
 use Rattle.fz_domains.specs.declared.form.Form.TheVariants.{Test, Truth, TruthElement, Arithmetic, Magnitude, Flag, Element, Size, Sum, Combined, SetElement}
 use Rattle.fz_domains.specs.Inputs.{argument_at, elements_at, is_sum}

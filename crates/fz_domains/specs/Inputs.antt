@@ -1,5 +1,5 @@
 -- The inputs of rows that give a result.
-use Rattle.std.specs.Prelude.{ℕ, List, [], ◌∷◌, slice_get, Bool, true, false, Option, Some, None}
+use Rattle.std.specs.Prelude.{ℕ, List, [], slice_get, Bool, true, false, Option, Some, None}
 use Rattle.fz_program.specs.declared.row_name.RowName.{RowName}
 use Rattle.fz_program.specs.declared.row_name.RowName.TheVariants.{IntLinEq}
 use Rattle.fz_program.specs.Arguments.{Plain, Argument, one, array}
