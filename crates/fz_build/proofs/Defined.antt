@@ -11,11 +11,14 @@ use Rattle.fz_program.specs.Values as values
 use Rattle.fz_program.specs.Values.{Value, Values, Given, number_in, number_at, linear}
 use Rattle.fz_program.specs.Table.{Line, line, Holds, result_of, sum_equals, sum_at}
 use Rattle.fz_program.specs.Flat.{Variable, Program, plain_value, given, RowHolds, IsInDomain, FlatSolves, WellFormed, is_variable_of, same_kind, kind_of_domain, are_arguments, is_within, IsWellFormedRow}
-use Rattle.fz_build.specs.Build.{argument_at, elements_at, is_sum, sum_with, args_by, args_with, defining, defined_variable, with_defined}
-use Rattle.fz_build.specs.Results.{is_giving, has_result, result_by, result_given, MayDefine}
+use Rattle.fz_domains.specs.Inputs.{argument_at, elements_at, is_sum}
+use Rattle.fz_domains.specs.Results.{is_giving, has_result, result_by, result_given}
+use Rattle.fz_domains.proofs.InputValues.{value_is, values_are}
+use Rattle.fz_build.specs.Build.{sum_with, args_by, args_with, defining, defined_variable, with_defined}
+use Rattle.fz_build.specs.Results.{MayDefine}
 use Rattle.fz_build.specs.Growth.{GoesOn, HasResult, Defines}
 use Rattle.fz_build.proofs.Lists.{at_last, each_push, each_before, each_last}
-use Rattle.fz_build.proofs.Values.{value_is, values_are, all_given_over, rows_before, rows_after, domains_length, domains_push, split, gives_last, last_given}
+use Rattle.fz_build.proofs.Values.{all_given_over, rows_before, rows_after, domains_length, domains_push, split, gives_last, last_given}
 use Rattle.fz_build.proofs.Sums.{IsSum, sum_of_inputs, sum_line, number_of, sum_holds, holds_sum}
 
 -- a row that is no sum, over the values of all variables

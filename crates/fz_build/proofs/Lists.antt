@@ -1,5 +1,5 @@
 -- Lists with one element more.
-use Rattle.std.proofs.Common.{◌≡◌, ℕ, zero, suc, ◌<◌, List, [], ◌∷◌, ◌++◌, length, map, slice_get, slice_index_or, Bool, true, Some, refl, ap, subst, ◌∙◌, arith}
+use Rattle.std.proofs.Common.{◌≡◌, ℕ, zero, suc, ◌<◌, List, [], ◌∷◌, ◌++◌, length, map, slice_get, slice_index_or, Bool, true, refl, ap, ◌∙◌, arith}
 use Rattle.std.specs.List.{AllByRecursion, list_all}
 use Rattle.std.proofs.lemmas.Bool.{and_parts, and_from}
 
@@ -49,8 +49,3 @@ all_append p (x ∷ xs) ys h k = let b = and_parts (p x) (list_all p xs) h in an
 pub map_same : {X Y : Type 0} (f g : X → Y) (P : X → Type 0) (xs : List X) → ((x : X) → P x → f x ≡ g x) → AllByRecursion P xs → map f xs ≡ map g xs
 map_same f g P [] e a = refl
 map_same f g P (x ∷ xs) e a = ap (λ y. y ∷ map f xs) (e x a.0) ∙ ap (λ ys. g x ∷ ys) (map_same f g P xs e a.1)
-
-pub each_there : {X : Type 0} (P : X → Type 0) (xs : List X) (k : ℕ) (x : X) → slice_get xs k ≡ Some x → AllByRecursion P xs → P x
-each_there P [] k x h a = absurd (cc)
-each_there P (y ∷ xs) zero x h a = let same : y ≡ x = cc in subst P same a.0
-each_there P (y ∷ xs) (suc k) x h a = each_there P xs k x h a.1

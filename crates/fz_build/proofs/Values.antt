@@ -1,15 +1,15 @@
 -- Values for more variables, and what rows over the first of them ask of these.
-use Rattle.std.proofs.Common.{◌≡◌, ℕ, zero, suc, ◌-◌, List, [], ◌∷◌, ◌++◌, length, map, take, slice_index_or, true, refl, sym, ap, subst, ◌∙◌, arith, Some}
+use Rattle.std.proofs.Common.{◌≡◌, ℕ, ◌-◌, List, [], ◌∷◌, ◌++◌, length, map, take, true, refl, sym, ap, subst, ◌∙◌, arith, Some}
 use Rattle.std.specs.Prelude.{pos}
 use Rattle.std.specs.List.{AllByRecursion}
 use Rattle.std.proofs.lemmas.List.{take_at, length_push}
-use Rattle.fz_program.specs.Arguments.{Plain, bool, int, set, var, nested, Argument, one, array, plain_of}
+use Rattle.fz_program.specs.Arguments.{Plain, bool, int, set, var, nested, Argument, one, array}
 use Rattle.fz_program.specs.Values as values
-use Rattle.fz_program.specs.Values.{Value, Values, Given, value_in, values_in, value_at, values_at}
+use Rattle.fz_program.specs.Values.{Value, Values, Given, value_in, value_at}
 use Rattle.fz_program.specs.Table.{Meaning, tests, gives, line, Holds, result_of}
 use Rattle.fz_program.specs.Flat.{Variable, Row, plain_value, given, RowHolds, IsInDomain, AreInDomains, IsWellFormedRow}
-use Rattle.fz_build.specs.Build.{IsOver, IsArgumentOver, AreOver, argument_at, elements_in, elements_at}
-use Rattle.fz_build.specs.Results.{is_giving}
+use Rattle.fz_domains.specs.Results.{is_giving}
+use Rattle.fz_build.specs.Build.{IsOver, IsArgumentOver, AreOver}
 use Rattle.fz_build.proofs.Lists.{at_wider, at_last, map_same}
 use Rattle.fz_build.proofs.Wider.{row_over}
 
@@ -85,24 +85,3 @@ gives_last (gives result) xs x g h = ap result (sym (others xs x)) ∙ h ∙ ap 
 pub last_given : (m : Meaning) (xs : List Given) (x : Value) → is_giving m ≡ true → result_of m xs ≡ Some x → Holds m (xs ++ values.one x ∷ [])
 last_given (tests test) xs x g h = absurd (cc)
 last_given (gives result) xs x g h = ap result (others xs x) ∙ h ∙ ap (λ v. Some v) (sym (last_value xs x))
-
--- ---- the values of inputs at a place
-
-given_at : (f : Values) (xs : List Argument) (k : ℕ) → slice_index_or (map (given f) xs) k (values.many []) ≡ given f (argument_at xs k)
-given_at f [] k = refl
-given_at f (x ∷ xs) zero = refl
-given_at f (x ∷ xs) (suc k) = given_at f xs k
-
-value_of_argument : (f : Values) (a : Argument) → value_in (given f a) ≡ plain_value f (plain_of a)
-value_of_argument f (one p) = refl
-value_of_argument f (array ps) = refl
-
-values_of_argument : (f : Values) (a : Argument) → values_in (given f a) ≡ map (plain_value f) (elements_in a)
-values_of_argument f (one p) = refl
-values_of_argument f (array ps) = refl
-
-pub value_is : (f : Values) (xs : List Argument) (k : ℕ) → value_at (map (given f) xs) k ≡ plain_value f (plain_of (argument_at xs k))
-value_is f xs k = ap value_in (given_at f xs k) ∙ value_of_argument f (argument_at xs k)
-
-pub values_are : (f : Values) (xs : List Argument) (k : ℕ) → values_at (map (given f) xs) k ≡ map (plain_value f) (elements_at xs k)
-values_are f xs k = ap values_in (given_at f xs k) ∙ values_of_argument f (argument_at xs k)

@@ -1,5 +1,5 @@
 -- A program that is being built, and what each call adds to it.
-use Rattle.std.specs.Prelude.{ℕ, ◌<◌, negsuc, List, [], ◌∷◌, ◌++◌, length, map, slice_get, Bool, true, false, Option, Some, None}
+use Rattle.std.specs.Prelude.{ℕ, ◌<◌, negsuc, List, [], ◌∷◌, ◌++◌, length, map, Bool, true, false, Some, None}
 use Rattle.std.specs.List.{AllByRecursion, Contains}
 use Rattle.fz_program.specs.declared.program.FzGoal.{FzGoal}
 use Rattle.fz_program.specs.declared.program.FzGoal.TheVariants.{Satisfy}
@@ -8,9 +8,9 @@ use Rattle.fz_program.specs.declared.program.FzVar.{FzVar}
 use Rattle.fz_program.specs.declared.program.FzArray.{FzArray}
 use Rattle.fz_program.specs.declared.program.FzRow.{FzRow}
 use Rattle.fz_program.specs.declared.row_name.RowName.{RowName}
-use Rattle.fz_program.specs.declared.row_name.RowName.TheVariants.{IntLinEq}
 use Rattle.fz_program.specs.Arguments.{Plain, bool, int, set, var, nested, Argument, one, array}
 use Rattle.fz_program.specs.Flat.{Variable, ArrayItem, Row, Program, labels, IsWellFormedVariable, IsWellFormedArray, WellFormed, variable, array_item, row}
+use Rattle.fz_domains.specs.Inputs.{is_sum, argument_at, elements_at}
 use Rattle.fz_build.specs.Naming.{introduced_name, IsNamed, AreNamed, next_number}
 
 -- ---- programs with one item more
@@ -57,26 +57,6 @@ constraint name args = record { name = name; args = args; defines = None }
 -- the variable that `define` adds
 abbrev pub defined_variable : Program → Domain → Variable
 defined_variable p domain = record { label = introduced_name (next_number p.vars); domain = domain; introduced = true; defined = true; output = false }
-
--- the row in which the result is a term of the sum, and not the last argument
-unfoldable pub is_sum : RowName → Bool
-is_sum IntLinEq = true
-is_sum _ = false
-
--- the inputs at a place, from 0
-abbrev pub argument_in : Option Argument → Argument
-argument_in None = array []
-argument_in (Some a) = a
-
-abbrev pub argument_at : List Argument → ℕ → Argument
-argument_at xs k = argument_in (slice_get xs k)
-
-abbrev pub elements_in : Argument → List Plain
-elements_in (one p) = []
-elements_in (array ps) = ps
-
-abbrev pub elements_at : List Argument → ℕ → List Plain
-elements_at xs k = elements_in (argument_at xs k)
 
 -- the coefficients, the integers and the constant, with -1 times the variable k
 abbrev pub sum_with : List Argument → ℕ → List Argument

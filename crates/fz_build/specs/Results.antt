@@ -1,28 +1,11 @@
--- What a row's inputs give.
-use Rattle.std.specs.Prelude.{◌≡◌, ◌-ℤ◌, List, length, Bool, true, false, ◌||◌, Option, Some, ◌++◌, ◌∷◌, []}
+-- What `define` asks of a row and its inputs.
+use Rattle.std.specs.Prelude.{◌≡◌, List, length, true, ◌++◌, ◌∷◌, []}
 use Rattle.fz_program.specs.declared.program.Domain.{Domain}
 use Rattle.fz_program.specs.declared.row_name.RowName.{RowName}
 use Rattle.fz_program.specs.Arguments.{Argument}
-use Rattle.fz_program.specs.Values.{Value, number, Given, number_at}
-use Rattle.fz_program.specs.Table.{Meaning, tests, gives, line, result_of, sum_at}
 use Rattle.fz_program.specs.Flat.{Program, IsSome, IsWellFormedRow}
-use Rattle.fz_build.specs.Build.{is_sum, AreOver, defined_variable, defining}
-
-abbrev pub is_giving : Meaning → Bool
-is_giving (tests test) = false
-is_giving (gives result) = true
-
--- a row with a result
-abbrev pub has_result : RowName → Bool
-has_result name = is_sum name || is_giving (line name).meaning
-
--- of a sum, what it passes its constant by
-abbrev pub result_by : Bool → Meaning → List Given → Option Value
-result_by true m xs = Some (number (sum_at xs -ℤ number_at xs 2))
-result_by false m xs = result_of m xs
-
-abbrev pub result_given : RowName → List Given → Option Value
-result_given name xs = result_by (is_sum name) (line name).meaning xs
+use Rattle.fz_domains.specs.Results.{has_result}
+use Rattle.fz_build.specs.Build.{AreOver, defined_variable, defining}
 
 -- a row with a result, inputs over the variables so far, a domain with a value, and a row that is well formed with the new variable
 pub record MayDefine (p : Program) (name : RowName) (inputs : List Argument) (domain : Domain) : Type 0 where

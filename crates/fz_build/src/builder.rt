@@ -1,8 +1,9 @@
 // The builder: a program, to which items are added.
 
-ghost use Rattle.std.specs.Prelude.{◌≡◌, ◌∷◌, ◌++◌, [], IfOk, OnOk, OnErr, map, length, string_bytes, true, false};
+ghost use Rattle.std.specs.Prelude.{◌≡◌, ◌∷◌, ◌++◌, [], IfOk, OnOk, OnErr, map, length, string_bytes, true, false, Some, IsSome as IsThere};
 ghost use Rattle.fz_program.specs.Arguments.{argument, one, var as variable_at};
-ghost use Rattle.fz_program.specs.Flat.{IsOfSet, IsWellFormedRow, WellFormed, array_item, is_goal, program, row, variable};
+ghost use Rattle.fz_program.specs.Flat.{IsOfSet, IsSome, IsWellFormedRow, WellFormed, array_item, is_goal, program, row, variable};
+ghost use Rattle.fz_domains.specs.Bounds.{AreInputs, HoldsResults, result_domain};
 ghost use Rattle.fz_build.specs.Build.{MayAdd, MayDeclare, constraint, empty, with_array, with_goal, with_row, with_variable};
 ghost use Rattle.fz_build.specs.Naming.{introduced_name, next_number};
 ghost use Rattle.fz_build.specs.Results.{MayDefine};
@@ -11,6 +12,7 @@ ghost use Rattle.fz_build.specs.Growth.{Defines, IsAdded};
 use crate::copy::copied_all;
 use crate::naming::{introduced_name, number_after};
 use crate::result_row::args_with;
+use fz_domains::result_domain;
 use fz_program::{Arg, Domain, FzArray, FzGoal, FzName, FzProgram, FzRow, FzVar, RowName};
 use mz_base::Memory;
 use std::alloc::Global;
@@ -144,6 +146,23 @@ impl Build {
         )?;
         self.next = number_after(true, self.next);
         Ok(Arg::Var(k))
+    }
+
+    /// The domain of the result that a row has of these inputs. It isn't empty, and holds the result
+    /// of all values in the inputs' domains: of an integer it has all from the least to the greatest
+    /// that their bounds allow, and of a set it is the greatest set. It depends on the name, the
+    /// inputs and their domains alone.
+    ///
+    /// The row has a result, the inputs are of its kinds, and the bounds of an integer lie in -2^61 to
+    /// 2^61.
+    pub fn result(&self, name: RowName, inputs: &[Arg]) -> Result<Domain, Memory>
+        requires inputs { AreInputs self.now.vars name (map argument inputs.now) }
+        requires limit { IsThere (result_domain self.now.vars name (map argument inputs.now)) }
+        ensures is { IfOk result (λ d. result_domain self.now.vars name (map argument inputs.now) ≡ Some d) }
+        ensures some { IfOk result IsSome }
+        ensures holds { IfOk result (λ d. HoldsResults self.now.vars name (map argument inputs.now) d) }
+    {
+        result_domain(self.alloc, name, &self.vars, inputs)
     }
 
     /// The program with this solve item. It takes no memory.

@@ -3,18 +3,10 @@
 ghost use Rattle.std.specs.Prelude.{◌≡◌, IfOk, map};
 ghost use Rattle.fz_program.specs.Arguments.{argument, plain};
 
+use fz_domains::copied_set;
 use fz_program::Arg;
 use mz_base::Memory;
-use mz_value::RangeSet;
 use std::alloc::Global;
-
-// The union with itself, which takes time in the number of its ranges.
-pub(crate) fn copied_set(alloc: Global, s: &RangeSet) -> Result<RangeSet, Memory>
-    ensures { IfOk result (λ t. t ≡ s.now) }
-{
-    let _ranges = s.ranges();
-    Ok(s.union(alloc, s)?)
-}
 
 // An argument that is no array, or an element of one. No row takes an array in an array: in the
 // place of such an element stands an empty one.

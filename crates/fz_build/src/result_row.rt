@@ -2,15 +2,17 @@
 
 ghost use Rattle.std.specs.Prelude.{◌≡◌, ◌∷◌, ◌++◌, [], IfOk, map};
 ghost use Rattle.fz_program.specs.Arguments.{argument, array, one, plain, plains, var};
-ghost use Rattle.fz_build.specs.Build.{argument_at, args_with, elements_at, elements_in, is_sum, sum_with};
+ghost use Rattle.fz_domains.specs.Inputs.{argument_at, is_sum};
+ghost use Rattle.fz_build.specs.Build.{args_with, sum_with};
 
 use crate::copy::{copied, copied_all, copied_elements};
+use fz_domains::elements_at;
 use fz_program::{Arg, RowName};
 use mz_base::Memory;
 use std::alloc::Global;
 
 // Whether the result of a row is a term of its sum.
-#[tactic(auto, unfolding(crate::specs::Build::is_sum))]
+#[tactic(auto, unfolding(fz_domains::specs::Inputs::is_sum))]
 pub(crate) fn is_sum(name: RowName) -> bool
     ensures { result ≡ is_sum name }
 {
@@ -33,26 +35,6 @@ fn with_last(alloc: Global, inputs: &[Arg], k: u64) -> Result<Vec<Arg>, Memory>
     let mut all = copied_all(alloc, inputs)?;
     all.push(Arg::Var(k))?;
     Ok(all)
-}
-
-// The elements of an array; none of anything else.
-fn elements_of(a: &Arg) -> &[Arg]
-    ensures { plains result.now ≡ elements_in (argument a.now) }
-{
-    match a {
-        Arg::Array(items) => items.as_slice(),
-        _ => &[],
-    }
-}
-
-// The elements of the input at a place.
-fn elements_at(inputs: &[Arg], k: usize) -> &[Arg]
-    ensures { plains result.now ≡ elements_at (map argument inputs.now) k }
-{
-    match inputs.get(k) {
-        Some(a) => elements_of(a),
-        None => &[],
-    }
 }
 
 fn empty_array(alloc: Global) -> Arg

@@ -1,6 +1,6 @@
 use Rattle.std.proofs.Common.{inl, ⊎_elim}
 use Rattle.mz_value.proofs.Determined.{determined}
-use Rattle.fz_build.proofs.copy.copied_set.Goals as goal
+use Rattle.fz_domains.proofs.sets.copied_set.Goals as goal
 
 pub returns : goal.returns
 returns c =

@@ -1,0 +1,5 @@
+pub mod InputValues
+pub mod Forms
+pub mod Enclosed
+pub mod Held
+pub mod Made
