@@ -1,5 +1,5 @@
 -- Array and set literals, and accesses: what holds of them when all their parts are typed.
-use Rattle.std.specs.Prelude.{ℕ, Bool, true, false, not, ◌&&◌, ◌||◌, List, [], ◌∷◌, ◌++◌, map, length, nat_eq, Option, Some, None, if◌then◌else◌, Ok}
+use Rattle.std.specs.Prelude.{Bool, not, List, map, length, nat_eq, if◌then◌else◌, Ok}
 use Rattle.std.specs.List.{list_any, flat_map, zip}
 use Rattle.mz_base.specs.declared.fault.Span.{Span}
 use Rattle.mz_base.specs.declared.kind.Kind.TheVariants as kind

@@ -1,5 +1,5 @@
 -- Calls and operators: which function or row they call, and what is refused or left out.
-use Rattle.std.specs.Prelude.{ℕ, Bool, true, false, not, ◌&&◌, ◌||◌, List, [], ◌∷◌, ◌++◌, map, filter, slice_get, Option, Some, None, is_none, if◌then◌else◌, codes, Ok}
+use Rattle.std.specs.Prelude.{ℕ, Bool, true, false, not, ◌&&◌, ◌||◌, List, [], ◌∷◌, ◌++◌, map, filter, slice_get, is_none, codes, Ok}
 use Rattle.std.specs.List.{list_any}
 use Rattle.std.specs.Str.{bytes_eq}
 use Rattle.mz_base.specs.declared.fault.Span.{Span}
@@ -18,7 +18,7 @@ use Rattle.mz_occurrence.specs.Sets.{holds}
 use Rattle.mz_checks.specs.declared.callee.Callee.{Callee}
 use Rattle.mz_checks.specs.declared.callee.Callee.TheVariants as callee
 use Rattle.mz_checks.specs.Tests.{Test, ◌>>=◌, refuse, found, each}
-use Rattle.mz_checks.specs.Models.{Model, Heading, signature_of, entries_of, heading_of}
+use Rattle.mz_checks.specs.Models.{Model, signature_of, entries_of, heading_of}
 use Rattle.mz_checks.specs.Coerced.{all_coerced, is_scalar, is_set_type}
 
 pub record Candidate : Type 0 where

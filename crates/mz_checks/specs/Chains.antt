@@ -1,9 +1,8 @@
 -- Operators. A chain of operators is one node for each: its left operand is the node of the operators before it; of `++` its right
 -- operand is the node of the operators after it.
-use Rattle.std.specs.Prelude.{ℕ, Bool, true, false, List, [], ◌∷◌, ◌++◌, codes, slice_index_or, if◌then◌else◌, Ok}
+use Rattle.std.specs.Prelude.{ℕ, Bool, true, false, List, [], ◌∷◌, ◌++◌, codes, slice_index_or, Ok}
 use Rattle.mz_base.specs.declared.fault.Span.{Span}
 use Rattle.mz_core.specs.Types.{PlainType, PlainSignature}
-use Rattle.mz_core.specs.Coercions.{PathLink}
 use Rattle.mz_core.specs.Tree.{Tree, Step, node, chain, steps, type_of, place_of}
 use Rattle.mz_tree.specs.declared.expr.UnOp.{UnOp}
 use Rattle.mz_tree.specs.declared.expr.UnOp.TheVariants as prefix
@@ -11,7 +10,7 @@ use Rattle.mz_tree.specs.declared.expr.BinOp.{BinOp}
 use Rattle.mz_tree.specs.declared.expr.BinOp.TheVariants as op
 use Rattle.mz_checks.specs.declared.callee.Callee.{Callee}
 use Rattle.mz_checks.specs.declared.callee.Callee.TheVariants as callee
-use Rattle.mz_checks.specs.Tests.{Test, ◌>>=◌, loop}
+use Rattle.mz_checks.specs.Tests.{Test, ◌>>=◌}
 use Rattle.mz_checks.specs.Coerced.{coercions_to, bottom_type}
 use Rattle.mz_checks.specs.Calls.{Candidate, row_of}
 

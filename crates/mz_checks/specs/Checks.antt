@@ -1,6 +1,6 @@
 -- WHAT A SCOPED MODEL IS TYPED TO. First come the types of all declarations and functions; then functions that are declared twice; and
 -- then values, bodies and all other items: each of these in source order. The first fault of the first of them is the answer.
-use Rattle.std.specs.Prelude.{◌≡◌, ℕ, ◌+◌, ◌<◌, ℤ, pos, Bool, true, false, ◌&&◌, ◌||◌, List, [], ◌∷◌, ◌++◌, map, length, Option, Some, None, nat_lt, nat_eq, slice_get, if◌then◌else◌, Ok, Err}
+use Rattle.std.specs.Prelude.{◌≡◌, ℕ, ◌+◌, pos, Bool, true, false, ◌&&◌, ◌||◌, List, [], ◌∷◌, ◌++◌, map, length, Option, Some, None, nat_lt, nat_eq, slice_get, if◌then◌else◌, Ok, Err}
 use Rattle.std.specs.List.{flat_map, enumerate_from}
 use Rattle.mz_base.specs.declared.fault.Span.{Span}
 use Rattle.mz_base.specs.declared.fault.Fault.{Fault}
@@ -8,7 +8,7 @@ use Rattle.mz_base.specs.Names.{text_of}
 use Rattle.mz_core.specs.Tree.{Tree, Decl, DeclaredType}
 use Rattle.mz_core.specs.Program.{Function, Goal, PlainProgram}
 use Rattle.mz_tree.specs.Tree as source
-use Rattle.mz_tree.specs.Tree.{Name, Maybe, Declaration}
+use Rattle.mz_tree.specs.Tree.{Name, Declaration}
 use Rattle.mz_tree.specs.Items as item
 use Rattle.mz_tree.specs.Items.{FunctionTree, GoalTree}
 use Rattle.mz_uses.specs.Outlines.{has_parameters}

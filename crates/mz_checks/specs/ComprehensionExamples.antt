@@ -1,9 +1,7 @@
 -- Worked examples of comprehensions and of calls with generators.
-use Rattle.std.specs.Prelude.{◌≡◌, refl, Bool, true, false, List, [], ◌∷◌, map, Option, Some, None}
+use Rattle.std.specs.Prelude.{◌≡◌, refl, List, [], ◌∷◌, map, Some, None}
 use Rattle.mz_base.specs.declared.kind.Kind.TheVariants.{Ambiguous, DuplicateName, LeftOut, NoOverload, TypeMismatch, UnknownName}
 use Rattle.mz_tree.specs.declared.expr.BinOp.TheVariants as o
-use Rattle.mz_tree.specs.declared.expr.UnOp.TheVariants as u
-use Rattle.mz_tree.specs.Tree as source
 use Rattle.mz_checks.specs.ExampleTrees.{b, n, e, sn, se, va, op, li, E, num, truth, words, name, call, bin, array, set, gen, list_of, set_of, gen_call, Example, has, stops, typing, expected}
 use Rattle.mz_core.specs.Order.{below, same_type, same_dims, dims_below}
 use Rattle.mz_core.specs.Join.{join}

@@ -1,12 +1,12 @@
 -- Comprehensions: generators that bind names one after the other, and what holds of the whole when all its parts are typed.
-use Rattle.std.specs.Prelude.{ℕ, ◌+◌, Bool, true, false, not, ◌&&◌, ◌||◌, List, [], ◌∷◌, ◌++◌, map, Option, Some, None, if◌then◌else◌, Ok}
+use Rattle.std.specs.Prelude.{ℕ, ◌+◌, Bool, true, false, not, ◌&&◌, ◌||◌, List, [], ◌∷◌, ◌++◌, Option, Some, None, if◌then◌else◌, Ok}
 use Rattle.std.specs.List.{list_any}
 use Rattle.mz_base.specs.declared.fault.Span.{Span}
 use Rattle.mz_base.specs.declared.kind.Kind.TheVariants as kind
 use Rattle.mz_core.specs.declared.types.Base.{Base}
 use Rattle.mz_core.specs.declared.types.Base.TheVariants as base
 use Rattle.mz_core.specs.declared.types.Ix.{Ix}
-use Rattle.mz_core.specs.Types.{PlainType, is_set, is_allowed}
+use Rattle.mz_core.specs.Types.{PlainType, is_allowed}
 use Rattle.mz_core.specs.Order.{no_dims}
 use Rattle.mz_core.specs.Tree.{Tree, Gen, node, comp, gens, type_of, place_of}
 use Rattle.mz_tree.specs.Tree.{Name}

@@ -1,6 +1,6 @@
 -- Functions with parameters of one name and the same types of parameters: of two functions of the model, or of one and a row of the
 -- library that no function hides.
-use Rattle.std.specs.Prelude.{ℕ, Bool, true, false, ◌&&◌, ◌||◌, List, [], ◌∷◌, ◌++◌, map, Option, Some, None, nat_eq, if◌then◌else◌}
+use Rattle.std.specs.Prelude.{ℕ, Bool, true, false, ◌&&◌, ◌||◌, List, [], ◌∷◌, ◌++◌, Option, Some, None, nat_eq, if◌then◌else◌}
 use Rattle.std.specs.List.{list_any}
 use Rattle.mz_base.specs.declared.fault.Span.{Span}
 use Rattle.mz_base.specs.declared.fault.Fault.{Fault}
@@ -8,9 +8,8 @@ use Rattle.mz_base.specs.declared.kind.Kind.TheVariants as kind
 use Rattle.mz_base.specs.Faults.{fault_at}
 use Rattle.mz_base.specs.Names.{text_of}
 use Rattle.mz_core.specs.Types.{PlainType}
-use Rattle.mz_core.specs.Order.{same_type, no_dims}
+use Rattle.mz_core.specs.Order.{same_type}
 use Rattle.mz_builtin.specs.Readings.{Numbered}
-use Rattle.mz_builtin.specs.Signatures.{fitting}
 use Rattle.mz_tree.specs.Tree.{Name}
 use Rattle.mz_checks.specs.Calls.{rows_for}
 

@@ -1,10 +1,9 @@
 -- How the worked examples are written: a small model, trees whose parts have their places on one line, and what comes of their typing.
-use Rattle.std.specs.Prelude.{ℕ, ◌+◌, ℤ, pos, Bool, true, false, List, [], ◌∷◌, Option, Some, None, Result, Ok, Err, codes}
+use Rattle.std.specs.Prelude.{ℕ, pos, Bool, true, false, List, [], ◌∷◌, Option, None, Ok, Err, codes}
 use Rattle.mz_base.specs.declared.fault.Span.{Span}
 use Rattle.mz_base.specs.declared.kind.Kind.{Kind}
 use Rattle.mz_core.specs.declared.types.Base.{Base}
 use Rattle.mz_core.specs.declared.types.Base.TheVariants as base
-use Rattle.mz_core.specs.declared.types.Ix.{Ix}
 use Rattle.mz_core.specs.declared.types.Ix.TheVariants as ix
 use Rattle.mz_core.specs.Types.{PlainType}
 use Rattle.mz_core.specs.Tree as typed
@@ -12,11 +11,10 @@ use Rattle.mz_core.specs.Tree.{Decl, DeclaredType}
 use Rattle.mz_tree.specs.declared.expr.UnOp.{UnOp}
 use Rattle.mz_tree.specs.declared.expr.BinOp.{BinOp}
 use Rattle.mz_tree.specs.Tree as source
-use Rattle.mz_tree.specs.Tree.{Tree, Name, Part, Generator, Let, Written, Based, Declaration}
-use Rattle.mz_checks.specs.declared.meaning.Meaning.{Meaning}
+use Rattle.mz_tree.specs.Tree.{Tree, Name, Part, Generator, Let, Written, Based}
 use Rattle.mz_checks.specs.declared.meaning.Meaning.TheVariants as meaning
 use Rattle.mz_checks.specs.Tests.{Test}
-use Rattle.mz_checks.specs.Models.{Model, Heading, Env, outermost, in_output}
+use Rattle.mz_checks.specs.Models.{Model, Heading, outermost, in_output}
 use Rattle.mz_checks.specs.Typing.{check}
 
 -- ---- types: bool, int, an enum, sets, and what makes more of them

@@ -3,7 +3,7 @@ use Rattle.std.specs.Prelude.{ℕ, Bool, true, false, List, [], ◌∷◌, ◌++
 use Rattle.mz_base.specs.declared.fault.Span.{Span}
 use Rattle.mz_base.specs.declared.kind.Kind.TheVariants as kind
 use Rattle.mz_core.specs.Types.{PlainType}
-use Rattle.mz_core.specs.Tree.{Tree, Gen, Decl, DeclaredType, Item, declares, constrains, node, text, type_of, place_of}
+use Rattle.mz_core.specs.Tree.{Tree, Gen, DeclaredType, Item, declares, constrains, node, text, type_of, place_of}
 use Rattle.mz_tree.specs.Tree.{Name}
 use Rattle.mz_tree.specs.declared.expr.UnOp.{UnOp}
 use Rattle.mz_tree.specs.declared.expr.BinOp.{BinOp}

@@ -1,14 +1,13 @@
 -- THE TYPES OF ALL DECLARATIONS AND FUNCTIONS. A type that needs a name or a function is typed after the types of these; where one of
 -- them is refused, it is refused with the same fault.
-use Rattle.std.specs.Prelude.{◌≡◌, ◌⊎◌, ℕ, ◌+◌, ◌<◌, Bool, true, false, List, [], ◌∷◌, ◌++◌, map, length, Option, Some, None, Ok}
-use Rattle.mz_base.specs.declared.fault.Span.{Span}
+use Rattle.std.specs.Prelude.{◌≡◌, ◌⊎◌, ℕ, ◌+◌, ◌<◌, List, [], ◌∷◌, ◌++◌, map, length, None, Ok}
 use Rattle.mz_core.specs.Tree.{Decl}
 use Rattle.mz_tree.specs.Tree as source
 use Rattle.mz_tree.specs.Tree.{Declaration, Written}
 use Rattle.mz_tree.specs.Items.{FunctionTree}
 use Rattle.mz_uses.specs.declared.name_use.NameUse.{NameUse}
-use Rattle.mz_uses.specs.Outlines.{Sketch, decl_sketch, function_sketch}
-use Rattle.mz_dependency.specs.Dependencies.{RefersTo, sketch_at}
+use Rattle.mz_uses.specs.Outlines.{decl_sketch, function_sketch}
+use Rattle.mz_dependency.specs.Dependencies.{RefersTo}
 use Rattle.mz_scoped.specs.Parts.{decl_at, function_at}
 use Rattle.mz_scoped.specs.Scoped.{ScopedTree}
 use Rattle.mz_checks.specs.Tests.{Test, ◌>>=◌, ◌>>◌, loop}

@@ -1,17 +1,16 @@
 -- The values, bodies and items of a model, where all types are typed.
-use Rattle.std.specs.Prelude.{ℕ, Bool, true, false, List, [], ◌∷◌, ◌++◌, map, Option, Some, None, if◌then◌else◌, Ok}
-use Rattle.mz_base.specs.declared.fault.Span.{Span}
+use Rattle.std.specs.Prelude.{ℕ, List, [], ◌∷◌, Option, Some, None, if◌then◌else◌, Ok}
 use Rattle.mz_base.specs.declared.kind.Kind.TheVariants as kind
 use Rattle.mz_core.specs.declared.types.Base.TheVariants as base
 use Rattle.mz_core.specs.Types.{PlainType}
-use Rattle.mz_core.specs.Tree.{Tree, Decl, DeclaredType, type_of, place_of}
+use Rattle.mz_core.specs.Tree.{Tree, Decl, type_of, place_of}
 use Rattle.mz_core.specs.Program.{Function, Goal, satisfy, minimize, maximize}
 use Rattle.mz_tree.specs.Tree as source
-use Rattle.mz_tree.specs.Tree.{Name, Maybe, Declaration}
+use Rattle.mz_tree.specs.Tree.{Maybe, Declaration}
 use Rattle.mz_tree.specs.Items as item
 use Rattle.mz_tree.specs.Items.{FunctionTree, GoalTree}
 use Rattle.mz_checks.specs.Tests.{Test, ◌>>=◌, refuse}
-use Rattle.mz_checks.specs.Models.{Model, Heading, Env, outermost, in_output, bind, type_of_decl, heading_of}
+use Rattle.mz_checks.specs.Models.{Model, Env, outermost, in_output, bind, type_of_decl, heading_of}
 use Rattle.mz_checks.specs.Coerced.{fitted, condition, as_var, text_type, is_scalar}
 use Rattle.mz_checks.specs.Typing.{check}
 

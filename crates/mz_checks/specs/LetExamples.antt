@@ -1,8 +1,7 @@
 -- Worked examples of `if`, lets, written types and texts.
-use Rattle.std.specs.Prelude.{◌≡◌, refl, Bool, true, false, List, [], ◌∷◌, map, Option, Some, None}
+use Rattle.std.specs.Prelude.{◌≡◌, refl, true, false, List, [], ◌∷◌, map, Some, None}
 use Rattle.mz_base.specs.declared.kind.Kind.TheVariants.{Ambiguous, DuplicateName, LeftOut, MissingData, NoOverload, TypeMismatch, UnknownName}
 use Rattle.mz_tree.specs.declared.expr.BinOp.TheVariants as o
-use Rattle.mz_tree.specs.declared.expr.UnOp.TheVariants as u
 use Rattle.mz_tree.specs.Tree as source
 use Rattle.mz_checks.specs.ExampleTrees.{b, n, e, sn, se, tx, va, li, by, E, A, num, truth, words, name, call, bin, array, set, choose, interp, written, written_set, written_array, declares, let_in, Example, has, stops, typing, typing_shown, expected}
 use Rattle.mz_core.specs.Order.{below, same_type, same_dims, dims_below}

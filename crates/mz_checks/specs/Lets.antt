@@ -1,13 +1,12 @@
 -- Lets and other declarations: what holds of them when their parts are typed.
-use Rattle.std.specs.Prelude.{ℕ, Bool, true, false, not, ◌&&◌, ◌||◌, List, [], ◌∷◌, ◌++◌, map, Option, Some, None, if◌then◌else◌, Ok}
+use Rattle.std.specs.Prelude.{ℕ, Bool, not, List, Option, Ok}
 use Rattle.std.specs.List.{list_any}
 use Rattle.mz_base.specs.declared.fault.Span.{Span}
 use Rattle.mz_base.specs.declared.kind.Kind.TheVariants as kind
-use Rattle.mz_core.specs.Types.{PlainType}
 use Rattle.mz_core.specs.Tree.{Tree, Decl, DeclaredType, Item, declares, constrains, node, let_in, items, type_of}
 use Rattle.mz_tree.specs.Tree.{Name}
 use Rattle.mz_checks.specs.Tests.{Test, ◌>>=◌, ◌>>◌, require, each}
-use Rattle.mz_checks.specs.Models.{Env, bind, is_bound_since}
+use Rattle.mz_checks.specs.Models.{Env, is_bound_since}
 use Rattle.mz_checks.specs.Coerced.{coerced, condition, made_var, allowed_at}
 use Rattle.mz_checks.specs.Arrays.{is_var}
 

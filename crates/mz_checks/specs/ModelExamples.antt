@@ -1,16 +1,15 @@
 -- Worked examples of whole models.
-use Rattle.std.specs.Prelude.{◌≡◌, refl, ℕ, Bool, true, false, List, [], ◌∷◌, map, Option, Some, None, Result, Ok, Err, codes}
+use Rattle.std.specs.Prelude.{◌≡◌, refl, ℕ, true, false, List, [], ◌∷◌, map, Option, Some, None, Ok, Err, codes}
 use Rattle.mz_base.specs.declared.kind.Kind.{Kind}
 use Rattle.mz_base.specs.declared.kind.Kind.TheVariants.{UnknownName, DuplicateName, TypeMismatch, NoOverload}
 use Rattle.mz_core.specs.Types.{PlainType}
-use Rattle.mz_core.specs.Tree.{Decl}
 use Rattle.mz_tree.specs.declared.expr.BinOp.TheVariants as o
 use Rattle.mz_tree.specs.Tree as source
 use Rattle.mz_tree.specs.Tree.{Tree, Name, Written, Declaration}
 use Rattle.mz_tree.specs.Items.{FunctionTree, GoalTree, satisfy, minimize, maximize}
 use Rattle.mz_scoped.specs.Scoped.{ScopedTree}
 use Rattle.mz_checks.specs.Tests.{Test}
-use Rattle.mz_checks.specs.ExampleTrees.{n, va, num, truth, words, name, call, bin, array, set, interp, written, written_array, col}
+use Rattle.mz_checks.specs.ExampleTrees.{n, va, num, truth, words, name, call, bin, array, set, written, written_array, col}
 use Rattle.mz_core.specs.Order.{below, same_type, same_dims, dims_below}
 use Rattle.mz_core.specs.Join.{join}
 use Rattle.mz_core.specs.Paths.{coercions, index_links}

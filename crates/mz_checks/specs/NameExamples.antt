@@ -1,9 +1,6 @@
 -- Worked examples of names, literals and calls.
-use Rattle.std.specs.Prelude.{◌≡◌, refl, Bool, true, false, List, [], ◌∷◌, map, Option, Some, None}
+use Rattle.std.specs.Prelude.{◌≡◌, refl, List, [], ◌∷◌, map}
 use Rattle.mz_base.specs.declared.kind.Kind.TheVariants.{Ambiguous, LeftOut, NoOverload, UnknownName}
-use Rattle.mz_tree.specs.declared.expr.BinOp.TheVariants as o
-use Rattle.mz_tree.specs.declared.expr.UnOp.TheVariants as u
-use Rattle.mz_tree.specs.Tree as source
 use Rattle.mz_checks.specs.ExampleTrees.{b, n, e, se, tx, bot, va, op, by, E, A, num, truth, gone, words, whole, name, call, array, set, Example, has, stops, typing, expected}
 use Rattle.mz_core.specs.Order.{below, same_type, same_dims, dims_below}
 use Rattle.mz_core.specs.Join.{join}

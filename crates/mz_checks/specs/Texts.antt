@@ -5,7 +5,7 @@ use Rattle.mz_core.specs.Program.{Function, Goal, PlainProgram}
 use Rattle.mz_core.specs.Program as program
 use Rattle.mz_core.specs.Tree.{Tree, Shape, Trees, Maybe, Maybes, Rows, Branches, Steps, Gens, Items, Decl, DeclaredType, declares, items, maybes, maybe}
 use Rattle.mz_core.specs.Tree as tree
-use Rattle.mz_occurrence.specs.Sets.{holds, with_name}
+use Rattle.mz_occurrence.specs.Sets.{with_name}
 
 unfoldable mutual
   pub texts_in : Tree → List ℕ

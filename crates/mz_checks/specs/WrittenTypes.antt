@@ -1,14 +1,13 @@
 -- Written types: first all sets are typed, from left to right, and then they are tested.
-use Rattle.std.specs.Prelude.{ℕ, Bool, true, false, not, ◌&&◌, ◌||◌, List, [], ◌∷◌, ◌++◌, map, Option, Some, None, if◌then◌else◌, Ok}
+use Rattle.std.specs.Prelude.{Bool, true, false, not, ◌&&◌, List, map, Option, Some, None, if◌then◌else◌, Ok}
 use Rattle.mz_base.specs.declared.fault.Span.{Span}
 use Rattle.mz_base.specs.declared.kind.Kind.TheVariants as kind
 use Rattle.mz_core.specs.declared.types.Base.{Base}
 use Rattle.mz_core.specs.declared.types.Base.TheVariants as base
 use Rattle.mz_core.specs.declared.types.Ix.{Ix}
 use Rattle.mz_core.specs.declared.types.Ix.TheVariants as ix
-use Rattle.mz_core.specs.Types.{PlainType, is_set}
 use Rattle.mz_core.specs.Tree.{Tree, DeclaredType, type_of, place_of}
-use Rattle.mz_checks.specs.Tests.{Test, ◌>>=◌, refuse, each, loop}
+use Rattle.mz_checks.specs.Tests.{Test, ◌>>=◌, refuse, each}
 use Rattle.mz_checks.specs.Coerced.{coerced, scalar, is_set_type}
 use Rattle.mz_checks.specs.Arrays.{is_var}
 use Rattle.mz_checks.specs.Comprehensions.{member_of}
