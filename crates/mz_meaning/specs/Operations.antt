@@ -1,5 +1,5 @@
 -- Operators and built-ins over cells.
-use Rattle.std.specs.Prelude.{ℕ, ℤ, pos, Bool, true, false, ◌&&◌, List, [], ◌∷◌, map, take, drop, ◌++◌, length, slice_get, Option, Some, None, if◌then◌else◌, unwrap_or, int_le}
+use Rattle.std.specs.Prelude.{ℕ, ℤ, pos, Bool, true, false, ◌&&◌, List, [], ◌∷◌, map, take, drop, ◌++◌, length, slice_get, Option, Some, None, if◌then◌else◌, unwrap_or, int_le, nat_lt}
 use Rattle.std.specs.Option.{option_map}
 use Rattle.std.specs.List.{list_all}
 use Rattle.mz_base.specs.declared.fault.Span.{Span}
@@ -103,18 +103,18 @@ size_of c = unwrap_or (length_of c) (own_size c)
 abbrev pub row_cost : Row → List Cell → ℕ
 row_cost r cs = cost r (map size_of cs)
 
--- ---- `show` is asked only for cases that are there
+-- ---- `show` is asked only for enums and cases that are there
 
 abbrev pub has_case : List (List ℕ) → ℤ → Bool
 has_case labels k = int_le (pos 1) k && int_le k (pos (length labels))
 
 abbrev pub has_cases : Names → Option ℕ → List Range → Bool
 has_cases names None rs = true
-has_cases names (Some e) rs = list_all (λ r. has_case (names_of names e) r.0 && has_case (names_of names e) r.1) rs
+has_cases names (Some e) rs = nat_lt e (length names) && list_all (λ r. has_case (names_of names e) r.0 && has_case (names_of names e) r.1) rs
 
 unfoldable mutual
   pub is_showable : Names → Content → Bool
-  is_showable names (values.case e k) = has_case (names_of names e) k
+  is_showable names (values.case e k) = nat_lt e (length names) && has_case (names_of names e) k
   is_showable names (values.set of rs) = has_cases names of rs
   is_showable names (values.array ix xs) = are_showable names xs
   is_showable names _ = true
