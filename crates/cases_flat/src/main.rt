@@ -2,10 +2,12 @@
 // is written; then the texts of the input are read, and written again.
 #![tactic(auto)]
 
+mod built;
 mod programs;
 mod reading;
 mod written;
 
+use crate::built::built;
 use crate::programs::{base, numbers, objective, places, second_name, variables, with_row};
 use crate::written::print_written;
 use cases::Page;
@@ -91,6 +93,8 @@ fn all(alloc: Global, input: &str) -> Result<String, Memory> {
         "an integer to maximize",
         objective(alloc, FzGoal::Maximize(1))?,
     );
+    let made = built(alloc, &mut page)?;
+    print_written(alloc, &made, 9, &mut page)?;
     let p = base(alloc)?;
     print_written(alloc, &p, 9, &mut page)?;
     print_written(alloc, &p, 0, &mut page)?;

@@ -1,6 +1,6 @@
 // The items of a data file.
 
-ghost use Rattle.std.specs.Prelude.{◌≡◌, ◌<◌, [], length, map, OnOk, IfErr};
+ghost use Rattle.std.specs.Prelude.{◌≡◌, ◌<◌, [], length, map, OnOk, IfOk, IfErr, All};
 ghost use Rattle.mz_cursor.specs.Reads.{Passes, Reads};
 ghost use Rattle.mz_base.specs.Faults.{IfRefused};
 ghost use Rattle.mz_base.specs.declared.limit.TheConstants.{OPEN_LIMIT};
@@ -9,6 +9,8 @@ ghost use Rattle.mz_cursor.specs.Promise.{Gives, Answers};
 ghost use Rattle.mz_cursor.specs.Tokens.{place};
 ghost use Rattle.mz_grammar.specs.Data.{rule, reads, dimensions_of, file, item, datum, named, sized};
 ghost use Rattle.mz_base.specs.Names.{Grows};
+ghost use Rattle.mz_lexer.specs.Views.{HasName};
+ghost use Rattle.mz_given.specs.Named.{IsGivenWithin};
 ghost use Rattle.mz_dzn.specs.ArrayNames.{meaning};
 ghost use Rattle.mz_dzn.specs.Steps.{array_at, table_at, brackets_at};
 
@@ -153,7 +155,7 @@ fn file(alloc: Global, cur: &mut Cursor<'_>, names: &ArrayNames) -> Result<Vec<D
 ///
 /// `end` is the place of the file's end, and `names` the table of the tokens' names: the texts `array1d` to `array6d`
 /// begin an array with index sets where a `(` follows. After the call, whatever it answers, the table may hold these six
-/// texts more, and each name that it had keeps its text.
+/// texts more, and each name that it had keeps its text. Where the tokens' names are of the table, the names in the items are.
 ///
 /// In an item `span` is the name's place and `at` that of the value's first token: the tokens' own places, with lines
 /// and columns from 1 and bytes from 0. A list may be as long as memory allows, since each is read in a loop.
@@ -169,6 +171,7 @@ pub fn data_items(
 ) -> Result<Data, Stop>
     ensures answers { Answers rule (file (dimensions_of names.new)) (λ d. map given d.items.items) OPEN_LIMIT end tokens.now [] result }
     ensures grows { Grows names.old names.new }
+    ensures named { IfOk result (λ d. All (HasName names.old) tokens.now → All (IsGivenWithin (length names.new)) (map given d.items.items)) }
     ensures syntax { IfErr result (λ s. IfRefused s (λ f. f.kind ≡ Kind.Syntax)) }
 {
     let array_names = array_names(names)?;

@@ -14,7 +14,7 @@ use Rattle.mz_occurrence.specs.Roles.{occurs}
 use Rattle.mz_occurrence.specs.Occurrences.{of_case, in_item}
 use Rattle.mz_occurrence.specs.Given.{with_identifier, identifiers, cases_in, enum_of, listed, in_given, occurrences}
 use Rattle.mz_occurrence.specs.Sets.{holds}
-use Rattle.mz_scope.specs.Named.{names_in, names_in_all, IsGivenWithin}
+use Rattle.mz_given.specs.Named.{names_in, names_in_all, IsGivenWithin}
 use Rattle.mz_scope.proofs.Parting.{or_none}
 
 module _ (count : ℕ) where

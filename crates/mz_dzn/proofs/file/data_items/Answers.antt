@@ -8,6 +8,7 @@ use Rattle.mz_tree.specs.Data.{given}
 use Rattle.mz_grammar.specs.Data.{dimensions_of, file}
 use Rattle.mz_grammar.proofs.DataViable.{answers}
 use Rattle.mz_dzn.proofs.Answer.{tells_syntax}
+use Rattle.mz_dzn.proofs.Naming.{whole_within}
 use Rattle.mz_dzn.proofs.file.data_items.Goals as goal
 
 pub returns-clause-answers : goal.returns-clause-answers
@@ -15,6 +16,9 @@ returns-clause-answers c =
     let start = c.new-cur.ensures in
     let means = c.in_ok-array_names.ensures.means in
     answers {X = List DataItem} (file (dimensions_of c.array_names.new.names)) (map given) OPEN_LIMIT c.args.end c.args.tokens.now [] (Ok c.in_ok-items.items.items) refl (rw (means, start.rest, start.room, c.in_ok-items.ensures.whole) at c.in_ok-items.ensures.reads)
+
+pub returns-clause-named : goal.returns-clause-named
+returns-clause-named c = λ all. whole_within c.args.names.now c.array_names.new.names (dimensions_of c.array_names.new.names) OPEN_LIMIT c.args.tokens.now (map given c.in_ok-items.items.items) c.in_ok-array_names.ensures.grows (returns-clause-answers c) all
 
 pub returns-in_err-items-clause-answers : goal.returns-in_err-items-clause-answers
 returns-in_err-items-clause-answers c =
