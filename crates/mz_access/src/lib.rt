@@ -1,0 +1,8 @@
+// Accesses to arrays of cells.
+#![tactic(auto)]
+
+mod accessing;
+mod indexing;
+mod placing;
+
+pub use accessing::access_cell;

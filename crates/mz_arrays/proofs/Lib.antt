@@ -1,0 +1,5 @@
+pub mod Branches
+pub mod Lines
+pub mod Numbered
+pub mod Sequence
+pub mod Tables
