@@ -1,0 +1,4 @@
+pub mod Loops
+pub mod Passing
+pub mod JoinLaws
+pub mod BranchLaws

@@ -1,0 +1,18 @@
+// What holds of each form of an expression when its parts are typed: its own premises, and its typed node.
+#![tactic(auto)]
+
+mod access;
+mod branches;
+mod coerce;
+mod joins;
+mod kinds;
+mod literals;
+
+pub use access::accessed;
+pub use branches::decided;
+pub use coerce::{all_coerced, allowed_at, coerced, coercions_to, condition, each_to, fitted};
+pub use kinds::{
+    base_of, dims_of, element_of, is_allowed, is_scalar, is_set_type, list_of, made_var, mismatch,
+    refusal, scalar, typed_as, var_of,
+};
+pub use literals::{is_var, listed, member_base, set_base, set_literal, some_var, tabled};
