@@ -1,20 +1,21 @@
--- The names of a model that was gathered are names of its table.
-use Rattle.std.proofs.Common.{◌≡◌, ◌<◌, ℕ, List, [], ◌∷◌, length, map, subst, sym, get_or}
+-- The names of a model that was gathered, and of its data, are names of the table.
+use Rattle.std.proofs.Common.{◌≡◌, ◌<◌, ℕ, List, [], ◌∷◌, length, map, get_or}
 use Rattle.std.specs.Prelude.{All}
 use Rattle.std.proofs.lemmas.List.Elements.{All-nil, All-cons, All-head, All-tail, All-append}
 use Rattle.std.proofs.lemmas.Option.{slice_get-get_or}
+use Rattle.mz_base.specs.Names.{Grows}
 use Rattle.mz_tree.specs.declared.item.Item.{Item}
 use Rattle.mz_tree.specs.declared.source.SourceFile.{SourceFile}
-use Rattle.mz_tree.specs.declared.data.DataItem.{DataItem}
 use Rattle.mz_tree.specs.Items.{ItemTree, item}
-use Rattle.mz_tree.specs.Data.{given}
+use Rattle.mz_tree.specs.Data.{Given}
 use Rattle.mz_occurrence.specs.Occurrences.{in_item}
 use Rattle.mz_occurrence.specs.Given.{occurrences}
 use Rattle.mz_occurrence.specs.StepsWalk.{items_of}
 use Rattle.mz_occurrence.proofs.Named.{item_named}
 use Rattle.mz_include.specs.Trees.{IsItemOf}
 use Rattle.mz_include.specs.Views.{AreKnown}
-use Rattle.mz_scope.specs.Named.{IsGivenWithin}
+use Rattle.mz_include.proofs.KnownFiles.{files_known_later}
+use Rattle.mz_given.specs.Named.{IsGivenWithin}
 use Rattle.mz_scope.specs.Tests.{AreNamed}
 use Rattle.mz_scope.proofs.Naming.{all_named}
 
@@ -36,7 +37,6 @@ module _ (names : List (List ℕ)) where
   each_within : (fs : List SourceFile) → AreKnown names fs → All (λ f. All AreWithin (map item f.items.items)) fs
   each_within fs all k d below = items_within k (get_or fs k d).items.items (all k (get_or fs k d) (slice_get-get_or fs k d below)).items
 
-  pub named : (fs : List SourceFile) (ds : List DataItem) → AreKnown names fs → ds ≡ [] → AreNamed names (occurrences (items_of fs) (map given ds))
-  named fs ds all e =
-      subst (λ z. AreNamed names (occurrences (items_of fs) (map given z))) (sym e)
-      (all_named (length names) (items_of fs) [] (files_within fs (each_within fs all)) (All-nil (IsGivenWithin (length names))))
+-- and those of the data that goes with it, where the table grew
+pub named : (old names : List (List ℕ)) (fs : List SourceFile) (ds : List Given) → Grows old names → AreKnown old fs → All (IsGivenWithin (length names)) ds → AreNamed names (occurrences (items_of fs) ds)
+named old names fs ds grows all within = all_named (length names) (items_of fs) ds (files_within names fs (each_within names fs (files_known_later old names grows fs all))) within

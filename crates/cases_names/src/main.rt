@@ -1,7 +1,9 @@
 // What the scope of a model answers: each line of the input is a case, `scope TEXT`, and is written with its answer. After ` @@ ` comes
-// the text of `a.mzn`, which the model may include.
+// the text of `a.mzn`, which the model may include, and after ` ## ` that of its data file. A place has the number of its file: the
+// model's is 0, and that of the data comes last.
 #![tactic(auto)]
 
+mod given;
 mod reading;
 mod scoping;
 

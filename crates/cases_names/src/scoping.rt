@@ -1,6 +1,10 @@
-// The scope of a model without data.
+// The scope of a model with its data.
 
-ghost use Rattle.mz_include.specs.Views.{AreKnown};
+ghost use Rattle.std.specs.Prelude.{map};
+ghost use Rattle.mz_tree.specs.Data.{given};
+ghost use Rattle.mz_occurrence.specs.Given.{occurrences};
+ghost use Rattle.mz_occurrence.specs.StepsWalk.{items_of};
+ghost use Rattle.mz_scope.specs.Tests.{AreNamed};
 
 use cases::Page;
 use mz_base::{Memory, Names, Span, Stop};
@@ -9,14 +13,18 @@ use mz_scoped::Scoped;
 use mz_tree::{Data, Sources};
 use std::alloc::Global;
 
-/// The places of the declarations in order of evaluation, or the refusal.
-pub fn print(alloc: Global, sources: &Sources, names: &Names, page: &mut Page) -> Result<(), Memory>
-    requires { AreKnown names.now sources.now.files.items }
+/// How many cases each enum has, the places of the declarations in order of evaluation, a `=` after each that has its value in
+/// the model, and the places of the names in the data, but for those of enums; or the refusal.
+pub fn print(
+    alloc: Global,
+    sources: &Sources,
+    given_data: &Data,
+    names: &Names,
+    page: &mut Page,
+) -> Result<(), Memory>
+    requires { AreNamed names.now (occurrences (items_of sources.now.files.items) (map given given_data.now.items.items)) }
 {
-    let data = Data {
-        items: Vec::new(alloc),
-    };
-    match scope(alloc, sources, &data, names) {
+    match scope(alloc, sources, given_data, names) {
         Ok(scoped) => {
             print_scoped(page, &scoped);
             Ok(())
@@ -36,6 +44,10 @@ fn print_scoped(page: &mut Page, scoped: &Scoped) {
         if d.value.is_some() {
             page.put("=");
         }
+    }
+    for item in scoped.given.as_slice() {
+        page.put(" given ");
+        put_place(page, item.span);
     }
     page.line("");
 }
