@@ -1,0 +1,4 @@
+pub mod Ranging
+pub mod Locals
+pub mod Told
+pub mod Sizes
