@@ -16,7 +16,7 @@ use Rattle.soln_items.specs.Items.{interval as interval_set}
 use Rattle.fz_reading.specs.Tokens.{behind}
 use Rattle.fz_reading.specs.Lists.{closed_at}
 use Rattle.fz_reading.specs.Arguments.{argument_at, array_at, braces_set_at, interval_set_at, number_or_interval_at, number_or_set_at, place_at, place_of, plain_at, word_at, word_of}
-use Rattle.fz_text.specs.Spelling.{argument_text, array_text, commas, elements, interval, label_at, numbers, plain_text, set}
+use Rattle.fz_spelling.specs.Spelling.{argument_text, array_text, commas, elements, interval, label_at, numbers, plain_text, set}
 use Rattle.fz_text.proofs.Prefixes.{both, first_is, name_again, not_behind, number_again, other_byte, word_is}
 use Rattle.fz_text.proofs.PartsAgain.{Again, none_again, pieces, some_again, is_stop, stop_is_no_digit, stop_is_no_dot, stop_is_no_name_byte}
 use Rattle.fz_text.proofs.SetsAgain.{brace, braces_again, braces_text, dots, empty_text, from_again, interval_parts, is_set_byte, no_brace, number_first, one_in_limit, one_range, set_first, zero_in_limit}

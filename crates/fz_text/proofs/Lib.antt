@@ -1,8 +1,3 @@
-pub mod Lists
-pub mod Sets
-pub mod Appends
-pub mod Commas
-pub mod SpellingExamples
 pub mod Prefixes
 pub mod PartsAgain
 pub mod SetsAgain

@@ -23,7 +23,7 @@ use Rattle.fz_reading.specs.Tokens.{behind, range_at}
 use Rattle.fz_reading.specs.Lists.{filled_at, closed_at}
 use Rattle.fz_reading.specs.Arguments.{argument_at, place_at}
 use Rattle.fz_reading.specs.Lines.{array_item_at, defined_at, definition_at, domain_at, from_colon, goal_at, integers_at, is_no_colon, mark_at, marked_at, objective_at, optimum_at, row_at, row_name_at, row_named, satisfy_at, set_of_at, undefined_at, variable_at}
-use Rattle.fz_text.specs.Spelling.{argument_list, argument_text, commas, definition, domain_text, element_by, element_of, element_text, goal_line, hull, hull_text, interval, label_at, mark, set}
+use Rattle.fz_spelling.specs.Spelling.{argument_list, argument_text, commas, definition, domain_text, element_by, element_of, element_text, goal_line, hull, hull_text, interval, label_at, mark, set}
 use Rattle.fz_text.proofs.Prefixes.{all_append, both, decimal_has_no_colon, drop_front, first_is, other_byte, name_again, not_behind, run_is, signed_has_no_colon, word_is}
 use Rattle.fz_text.proofs.PartsAgain.{Again, either, filled_again, none_again, pieces, some_again, stop_is_no_digit, stop_is_no_name_byte}
 use Rattle.fz_text.proofs.SetsAgain.{is_set_byte, one_in_limit, range_again, set_again, set_first, zero_in_limit}

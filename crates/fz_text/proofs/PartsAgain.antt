@@ -8,7 +8,7 @@ use Rattle.soln_items.specs.Items.{Read}
 use Rattle.fz_reading.specs.Tokens.{behind}
 use Rattle.fz_reading.specs.Lists.{parts_at, filled_at, closed_at}
 use Rattle.fz_reading.proofs.PartLoops.{last_at, more_at}
-use Rattle.fz_text.specs.Spelling.{commas}
+use Rattle.fz_spelling.specs.Spelling.{commas}
 use Rattle.fz_text.proofs.Prefixes.{not_behind}
 
 -- a parenthesis, a bracket or a brace that closes

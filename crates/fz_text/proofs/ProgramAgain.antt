@@ -14,7 +14,7 @@ use Rattle.fz_reading.specs.Tables.{are_new, named_items}
 use Rattle.fz_reading.specs.Lines.{Body, array_item_at, body_at, every_at, lines_at, named_at, program_at, row_at, variable_at, with_variables}
 use Rattle.fz_reading.proofs.LineLoops.{more_at, stop_at}
 use Rattle.fz_reading.proofs.NameLoops.{named_unit, new_append}
-use Rattle.fz_text.specs.Spelling.{Spells, array_line, goal_line, row_line, spelling, variable_line}
+use Rattle.fz_spelling.specs.Spelling.{Spells, array_line, goal_line, row_line, spelling, variable_line}
 use Rattle.fz_text.specs.Reading.{IsOnly, SpellsNone}
 use Rattle.fz_text.proofs.Prefixes.{both}
 use Rattle.fz_text.proofs.ArgumentsAgain.{AreNames}

@@ -11,8 +11,8 @@ use Rattle.soln_items.specs.Items.{interval as interval_set, is_in_limit, listed
 use Rattle.soln_items.proofs.SetLemmas.{listed_is}
 use Rattle.fz_reading.specs.Tokens.{behind, number_at, range_at, interval_at, interval_from}
 use Rattle.fz_reading.specs.Lists.{braces_at, filled_at, set_at}
-use Rattle.fz_text.specs.Spelling.{braces, commas, elements, interval, numbers, numbers_from, set}
-use Rattle.fz_text.proofs.Commas.{after_first, join_is}
+use Rattle.fz_spelling.specs.Spelling.{braces, commas, elements, interval, numbers, numbers_from, set}
+use Rattle.fz_spelling.proofs.Commas.{after_first, join_is}
 use Rattle.fz_text.proofs.Prefixes.{all_append, below_past, both, is_wide, first_digit, not_behind, number_again, numeral, other_byte}
 use Rattle.fz_text.proofs.PartsAgain.{Again, filled_again, stop_is_no_digit}
 

@@ -1,3 +1,2 @@
-pub mod Spelling
 pub mod Writing
 pub mod Reading

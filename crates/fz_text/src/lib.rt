@@ -1,9 +1,7 @@
-// FlatZinc programs as text, how one is written to a sink, and how one is read.
+// How a FlatZinc program is written to a sink, and how one is read.
 #![tactic(auto)]
 
-mod array;
 mod reader;
-mod spell;
 mod writer;
 
 pub use reader::{one_program, read};

@@ -6,11 +6,11 @@ ghost use Rattle.mz_base.specs.declared.kind.Kind.TheVariants.{Syntax};
 ghost use Rattle.fz_program.specs.Flat.{AreParts, program};
 ghost use Rattle.fz_reading.specs.Lines.{program_at};
 ghost use Rattle.fz_text.specs.Reading.{IsOnly, IsUnspelled};
-ghost use Rattle.fz_text.specs.Spelling.{Spells, spelling};
+ghost use Rattle.fz_spelling.specs.Spelling.{Spells, spelling};
 
-use crate::writer::text;
 use fz_program::{FzProgram, are_parts};
 use fz_reading::read_program;
+use fz_spelling::text;
 use mz_base::{Fault, Kind, Span, Stop};
 use soln_items::Miss;
 use std::alloc::{AllocError, Global};

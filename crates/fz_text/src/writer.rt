@@ -1,14 +1,13 @@
 // How a FlatZinc program is written to a sink.
 
-ghost use Rattle.std.specs.Prelude.{IfOk, ◌≡◌};
 ghost use Rattle.fz_program.specs.Flat.{WellFormed, program};
-ghost use Rattle.fz_text.specs.Spelling.{spelling};
+ghost use Rattle.fz_spelling.specs.Spelling.{spelling};
 ghost use Rattle.fz_text.specs.Writing.{Writes, WriteCounts};
 
-use crate::spell::{push_arrays, push_goal, push_rows, push_variables};
 use fz_program::FzProgram;
+use fz_spelling::text;
 use mz_io::{Sent, Sink};
-use std::alloc::{AllocError, Global};
+use std::alloc::Global;
 
 /// What writing a program answers.
 #[derive(Clone, Copy, Debug, PartialEq, Eq)]
@@ -39,16 +38,4 @@ pub fn write<S: Sink>(alloc: Global, p: &FzProgram, out: &mut S) -> Wrote
         },
         Err(_) => Wrote::Memory,
     }
-}
-
-// The program's one spelling.
-pub(crate) fn text(alloc: Global, p: &FzProgram) -> Result<Vec<u8>, AllocError>
-    ensures { IfOk result (λ t. t.items ≡ spelling (program p.now)) }
-{
-    let mut out = Vec::new(alloc);
-    push_variables(&p.vars, &mut out)?;
-    push_arrays(&p.vars, &p.arrays, &mut out)?;
-    push_rows(&p.vars, &p.rows, &mut out)?;
-    push_goal(&p.vars, p.goal, &mut out)?;
-    Ok(out)
 }

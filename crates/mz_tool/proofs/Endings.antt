@@ -16,7 +16,7 @@ use Rattle.mz_include.proofs.OneSources.{one_sources, sources_or_failure}
 use Rattle.mz_include.proofs.Later.{sources_later, first_failure_later}
 use Rattle.fz_program.specs.Names.{Name}
 use Rattle.fz_program.specs.Flat.{Program, program}
-use Rattle.fz_text.specs.Spelling.{spelling}
+use Rattle.fz_spelling.specs.Spelling.{spelling}
 use Rattle.mz_first.specs.declared.building.Built.{Built}
 use Rattle.mz_first.specs.declared.building.Built.TheVariants as built
 use Rattle.mz_include.specs.Walks.{Where}

@@ -6,7 +6,7 @@ use Rattle.mz_include.specs.Naming.{File}
 use Rattle.mz_include.specs.Sources.{IsSources}
 use Rattle.fz_program.specs.Names.{Name}
 use Rattle.fz_program.specs.Flat.{Program}
-use Rattle.fz_text.specs.Spelling.{Spells}
+use Rattle.fz_spelling.specs.Spelling.{Spells}
 use Rattle.mz_first.specs.Promise.{IsProgram}
 
 -- these bytes are what a model's files compile to, by a table of names

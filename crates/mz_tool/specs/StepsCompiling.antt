@@ -10,7 +10,7 @@ use Rattle.mz_include.specs.declared.end.GatherEnd.{GatherEnd}
 use Rattle.mz_include.specs.declared.end.GatherEnd.TheVariants as gathered
 use Rattle.fz_program.specs.Names.{Name}
 use Rattle.fz_program.specs.Flat.{program, WellFormed}
-use Rattle.fz_text.specs.Spelling.{spelling}
+use Rattle.fz_spelling.specs.Spelling.{spelling}
 use Rattle.mz_first.specs.declared.building.Built.{Built}
 use Rattle.mz_first.specs.declared.building.Built.TheVariants as built
 use Rattle.mz_first.specs.Promise.{IsNotBuilt}

@@ -1,0 +1,5 @@
+pub mod Lists
+pub mod Sets
+pub mod Appends
+pub mod Commas
+pub mod SpellingExamples

@@ -1,0 +1,7 @@
+// The one spelling of FlatZinc programs.
+#![tactic(auto)]
+
+mod array;
+mod spell;
+
+pub use spell::text;
