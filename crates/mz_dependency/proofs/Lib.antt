@@ -1,6 +1,7 @@
 pub mod Answering
 pub mod Building
 pub mod Closing
+pub mod Counts
 pub mod Declaring
 pub mod Following
 pub mod Gathering

@@ -2,7 +2,7 @@
 use Rattle.std.proofs.Common.{◌≡◌, ℕ, zero, suc, ◌+◌, ◌<◌, ◌≤◌, List, [], ◌∷◌, ◌++◌, refl, ap, sym, ◌∙◌, map, length, drop, get_or, Option, Some, None, append_assoc, append-nil, arith}
 use Rattle.std.specs.Option.{option_map}
 use Rattle.mz_tree.specs.Tree.{Name}
-use Rattle.mz_tree.specs.Data.{Value, Values, value, values}
+use Rattle.mz_tree.specs.Data.{value, values}
 use Rattle.mz_tree.specs.declared.data.Datum.{Datum}
 use Rattle.mz_occurrence.specs.Given.{identifier, with_identifier, identifiers}
 

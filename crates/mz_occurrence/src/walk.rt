@@ -11,7 +11,6 @@ use mz_base::{Memory, Name, Span};
 use mz_tree::{BinOp, Decl, Expr, Form, Gen, LetItem, TextPart, TypeBase, TypeText};
 
 /// Adds the names that an expression uses, and those that are local in it.
-#[tactic(auto, unfolding(crate::specs::Occurrences::in_tree, mz_tree::specs::Views::tree, mz_tree::specs::Views::shape, mz_tree::specs::Views::let_of, mz_tree::specs::Views::part, mz_tree::specs::Views::based, mz_tree::specs::Views::declaration, mz_tree::specs::Views::generator, mz_tree::specs::Views::written))]
 #[cycle(walk)]
 pub(crate) fn in_expression(out: &mut Vec<Occurrence>, e: &Expr) -> Result<(), Memory>
     ensures { OnOk result (out.new.items ≡ out.old.items ++ in_tree (tree e.now)) }
@@ -71,7 +70,6 @@ pub(crate) fn in_expression(out: &mut Vec<Occurrence>, e: &Expr) -> Result<(), M
     Ok(())
 }
 
-#[tactic(auto, using(crate::proofs::Lists::trees_flat), unfolding(crate::specs::Occurrences::in_tree, mz_tree::specs::Views::tree, mz_tree::specs::Views::shape, mz_tree::specs::Views::let_of, mz_tree::specs::Views::part, mz_tree::specs::Views::based, mz_tree::specs::Views::declaration, mz_tree::specs::Views::generator, mz_tree::specs::Views::written))]
 #[cycle(walk)]
 fn in_all(out: &mut Vec<Occurrence>, es: &[Expr]) -> Result<(), Memory>
     ensures { OnOk result (out.new.items ≡ out.old.items ++ in_trees (trees (map tree es.now))) }
@@ -82,7 +80,6 @@ fn in_all(out: &mut Vec<Occurrence>, es: &[Expr]) -> Result<(), Memory>
     Ok(())
 }
 
-#[tactic(auto, using(crate::proofs::Lists::links_flat), unfolding(crate::specs::Occurrences::in_tree, mz_tree::specs::Views::tree, mz_tree::specs::Views::shape, mz_tree::specs::Views::let_of, mz_tree::specs::Views::part, mz_tree::specs::Views::based, mz_tree::specs::Views::declaration, mz_tree::specs::Views::generator, mz_tree::specs::Views::written))]
 #[cycle(walk)]
 fn in_operands(out: &mut Vec<Occurrence>, rest: &[(BinOp, Expr)]) -> Result<(), Memory>
     ensures { OnOk result (out.new.items ≡ out.old.items ++ in_links (links (map link rest.now))) }
@@ -93,7 +90,6 @@ fn in_operands(out: &mut Vec<Occurrence>, rest: &[(BinOp, Expr)]) -> Result<(), 
     Ok(())
 }
 
-#[tactic(auto, using(crate::proofs::Lists::branches_flat), unfolding(crate::specs::Occurrences::in_tree, mz_tree::specs::Views::tree, mz_tree::specs::Views::shape, mz_tree::specs::Views::let_of, mz_tree::specs::Views::part, mz_tree::specs::Views::based, mz_tree::specs::Views::declaration, mz_tree::specs::Views::generator, mz_tree::specs::Views::written))]
 #[cycle(walk)]
 fn in_choices(out: &mut Vec<Occurrence>, choices: &[(Expr, Expr)]) -> Result<(), Memory>
     ensures { OnOk result (out.new.items ≡ out.old.items ++ in_branches (branches (map branch choices.now))) }
@@ -105,7 +101,7 @@ fn in_choices(out: &mut Vec<Occurrence>, choices: &[(Expr, Expr)]) -> Result<(),
     Ok(())
 }
 
-#[tactic(auto, using(crate::proofs::Lists::parts_flat), unfolding(crate::specs::Occurrences::in_tree, mz_tree::specs::Views::tree, mz_tree::specs::Views::shape, mz_tree::specs::Views::let_of, mz_tree::specs::Views::part, mz_tree::specs::Views::based, mz_tree::specs::Views::declaration, mz_tree::specs::Views::generator, mz_tree::specs::Views::written))]
+#[tactic(auto, unfolding(crate::specs::Occurrences::in_tree, mz_tree::specs::Views::tree, mz_tree::specs::Views::shape, mz_tree::specs::Views::let_of, mz_tree::specs::Views::part, mz_tree::specs::Views::based, mz_tree::specs::Views::declaration, mz_tree::specs::Views::generator, mz_tree::specs::Views::written))]
 #[cycle(walk)]
 fn in_pieces(out: &mut Vec<Occurrence>, pieces: &[TextPart]) -> Result<(), Memory>
     ensures { OnOk result (out.new.items ≡ out.old.items ++ in_parts (parts (map part pieces.now))) }
@@ -128,7 +124,7 @@ fn in_bound(out: &mut Vec<Occurrence>, names: &[(Name, Span)]) -> Result<(), Mem
     Ok(())
 }
 
-#[tactic(auto, using(crate::proofs::Lists::gens_flat), unfolding(crate::specs::Occurrences::in_tree, mz_tree::specs::Views::tree, mz_tree::specs::Views::shape, mz_tree::specs::Views::let_of, mz_tree::specs::Views::part, mz_tree::specs::Views::based, mz_tree::specs::Views::declaration, mz_tree::specs::Views::generator, mz_tree::specs::Views::written))]
+#[tactic(auto, unfolding(crate::specs::Occurrences::in_tree, mz_tree::specs::Views::tree, mz_tree::specs::Views::shape, mz_tree::specs::Views::let_of, mz_tree::specs::Views::part, mz_tree::specs::Views::based, mz_tree::specs::Views::declaration, mz_tree::specs::Views::generator, mz_tree::specs::Views::written))]
 #[cycle(walk)]
 fn in_generators(out: &mut Vec<Occurrence>, generators: &[Gen]) -> Result<(), Memory>
     ensures { OnOk result (out.new.items ≡ out.old.items ++ in_gens (gens (map generator generators.now))) }
@@ -143,7 +139,7 @@ fn in_generators(out: &mut Vec<Occurrence>, generators: &[Gen]) -> Result<(), Me
     Ok(())
 }
 
-#[tactic(auto, using(crate::proofs::Lists::lets_flat), unfolding(crate::specs::Occurrences::in_tree, mz_tree::specs::Views::tree, mz_tree::specs::Views::shape, mz_tree::specs::Views::let_of, mz_tree::specs::Views::part, mz_tree::specs::Views::based, mz_tree::specs::Views::declaration, mz_tree::specs::Views::generator, mz_tree::specs::Views::written))]
+#[tactic(auto, unfolding(crate::specs::Occurrences::in_tree, mz_tree::specs::Views::tree, mz_tree::specs::Views::shape, mz_tree::specs::Views::let_of, mz_tree::specs::Views::part, mz_tree::specs::Views::based, mz_tree::specs::Views::declaration, mz_tree::specs::Views::generator, mz_tree::specs::Views::written))]
 #[cycle(walk)]
 fn in_let_items(out: &mut Vec<Occurrence>, items: &[LetItem]) -> Result<(), Memory>
     ensures { OnOk result (out.new.items ≡ out.old.items ++ in_lets (lets (map let_of items.now))) }
@@ -188,7 +184,6 @@ pub(crate) fn in_type(out: &mut Vec<Occurrence>, t: &TypeText) -> Result<(), Mem
     in_base(out, &t.base)
 }
 
-#[tactic(auto, using(crate::proofs::Lists::bases_flat), unfolding(crate::specs::Occurrences::in_tree, mz_tree::specs::Views::tree, mz_tree::specs::Views::shape, mz_tree::specs::Views::let_of, mz_tree::specs::Views::part, mz_tree::specs::Views::based, mz_tree::specs::Views::declaration, mz_tree::specs::Views::generator, mz_tree::specs::Views::written))]
 #[cycle(walk)]
 fn in_dims(out: &mut Vec<Occurrence>, dims: &[TypeBase]) -> Result<(), Memory>
     ensures { OnOk result (out.new.items ≡ out.old.items ++ in_bases (bases (map based dims.now))) }

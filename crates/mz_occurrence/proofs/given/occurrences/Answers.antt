@@ -1,4 +1,3 @@
-use Rattle.std.proofs.Common.{ap, sym, ◌∙◌, ◌++◌, subst}
 use Rattle.mz_occurrence.proofs.Gathered.{gathered_by}
 use Rattle.mz_occurrence.proofs.given.occurrences.Goals as goal
 

@@ -1,9 +1,11 @@
-use Rattle.std.proofs.Common.{◌++◌, map}
-use Rattle.mz_tree.specs.Tree.{trees, gens, lets, branches}
-use Rattle.mz_occurrence.proofs.Seen.{after_both, in_array_comp, in_set_comp, in_let_form, in_if_form, in_rows_form}
+use Rattle.std.proofs.Common.{◌++◌, [], ◌∷◌, map}
+use Rattle.mz_tree.specs.Tree.{trees, links, parts, gens, lets, branches}
 use Rattle.mz_tree.specs.Views.{tree, part, generator, let_of, based, link, branch}
-use Rattle.mz_occurrence.specs.Occurrences.{in_tree, in_trees, in_part, in_generator, in_gens, in_let, in_lets, in_branches, in_based}
+use Rattle.mz_occurrence.specs.declared.occurrence.Role.TheVariants.{Used}
+use Rattle.mz_occurrence.specs.Roles.{occurs}
+use Rattle.mz_occurrence.specs.Occurrences.{in_tree, in_trees, in_links, in_part, in_parts, in_generator, in_gens, in_let, in_lets, in_branches, in_based}
 use Rattle.mz_occurrence.proofs.Lists.{all_read, trees_flat, links_flat, branches_flat, parts_flat, gens_flat, lets_flat, bases_flat}
+use Rattle.mz_occurrence.proofs.Seen.{after_none, after_one, after_both, after_three, in_int_form, in_bool_form, in_absent_form, in_text_form, in_whole_form, in_ident_form, in_interp_form, in_unary_form, in_chain_form, in_call_form, in_gen_call_form, in_access_form, in_array_form, in_rows_form, in_set_form, in_array_comp, in_set_comp, in_let_form, in_if_form, in_if_alone}
 use Rattle.mz_occurrence.proofs.walk.+walk.Goals as goal
 
 pub in_all-returns : goal.in_all-returns
@@ -26,6 +28,77 @@ in_let_items-returns t c = all_read (λ x. in_let (let_of x)) c.args.items.now c
 
 pub in_dims-returns : goal.in_dims-returns
 in_dims-returns t c = all_read (λ x. in_based (based x)) c.args.dims.now c.loop-dim.dim-index c.args.out.now.items c.loop-dim.out.items _ c.loop-dim.invariant c.loop-dim-test.false (bases_flat based c.args.dims.now)
+
+pub in_expression-returns-in-Int : goal.in_expression-returns-in-Int
+in_expression-returns-in-Int t c = after_none c.args.out.now.items (in_tree (tree c.args.e.now)) (in_int_form c.args.e.now _ c.in-Int.is)
+
+pub in_expression-returns-in-Bool : goal.in_expression-returns-in-Bool
+in_expression-returns-in-Bool t c = after_none c.args.out.now.items (in_tree (tree c.args.e.now)) (in_bool_form c.args.e.now _ c.in-Bool.is)
+
+pub in_expression-returns-in-Absent : goal.in_expression-returns-in-Absent
+in_expression-returns-in-Absent t c = after_none c.args.out.now.items (in_tree (tree c.args.e.now)) (in_absent_form c.args.e.now c.in-Absent.is)
+
+pub in_expression-returns-in-Text : goal.in_expression-returns-in-Text
+in_expression-returns-in-Text t c = after_none c.args.out.now.items (in_tree (tree c.args.e.now)) (in_text_form c.args.e.now _ c.in-Text.is)
+
+pub in_expression-returns-in-Whole : goal.in_expression-returns-in-Whole
+in_expression-returns-in-Whole t c = after_none c.args.out.now.items (in_tree (tree c.args.e.now)) (in_whole_form c.args.e.now c.in-Whole.is)
+
+pub in_expression-returns-in_ok-note-in-Ident : goal.in_expression-returns-in_ok-note-in-Ident
+in_expression-returns-in_ok-note-in-Ident t c =
+    after_one c.args.out.now.items c.note.new.out.items (occurs Used c.in-Ident.n c.args.e.now.span ∷ []) (in_tree (tree c.args.e.now))
+    c.in_ok-note-in-Ident.ensures (in_ident_form c.args.e.now c.in-Ident.n c.in-Ident.is)
+
+pub in_expression-returns-in_ok-in_pieces-in-Interp : goal.in_expression-returns-in_ok-in_pieces-in-Interp
+in_expression-returns-in_ok-in_pieces-in-Interp t c =
+    after_one c.args.out.now.items c.in_pieces.new.out.items (in_parts (parts (map part c.as_slice.result.now))) (in_tree (tree c.args.e.now))
+    c.in_ok-in_pieces-in-Interp.ensures (in_interp_form c.args.e.now c.in-Interp.ps c.as_slice.result.now c.in-Interp.is c.as_slice.ensures.value)
+
+pub in_expression-returns-in_ok-in_expression-in-Unary : goal.in_expression-returns-in_ok-in_expression-in-Unary
+in_expression-returns-in_ok-in_expression-in-Unary t c =
+    after_one c.args.out.now.items c.in_expression.new.out.items (in_tree (tree c.deref.result.now)) (in_tree (tree c.args.e.now))
+    c.in_ok-in_expression-in-Unary.ensures (in_unary_form c.args.e.now c.deref.result.now c.in-Unary.field-0 c.in-Unary.x c.in-Unary.is c.deref.ensures)
+
+pub in_expression-returns-in_ok-in_operands-in-Chain : goal.in_expression-returns-in_ok-in_operands-in-Chain
+in_expression-returns-in_ok-in_operands-in-Chain t c =
+    after_both c.args.out.now.items c.in_expression-in-Chain.new.out.items c.in_operands.new.out.items
+    (in_tree (tree c.deref-in-Chain.result.now)) (in_links (links (map link c.as_slice-in-Chain.result.now))) (in_tree (tree c.args.e.now))
+    c.in_ok-in_expression-in-Chain.ensures c.in_ok-in_operands-in-Chain.ensures
+    (in_chain_form c.args.e.now c.deref-in-Chain.result.now c.in-Chain.x c.in-Chain.rest c.as_slice-in-Chain.result.now c.in-Chain.is c.deref-in-Chain.ensures c.as_slice-in-Chain.ensures.value)
+
+pub in_expression-returns-in_ok-in_all-in-Call : goal.in_expression-returns-in_ok-in_all-in-Call
+in_expression-returns-in_ok-in_all-in-Call t c =
+    after_both c.args.out.now.items c.note-in-Call.new.out.items c.in_all.new.out.items
+    (occurs Used c.in-Call.n c.args.e.now.span ∷ []) (in_trees (trees (map tree c.as_slice-in-Call.result.now))) (in_tree (tree c.args.e.now))
+    c.in_ok-note-in-Call.ensures c.in_ok-in_all-in-Call.ensures
+    (in_call_form c.args.e.now c.in-Call.n c.in-Call.xs c.as_slice-in-Call.result.now c.in-Call.is c.as_slice-in-Call.ensures.value)
+
+pub in_expression-returns-in_ok-in_expression-in-GenCall : goal.in_expression-returns-in_ok-in_expression-in-GenCall
+in_expression-returns-in_ok-in_expression-in-GenCall t c =
+    after_three c.args.out.now.items c.note-in-GenCall.new.out.items c.in_generators.new.out.items c.in_expression-in-GenCall.new.out.items
+    (occurs Used c.in-GenCall.n c.args.e.now.span ∷ []) (in_gens (gens (map generator c.as_slice-in-GenCall.result.now))) (in_tree (tree c.deref-in-GenCall.result.now)) (in_tree (tree c.args.e.now))
+    c.in_ok-note-in-GenCall.ensures c.in_ok-in_generators-in-GenCall.ensures c.in_ok-in_expression-in-GenCall.ensures
+    (in_gen_call_form c.args.e.now c.deref-in-GenCall.result.now c.in-GenCall.n c.in-GenCall.gs c.in-GenCall.x c.as_slice-in-GenCall.result.now c.in-GenCall.is c.deref-in-GenCall.ensures c.as_slice-in-GenCall.ensures.value)
+
+pub in_expression-returns-in_ok-in_all-in-Access : goal.in_expression-returns-in_ok-in_all-in-Access
+in_expression-returns-in_ok-in_all-in-Access t c =
+    after_both c.args.out.now.items c.in_expression-in-Access.new.out.items c.in_all-in-Access.new.out.items
+    (in_tree (tree c.deref-in-Access.result.now)) (in_trees (trees (map tree c.as_slice-in-Access.result.now))) (in_tree (tree c.args.e.now))
+    c.in_ok-in_expression-in-Access.ensures c.in_ok-in_all-in-Access.ensures
+    (in_access_form c.args.e.now c.deref-in-Access.result.now c.in-Access.x c.in-Access.xs c.as_slice-in-Access.result.now c.in-Access.is c.deref-in-Access.ensures c.as_slice-in-Access.ensures.value)
+
+pub in_expression-returns-in_ok-in_all-in-Array : goal.in_expression-returns-in_ok-in_all-in-Array
+in_expression-returns-in_ok-in_all-in-Array t c =
+    after_one c.args.out.now.items c.in_all-in-Array.new.out.items (in_trees (trees (map tree c.as_slice-in-Array.result.now))) (in_tree (tree c.args.e.now))
+    c.in_ok-in_all-in-Array.ensures (in_array_form c.args.e.now c.in-Array.xs c.as_slice-in-Array.result.now c.in-Array.is c.as_slice-in-Array.ensures.value)
+
+pub in_expression-returns-after-loop-row : goal.in_expression-returns-after-loop-row
+in_expression-returns-after-loop-row t c = all_read (λ x. in_trees (trees (map tree x.items))) c.as_slice-row-items.result.now c.loop-row.row-index c.args.out.now.items c.loop-row.out.items _ c.loop-row.invariant c.loop-row-test.false (in_rows_form c.args.e.now c.in-Rows.rs c.as_slice-row-items.result.now c.in-Rows.is c.as_slice-row-items.ensures.value)
+
+pub in_expression-returns-in_ok-in_all-in-Set : goal.in_expression-returns-in_ok-in_all-in-Set
+in_expression-returns-in_ok-in_all-in-Set t c =
+    after_one c.args.out.now.items c.in_all-in-Set.new.out.items (in_trees (trees (map tree c.as_slice-in-Set.result.now))) (in_tree (tree c.args.e.now))
+    c.in_ok-in_all-in-Set.ensures (in_set_form c.args.e.now c.in-Set.xs c.as_slice-in-Set.result.now c.in-Set.is c.as_slice-in-Set.ensures.value)
 
 pub in_expression-returns-in_ok-in_generators-in-ArrayComp : goal.in_expression-returns-in_ok-in_generators-in-ArrayComp
 in_expression-returns-in_ok-in_generators-in-ArrayComp t c =
@@ -55,5 +128,7 @@ in_expression-returns-in_ok-in_expression-in-If t c =
     c.in_ok-in_choices-in-If.ensures c.in_ok-in_expression-in-If.ensures
     (in_if_form c.args.e.now c.deref-in-Some.result.now c.in-Some.x c.in-If.bs c.as_slice-in-If.result.now c.in-If.other c.in-If.is c.in-Some.is c.deref-in-Some.ensures c.as_slice-in-If.ensures.value)
 
-pub in_expression-returns-after-loop-row : goal.in_expression-returns-after-loop-row
-in_expression-returns-after-loop-row t c = all_read (λ x. in_trees (trees (map tree x.items))) c.as_slice-row-items.result.now c.loop-row.row-index c.args.out.now.items c.loop-row.out.items _ c.loop-row.invariant c.loop-row-test.false (in_rows_form c.args.e.now c.in-Rows.rs c.as_slice-row-items.result.now c.in-Rows.is c.as_slice-row-items.ensures.value)
+pub in_expression-returns-in_default : goal.in_expression-returns-in_default
+in_expression-returns-in_default t c =
+    after_one c.args.out.now.items c.in_choices.new.out.items (in_branches (branches (map branch c.as_slice-in-If.result.now))) (in_tree (tree c.args.e.now))
+    c.in_ok-in_choices-in-If.ensures (in_if_alone c.args.e.now c.in-If.bs c.as_slice-in-If.result.now c.in-If.other c.in-If.is c.in_default.is c.as_slice-in-If.ensures.value)
