@@ -1,0 +1,8 @@
+pub mod Numbered
+pub mod Knowing
+pub mod Limited
+pub mod Shown
+pub mod Answered
+pub mod Told
+pub mod Sizes
+pub mod Parted
