@@ -1,0 +1,4 @@
+pub mod Disjunctions
+pub mod Pairing
+pub mod Choosing
+pub mod Preceding

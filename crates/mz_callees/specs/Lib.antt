@@ -1,0 +1,5 @@
+pub mod Views
+pub mod Pairs
+pub mod Rows
+pub mod StepsLeftOut
+pub mod StepsChains
