@@ -1,6 +1,7 @@
 // The types of this crate.
 
-ghost use Rattle.std.specs.Prelude.{◌<◌, ◌^◌};
+ghost use Rattle.std.specs.Prelude.{◌<◌, ◌^◌, ◌≤ℤ◌, pos};
+ghost use Rattle.mz_value.specs.Ranges.{greatest};
 
 use mz_cells::Known;
 use mz_core::Program;
@@ -24,6 +25,8 @@ pub struct World<'a> {
     pub budget: u64,
     pub int_range: i64,
     ghost small: { budget < 2 ^ 63 },
+    ghost from_zero: { pos 0 ≤ℤ int_range },
+    ghost in_limit: { int_range ≤ℤ greatest },
 }
 
 /// The cells of the slots that are in scope: the top-level ones; one more; or several more, of which
