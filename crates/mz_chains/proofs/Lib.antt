@@ -1,0 +1,5 @@
+pub mod Fronts
+pub mod Heads
+pub mod LastLinks
+pub mod Layers
+pub mod Runs

@@ -1,0 +1,14 @@
+// The coercions round a node, and the operators of chains.
+#![tactic(auto)]
+
+mod bases;
+mod chains;
+mod levels;
+mod nodes;
+mod types;
+
+pub use bases::{base_of, operand_base};
+pub use chains::all_operators;
+pub use levels::{has_front, is_appended};
+pub use nodes::{coerce_both, finished, inner, place_of};
+pub use types::{Front, Operator};
