@@ -1,0 +1,4 @@
+pub mod Symbols
+pub mod Means
+pub mod DataMeans
+pub mod DataTaken

@@ -1,0 +1,15 @@
+// What holds of the grammars and of the lines of their EBNF.
+
+ghost use Rattle.mz_syntax.specs.Promise.{DataFilesAreDerived, DataItemsAreDerived, DerivedDataFilesAreTaken, NoDerivedDataFileIsRefused};
+
+/// What the rules take of a data file is derived by the lines of the EBNF, with no more tokens open at once than there is room for.
+pub fn data_files_are_derived()
+    ensures taken { DataFilesAreDerived }
+    ensures answered { DataItemsAreDerived }
+{}
+
+/// What the lines of the EBNF derive, the rules take, and no reader by them refuses it.
+pub fn derived_data_files_are_taken()
+    ensures taken { DerivedDataFilesAreTaken }
+    ensures never_refused { NoDerivedDataFileIsRefused }
+{}

@@ -1,0 +1,6 @@
+// The grammar by its own lines: what the EBNF derives, and that the rules of the grammar take the same.
+#![tactic(auto)]
+
+mod law;
+
+pub use law::{data_files_are_derived, derived_data_files_are_taken};
