@@ -1,3 +1,4 @@
+pub mod Arranging
 pub mod Assigning
 pub mod Gathering
 pub mod Tables

@@ -15,7 +15,7 @@ use mz_tree::{Data, DataItem, Decl, Expr, Function, Goal, Sources};
 use std::alloc::Global;
 
 /// The parts of a model with its data, each in the order of the text, the files one after the other.
-#[derive(Debug, Drop)]
+#[derive(Drop)]
 pub struct ModelParts {
     /// The enums, with the cases that their items or the data give.
     pub enums: Vec<ScopedEnum>,

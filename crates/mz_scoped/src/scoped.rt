@@ -4,7 +4,7 @@ use mz_base::{Name, Span};
 use mz_tree::{DataItem, Decl, Expr, Function, Goal};
 
 /// An enum with its cases, whose numbers are their places here, from 1. Cases from data have the place of the data's value.
-#[derive(Debug, Drop)]
+#[derive(Drop)]
 pub struct ScopedEnum {
     pub name: Name,
     pub span: Span,
@@ -13,7 +13,7 @@ pub struct ScopedEnum {
 
 /// A model whose names are tested and whose declarations stand in the order of evaluation. All else stands in the order of the
 /// text, the files one after the other.
-#[derive(Debug, Drop)]
+#[derive(Drop)]
 pub struct Scoped {
     /// The enums: the number of one is its place here, from 0.
     pub enums: Vec<ScopedEnum>,
