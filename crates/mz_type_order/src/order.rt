@@ -1,0 +1,93 @@
+// The order of types.
+
+ghost use Rattle.std.specs.Prelude.{◌≡◌, map, length, ◌+◌, ◌++◌, IfOk, OnOk};
+ghost use Rattle.mz_tree.specs.Views.{declaration};
+ghost use Rattle.mz_tree.specs.Items.{function_of};
+ghost use Rattle.mz_uses.specs.Outlines.{sketch, decl_sketch, function_sketch};
+ghost use Rattle.mz_scoped.specs.Scoped.{scoped_tree, shared_names, AreDistinct, AreRanked};
+ghost use Rattle.mz_type_order.specs.Subjects.{subject, subject_at, subjects_in, IsOrderOf};
+
+use crate::subject::Subject;
+use mz_base::Memory;
+use mz_dependency::type_graph;
+use mz_graph::order_of;
+use mz_outline::{outline_of_decl, outline_of_function};
+use mz_scoped::Scoped;
+use mz_tree::{Decl, Function};
+use mz_uses::Outline;
+use std::alloc::Global;
+
+/// What each declaration uses.
+fn decl_outlines(alloc: Global, decls: &[Decl]) -> Result<Vec<Outline>, Memory>
+    ensures { IfOk result (λ v. map sketch v.items ≡ map decl_sketch (map declaration decls.now)) }
+{
+    let mut all = Vec::new(alloc);
+    for d in decls {
+        let o = outline_of_decl(alloc, d)?;
+        all.push(o)?;
+    }
+    Ok(all)
+}
+
+/// What each function uses.
+fn function_outlines(alloc: Global, functions: &[Function]) -> Result<Vec<Outline>, Memory>
+    ensures { IfOk result (λ v. map sketch v.items ≡ map function_sketch (map function_of functions.now)) }
+{
+    let mut all = Vec::new(alloc);
+    for f in functions {
+        let o = outline_of_function(alloc, f)?;
+        all.push(o)?;
+    }
+    Ok(all)
+}
+
+/// Adds what a node of the graph of types is: the functions come first, then their names, and from `base` on the declarations.
+fn add_subject(
+    all: &mut Vec<Subject>,
+    functions: usize,
+    base: usize,
+    node: usize,
+) -> Result<(), Memory>
+    ensures { OnOk result (map subject all.new.items ≡ map subject all.old.items ++ subject_at functions base node) }
+{
+    if node < functions {
+        all.push(Subject::Function(node as u64))?;
+        Ok(())
+    } else if node < base {
+        Ok(())
+    } else {
+        all.push(Subject::Decl((node - base) as u64))?;
+        Ok(())
+    }
+}
+
+/// The declarations and functions among these nodes, in their order.
+fn subjects_in(
+    alloc: Global,
+    functions: usize,
+    base: usize,
+    order: &[usize],
+) -> Result<Vec<Subject>, Memory>
+    ensures { IfOk result (λ v. map subject v.items ≡ subjects_in functions base order.now) }
+{
+    let mut all = Vec::new(alloc);
+    for node in order {
+        add_subject(&mut all, functions, base, *node)?;
+    }
+    Ok(all)
+}
+
+/// All declarations and functions, each once and after those that its types refer to.
+pub fn type_order(alloc: Global, scoped: &Scoped) -> Result<Vec<Subject>, Memory>
+    requires distinct { AreDistinct (shared_names (scoped_tree scoped.now)) }
+    requires ranked { AreRanked (scoped_tree scoped.now) }
+    ensures { IfOk result (λ v. IsOrderOf (scoped_tree scoped.now) (map subject v.items)) }
+{
+    let decls = decl_outlines(alloc, scoped.decls.as_slice())?;
+    let functions = function_outlines(alloc, scoped.functions.as_slice())?;
+    let graph = type_graph(alloc, decls.as_slice(), functions.as_slice())?;
+    let order = order_of(alloc, graph.as_slice())?;
+    let base = graph.len() - decls.len();
+    let subjects = subjects_in(alloc, functions.len(), base, order.as_slice())?;
+    Ok(subjects)
+}
