@@ -1,10 +1,13 @@
-// How texts are read: each case of the input is a text, and is answered by what its program is written as, or by its
-// refusal.
+// How texts are read. Each case of the input is a text. It is answered by whether the program that it is read to is well
+// formed, and by what that program is written as, or the refusal where the text isn't its one spelling.
 
 use crate::written::print_written;
 use cases::Page;
+use fz_program::well_formed;
+use fz_reading::read_program;
 use fz_text::read;
 use mz_base::{Memory, Stop};
+use soln_items::Miss;
 use std::alloc::Global;
 
 /// Why a text isn't read.
@@ -18,8 +21,24 @@ fn print_stop(stop: Stop, page: &mut Page) -> Result<(), Memory> {
     }
 }
 
+/// Whether the program that a text is read to is well formed, where it is read to one.
+fn print_formed(alloc: Global, text: &str, page: &mut Page) -> Result<(), Memory> {
+    match read_program(alloc, text.as_bytes()) {
+        Ok(p) => {
+            page.case("well formed", well_formed(&p));
+            Ok(())
+        }
+        Err(Miss::Unfit) => {
+            page.line("no program");
+            Ok(())
+        }
+        Err(Miss::Memory) => Err(Memory),
+    }
+}
+
 /// What reading a text answers.
 fn print_read(alloc: Global, text: &str, page: &mut Page) -> Result<(), Memory> {
+    print_formed(alloc, text, page)?;
     match read(alloc, text.as_bytes()) {
         Ok(p) => print_written(alloc, &p, 9, page),
         Err(stop) => print_stop(stop, page),
