@@ -1,0 +1,3 @@
+pub mod StepsForms
+pub mod Naming
+pub mod Views
