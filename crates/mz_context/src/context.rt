@@ -19,6 +19,13 @@ use mz_checks::Meaning;
 use mz_core::CoreType;
 use std::alloc::Global;
 
+/// The types of declarations and of functions, by their numbers, or the faults at which their typing stopped.
+#[derive(Drop)]
+pub struct TypeTables {
+    pub types: IndexMap<u64, Result<CoreType, Fault>>,
+    pub headings: IndexMap<u64, Result<Heading, Fault>>,
+}
+
 /// What is known of a model while it is typed: what its names stand for, and the types of declarations and of functions that are
 /// typed so far, or the fault at which that stopped. Each look-up takes a constant time.
 #[derive(Drop)]
@@ -35,7 +42,7 @@ pub struct Context<'a> {
 
 #[tactic(auto, unfolding(crate::specs::Known::known), using(crate::proofs::Answering::answer_found, crate::proofs::Answering::answer_added))]
 impl<'a> Context<'a> {
-    ghost use Rattle.mz_context.specs.Known.{known};
+    ghost use Rattle.mz_context.specs.Known.{answers, known};
 
     /// What is known before any type is typed, of so many declarations.
     pub fn new(
@@ -158,6 +165,17 @@ impl<'a> Context<'a> {
             }
         }
         Ok(all)
+    }
+
+    /// The types alone, when nothing more is typed.
+    pub fn into_tables(self) -> TypeTables
+        ensures types { answers declared_type result.types.entries ≡ (known self.entry).types }
+        ensures headings { answers heading result.headings.entries ≡ (known self.entry).headings }
+    {
+        TypeTables {
+            types: self.types,
+            headings: self.headings,
+        }
     }
 
     /// The scope of the items of the model: no local name.

@@ -11,7 +11,7 @@ mod names;
 mod newest;
 mod scope;
 
-pub use context::Context;
+pub use context::{Context, TypeTables};
 pub use functions::{FunctionNames, Overloads};
 pub use groups::Groups;
 pub use heading::{Heading, param_type, signature_of, type_in};

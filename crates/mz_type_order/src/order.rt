@@ -1,6 +1,6 @@
 // The order of types.
 
-ghost use Rattle.std.specs.Prelude.{◌≡◌, map, length, ◌+◌, ◌++◌, IfOk, OnOk};
+ghost use Rattle.std.specs.Prelude.{◌≡◌, map, ◌++◌, IfOk, OnOk};
 ghost use Rattle.mz_tree.specs.Views.{declaration};
 ghost use Rattle.mz_tree.specs.Items.{function_of};
 ghost use Rattle.mz_uses.specs.Outlines.{sketch, decl_sketch, function_sketch};
