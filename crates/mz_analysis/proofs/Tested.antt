@@ -1,0 +1,68 @@
+-- What scoping answers, of the files by name.
+use Rattle.std.proofs.Common.{◌≡◌, ℕ, ◌<◌, List, [], ◌∷◌, length, map, refl, sym, subst, ◌∙◌, arith}
+use Rattle.std.specs.Prelude.{All, Some, None, Result, Ok, Err, IfOk, IfErr}
+use Rattle.std.specs.List.{flat_map}
+use Rattle.mz_base.specs.declared.fault.Span.{Span}
+use Rattle.mz_base.specs.declared.fault.Fault.{Fault}
+use Rattle.mz_base.specs.declared.stop.Stop.{Stop}
+use Rattle.mz_base.specs.declared.stop.Stop.TheVariants as stop
+use Rattle.mz_base.specs.Faults.{IfRefused}
+use Rattle.mz_tree.specs.declared.source.SourceFile.{SourceFile}
+use Rattle.mz_tree.specs.Items.{ItemTree}
+use Rattle.mz_occurrence.specs.Given.{occurrences}
+use Rattle.mz_occurrence.specs.StepsWalk as code
+use Rattle.mz_scoped.specs.declared.scoped.Scoped.{Scoped}
+use Rattle.mz_scoped.specs.Scoped.{scoped_tree, IsScoped, IsCyclic}
+use Rattle.mz_scope.specs.Scope as scope
+use Rattle.mz_scope.specs.Tests as tests
+use Rattle.mz_scope.specs.Tests.{known_in, solve_in, refusal_of}
+use Rattle.mz_include.specs.Views.{file, IsFileOf, AreKnown}
+use Rattle.mz_analysis.specs.Analysis.{IsScopedModel, IsIllNamed, by_a_test, by_a_cycle}
+use Rattle.mz_analysis.specs.Known.{IsWithin}
+use Rattle.mz_analysis.proofs.Items.{items_are, fault_is, all_known}
+use Rattle.mz_analysis.proofs.Parts.{of_scoped}
+use Rattle.mz_analysis.proofs.Faults.{refusal_placed, solves, places, cyclic_placed}
+
+module _ (table : List (List ℕ)) (fs : List SourceFile) where
+  abbrev Answer : Type 0
+  Answer = Result Scoped Stop
+
+  abbrev HaveScope : Scoped → Type 0
+  HaveScope s = IsScoped (code.items_of fs) [] (scoped_tree s)
+
+  pub scoped_model : (r : Answer) → IfOk r (λ _. refusal_of table fs [] ≡ None) → IfOk r HaveScope → IfOk r (λ s. IsScopedModel table (map (file table) fs) (scoped_tree s))
+  scoped_model (Ok s) tested scoped = record { tested = sym (fault_is table fs) ∙ tested; scoped = subst (λ is. IsScoped is [] (scoped_tree s)) (items_are table fs) scoped }
+  scoped_model (Err e) tested scoped = tt
+
+  ill : (f : Fault) → scope.IsRefused table fs [] f → IsIllNamed table (map (file table) fs) f
+  ill f (scope.by_a_test found) = by_a_test (sym (fault_is table fs) ∙ found)
+  ill f (scope.by_a_cycle none cyclic) = by_a_cycle (sym (fault_is table fs) ∙ none) (subst (λ is. IsCyclic is f) (items_are table fs) cyclic)
+
+  pub ill_named : (r : Answer) → IfErr r (λ s. IfRefused s (scope.IsRefused table fs [])) → IfErr r (λ s. IfRefused s (IsIllNamed table (map (file table) fs)))
+  ill_named (Ok s) refused = tt
+  ill_named (Err (stop.Refused f)) refused = ill f refused
+  ill_named (Err stop.Memory) refused = tt
+
+  module _ (known : AreKnown table fs) where
+    pub within : (r : Answer) → IfOk r HaveScope → IfOk r (λ s. IsWithin (length table) (length fs) (scoped_tree s))
+    within (Ok s) scoped = of_scoped (λ n. n < length table) (λ at. at.file < length fs) (code.items_of fs) (scoped_tree s) (all_known table fs known) scoped
+    within (Err e) scoped = tt
+
+    module _ (some : 0 < length fs) where
+      abbrev IsPlaced : Span → Type 0
+      IsPlaced at = at.file < length fs
+
+      end_placed : (gs : List SourceFile) → AreKnown table gs → IsPlaced (tests.end_of gs)
+      end_placed [] k = some
+      end_placed (g ∷ gs) k = let first : IsFileOf table 0 g = k 0 g refl in let zero = first.end in omega (arith, zero, some)
+
+      placed : (f : Fault) → scope.IsRefused table fs [] f → IsPlaced f.span
+      placed f (scope.by_a_test found) =
+          refusal_placed IsPlaced table (known_in table) (tests.end_of fs) (flat_map solve_in (code.items_of fs)) (occurrences (code.items_of fs) []) f (end_placed fs known)
+          (solves (λ n. n < length table) IsPlaced (code.items_of fs) (all_known table fs known)) (places (λ n. n < length table) IsPlaced (code.items_of fs) (all_known table fs known)) found
+      placed f (scope.by_a_cycle none cyclic) = cyclic_placed (λ n. n < length table) IsPlaced (code.items_of fs) f (all_known table fs known) cyclic
+
+      pub fault_placed : (r : Answer) → IfErr r (λ s. IfRefused s (scope.IsRefused table fs [])) → IfErr r (λ s. IfRefused s (λ f. f.span.file < length fs))
+      fault_placed (Ok s) refused = tt
+      fault_placed (Err (stop.Refused f)) refused = placed f refused
+      fault_placed (Err stop.Memory) refused = tt

@@ -1,0 +1,10 @@
+// The names of a model's files, tested and scoped before the files are compiled.
+#![tactic(auto)]
+
+mod law;
+mod owner;
+mod scoping;
+
+pub use law::{one_scoped_model, passed_or_refused, scoped_or_refused};
+pub use owner::file_name;
+pub use scoping::scoped_model;
