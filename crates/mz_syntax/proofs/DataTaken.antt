@@ -360,3 +360,6 @@ none_refused names room tokens items syntax end at h f = no_failing {d = dimensi
 none_refused names room tokens items left_out end at h f = no_failing {d = dimensions_of names} {room = room} {items = items} f.front f.rest tokens f.split f.fails (data_files_taken names room tokens items h)
 none_refused names room tokens items too_deep end at h f =
     f.fails (f.rest, items, subst (λ ts. IsWithin rule (file (dimensions_of names)) room ts items) (f.split ∙ sym (append_assoc f.front (f.token ∷ []) f.rest)) (data_files_taken names room tokens items h))
+
+pub one_derived : (names : List (List ℕ)) (k m : ℕ) (tokens : List Token) (items others : List Given) → DerivesFile (dimensions_of names) k tokens items → DerivesFile (dimensions_of names) m tokens others → items ≡ others
+one_derived names k m tokens items others h g = Laws.one_value rule rank width low falls (file (dimensions_of names)) k m tokens [] items others (data_files_taken names k tokens items h) (data_files_taken names m tokens others g)

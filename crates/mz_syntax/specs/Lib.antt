@@ -1,3 +1,4 @@
 pub mod Next
 pub mod DataSyntax
+pub mod ModelSyntax
 pub mod Promise

@@ -7,7 +7,11 @@ use Rattle.mz_tree.specs.Data.{Given}
 use Rattle.mz_cursor.specs.Rules.{Reason}
 use Rattle.mz_cursor.specs.Promise.{IsWithin, IsFront, IsFault}
 use Rattle.mz_grammar.specs.Data.{Dimensions, dimensions_of, rule, file}
+use Rattle.mz_tree.specs.Items.{ItemTree}
+use Rattle.mz_grammar.specs.Parts as model_part
+use Rattle.mz_grammar.specs.Model as model
 use Rattle.mz_syntax.specs.DataSyntax.{DerivesFile}
+use Rattle.mz_syntax.specs.ModelSyntax.{DerivesModel}
 
 -- an array call has a dimension at least
 abbrev pub ArePositive : Dimensions → Type 0
@@ -28,3 +32,11 @@ DerivedDataFilesAreTaken = (names : List (List ℕ)) (room : ℕ) (tokens : List
 -- So no file that the EBNF derives is refused.
 abbrev pub NoDerivedDataFileIsRefused : Type 0
 NoDerivedDataFileIsRefused = (names : List (List ℕ)) (room : ℕ) (tokens : List Token) (items : List Given) (why : Reason) (end at : Span) → DerivesFile (dimensions_of names) room tokens items → IsFault rule (file (dimensions_of names)) room why end tokens at → ⊥
+
+-- And a list of tokens is at most one data file by these lines.
+abbrev pub DerivesOneDataFile : Type 0
+DerivesOneDataFile = (names : List (List ℕ)) (k m : ℕ) (tokens : List Token) (items others : List Given) → DerivesFile (dimensions_of names) k tokens items → DerivesFile (dimensions_of names) m tokens others → items ≡ others
+
+-- What the rules take of a model, where so many tokens may be open at once, the EBNF derives with no more open.
+abbrev pub ModelsAreDerived : Type 0
+ModelsAreDerived = (room : ℕ) (tokens : List Token) (items : List ItemTree) → IsWithin model.rule model_part.file room tokens items → DerivesModel room tokens items

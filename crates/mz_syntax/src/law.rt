@@ -1,6 +1,6 @@
 // What holds of the grammars and of the lines of their EBNF.
 
-ghost use Rattle.mz_syntax.specs.Promise.{DataFilesAreDerived, DataItemsAreDerived, DerivedDataFilesAreTaken, NoDerivedDataFileIsRefused};
+ghost use Rattle.mz_syntax.specs.Promise.{DataFilesAreDerived, DataItemsAreDerived, DerivedDataFilesAreTaken, DerivesOneDataFile, ModelsAreDerived, NoDerivedDataFileIsRefused};
 
 /// What the rules take of a data file is derived by the lines of the EBNF, with no more tokens open at once than there is room for.
 pub fn data_files_are_derived()
@@ -8,8 +8,14 @@ pub fn data_files_are_derived()
     ensures answered { DataItemsAreDerived }
 {}
 
-/// What the lines of the EBNF derive, the rules take, and no reader by them refuses it.
+/// What the lines of the EBNF derive, the rules take, and no reader by them refuses it. So they derive one file at most of a list of tokens.
 pub fn derived_data_files_are_taken()
     ensures taken { DerivedDataFilesAreTaken }
     ensures never_refused { NoDerivedDataFileIsRefused }
+    ensures one { DerivesOneDataFile }
+{}
+
+/// What the rules take of a model is derived by the lines of the EBNF, with no more tokens open at once than there is room for.
+pub fn models_are_derived()
+    ensures { ModelsAreDerived }
 {}

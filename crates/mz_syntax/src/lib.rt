@@ -3,4 +3,4 @@
 
 mod law;
 
-pub use law::{data_files_are_derived, derived_data_files_are_taken};
+pub use law::{data_files_are_derived, derived_data_files_are_taken, models_are_derived};

@@ -1,4 +1,4 @@
-use Rattle.mz_syntax.proofs.DataTaken.{data_files_taken, none_refused}
+use Rattle.mz_syntax.proofs.DataTaken.{data_files_taken, none_refused, one_derived}
 use Rattle.mz_syntax.proofs.law.derived_data_files_are_taken.Goals as goal
 
 pub returns-clause-taken : goal.returns-clause-taken
@@ -6,3 +6,6 @@ returns-clause-taken c = data_files_taken
 
 pub returns-clause-never_refused : goal.returns-clause-never_refused
 returns-clause-never_refused c = none_refused
+
+pub returns-clause-one : goal.returns-clause-one
+returns-clause-one c = one_derived
