@@ -16,7 +16,7 @@ use Rattle.mz_include.specs.Trees.{IsItemOf}
 use Rattle.mz_include.specs.Views.{AreKnown}
 use Rattle.mz_include.proofs.KnownFiles.{files_known_later}
 use Rattle.mz_given.specs.Named.{IsGivenWithin}
-use Rattle.mz_scope.specs.Tests.{AreNamed}
+use Rattle.mz_spaces.specs.Tests.{AreNamed}
 use Rattle.mz_scope.proofs.Naming.{all_named}
 
 module _ (names : List (List ℕ)) where

@@ -4,7 +4,7 @@ ghost use Rattle.std.specs.Prelude.{map};
 ghost use Rattle.mz_tree.specs.Data.{given};
 ghost use Rattle.mz_occurrence.specs.Given.{occurrences};
 ghost use Rattle.mz_occurrence.specs.StepsWalk.{items_of};
-ghost use Rattle.mz_scope.specs.Tests.{AreNamed};
+ghost use Rattle.mz_spaces.specs.Tests.{AreNamed};
 
 use cases::Page;
 use mz_base::{Memory, Names, Span, Stop};

@@ -4,8 +4,9 @@ pub mod Distinct
 pub mod Inner
 pub mod Naming
 pub mod Parting
+pub mod Refusing
 pub mod Same
 pub mod Scanning
-pub mod Tracking
+pub mod Sequencing
 pub mod Turned
 pub mod Whole

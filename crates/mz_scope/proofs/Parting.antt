@@ -18,7 +18,7 @@ use Rattle.mz_occurrence.proofs.Lists.{flat_of_both}
 use Rattle.mz_uses.specs.Outlines.{has_parameters}
 use Rattle.mz_scoped.specs.Parts.{declared_in, function_in, cases_at, given_cases, enum_in, enums_of, name_of}
 use Rattle.mz_scoped.specs.Scoped.{enum_names, name_unless, bare_name}
-use Rattle.mz_scope.specs.Spaces.{declares, gives, name_in, names_with}
+use Rattle.mz_spaces.specs.Spaces.{declares, gives, name_in, names_with}
 use Rattle.mz_scope.proofs.Counting.{one_if, count, total, counted_both, counted_flat, total_sum, total_same, total_most, none_counted, flat_flat}
 use Rattle.mz_scope.proofs.Inner.{expression_bare, maybe_bare, written_bare, parameters_bare, goal_bare, bare_both}
 

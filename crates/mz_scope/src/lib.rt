@@ -1,13 +1,9 @@
-// The spaces of names, and what is refused of them.
+// What is refused of the names of a model, and the scoped model.
 #![tactic(auto)]
 
-mod first;
 mod law;
 mod refusals;
-mod repeated;
 mod scoping;
-mod solves;
-mod spaces;
 mod testing;
 
 pub use law::all_named;

@@ -1,15 +1,26 @@
 // The tests of names, in their order.
 
 ghost use Rattle.std.specs.Prelude.{◌≡◌, IfOk};
-ghost use Rattle.mz_scope.specs.Tests.{known_in, refusal, refusal_after_solves, first_unknown_of, first_missing_of, AreNamed};
+ghost use Rattle.mz_spaces.specs.Tests.{known_in, solve_fault, refusal, refusal_after_solves, first_unknown_of, first_missing_of, AreNamed};
 
-use crate::first::{first_misfit, first_missing, first_reserved, first_unknown};
-use crate::repeated::first_repeated;
-use crate::solves::solve_fault;
-use crate::spaces::{bound_names, declared_names, listed_names, valued_names};
 use mz_base::{Fault, Kind, Memory, Names, Span};
 use mz_occurrence::Occurrence;
+use mz_spaces::{
+    bound_names, declared_names, first_misfit, first_missing, first_repeated, first_reserved,
+    first_unknown, listed_names, valued_names,
+};
 use std::alloc::Global;
+
+/// Where a solve item is missing, or a second one stands.
+fn solve_fault(end: Span, solves: &[Span]) -> Option<Span>
+    ensures { result ≡ solve_fault end solves.now }
+{
+    match solves {
+        [] => Some(end),
+        [_] => None,
+        [_, second, ..] => Some(*second),
+    }
+}
 
 /// What the tests of names refuse, of a model whose file ends at `end` and whose solve items have the places `solves`: a
 /// reserved name, a second declaration or value of a name, a missing or a second solve item, an unknown name, data that doesn't

@@ -15,7 +15,7 @@ ghost use Rattle.mz_dependency.specs.Dependencies.{AreDeclarations};
 ghost use Rattle.mz_scoped.specs.Scoped.{scoped_tree, parts_tree, IsScoped, AreRanked};
 ghost use Rattle.mz_scope.specs.Scope.{IsRefused};
 ghost use Rattle.mz_scope.specs.StepsScope.{IsArranged, HasCycle};
-ghost use Rattle.mz_scope.specs.Tests.{AreNamed, refusal_of};
+ghost use Rattle.mz_spaces.specs.Tests.{AreNamed, refusal_of};
 
 use crate::testing::test_names;
 use mz_base::{Fault, Kind, Memory, Names, Span, Stop};

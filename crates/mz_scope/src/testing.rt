@@ -5,12 +5,12 @@ ghost use Rattle.mz_base.specs.Faults.{IfRefused};
 ghost use Rattle.mz_tree.specs.Data.{given};
 ghost use Rattle.mz_occurrence.specs.Given.{occurrences};
 ghost use Rattle.mz_occurrence.specs.StepsWalk.{items_of};
-ghost use Rattle.mz_scope.specs.Tests.{AreNamed, refusal_of};
+ghost use Rattle.mz_spaces.specs.Tests.{AreNamed, refusal_of};
 
 use crate::refusals::refusal;
-use crate::solves::{end_of, solves_of};
 use mz_base::{Fault, Memory, Names, Stop};
 use mz_occurrence::occurrences;
+use mz_spaces::{end_of, solves_of};
 use mz_tree::{Data, Sources};
 use std::alloc::Global;
 

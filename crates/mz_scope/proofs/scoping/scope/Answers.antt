@@ -8,7 +8,7 @@ use Rattle.mz_dependency.specs.Dependencies.{AreDeclarations}
 use Rattle.mz_scoped.specs.Scoped.{ScopedTree, scoped_tree, parts_tree, IsScoped, AreRanked}
 use Rattle.mz_scope.specs.Scope.{IsRefused, by_a_cycle}
 use Rattle.mz_scope.specs.StepsScope.{IsArranged, HasCycle}
-use Rattle.mz_scope.specs.Tests.{known_in, end_of, solve_in}
+use Rattle.mz_spaces.specs.Tests.{known_in, end_of, solve_in}
 use Rattle.mz_scope.proofs.Distinct.{have_passed, declarations}
 use Rattle.mz_scope.proofs.Arranging.{scoped, ranked, cyclic, if_ok, if_err_refused}
 use Rattle.mz_scope.proofs.scoping.scope.Goals as goal

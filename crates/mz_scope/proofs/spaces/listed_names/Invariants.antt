@@ -1,7 +1,0 @@
-use Rattle.std.proofs.Common.{◌≡◌, ◌++◌, drop}
-use Rattle.std.specs.List.{flat_map}
-use Rattle.mz_scope.specs.Spaces.{lists, name_in}
-use Rattle.mz_scope.proofs.spaces.listed_names.Given as goal
-
-abbrev pub invariant-loop-o : goal.invariant-loop-o
-invariant-loop-o l = flat_map (name_in lists) l.os ≡ l.names.items ++ flat_map (name_in lists) (drop l.o-index l.os)

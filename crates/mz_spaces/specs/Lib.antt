@@ -1,0 +1,5 @@
+pub mod Examples
+pub mod Spaces
+pub mod StepsSpaces
+pub mod StepsTests
+pub mod Tests
