@@ -6,3 +6,5 @@ pub mod Turned
 pub mod ModelClaims
 pub mod ModelMeans
 pub mod HardCases
+pub mod Blames
+pub mod ModelBlames

@@ -73,10 +73,10 @@ only_word : {n : Place} (start : ℕ) (from : List Token) (room : ℕ) (ts : Lis
 only_word start from room ts k f h = by_word start from room ts k f refuse h (λ e. tt)
 
 -- a token that was seen is passed over
-seen : {t : Tok} {ts us : List Token} → tok_at ts ≡ Some t → Over ts us → Next t ts us
+pub seen : {t : Tok} {ts us : List Token} → tok_at ts ≡ Some t → Over ts us → Next t ts us
 seen e (over {t = u}) = begins (some_inner e)
 
-named_by : (n : Name) (o : Option Tok) → ident_of o ≡ Some n → o ≡ Some (Ident n)
+pub named_by : (n : Name) (o : Option Tok) → ident_of o ≡ Some n → o ≡ Some (Ident n)
 named_by n (Some (Ident m)) e = ap (λ n. Some (Ident n)) (some_inner e)
 named_by n None e = absurd (cc)
 named_by n _ e = absurd (cc)
@@ -120,7 +120,7 @@ both true true e = (refl, refl)
 both true false e = absurd (cc)
 both false b e = absurd (cc)
 
-either : (a b : Bool) → (a || b) ≡ true → (a ≡ true) ⊎ (b ≡ true)
+pub either : (a b : Bool) → (a || b) ≡ true → (a ≡ true) ⊎ (b ≡ true)
 either true b e = inl refl
 either false true e = inr refl
 either false false e = absurd (cc)
@@ -226,7 +226,7 @@ by_expression_means (name n s) k ts us h = by_symbol k ts k us SEq _ _
 by_expression_means (member n s e) k ts us h = λ d vs g. (refl, ebnf.decl_item (g ts (expression_type (member n s e) h)))
 by_expression_means (other s e) k ts us h = λ d vs g. (refl, ebnf.decl_item (g ts (expression_type (other s e) h)))
 
-keyword : ItemKind → Keyword
+unfoldable pub keyword : ItemKind → Keyword
 keyword an_include = KInclude
 keyword a_constraint = KConstraint
 keyword a_solve = KSolve
@@ -237,7 +237,7 @@ keyword a_function = KFunction
 keyword an_annotation = KAnnotation
 keyword an_enum = KEnum
 
-item_token : (i : ItemKind) (o : Option Tok) → item_of o ≡ Some i → o ≡ Some (Word (keyword i))
+pub item_token : (i : ItemKind) (o : Option Tok) → item_of o ≡ Some i → o ≡ Some (Word (keyword i))
 unfolding keyword
 item_token i (Some (Word KInclude)) e = ap (λ i. Some (Word (keyword i))) (some_inner e)
 item_token i (Some (Word KConstraint)) e = ap (λ i. Some (Word (keyword i))) (some_inner e)
@@ -299,7 +299,7 @@ separated ts us e o = elim (either (is_sym SComma (tok_at ts)) (is_sym SSemi (to
   | inr c ↦ inr (meant.next_symbol SSemi c o)
 ]
 
-all_mean : (n : Place) (k : ℕ) (ts : List Token) → Means k ts k ts (rule n)
+pub all_mean : (n : Place) (k : ℕ) (ts : List Token) → Means k ts k ts (rule n)
 unfolding rule symbol_number
 all_mean Parts.file k ts = found k ts k ts (tok_at ts) (give []) _ (λ e. (refl, ebnf.none)) (λ t e i us h is vs g. (refl, g ts i h))
 all_mean Parts.more_items k ts = found k ts k ts (tok_at ts) (give []) _
@@ -442,3 +442,20 @@ all_mean Parts.let_item k ts = by_word k ts k ts KConstraint _ _ (λ us c m vs h
 
 pub models_derived : (room : ℕ) (tokens : List Token) (items : List ItemTree) → IsWithin rule Parts.file room tokens items → DerivesModel room tokens items
 models_derived room tokens items h = subst (λ ts. DerivesModel room ts items) (append-nil tokens) (meant.taken_means Claim rule all_mean Parts.file h [] refl)
+
+-- Parts that are read by themselves
+
+pub expressions_derived : (room : ℕ) (tokens : List Token) (e : Tree) → IsWithin rule Parts.expr room tokens e → Derives room ebnf.expr tokens e []
+expressions_derived room tokens e h = subst (λ ts. Derives room ebnf.expr ts e []) (append-nil tokens) ((meant.taken_means Claim rule all_mean Parts.expr h [] refl).0)
+
+pub declarations_derived : (room : ℕ) (tokens : List Token) (d : Declaration) → IsWithin rule Parts.declaration room tokens d → Derives room ebnf.decl tokens d []
+declarations_derived room tokens d h = subst (λ ts. Derives room ebnf.decl ts d []) (append-nil tokens) (meant.taken_means Claim rule all_mean Parts.declaration h [] refl)
+
+pub types_derived : (room : ℕ) (tokens : List Token) (t : Written) → IsWithin rule Parts.type room tokens t → Derives room ebnf.type tokens t []
+types_derived room tokens t h = subst (λ ts. Derives room ebnf.type ts t []) (append-nil tokens) (meant.taken_means Claim rule all_mean Parts.type h [] refl)
+
+pub marks_derived : (room : ℕ) (tokens : List Token) (m : Unit {0}) → IsWithin rule Parts.marks room tokens m → Derives room ebnf.marks tokens tt []
+marks_derived room tokens m h = subst (λ ts. Derives room ebnf.marks ts tt []) (append-nil tokens) (meant.taken_means Claim rule all_mean Parts.marks h [] refl)
+
+pub annotations_derived : (room : ℕ) (tokens : List Token) (annotated : Bool) → IsWithin rule Parts.annotations room tokens annotated → (e : Ending) × Derives room (ebnf.anns e) tokens tt []
+annotations_derived room tokens annotated h = let a = meant.taken_means Claim rule all_mean Parts.annotations h [] refl in (a.0, subst (λ ts. Derives room (ebnf.anns a.0) ts tt []) (append-nil tokens) a.1)
