@@ -9,7 +9,7 @@ use Rattle.mz_lexer.specs.declared.token.Tok.TheVariants.{Word, Sym}
 use Rattle.mz_lexer.specs.declared.token.Symbol.{Symbol}
 use Rattle.mz_cursor.specs.Tokens.{place, tok_at, follows}
 use Rattle.mz_cursor.specs.Look.{is_sym, is_word}
-use Rattle.mz_cursor.specs.Rules.{Reason, syntax, left_out, too_deep, Rule, give, refuse, leave_out, look, pass, enter, leave, part, Runs, Refuses, unfit, unwanted, no_token, no_opening, one_too_many, behind_look, behind_pass, behind_enter, behind_leave, within, beyond}
+use Rattle.mz_cursor.specs.Rules.{Reason, syntax, left_out, too_deep, Rule, give, refuse, leave_out, look, pass, enter, leave, part, Refuses, unfit, unwanted, no_token, no_opening, one_too_many, behind_look, behind_pass, behind_enter, behind_leave, within, beyond}
 use Rattle.mz_cursor.specs.Reading.{on}
 use Rattle.mz_cursor.proofs.Laws.{follow}
 use Rattle.mz_syntax.specs.Next.{Next}

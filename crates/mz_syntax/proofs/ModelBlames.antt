@@ -1,44 +1,35 @@
 -- Where the rules of models refuse a form that is left out, one of the forms that are left out stands there.
-use Rattle.std.proofs.Common.{◌≡◌, ◌+◌, ℕ, zero, suc, List, [], ◌∷◌, ◌++◌, length, refl, sym, ap, ◌∙◌, subst, true, false, Bool, Option, inl, inr, ◌⊎◌, append-nil, arith}
+use Rattle.std.proofs.Common.{◌≡◌, ◌+◌, ℕ, zero, suc, List, [], ◌∷◌, ◌++◌, refl, sym, ap, subst, true, false, Bool, Option, inl, inr, arith}
 use Rattle.std.specs.Prelude.{Some, None, if◌then◌else◌, ◌&&◌, ◌||◌}
 use Rattle.mz_base.specs.declared.fault.Span.{Span}
 use Rattle.mz_base.specs.declared.keyword.Keyword.{Keyword}
-use Rattle.mz_base.specs.declared.keyword.Keyword.TheVariants.{KAnnotation, KArray, KBool, KConstraint, KElse, KElseif, KEndif, KEnum, KFalse, KFunction, KIf, KIn, KInclude, KInt, KLet, KList, KMaximize, KMinimize, KOf, KOpt, KOutput, KPar, KPredicate, KSatisfy, KSet, KSolve, KTest, KThen, KTrue, KVar, KWhere}
+use Rattle.mz_base.specs.declared.keyword.Keyword.TheVariants.{KArray, KBool, KConstraint, KElse, KElseif, KEndif, KEnum, KFalse, KIf, KIn, KInt, KLet, KList, KMaximize, KMinimize, KOf, KOpt, KPar, KSatisfy, KSet, KThen, KTrue, KVar, KWhere}
 use Rattle.mz_lexer.specs.declared.token.Token.{Token}
 use Rattle.mz_lexer.specs.declared.token.Tok.{Tok}
 use Rattle.mz_lexer.specs.declared.token.Tok.TheVariants.{Word, Sym, Ident, Int, Text, TextHead, TextMid, TextTail}
 use Rattle.mz_lexer.specs.declared.token.Symbol.{Symbol}
 use Rattle.mz_lexer.specs.declared.token.Symbol.TheVariants.{SLParen, SRParen, SLBrack, SRBrack, SLBrace, SRBrace, SLRows, SRRows, SBar, SComma, SSemi, SColon, SColons, SDots, SEq, SAbsent, SConcat}
-use Rattle.mz_tree.specs.declared.expr.UnOp.{UnOp}
-use Rattle.mz_tree.specs.declared.expr.BinOp.{BinOp}
 use Rattle.mz_tree.specs.Tree as pure
 use Rattle.mz_tree.specs.Tree.{Name, Tree, Generator, Written, Declaration, node, generator, written, no_array, base_bool, base_of, trees, gens}
-use Rattle.mz_tree.specs.Items.{ItemTree, function, assign}
 use Rattle.mz_cursor.specs.Tokens.{place, tok_at, place_or}
 use Rattle.mz_cursor.specs.Look.{is_sym, is_word, symbol_number}
-use Rattle.mz_cursor.specs.Rules.{Rule, left_out, give, refuse, leave_out, look, pass, enter, leave, part}
+use Rattle.mz_cursor.specs.Rules.{left_out, give, refuse, leave_out, pass, enter}
 use Rattle.mz_cursor.specs.Reading.{on}
 use Rattle.mz_cursor.specs.Promise.{IsFault}
-use Rattle.mz_grammar.specs.declared.level.Level.{Level}
-use Rattle.mz_grammar.specs.declared.level.Level.TheVariants as level_is
 use Rattle.mz_grammar.specs.declared.list.Closing.{Closing}
 use Rattle.mz_grammar.specs.declared.list.Closing.TheVariants.{Paren, Bracket, Elements, Brace}
 use Rattle.mz_grammar.specs.declared.list.Turn.{Turn}
-use Rattle.mz_grammar.specs.declared.list.Turn.TheVariants.{Clear}
 use Rattle.mz_grammar.specs.Operators.{prefix_of, binary_of, is_single, tighter_level}
 use Rattle.mz_grammar.specs.Tests.{closes, is_left_out, ident_of, text_of, middle_of, tail_of, ends_row, begins_base, begins_type, ItemKind, an_include, a_constraint, a_solve, an_output, a_predicate, a_test, a_function, an_annotation, an_enum, item_of}
-use Rattle.mz_grammar.specs.Arguments.{waits, takes_where, turn_by, trees_of, generators_of}
+use Rattle.mz_grammar.specs.Arguments.{waits, takes_where, trees_of, generators_of}
 use Rattle.mz_grammar.specs.Parts
 use Rattle.mz_grammar.specs.Parts.{Reading, name, member, other, at_of, tree_of, Argument, given, guarded, strict, Place, Value}
-use Rattle.mz_grammar.specs.Model as model
-use Rattle.mz_grammar.specs.Model.{Ruled, rule, symbol, opening, word, identifier, behind, head_token, head_word, head_symbol, called, guarded_rest, function_rule, by_expression, other_item, item_by}
-use Rattle.mz_syntax.specs.Next.{Next, begins}
+use Rattle.mz_grammar.specs.Model.{Ruled, rule, symbol, opening, word, identifier, behind, head_token, head_word, head_symbol, called, guarded_rest, function_rule, by_expression, item_by}
+use Rattle.mz_syntax.specs.Next.{Next}
 use Rattle.mz_syntax.specs.ModelSyntax as ebnf
 use Rattle.mz_syntax.specs.ModelSyntax.{Ending, closed, with_body, Phrase, Meaning, Derives, DerivesModel, list, optional, term}
 use Rattle.mz_syntax.specs.LeftOut as form
 use Rattle.mz_syntax.specs.LeftOut.{Within, Each, none_yet, one_more, Reached, at_once, one_access, IsLeftOut}
-use Rattle.mz_syntax.proofs.Means as meant
-use Rattle.mz_syntax.proofs.Means.{Over, over}
 use Rattle.mz_syntax.proofs.Symbols.{same_symbol, same_word}
 use Rattle.mz_syntax.proofs.Blames as blame
 use Rattle.mz_syntax.proofs.ModelClaims.{Claim}

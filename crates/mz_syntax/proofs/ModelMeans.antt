@@ -1,5 +1,5 @@
 -- What the rules of models take is what the EBNF derives.
-use Rattle.std.proofs.Common.{◌≡◌, ◌≤◌, ℕ, zero, suc, List, [], ◌∷◌, map, length, refl, sym, ap, ◌∙◌, subst, true, false, Bool, Option, inl, inr, ◌⊎◌, append-nil, arith}
+use Rattle.std.proofs.Common.{◌≡◌, ◌≤◌, ℕ, zero, suc, List, [], ◌∷◌, length, refl, sym, ap, ◌∙◌, subst, true, false, Bool, Option, inl, inr, ◌⊎◌, append-nil, arith}
 use Rattle.std.specs.Prelude.{Some, None, if◌then◌else◌, ◌&&◌, ◌||◌}
 use Rattle.mz_base.specs.declared.fault.Span.{Span}
 use Rattle.mz_base.specs.declared.keyword.Keyword.{Keyword}
@@ -9,17 +9,14 @@ use Rattle.mz_lexer.specs.declared.token.Tok.{Tok}
 use Rattle.mz_lexer.specs.declared.token.Tok.TheVariants.{Word, Sym, Ident, Int, Text, TextHead, TextMid, TextTail}
 use Rattle.mz_lexer.specs.declared.token.Symbol.{Symbol}
 use Rattle.mz_lexer.specs.declared.token.Symbol.TheVariants.{SLParen, SRParen, SLBrack, SRBrack, SLBrace, SRBrace, SLRows, SRRows, SBar, SComma, SSemi, SColon, SColons, SDots, SEq, SAbsent, SConcat}
-use Rattle.mz_tree.specs.declared.expr.UnOp.{UnOp}
-use Rattle.mz_tree.specs.declared.expr.BinOp.{BinOp}
 use Rattle.mz_tree.specs.Tree as pure
 use Rattle.mz_tree.specs.Tree.{Name, Tree, Generator, Written, Declaration, node, generator, written, no_array, base_bool, base_of, trees, gens}
 use Rattle.mz_tree.specs.Items.{ItemTree, function, assign}
 use Rattle.mz_cursor.specs.Tokens.{place, tok_at}
 use Rattle.mz_cursor.specs.Look.{is_sym, is_word, symbol_number}
-use Rattle.mz_cursor.specs.Rules.{Rule, give, refuse, leave_out, look, pass, enter, leave, part}
+use Rattle.mz_cursor.specs.Rules.{give, refuse, leave_out, pass, enter}
 use Rattle.mz_cursor.specs.Reading.{on}
 use Rattle.mz_cursor.specs.Promise.{IsWithin}
-use Rattle.mz_grammar.specs.declared.level.Level.{Level}
 use Rattle.mz_grammar.specs.declared.level.Level.TheVariants as level_is
 use Rattle.mz_grammar.specs.declared.list.Closing.{Closing}
 use Rattle.mz_grammar.specs.declared.list.Closing.TheVariants.{Paren, Bracket, Elements, Brace}
@@ -27,7 +24,7 @@ use Rattle.mz_grammar.specs.declared.list.Turn.{Turn}
 use Rattle.mz_grammar.specs.declared.list.Turn.TheVariants.{Clear}
 use Rattle.mz_grammar.specs.Operators.{prefix_of, binary_of, is_single, tighter_level}
 use Rattle.mz_grammar.specs.Tests.{closes, is_left_out, ident_of, text_of, middle_of, tail_of, ends_row, begins_base, begins_type, ItemKind, an_include, a_constraint, a_solve, an_output, a_predicate, a_test, a_function, an_annotation, an_enum, item_of}
-use Rattle.mz_grammar.specs.Arguments.{waits, takes_where, turn_by, trees_of, generators_of}
+use Rattle.mz_grammar.specs.Arguments.{waits, takes_where, trees_of, generators_of}
 use Rattle.mz_grammar.specs.Parts
 use Rattle.mz_grammar.specs.Parts.{Reading, name, member, other, at_of, tree_of, Argument, given, guarded, strict, Place, Value}
 use Rattle.mz_grammar.specs.Model as model
@@ -37,8 +34,8 @@ use Rattle.mz_syntax.specs.ModelSyntax as ebnf
 use Rattle.mz_syntax.specs.ModelSyntax.{Ending, closed, with_body, Phrase, Meaning, Derives, DerivesModel, list, optional, term}
 use Rattle.mz_syntax.proofs.Means as meant
 use Rattle.mz_syntax.proofs.Means.{Over, over}
-use Rattle.mz_syntax.proofs.Turned.{Kind, Arg, Args, given_arg, guarded_arg, in_arg, strict_arg, no_args, last_arg, more_args, waits_after, weaker, by_turn, all_strict, all_turned, exprs, after}
-use Rattle.mz_syntax.proofs.ModelClaims.{Claim, UpTo, closing, Term, as_deep, no_operator, follow_one, follow_more, level_claim, by_tighter_claim, by_unit_claim, atom_unit, prefix_unit, expr_claim, tight_claim, atom_claim, ann_claim, sees}
+use Rattle.mz_syntax.proofs.Turned.{Arg, given_arg, guarded_arg, in_arg, no_args, last_arg, more_args, waits_after, weaker, by_turn, all_strict, all_turned, exprs, after}
+use Rattle.mz_syntax.proofs.ModelClaims.{Claim, closing, Term, as_deep, no_operator, follow_one, follow_more, level_claim, by_tighter_claim, by_unit_claim, atom_unit, prefix_unit, expr_claim, tight_claim, atom_claim, ann_claim, sees}
 
 abbrev Means : {n : Place} → ℕ → List Token → ℕ → List Token → Ruled n → Type 0
 Means start from room ts p = meant.Means Claim start from room ts p

@@ -1,5 +1,5 @@
 -- The forms of models that are left out of the language, each at its token.
-use Rattle.std.specs.Prelude.{◌≡◌, ℕ, zero, suc, true, List, ◌∷◌, ◌++◌, Option, Some, ◌⊎◌}
+use Rattle.std.specs.Prelude.{◌≡◌, ℕ, zero, suc, true, List, ◌++◌, Some, ◌⊎◌}
 use Rattle.mz_base.specs.declared.fault.Span.{Span}
 use Rattle.mz_base.specs.declared.keyword.Keyword.TheVariants.{KArray, KEnum, KOpt, KSet}
 use Rattle.mz_lexer.specs.declared.token.Token.{Token}
