@@ -8,3 +8,5 @@ pub mod ModelMeans
 pub mod HardCases
 pub mod Blames
 pub mod ModelBlames
+pub mod DataDeeper
+pub mod ModelDeeper

@@ -1,5 +1,5 @@
 -- What holds of the grammars and of the lines of their EBNF.
-use Rattle.std.specs.Prelude.{◌≡◌, ◌<◌, ℕ, Bool, List, [], Some}
+use Rattle.std.specs.Prelude.{◌≡◌, ◌<◌, ℕ, suc, Bool, List, [], Some}
 use Rattle.mz_base.specs.declared.fault.Span.{Span}
 use Rattle.mz_lexer.specs.declared.token.Token.{Token}
 use Rattle.mz_tree.specs.Tree.{Name, Tree, Declaration, Written}
@@ -38,6 +38,13 @@ NoDerivedDataFileIsRefused = (names : List (List ℕ)) (room : ℕ) (tokens : Li
 -- And a list of tokens is at most one data file by these lines.
 abbrev pub DerivesOneDataFile : Type 0
 DerivesOneDataFile = (names : List (List ℕ)) (k m : ℕ) (tokens : List Token) (items others : List Given) → DerivesFile (dimensions_of names) k tokens items → DerivesFile (dimensions_of names) m tokens others → items ≡ others
+
+-- What is derived with so many tokens open at once is derived where more may be open.
+abbrev pub MoreMayBeOpenInData : Type 0
+MoreMayBeOpenInData = (names : List (List ℕ)) (k : ℕ) (tokens : List Token) (items : List Given) → DerivesFile (dimensions_of names) k tokens items → DerivesFile (dimensions_of names) (suc k) tokens items
+
+abbrev pub MoreMayBeOpen : Type 0
+MoreMayBeOpen = (k : ℕ) (tokens : List Token) (items : List ItemTree) → DerivesModel k tokens items → DerivesModel (suc k) tokens items
 
 -- What the rules take of a model, where so many tokens may be open at once, the EBNF derives with no more open.
 abbrev pub ModelsAreDerived : Type 0

@@ -1,6 +1,6 @@
 // What holds of the grammars and of the lines of their EBNF.
 
-ghost use Rattle.mz_syntax.specs.Promise.{AnnotationsAreDerived, DataFilesAreDerived, DataItemsAreDerived, DeclarationsAreDerived, DerivedDataFilesAreTaken, DerivesOneDataFile, ExpressionsAreDerived, LeftOutIsAForm, MarksAreDerived, ModelsAreDerived, NoDerivedDataFileIsRefused, TypesAreDerived};
+ghost use Rattle.mz_syntax.specs.Promise.{AnnotationsAreDerived, DataFilesAreDerived, DataItemsAreDerived, DeclarationsAreDerived, DerivedDataFilesAreTaken, DerivesOneDataFile, ExpressionsAreDerived, LeftOutIsAForm, MarksAreDerived, ModelsAreDerived, MoreMayBeOpen, MoreMayBeOpenInData, NoDerivedDataFileIsRefused, TypesAreDerived};
 
 /// What the rules take of a data file is derived by the lines of the EBNF, with no more tokens open at once than there is room for.
 pub fn data_files_are_derived()
@@ -32,4 +32,10 @@ pub fn parts_are_derived()
 /// Where a model is refused as left out, one of the forms that are left out of the language stands at that token.
 pub fn left_out_is_a_form()
     ensures { LeftOutIsAForm }
+{}
+
+/// What the EBNF derives with so many tokens open at once, it derives where more may be open.
+pub fn more_may_be_open()
+    ensures data_files { MoreMayBeOpenInData }
+    ensures models { MoreMayBeOpen }
 {}
