@@ -1,6 +1,6 @@
 -- What the rules of data files take is what the EBNF derives.
 use Rattle.std.proofs.Common.{◌≡◌, ◌<◌, ℕ, zero, suc, List, [], ◌∷◌, length, refl, sym, ap, ◌∙◌, subst, true, false, Bool, Option, inl, inr, ◌⊎◌, append-nil, arith}
-use Rattle.std.specs.Prelude.{Some, None, pos, neg_ℤ, ℤ, if◌then◌else◌, codes}
+use Rattle.std.specs.Prelude.{Some, None, pos, ℤ, if◌then◌else◌, codes}
 use Rattle.std.specs.Str.{bytes_eq}
 use Rattle.mz_base.specs.Names.{text_of}
 use Rattle.mz_lexer.specs.declared.token.Token.{Token}
@@ -15,11 +15,11 @@ use Rattle.mz_tree.specs.Data.{Given, values, lines, is_name}
 use Rattle.mz_cursor.specs.Tokens.{place, tok_at}
 use Rattle.mz_base.specs.declared.fault.Span.{Span}
 use Rattle.mz_cursor.specs.Look.{is_sym}
-use Rattle.mz_cursor.specs.Rules.{Rule, Runs, give, refuse, look, pass, enter, leave, part}
+use Rattle.mz_cursor.specs.Rules.{give, refuse, pass, enter}
 use Rattle.mz_cursor.specs.Promise.{IsWithin, IsFront}
 use Rattle.mz_cursor.specs.Reading.{on}
 use Rattle.mz_grammar.specs.Tests.{ident_of, ends_row}
-use Rattle.mz_grammar.specs.Data.{Dimensions, dimensions_of, Place, Value, Ruled, rule, symbol, opening, behind_element, file, item, datum, named, sized, index_sets, plains, rows, row, plain, range, set, bounds, ones, one, literal_of, negated_of}
+use Rattle.mz_grammar.specs.Data.{Dimensions, dimensions_of, Place, Value, Ruled, rule, symbol, behind_element, file, item, datum, named, sized, index_sets, plains, rows, row, plain, range, set, bounds, ones, one, literal_of, negated_of}
 use Rattle.mz_syntax.specs.Next.{Next, begins}
 use Rattle.mz_syntax.specs.DataSyntax as ebnf
 use Rattle.mz_syntax.specs.DataSyntax.{Phrase, Meaning, Derives, DerivesFile, list, optional}

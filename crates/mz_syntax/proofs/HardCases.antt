@@ -7,7 +7,7 @@ use Rattle.mz_lexer.specs.declared.token.Token.{Token}
 use Rattle.mz_lexer.specs.declared.token.Tok.{Tok}
 use Rattle.mz_lexer.specs.declared.token.Tok.TheVariants.{Word, Sym, Ident, Int, TextHead, TextTail}
 use Rattle.mz_lexer.specs.declared.token.Symbol.TheVariants.{SLParen, SRParen, SLBrack, SRBrack, SLBrace, SRBrace, SLRows, SRRows, SBar, SComma, SColon, SColons, SDots, SEq, SPlus, SMinus, SConcat}
-use Rattle.mz_tree.specs.Tree.{Name, Tree, node, int, ident, gen_call, let_in, lets, gens, generator, nothing, written, no_array, array_of, bases, base_int, declaration}
+use Rattle.mz_tree.specs.Tree.{Name, Tree, node, ident, gen_call, let_in, lets, gens, generator, nothing, written, array_of, bases, base_int, declaration}
 use Rattle.mz_tree.specs.Items.{ItemTree, constraint, declare}
 use Rattle.mz_cursor.specs.Look.{keyword_number, symbol_number}
 use Rattle.mz_cursor.specs.Rules.{syntax, left_out, too_deep}

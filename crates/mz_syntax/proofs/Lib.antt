@@ -6,3 +6,7 @@ pub mod Turned
 pub mod ModelClaims
 pub mod ModelMeans
 pub mod HardCases
+pub mod Blames
+pub mod ModelBlames
+pub mod DataDeeper
+pub mod ModelDeeper

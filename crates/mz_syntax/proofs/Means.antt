@@ -35,7 +35,7 @@ module _ {Part : Type 0} {Value : Part → Type 0} (Claim : (n : Part) → ℕ �
   Means start from room ts (part m f) = (x : Value m) (us : List Token) → Claim m room ts x us → Means start from room us (f x)
 
   module _ (rule : (n : Part) → Rule Value n) (all_mean : (n : Part) (room : ℕ) (ts : List Token) → Means room ts room ts (rule n)) where
-    means : {n : Part} {q : ℕ} {p : Rule Value n} {us : List Token} {x : Value n} {next : Option Tok} → Runs rule n q p us x next → (start : ℕ) (from rest : List Token) → next ≡ tok_at rest → Means start from q (us ++ rest) p → Claim n start from x rest
+    pub means : {n : Part} {q : ℕ} {p : Rule Value n} {us : List Token} {x : Value n} {next : Option Tok} → Runs rule n q p us x next → (start : ℕ) (from rest : List Token) → next ≡ tok_at rest → Means start from q (us ++ rest) p → Claim n start from x rest
     means gives start from rest e m = m.1
     means {q = q} (looks {f = f} {ts = ts} h) start from rest e m = means h start from rest e (subst (λ o. Means start from q (ts ++ rest) (f o)) (follow ts rest ∙ sym (ap (follows ts) e)) m)
     means (passes {ts = ts} h) start from rest e m = means h start from rest e (m (ts ++ rest) over)

@@ -10,7 +10,7 @@ use Rattle.mz_lexer.specs.declared.token.Token.{Token}
 use Rattle.mz_lexer.specs.declared.token.Tok.{Tok}
 use Rattle.mz_lexer.specs.declared.token.Tok.TheVariants.{Word, Sym, Ident}
 use Rattle.mz_lexer.specs.declared.token.Symbol.{Symbol}
-use Rattle.mz_lexer.specs.declared.token.Symbol.TheVariants.{SLParen, SRParen, SLBrack, SRBrack, SLBrace, SRBrace, SRRows, SBar, SComma, SSemi, SColons, SEq}
+use Rattle.mz_lexer.specs.declared.token.Symbol.TheVariants.{SRParen, SLBrack, SRBrack, SLBrace, SRBrace, SRRows, SBar, SComma, SSemi, SColons, SEq}
 use Rattle.mz_tree.specs.declared.expr.UnOp.{UnOp}
 use Rattle.mz_tree.specs.declared.expr.BinOp.{BinOp}
 use Rattle.mz_tree.specs.declared.expr.BinOp.TheVariants as op

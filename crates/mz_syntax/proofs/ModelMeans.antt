@@ -1,5 +1,5 @@
 -- What the rules of models take is what the EBNF derives.
-use Rattle.std.proofs.Common.{◌≡◌, ◌≤◌, ℕ, zero, suc, List, [], ◌∷◌, map, length, refl, sym, ap, ◌∙◌, subst, true, false, Bool, Option, inl, inr, ◌⊎◌, append-nil, arith}
+use Rattle.std.proofs.Common.{◌≡◌, ◌≤◌, ℕ, zero, suc, List, [], ◌∷◌, length, refl, sym, ap, ◌∙◌, subst, true, false, Bool, Option, inl, inr, ◌⊎◌, append-nil, arith}
 use Rattle.std.specs.Prelude.{Some, None, if◌then◌else◌, ◌&&◌, ◌||◌}
 use Rattle.mz_base.specs.declared.fault.Span.{Span}
 use Rattle.mz_base.specs.declared.keyword.Keyword.{Keyword}
@@ -9,17 +9,14 @@ use Rattle.mz_lexer.specs.declared.token.Tok.{Tok}
 use Rattle.mz_lexer.specs.declared.token.Tok.TheVariants.{Word, Sym, Ident, Int, Text, TextHead, TextMid, TextTail}
 use Rattle.mz_lexer.specs.declared.token.Symbol.{Symbol}
 use Rattle.mz_lexer.specs.declared.token.Symbol.TheVariants.{SLParen, SRParen, SLBrack, SRBrack, SLBrace, SRBrace, SLRows, SRRows, SBar, SComma, SSemi, SColon, SColons, SDots, SEq, SAbsent, SConcat}
-use Rattle.mz_tree.specs.declared.expr.UnOp.{UnOp}
-use Rattle.mz_tree.specs.declared.expr.BinOp.{BinOp}
 use Rattle.mz_tree.specs.Tree as pure
 use Rattle.mz_tree.specs.Tree.{Name, Tree, Generator, Written, Declaration, node, generator, written, no_array, base_bool, base_of, trees, gens}
 use Rattle.mz_tree.specs.Items.{ItemTree, function, assign}
 use Rattle.mz_cursor.specs.Tokens.{place, tok_at}
 use Rattle.mz_cursor.specs.Look.{is_sym, is_word, symbol_number}
-use Rattle.mz_cursor.specs.Rules.{Rule, give, refuse, leave_out, look, pass, enter, leave, part}
+use Rattle.mz_cursor.specs.Rules.{give, refuse, leave_out, pass, enter}
 use Rattle.mz_cursor.specs.Reading.{on}
 use Rattle.mz_cursor.specs.Promise.{IsWithin}
-use Rattle.mz_grammar.specs.declared.level.Level.{Level}
 use Rattle.mz_grammar.specs.declared.level.Level.TheVariants as level_is
 use Rattle.mz_grammar.specs.declared.list.Closing.{Closing}
 use Rattle.mz_grammar.specs.declared.list.Closing.TheVariants.{Paren, Bracket, Elements, Brace}
@@ -27,7 +24,7 @@ use Rattle.mz_grammar.specs.declared.list.Turn.{Turn}
 use Rattle.mz_grammar.specs.declared.list.Turn.TheVariants.{Clear}
 use Rattle.mz_grammar.specs.Operators.{prefix_of, binary_of, is_single, tighter_level}
 use Rattle.mz_grammar.specs.Tests.{closes, is_left_out, ident_of, text_of, middle_of, tail_of, ends_row, begins_base, begins_type, ItemKind, an_include, a_constraint, a_solve, an_output, a_predicate, a_test, a_function, an_annotation, an_enum, item_of}
-use Rattle.mz_grammar.specs.Arguments.{waits, takes_where, turn_by, trees_of, generators_of}
+use Rattle.mz_grammar.specs.Arguments.{waits, takes_where, trees_of, generators_of}
 use Rattle.mz_grammar.specs.Parts
 use Rattle.mz_grammar.specs.Parts.{Reading, name, member, other, at_of, tree_of, Argument, given, guarded, strict, Place, Value}
 use Rattle.mz_grammar.specs.Model as model
@@ -37,8 +34,8 @@ use Rattle.mz_syntax.specs.ModelSyntax as ebnf
 use Rattle.mz_syntax.specs.ModelSyntax.{Ending, closed, with_body, Phrase, Meaning, Derives, DerivesModel, list, optional, term}
 use Rattle.mz_syntax.proofs.Means as meant
 use Rattle.mz_syntax.proofs.Means.{Over, over}
-use Rattle.mz_syntax.proofs.Turned.{Kind, Arg, Args, given_arg, guarded_arg, in_arg, strict_arg, no_args, last_arg, more_args, waits_after, weaker, by_turn, all_strict, all_turned, exprs, after}
-use Rattle.mz_syntax.proofs.ModelClaims.{Claim, UpTo, closing, Term, as_deep, no_operator, follow_one, follow_more, level_claim, by_tighter_claim, by_unit_claim, atom_unit, prefix_unit, expr_claim, tight_claim, atom_claim, ann_claim, sees}
+use Rattle.mz_syntax.proofs.Turned.{Arg, given_arg, guarded_arg, in_arg, no_args, last_arg, more_args, waits_after, weaker, by_turn, all_strict, all_turned, exprs, after}
+use Rattle.mz_syntax.proofs.ModelClaims.{Claim, closing, Term, as_deep, no_operator, follow_one, follow_more, level_claim, by_tighter_claim, by_unit_claim, atom_unit, prefix_unit, expr_claim, tight_claim, atom_claim, ann_claim, sees}
 
 abbrev Means : {n : Place} → ℕ → List Token → ℕ → List Token → Ruled n → Type 0
 Means start from room ts p = meant.Means Claim start from room ts p
@@ -73,10 +70,10 @@ only_word : {n : Place} (start : ℕ) (from : List Token) (room : ℕ) (ts : Lis
 only_word start from room ts k f h = by_word start from room ts k f refuse h (λ e. tt)
 
 -- a token that was seen is passed over
-seen : {t : Tok} {ts us : List Token} → tok_at ts ≡ Some t → Over ts us → Next t ts us
+pub seen : {t : Tok} {ts us : List Token} → tok_at ts ≡ Some t → Over ts us → Next t ts us
 seen e (over {t = u}) = begins (some_inner e)
 
-named_by : (n : Name) (o : Option Tok) → ident_of o ≡ Some n → o ≡ Some (Ident n)
+pub named_by : (n : Name) (o : Option Tok) → ident_of o ≡ Some n → o ≡ Some (Ident n)
 named_by n (Some (Ident m)) e = ap (λ n. Some (Ident n)) (some_inner e)
 named_by n None e = absurd (cc)
 named_by n _ e = absurd (cc)
@@ -120,7 +117,7 @@ both true true e = (refl, refl)
 both true false e = absurd (cc)
 both false b e = absurd (cc)
 
-either : (a b : Bool) → (a || b) ≡ true → (a ≡ true) ⊎ (b ≡ true)
+pub either : (a b : Bool) → (a || b) ≡ true → (a ≡ true) ⊎ (b ≡ true)
 either true b e = inl refl
 either false true e = inr refl
 either false false e = absurd (cc)
@@ -226,7 +223,7 @@ by_expression_means (name n s) k ts us h = by_symbol k ts k us SEq _ _
 by_expression_means (member n s e) k ts us h = λ d vs g. (refl, ebnf.decl_item (g ts (expression_type (member n s e) h)))
 by_expression_means (other s e) k ts us h = λ d vs g. (refl, ebnf.decl_item (g ts (expression_type (other s e) h)))
 
-keyword : ItemKind → Keyword
+unfoldable pub keyword : ItemKind → Keyword
 keyword an_include = KInclude
 keyword a_constraint = KConstraint
 keyword a_solve = KSolve
@@ -237,7 +234,7 @@ keyword a_function = KFunction
 keyword an_annotation = KAnnotation
 keyword an_enum = KEnum
 
-item_token : (i : ItemKind) (o : Option Tok) → item_of o ≡ Some i → o ≡ Some (Word (keyword i))
+pub item_token : (i : ItemKind) (o : Option Tok) → item_of o ≡ Some i → o ≡ Some (Word (keyword i))
 unfolding keyword
 item_token i (Some (Word KInclude)) e = ap (λ i. Some (Word (keyword i))) (some_inner e)
 item_token i (Some (Word KConstraint)) e = ap (λ i. Some (Word (keyword i))) (some_inner e)
@@ -299,7 +296,7 @@ separated ts us e o = elim (either (is_sym SComma (tok_at ts)) (is_sym SSemi (to
   | inr c ↦ inr (meant.next_symbol SSemi c o)
 ]
 
-all_mean : (n : Place) (k : ℕ) (ts : List Token) → Means k ts k ts (rule n)
+pub all_mean : (n : Place) (k : ℕ) (ts : List Token) → Means k ts k ts (rule n)
 unfolding rule symbol_number
 all_mean Parts.file k ts = found k ts k ts (tok_at ts) (give []) _ (λ e. (refl, ebnf.none)) (λ t e i us h is vs g. (refl, g ts i h))
 all_mean Parts.more_items k ts = found k ts k ts (tok_at ts) (give []) _
@@ -442,3 +439,20 @@ all_mean Parts.let_item k ts = by_word k ts k ts KConstraint _ _ (λ us c m vs h
 
 pub models_derived : (room : ℕ) (tokens : List Token) (items : List ItemTree) → IsWithin rule Parts.file room tokens items → DerivesModel room tokens items
 models_derived room tokens items h = subst (λ ts. DerivesModel room ts items) (append-nil tokens) (meant.taken_means Claim rule all_mean Parts.file h [] refl)
+
+-- Parts that are read by themselves
+
+pub expressions_derived : (room : ℕ) (tokens : List Token) (e : Tree) → IsWithin rule Parts.expr room tokens e → Derives room ebnf.expr tokens e []
+expressions_derived room tokens e h = subst (λ ts. Derives room ebnf.expr ts e []) (append-nil tokens) ((meant.taken_means Claim rule all_mean Parts.expr h [] refl).0)
+
+pub declarations_derived : (room : ℕ) (tokens : List Token) (d : Declaration) → IsWithin rule Parts.declaration room tokens d → Derives room ebnf.decl tokens d []
+declarations_derived room tokens d h = subst (λ ts. Derives room ebnf.decl ts d []) (append-nil tokens) (meant.taken_means Claim rule all_mean Parts.declaration h [] refl)
+
+pub types_derived : (room : ℕ) (tokens : List Token) (t : Written) → IsWithin rule Parts.type room tokens t → Derives room ebnf.type tokens t []
+types_derived room tokens t h = subst (λ ts. Derives room ebnf.type ts t []) (append-nil tokens) (meant.taken_means Claim rule all_mean Parts.type h [] refl)
+
+pub marks_derived : (room : ℕ) (tokens : List Token) (m : Unit {0}) → IsWithin rule Parts.marks room tokens m → Derives room ebnf.marks tokens tt []
+marks_derived room tokens m h = subst (λ ts. Derives room ebnf.marks ts tt []) (append-nil tokens) (meant.taken_means Claim rule all_mean Parts.marks h [] refl)
+
+pub annotations_derived : (room : ℕ) (tokens : List Token) (annotated : Bool) → IsWithin rule Parts.annotations room tokens annotated → (e : Ending) × Derives room (ebnf.anns e) tokens tt []
+annotations_derived room tokens annotated h = let a = meant.taken_means Claim rule all_mean Parts.annotations h [] refl in (a.0, subst (λ ts. Derives room (ebnf.anns a.0) ts tt []) (append-nil tokens) a.1)

@@ -33,11 +33,11 @@ unfolding keyword_number keyword_at nth
 keyword_back KAnn = refl
 keyword_back _ = refl
 
-same_symbol : (s : Symbol) (k : Tok) → is_sym s (Some k) ≡ true → k ≡ Sym s
+pub same_symbol : (s : Symbol) (k : Tok) → is_sym s (Some k) ≡ true → k ≡ Sym s
 same_symbol s (Sym t) e = ap Sym (sym (symbol_back t) ∙ ap symbol_at (eqb-true _ _ e) ∙ symbol_back s)
 same_symbol s _ e = absurd (cc)
 
-same_word : (w : Keyword) (k : Tok) → is_word w (Some k) ≡ true → k ≡ Word w
+pub same_word : (w : Keyword) (k : Tok) → is_word w (Some k) ≡ true → k ≡ Word w
 same_word w (Word t) e = ap Word (sym (keyword_back t) ∙ ap keyword_at (eqb-true _ _ e) ∙ keyword_back w)
 same_word w _ e = absurd (cc)
 

@@ -13,7 +13,7 @@ use Rattle.mz_cursor.specs.Tokens.{place}
 use Rattle.mz_grammar.specs.declared.list.Turn.{Turn}
 use Rattle.mz_grammar.specs.declared.list.Turn.TheVariants.{Clear, Waiting, Never}
 use Rattle.mz_grammar.specs.Parts.{Reading, name, member, other, tree_of, Argument, given, guarded, strict}
-use Rattle.mz_grammar.specs.Arguments.{turn_by, waits, given_of, trees_of, Role, waiting, bound, unfit, role_of, by_role, generators_behind, generators_of}
+use Rattle.mz_grammar.specs.Arguments.{turn_by, waits, trees_of, Role, waiting, bound, unfit, role_of, by_role, generators_behind, generators_of}
 use Rattle.mz_syntax.specs.Next.{Next}
 use Rattle.mz_syntax.specs.ModelSyntax as ebnf
 use Rattle.mz_syntax.specs.ModelSyntax.{Derives, list, optional, perhaps, expr, tight, gen}

@@ -1,4 +1,5 @@
 pub mod Next
 pub mod DataSyntax
 pub mod ModelSyntax
+pub mod LeftOut
 pub mod Promise

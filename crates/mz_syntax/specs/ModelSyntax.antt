@@ -6,8 +6,8 @@
 -- `if` up to `endif`, `let` up to the end of its body, and the first piece of a text up to the last.
 --
 -- The body of a let is the longest: a term that ends with such a body has no access and no annotation after it, and no
--- operator but of a level that doesn't associate.
-use Rattle.std.specs.Prelude.{◌≡◌, ◌≤◌, ℕ, suc, Bool, true, false, List, [], ◌∷◌, Option, Some, None, length, ◌⊎◌}
+-- operator but of a level that doesn't associate. Of what follows marks or annotations that end with such a body nothing is said.
+use Rattle.std.specs.Prelude.{◌≡◌, ◌≤◌, ℕ, suc, true, false, List, [], ◌∷◌, Option, Some, None, length, ◌⊎◌}
 use Rattle.mz_base.specs.declared.fault.Span.{Span}
 use Rattle.mz_base.specs.declared.keyword.Keyword.TheVariants.{KAnnotation, KArray, KBool, KConstraint, KElse, KElseif, KEndif, KEnum, KFalse, KFunction, KIf, KIn, KInclude, KInt, KLet, KList, KMaximize, KMinimize, KOf, KOpt, KOutput, KPar, KPredicate, KSatisfy, KSet, KSolve, KTest, KThen, KTrue, KVar, KWhere}
 use Rattle.mz_lexer.specs.declared.token.Token.{Token}

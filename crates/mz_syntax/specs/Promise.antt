@@ -1,17 +1,19 @@
 -- What holds of the grammars and of the lines of their EBNF.
-use Rattle.std.specs.Prelude.{◌≡◌, ◌<◌, ℕ, List, [], Some}
+use Rattle.std.specs.Prelude.{◌≡◌, ◌<◌, ℕ, suc, Bool, List, [], Some}
 use Rattle.mz_base.specs.declared.fault.Span.{Span}
 use Rattle.mz_lexer.specs.declared.token.Token.{Token}
-use Rattle.mz_tree.specs.Tree.{Name}
+use Rattle.mz_tree.specs.Tree.{Name, Tree, Declaration, Written}
 use Rattle.mz_tree.specs.Data.{Given}
-use Rattle.mz_cursor.specs.Rules.{Reason}
+use Rattle.mz_cursor.specs.Tokens.{place_or}
+use Rattle.mz_cursor.specs.Rules.{Reason, left_out}
 use Rattle.mz_cursor.specs.Promise.{IsWithin, IsFront, IsFault}
 use Rattle.mz_grammar.specs.Data.{Dimensions, dimensions_of, rule, file}
 use Rattle.mz_tree.specs.Items.{ItemTree}
 use Rattle.mz_grammar.specs.Parts as model_part
 use Rattle.mz_grammar.specs.Model as model
 use Rattle.mz_syntax.specs.DataSyntax.{DerivesFile}
-use Rattle.mz_syntax.specs.ModelSyntax.{DerivesModel}
+use Rattle.mz_syntax.specs.ModelSyntax.{Ending, Derives, DerivesModel, expr, decl, type, marks, anns}
+use Rattle.mz_syntax.specs.LeftOut.{IsLeftOut}
 
 -- an array call has a dimension at least
 abbrev pub ArePositive : Dimensions → Type 0
@@ -37,6 +39,33 @@ NoDerivedDataFileIsRefused = (names : List (List ℕ)) (room : ℕ) (tokens : Li
 abbrev pub DerivesOneDataFile : Type 0
 DerivesOneDataFile = (names : List (List ℕ)) (k m : ℕ) (tokens : List Token) (items others : List Given) → DerivesFile (dimensions_of names) k tokens items → DerivesFile (dimensions_of names) m tokens others → items ≡ others
 
+-- What is derived with so many tokens open at once is derived where more may be open.
+abbrev pub MoreMayBeOpenInData : Type 0
+MoreMayBeOpenInData = (names : List (List ℕ)) (k : ℕ) (tokens : List Token) (items : List Given) → DerivesFile (dimensions_of names) k tokens items → DerivesFile (dimensions_of names) (suc k) tokens items
+
+abbrev pub MoreMayBeOpen : Type 0
+MoreMayBeOpen = (k : ℕ) (tokens : List Token) (items : List ItemTree) → DerivesModel k tokens items → DerivesModel (suc k) tokens items
+
 -- What the rules take of a model, where so many tokens may be open at once, the EBNF derives with no more open.
 abbrev pub ModelsAreDerived : Type 0
 ModelsAreDerived = (room : ℕ) (tokens : List Token) (items : List ItemTree) → IsWithin model.rule model_part.file room tokens items → DerivesModel room tokens items
+
+-- So it is of the parts that are read by themselves.
+abbrev pub ExpressionsAreDerived : Type 0
+ExpressionsAreDerived = (room : ℕ) (tokens : List Token) (e : Tree) → IsWithin model.rule model_part.expr room tokens e → Derives room expr tokens e []
+
+abbrev pub DeclarationsAreDerived : Type 0
+DeclarationsAreDerived = (room : ℕ) (tokens : List Token) (d : Declaration) → IsWithin model.rule model_part.declaration room tokens d → Derives room decl tokens d []
+
+abbrev pub TypesAreDerived : Type 0
+TypesAreDerived = (room : ℕ) (tokens : List Token) (t : Written) → IsWithin model.rule model_part.type room tokens t → Derives room type tokens t []
+
+abbrev pub MarksAreDerived : Type 0
+MarksAreDerived = (room : ℕ) (tokens : List Token) (m : Unit {0}) → IsWithin model.rule model_part.marks room tokens m → Derives room marks tokens tt []
+
+abbrev pub AnnotationsAreDerived : Type 0
+AnnotationsAreDerived = (room : ℕ) (tokens : List Token) (annotated : Bool) → IsWithin model.rule model_part.annotations room tokens annotated → (e : Ending) × Derives room (anns e) tokens tt []
+
+-- Where a model is refused as left out, a form that is left out stands at that token.
+abbrev pub LeftOutIsAForm : Type 0
+LeftOutIsAForm = (room : ℕ) (tokens : List Token) (end at : Span) → IsFault model.rule model_part.file room left_out end tokens at → (rest : List Token) × (at ≡ place_or end rest) × IsLeftOut tokens rest

@@ -1,6 +1,6 @@
 // What holds of the grammars and of the lines of their EBNF.
 
-ghost use Rattle.mz_syntax.specs.Promise.{DataFilesAreDerived, DataItemsAreDerived, DerivedDataFilesAreTaken, DerivesOneDataFile, ModelsAreDerived, NoDerivedDataFileIsRefused};
+ghost use Rattle.mz_syntax.specs.Promise.{AnnotationsAreDerived, DataFilesAreDerived, DataItemsAreDerived, DeclarationsAreDerived, DerivedDataFilesAreTaken, DerivesOneDataFile, ExpressionsAreDerived, LeftOutIsAForm, MarksAreDerived, ModelsAreDerived, MoreMayBeOpen, MoreMayBeOpenInData, NoDerivedDataFileIsRefused, TypesAreDerived};
 
 /// What the rules take of a data file is derived by the lines of the EBNF, with no more tokens open at once than there is room for.
 pub fn data_files_are_derived()
@@ -18,4 +18,24 @@ pub fn derived_data_files_are_taken()
 /// What the rules take of a model is derived by the lines of the EBNF, with no more tokens open at once than there is room for.
 pub fn models_are_derived()
     ensures { ModelsAreDerived }
+{}
+
+/// So it is of the parts of a model that are read by themselves.
+pub fn parts_are_derived()
+    ensures expressions { ExpressionsAreDerived }
+    ensures declarations { DeclarationsAreDerived }
+    ensures types { TypesAreDerived }
+    ensures marks { MarksAreDerived }
+    ensures annotations { AnnotationsAreDerived }
+{}
+
+/// Where a model is refused as left out, one of the forms that are left out of the language stands at that token.
+pub fn left_out_is_a_form()
+    ensures { LeftOutIsAForm }
+{}
+
+/// What the EBNF derives with so many tokens open at once, it derives where more may be open.
+pub fn more_may_be_open()
+    ensures data_files { MoreMayBeOpenInData }
+    ensures models { MoreMayBeOpen }
 {}
