@@ -1,6 +1,10 @@
+pub mod Expressions
 pub mod Faults
 pub mod Items
+pub mod Leaves
 pub mod Parts
 pub mod Placed
 pub mod Single
+pub mod Stopping
 pub mod Tested
+pub mod Types

@@ -3,7 +3,8 @@ use Rattle.std.specs.Prelude.{◌≡◌, ◌<◌, refl, ℕ, length, List, [], �
 use Rattle.std.specs.List.{flat_map}
 use Rattle.mz_base.specs.declared.fault.Span.{Span}
 use Rattle.mz_base.specs.declared.fault.Fault.{Fault}
-use Rattle.mz_base.specs.declared.kind.Kind.TheVariants.{SolveItems}
+use Rattle.mz_base.specs.declared.kind.Kind.{Kind}
+use Rattle.mz_base.specs.declared.kind.Kind.TheVariants.{ReservedName, DuplicateName, SolveItems, UnknownName, DataForm, MissingData, Cyclic, TypeMismatch, NoOverload, Ambiguous, LeftOut, Syntax}
 use Rattle.mz_base.specs.Faults.{start_of, fault_at}
 use Rattle.mz_tree.specs.Items.{ItemTree, satisfy, solve}
 use Rattle.mz_occurrence.specs.Given.{occurrences}
@@ -58,9 +59,26 @@ pub data IsRefused (table : List (List ℕ)) (files : List File) : Fault → Typ
   by_names : {f : Fault} → IsIllNamed table files f → IsRefused table files f
   by_types : {f : Fault} → IsIllTyped table files f → IsRefused table files f
 
--- a test of names or of types fails, at a place in one of the files
+-- the kinds of what tests of names and of types refuse
+abbrev pub IsOfTests : Kind → Type 0
+IsOfTests ReservedName = Unit {0}
+IsOfTests DuplicateName = Unit {0}
+IsOfTests SolveItems = Unit {0}
+IsOfTests UnknownName = Unit {0}
+IsOfTests DataForm = Unit {0}
+IsOfTests MissingData = Unit {0}
+IsOfTests Cyclic = Unit {0}
+IsOfTests TypeMismatch = Unit {0}
+IsOfTests NoOverload = Unit {0}
+IsOfTests Ambiguous = Unit {0}
+IsOfTests LeftOut = Unit {0}
+IsOfTests Syntax = Unit {0}
+IsOfTests _ = ⊥
+
+-- a test of names or of types fails, with a kind of its own, at a place in one of the files
 pub record FailsTest (table : List (List ℕ)) (files : List File) (f : Fault) : Type 0 where
   pub refused : IsRefused table files f
+  pub kind : IsOfTests f.kind
   pub placed : f.span.file < length files
 
 -- a scoped model that passes the tests of types, in whatever order its types are typed

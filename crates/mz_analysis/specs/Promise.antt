@@ -1,9 +1,11 @@
 -- What holds of every model's names.
-use Rattle.std.specs.Prelude.{◌≡◌, ℕ, List}
+use Rattle.std.specs.Prelude.{◌≡◌, ◌<◌, ℕ, List}
 use Rattle.mz_base.specs.declared.fault.Fault.{Fault}
 use Rattle.mz_include.specs.Naming.{File}
 use Rattle.mz_scoped.specs.Scoped.{ScopedTree}
-use Rattle.mz_analysis.specs.Analysis.{IsScopedModel, IsIllNamed, IsRefused, PassesTests}
+use Rattle.mz_checks.specs.Checks as checks
+use Rattle.mz_analysis.specs.Known.{IsWithin}
+use Rattle.mz_analysis.specs.Analysis.{IsScopedModel, IsIllNamed, IsRefused, PassesTests, IsOfTests}
 
 -- files have at most one scoped model
 abbrev pub HaveOneScopedModel : Type 0
@@ -16,3 +18,7 @@ ScopedOrRefused = (table : List (List ℕ)) (files : List File) (s : ScopedTree)
 -- files that pass all tests aren't refused
 abbrev pub PassedOrRefused : Type 0
 PassedOrRefused = (table : List (List ℕ)) (files : List File) (f : Fault) → PassesTests table files → IsRefused table files f → ⊥
+
+-- A model's types are refused with a kind of the tests, at a place of one of its files, where all its places are in so many files.
+abbrev pub TypesAreRefusedInFiles : Type 0
+TypesAreRefusedInFiles = (names files : ℕ) (table : List (List ℕ)) (s : ScopedTree) (f : Fault) → 0 < names → 0 < files → IsWithin names files s → checks.IsRefused table s f → (f.span.file < files) × IsOfTests f.kind

@@ -1,6 +1,6 @@
 // What holds of every model's names.
 
-ghost use Rattle.mz_analysis.specs.Promise.{HaveOneScopedModel, ScopedOrRefused, PassedOrRefused};
+ghost use Rattle.mz_analysis.specs.Promise.{HaveOneScopedModel, ScopedOrRefused, PassedOrRefused, TypesAreRefusedInFiles};
 
 /// Files have at most one scoped model.
 pub fn one_scoped_model()
@@ -15,4 +15,9 @@ pub fn scoped_or_refused()
 /// Files that pass the tests of names and types aren't refused by them.
 pub fn passed_or_refused()
     ensures { PassedOrRefused }
+{}
+
+/// The types of a model are refused at a place in one of its files.
+pub fn types_refused_in_files()
+    ensures { TypesAreRefusedInFiles }
 {}
