@@ -1,0 +1,82 @@
+use Rattle.std.proofs.Common.{◌≡◌, ◌∙◌, Err, map, true, sym, ap, rules}
+use Rattle.std.proofs.lemmas.Result.{err_from_is_err_and}
+use Rattle.mz_core.specs.Types.{plain_type}
+use Rattle.mz_core.specs.TreeViews.{tree, step}
+use Rattle.mz_meaning.specs.Runs.{then_do}
+use Rattle.mz_meaning.specs.Cells.{Bare}
+use Rattle.mz_meaning.specs.Contexts.{Untested}
+use Rattle.mz_meaning.specs.Arrays.{access_cell}
+use Rattle.mz_meaning.specs.Forms.{done, parts}
+use Rattle.mz_meaning.specs.Calls.{call_of}
+use Rattle.mz_meaning.specs.Evaluation.{eval}
+use Rattle.mz_cells.specs.Views.{cell_of, cells_of}
+use Rattle.mz_frames.specs.Runs.{at_work}
+use Rattle.mz_frames.specs.Views.{world_of, env_of}
+use Rattle.mz_chains.proofs.Runs.{meets_is, meets_err}
+use Rattle.mz_eval.proofs.Evaluated.{eval_end, eval_more, finish}
+use Rattle.mz_eval.proofs.Chains.{chain_is, no_front}
+use Rattle.mz_eval.proofs.+forms.Goals as goal
+
+pub forms::eval_expression-returns : goal.forms::eval_expression-returns
+forms::eval_expression-returns t c =
+    let w = world_of c.args.world.now in
+    meets_is cell_of c.finished.result c.finished.new.work _ _
+    (eval_more w c.args.left c.args.e.now c.inner-b.result.now (env_of c.args.world.now c.args.scope.now) (at_work c.args.work.now) c.if-left-eq0.false c.inner-b.ensures
+    ∙ ap (λ a. then_do a (finish w c.args.e.now c.inner-b.result.now)) c.in_ok-cell.ensures)
+    c.finished.ensures
+
+pub forms::eval_expression-returns-in_err-cell : goal.forms::eval_expression-returns-in_err-cell
+forms::eval_expression-returns-in_err-cell t c =
+    let p = err_from_is_err_and c.from_residual.result c.from_residual.ensures.1 in
+    let w = world_of c.args.world.now in
+    let n = c.eval_form.new.work in
+    rw (p.1, p.2) (meets_is cell_of (Err c.in_err-cell.field-0.0) n _ _
+    (eval_more w c.args.left c.args.e.now c.inner-b.result.now (env_of c.args.world.now c.args.scope.now) (at_work c.args.work.now) c.if-left-eq0.false c.inner-b.ensures)
+    (meets_err cell_of cell_of c.in_err-cell.field-0.0 n n _ (finish w c.args.e.now c.inner-b.result.now) c.in_err-cell.ensures))
+
+pub forms::eval_expression-returns-then-left-eq0 : goal.forms::eval_expression-returns-then-left-eq0
+forms::eval_expression-returns-then-left-eq0 t c =
+    eval_end (world_of c.args.world.now) c.args.left c.args.e.now c.inner-b.result.now (env_of c.args.world.now c.args.scope.now) (at_work c.args.work.now) c.if-left-eq0.true c.inner-b.ensures
+
+pub operators::eval_chain-returns-then-is_appended : goal.operators::eval_chain-returns-then-is_appended
+operators::eval_chain-returns-then-is_appended t c =
+    let w = world_of c.args.world.now in
+    meets_is cell_of c.eval_appended.result c.eval_appended.new.work _ _
+    (chain_is w (eval w c.args.left) (env_of c.args.world.now c.args.scope.now) c.args.at (tree c.args.first.now) (map step c.args.all.now) (at_work c.args.work.now) c.is_appended.result true c.is_appended.ensures c.if-is_appended.true)
+    c.eval_appended.ensures
+
+pub operators::eval_chain-returns-then-has_front : goal.operators::eval_chain-returns-then-has_front
+operators::eval_chain-returns-then-has_front t c =
+    let w = world_of c.args.world.now in
+    meets_is cell_of c.eval_fronted.result c.eval_fronted.new.work _ _
+    (chain_is w (eval w c.args.left) (env_of c.args.world.now c.args.scope.now) c.args.at (tree c.args.first.now) (map step c.args.all.now) (at_work c.args.work.now) c.is_appended.result _ c.is_appended.ensures c.if-is_appended.false)
+    c.eval_fronted.ensures
+
+pub operators::eval_chain-returns : goal.operators::eval_chain-returns
+operators::eval_chain-returns t c =
+    let w = world_of c.args.world.now in
+    meets_is cell_of c.eval_plain.result c.eval_plain.new.work _ _
+    (no_front w (eval w c.args.left) (env_of c.args.world.now c.args.scope.now) c.args.at (tree c.args.first.now) (map step c.args.all.now) (at_work c.args.work.now) c.is_appended.result c.has_front.result c.is_appended.ensures c.if-is_appended.false c.has_front.ensures c.if-has_front.false)
+    c.eval_plain.ensures
+
+pub forms::eval_access-returns : goal.forms::eval_access-returns
+forms::eval_access-returns t c =
+    let w = world_of c.args.world.now in
+    let go = eval w c.args.left in
+    let env = env_of c.args.world.now c.args.scope.now in
+    let x = c.in_ok-cell.cell in
+    let xs = c.in_ok-cells.cells.items in
+    let k = c.in_ok-element.element in
+    let is : cell_of k ≡ access_cell Bare (plain_type c.args.ty.now) (cell_of x) (cells_of xs) = search rules in
+    meets_is cell_of c.done.result c.done.new.work _ _
+    (ap (λ a. then_do a (λ y s. then_do (parts go Untested (map tree c.args.all.now) env s) (λ ys. done w c.args.at (access_cell Bare (plain_type c.args.ty.now) y ys)))) c.in_ok-cell.ensures
+    ∙ ap (λ a. then_do a (λ ys. done w c.args.at (access_cell Bare (plain_type c.args.ty.now) (cell_of x) ys))) c.in_ok-cells.ensures
+    ∙ ap (λ y. done w c.args.at y (at_work c.eval_parts.new.work)) (sym is))
+    c.done.ensures
+
+pub calls::eval_call_of-returns-in-Some : goal.calls::eval_call_of-returns-in-Some
+calls::eval_call_of-returns-in-Some t c =
+    let w = world_of c.args.world.now in
+    meets_is cell_of c.eval_function.result c.eval_function.new.work _ _
+    (ap (λ o. call_of w (eval w c.args.left) Untested o (map tree c.args.all.now) (cells_of c.args.cells.now) c.args.at (at_work c.args.work.now)) c.in-Some.ensures)
+    c.eval_function.ensures

@@ -1,0 +1,46 @@
+-- The parameters of a call with their arguments, one after the other.
+use Rattle.std.proofs.Common.{◌≡◌, ◌∙◌, ℕ, zero, suc, ◌+◌, ◌<◌, ◌≤◌, min, List, [], ◌∷◌, map, drop, length, get_or, refl, ap, arith}
+use Rattle.mz_core.specs.declared.tree.Core.{Core}
+use Rattle.mz_core.specs.declared.tree.CoreDecl.{CoreDecl}
+use Rattle.mz_core.specs.Tree.{Tree, Decl}
+use Rattle.mz_core.specs.TreeViews.{tree, decl}
+use Rattle.mz_cells.specs.declared.types.Known.{Known}
+use Rattle.mz_cells.specs.Views.{cell_of, cells_of}
+use Rattle.mz_meaning.specs.Cells.{Cell}
+use Rattle.mz_meaning.specs.Calls.{arguments}
+
+-- those from a place on
+abbrev arguments_from : ℕ → List CoreDecl → List Core → List Known → List (Decl × Tree × Cell)
+arguments_from i ds es cs = arguments (map decl (drop i ds)) (map tree (drop i es)) (cells_of (drop i cs))
+
+next_after : (i : ℕ) (ds : List CoreDecl) (es : List Core) (cs : List Known) (d : CoreDecl) (e : Core) (k : Known) → i < length ds → i < length es → i < length cs → arguments_from i ds es cs ≡ (decl (get_or ds i d), tree (get_or es i e), cell_of (get_or cs i k)) ∷ arguments_from (suc i) ds es cs
+next_after i [] es cs d e k h g m = absurd (omega arith)
+next_after i (x ∷ ds) [] cs d e k h g m = absurd (omega arith)
+next_after i (x ∷ ds) (y ∷ es) [] d e k h g m = absurd (omega arith)
+next_after zero (x ∷ ds) (y ∷ es) (z ∷ cs) d e k h g m = refl
+next_after (suc i) (x ∷ ds) (y ∷ es) (z ∷ cs) d e k h g m = next_after i ds es cs d e k (omega arith) (omega arith) (omega arith)
+
+pub arguments_next : (i : ℕ) (ds : List CoreDecl) (es : List Core) (cs : List Known) (d : CoreDecl) (e : Core) (k : Known) → i < length ds → i < length es → i < length cs → arguments (map decl (drop i ds)) (map tree (drop i es)) (cells_of (drop i cs)) ≡ (decl (get_or ds i d), tree (get_or es i e), cell_of (get_or cs i k)) ∷ arguments (map decl (drop (i + 1) ds)) (map tree (drop (i + 1) es)) (cells_of (drop (i + 1) cs))
+arguments_next i ds es cs d e k h g m =
+    let more : suc i ≡ i + 1 = omega arith in
+    next_after i ds es cs d e k h g m
+    ∙ ap (λ j. (decl (get_or ds i d), tree (get_or es i e), cell_of (get_or cs i k)) ∷ arguments_from j ds es cs) more
+
+no_trees : (ds : List Decl) (cs : List Cell) → arguments ds [] cs ≡ []
+no_trees [] cs = refl
+no_trees (d ∷ ds) cs = refl
+
+no_cells : (ds : List Decl) (es : List Tree) → arguments ds es [] ≡ []
+no_cells [] es = refl
+no_cells (d ∷ ds) [] = refl
+no_cells (d ∷ ds) (e ∷ es) = refl
+
+pub arguments_end : (i : ℕ) (ds : List CoreDecl) (es : List Core) (cs : List Known) → min (min (length ds) (length es)) (length cs) ≤ i → arguments (map decl (drop i ds)) (map tree (drop i es)) (cells_of (drop i cs)) ≡ []
+arguments_end zero [] es cs h = refl
+arguments_end (suc i) [] es cs h = refl
+arguments_end zero (x ∷ ds) [] cs h = refl
+arguments_end (suc i) (x ∷ ds) [] cs h = no_trees (map decl (drop i ds)) (cells_of (drop (suc i) cs))
+arguments_end zero (x ∷ ds) (y ∷ es) [] h = refl
+arguments_end (suc i) (x ∷ ds) (y ∷ es) [] h = no_cells (map decl (drop i ds)) (map tree (drop i es))
+arguments_end zero (x ∷ ds) (y ∷ es) (z ∷ cs) h = absurd (omega arith)
+arguments_end (suc i) (x ∷ ds) (y ∷ es) (z ∷ cs) h = arguments_end i ds es cs (omega arith)

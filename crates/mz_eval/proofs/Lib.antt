@@ -1,0 +1,5 @@
+pub mod Evaluated
+pub mod Chains
+pub mod Ends
+pub mod Arguments
+pub mod Parts

@@ -1,0 +1,13 @@
+// The values of par expressions.
+#![tactic(auto)]
+
+mod calls;
+mod choices;
+mod comprehensions;
+mod forms;
+mod locals;
+mod operators;
+mod top_call;
+
+pub use mz_frames::Env;
+pub use top_call::value;

@@ -1,0 +1,121 @@
+// The call: an expression's value, with the work that it takes.
+
+ghost use Rattle.std.specs.Prelude.{◌≡◌, ◌+◌, ◌-◌, ◌<◌, ◌≤◌, ◌≤ℤ◌, ◌^◌, IfOk, pos};
+ghost use Rattle.std.specs.Option.{option_map};
+ghost use Rattle.mz_value.specs.Contents.{content};
+ghost use Rattle.mz_value.specs.Ranges.{greatest};
+ghost use Rattle.mz_core.specs.Program.{plain_program};
+ghost use Rattle.mz_core.specs.TreeViews.{tree};
+ghost use Rattle.mz_meaning.specs.Runs.{give, then_do};
+ghost use Rattle.mz_meaning.specs.Cells.{value_of};
+ghost use Rattle.mz_meaning.specs.Contexts.{Untested};
+ghost use Rattle.mz_meaning.specs.Evaluation.{eval};
+ghost use Rattle.mz_cells.specs.Views.{cell_of};
+ghost use Rattle.mz_frames.specs.Runs.{Meets, at_work};
+ghost use Rattle.mz_frames.specs.Views.{env_cells, world_for, world_of};
+ghost use Rattle.mz_eval.specs.Answers.{StopsAtFewKinds};
+
+use crate::forms::eval_expression;
+use mz_base::{Depth, Steps, Stop};
+use mz_cells::Known;
+use mz_core::{Core, Program};
+use mz_frames::{Env, Scope, World};
+use mz_value::Value;
+use std::alloc::Global;
+
+// the budget, which is what is used once too much is asked for
+fn budget_of(steps: &Steps) -> u64
+    requires { steps.now.budget < 2 ^ 63 }
+    ensures { result ≡ steps.now.budget }
+{
+    let mut probe = *steps;
+    let _within = probe.spend(u64::MAX);
+    probe.used() - 1
+}
+
+// how many levels of nesting are left
+fn levels_left(depth: &Depth) -> u64
+    requires { depth.now.limit ≤ 600 }
+    ensures { result ≡ depth.now.limit - depth.now.nesting }
+{
+    let mut probe = *depth;
+    let mut levels = 0;
+    'levels: while probe.enter() {
+        levels += 1;
+    }
+    levels
+}
+
+// these steps, of which so many are spent
+fn spent_of(budget: u64, work: u64) -> Steps
+    requires small { budget < 2 ^ 63 }
+    requires within { work ≤ budget + 1 }
+    ensures budget { result.budget ≡ budget }
+    ensures used { result.used ≡ work }
+{
+    let mut steps = Steps::new(budget);
+    let _within = steps.spend(work);
+    steps
+}
+
+// an expression's cell at the top level
+fn evaluated(
+    alloc: Global,
+    world: &World,
+    e: &Core,
+    left: u64,
+    work: &mut u64,
+) -> Result<Known, Stop>
+    requires { work.old ≤ world.now.budget + 1 }
+    ensures answer { Meets cell_of result work.new (eval (world_of world.now) left Untested (tree e.now) (env_cells world.now.env.now) (at_work work.old)) }
+    ensures kinds { StopsAtFewKinds result }
+    ensures within { IfOk result (λ _. work.new ≤ world.now.budget + 1) }
+{
+    let top = Scope::Top;
+    eval_expression(alloc, world, e, &top, left, work)
+}
+
+/// The value of a par expression, `None` exactly where it is undefined, with the work that the
+/// language counts for it.
+///
+/// `env` has the values of the top-level names that the expression, and the functions that it calls,
+/// may name. A free local has no value here, nor has a part of a var type: what doesn't depend on
+/// these is the same in every run. No context is tested. `int_range` is how far the domain of a
+/// `var int` without a value reaches from 0; it lies between 0 and the greatest integer of a model.
+/// The budget of `steps` lies below 2^63, and the limit of `depth` is at most 600; at most as many
+/// calls and parts are open at once as it has levels left.
+///
+/// Refused Bounds, Budget, Depth, AssertFailed, IndexMismatch and NegativeArgument, each at its place
+/// and where it comes first. After an error the budget stands, and `env` and `depth` always do; a
+/// caller goes on with none of the steps.
+#[tactic(auto, unfolding(mz_core::specs::Program::plain_program))]
+pub fn value(
+    alloc: Global,
+    e: &Core,
+    env: &Env,
+    program: &Program,
+    int_range: i64,
+    steps: &mut Steps,
+    depth: &mut Depth,
+) -> Result<Option<Value>, Stop>
+    requires small { steps.old.budget < 2 ^ 63 }
+    requires few { depth.old.limit ≤ 600 }
+    requires from_zero { pos 0 ≤ℤ int_range }
+    requires in_limit { int_range ≤ℤ greatest }
+    ensures answer { Meets (λ v. option_map content v) result steps.new.used (then_do (eval (world_for (plain_program program.now) steps.old.budget int_range (env_cells env.now)) (depth.old.limit - depth.old.nesting) Untested (tree e.now) (env_cells env.now) (at_work steps.old.used)) (λ c. give (value_of c))) }
+    ensures kinds { StopsAtFewKinds result }
+    ensures budget { steps.new.budget ≡ steps.old.budget }
+    ensures kept { depth.new ≡ depth.old }
+{
+    let budget = budget_of(steps);
+    let world = World {
+        program,
+        env,
+        budget,
+        int_range,
+    };
+    let mut work = steps.used();
+    let cell = evaluated(alloc, &world, e, levels_left(depth), &mut work)?;
+    *steps = spent_of(budget, work);
+    Ok(cell.into_value(alloc)?)
+}
