@@ -1,9 +1,9 @@
 -- Where the names of a model are refused.
-use Rattle.std.proofs.Common.{◌≡◌, ℕ, ◌<◌, Bool, true, false, List, [], ◌∷◌, ◌++◌, length, map, refl, subst, sym}
+use Rattle.std.proofs.Common.{◌≡◌, ℕ, ◌<◌, Bool, true, false, List, [], ◌∷◌, ◌++◌, length, refl, subst, sym}
 use Rattle.std.specs.Prelude.{All, Option, Some, None, if◌then◌else◌}
 use Rattle.std.specs.List.{flat_map}
 use Rattle.std.proofs.lemmas.List.{length-map, append-nil}
-use Rattle.std.proofs.lemmas.List.Elements.{All-nil, All-cons, All-head, All-tail, All-weaker}
+use Rattle.std.proofs.lemmas.List.Elements.{All-nil, All-cons, All-head, All-tail}
 use Rattle.mz_base.specs.declared.fault.Span.{Span}
 use Rattle.mz_base.specs.declared.fault.Fault.{Fault}
 use Rattle.mz_base.specs.declared.kind.Kind.{Kind}
@@ -11,15 +11,15 @@ use Rattle.mz_base.specs.declared.kind.Kind.TheVariants.{ReservedName, Duplicate
 use Rattle.mz_base.specs.Faults.{fault_at}
 use Rattle.mz_tree.specs.Tree.{Name}
 use Rattle.mz_tree.specs.Items.{ItemTree, include, declare, assign, constraint, solve, output, function, enum, annotation, FunctionTree}
-use Rattle.mz_tree.specs.Kinds.{OfDeclaration, OfItem}
+use Rattle.mz_tree.specs.Kinds.{OfItem}
 use Rattle.mz_tree.proofs.Collected.{all_flat}
 use Rattle.mz_occurrence.specs.declared.occurrence.Occurrence.{Occurrence}
 use Rattle.mz_occurrence.specs.Occurrences.{in_item}
 use Rattle.mz_occurrence.specs.Given.{occurrences}
 use Rattle.mz_uses.specs.Outlines.{decl_sketch, function_sketch}
-use Rattle.mz_scoped.specs.Parts.{decls_of, functions_of, place_of, decl_at, function_at}
+use Rattle.mz_scoped.specs.Parts.{decls_of, functions_of, decl_at, function_at}
 use Rattle.mz_scoped.specs.Scoped.{IsCyclic, at_decl, at_function}
-use Rattle.mz_scope.specs.Tests.{first, first_after, is_reserved, is_repeated, is_misfit, first_unknown_of, first_missing_of, solve_in, solve_fault, or_refused, refusal, refusal_after_solves}
+use Rattle.mz_scope.specs.Tests.{first, first_after, is_reserved, is_repeated, is_misfit, first_unknown_of, first_missing_of, solve_in, solve_fault, or_refused, refusal}
 use Rattle.mz_analysis.specs.Known.{OfFunction}
 use Rattle.mz_analysis.proofs.Placed.{item_placed}
 use Rattle.mz_analysis.proofs.Parts as parts

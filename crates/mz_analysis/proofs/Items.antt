@@ -1,11 +1,9 @@
 -- The items of the code's files: they are those of the files by name, and their names and places are known.
-use Rattle.std.proofs.Common.{◌≡◌, ℕ, ◌<◌, List, [], ◌∷◌, ◌++◌, length, map, get_or, refl, ap, subst, ◌∙◌}
+use Rattle.std.proofs.Common.{◌≡◌, ℕ, ◌<◌, List, [], ◌∷◌, ◌++◌, length, map, get_or, refl, ap, ◌∙◌}
 use Rattle.std.specs.Prelude.{All}
 use Rattle.std.specs.List.{flat_map}
 use Rattle.std.proofs.lemmas.List.Elements.{All-nil, All-cons, All-head, All-tail, All-weaker}
 use Rattle.std.proofs.lemmas.Option.{slice_get-get_or}
-use Rattle.mz_base.specs.declared.fault.Span.{Span}
-use Rattle.mz_tree.specs.declared.item.Item.{Item}
 use Rattle.mz_tree.specs.declared.source.SourceFile.{SourceFile}
 use Rattle.mz_tree.specs.Items.{ItemTree, item}
 use Rattle.mz_tree.specs.Kinds.{OfItem}

@@ -1,10 +1,14 @@
+pub mod Alike
 pub mod Expressions
 pub mod Faults
 pub mod Items
 pub mod Leaves
+pub mod Meanings
+pub mod Orders
 pub mod Parts
 pub mod Placed
 pub mod Single
 pub mod Stopping
 pub mod Tested
 pub mod Types
+pub mod Verdicts

@@ -1,5 +1,5 @@
 -- The names and places in a scoped model are of the kind of those in the items.
-use Rattle.std.proofs.Common.{◌≡◌, ℕ, ◌<◌, Bool, true, false, List, [], ◌∷◌, ◌++◌, length, map, get_or, refl, ap, sym, subst}
+use Rattle.std.proofs.Common.{ℕ, ◌<◌, Bool, true, false, List, [], ◌∷◌, length, map, sym, subst}
 use Rattle.std.specs.Prelude.{All, Option, Some, None, if◌then◌else◌, nat_eq}
 use Rattle.std.specs.List.{flat_map}
 use Rattle.std.proofs.lemmas.List.{length-map}
@@ -7,11 +7,11 @@ use Rattle.std.proofs.lemmas.List.Elements.{All-nil, All-cons, All-head, All-tai
 use Rattle.mz_base.specs.declared.fault.Span.{Span}
 use Rattle.mz_tree.specs.Tree as pure
 use Rattle.mz_tree.specs.Tree.{Name, Tree, Maybe, Declaration}
-use Rattle.mz_tree.specs.Items.{GoalTree, satisfy, ItemTree, include, declare, assign, constraint, solve, output, function, enum, annotation}
+use Rattle.mz_tree.specs.Items.{GoalTree, ItemTree, include, declare, assign, constraint, solve, output, function, enum, annotation}
 use Rattle.mz_tree.specs.Kinds.{IsSpot, OfTree, OfMaybe, OfDeclaration, OfGoal, OfItem}
 use Rattle.mz_tree.proofs.Collected.{all_flat}
 use Rattle.mz_uses.specs.Outlines.{decl_sketch}
-use Rattle.mz_scoped.specs.Parts.{value_in, assigned, or_assigned, filled, declared_in, decls_of, function_in, functions_of, constraint_in, output_in, goal_in, goal_of, enum_in, enums_of, given_cases, all_cases, place_of, decl_at, EnumTree}
+use Rattle.mz_scoped.specs.Parts.{value_in, assigned, or_assigned, filled, declared_in, decls_of, function_in, functions_of, constraint_in, output_in, goal_in, goal_of, enum_in, enums_of, given_cases, all_cases, place_of, decl_at}
 use Rattle.mz_scoped.specs.Scoped.{ScopedTree, IsScoped}
 use Rattle.mz_scope.proofs.Turned.{all_counted}
 use Rattle.mz_analysis.specs.Known.{OfEnum, OfFunction, OfScoped}

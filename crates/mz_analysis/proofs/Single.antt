@@ -1,5 +1,5 @@
 -- Files have at most one scoped model, and those that have one aren't refused for their names, nor those that pass the tests of types.
-use Rattle.std.proofs.Common.{◌≡◌, ℕ, List, [], ◌∷◌, map, refl, ap, sym, subst, ◌∙◌}
+use Rattle.std.proofs.Common.{◌≡◌, ℕ, List, [], map, refl, ap, sym, subst, ◌∙◌}
 use Rattle.std.specs.Prelude.{Ok, Err}
 use Rattle.std.specs.List.{flat_map}
 use Rattle.mz_base.specs.declared.fault.Fault.{Fault}
@@ -9,10 +9,12 @@ use Rattle.mz_graph.proofs.OneOrder.{one_order}
 use Rattle.mz_scoped.specs.Parts.{decls_of, functions_of, constraint_in, output_in, goal_of, enums_of, given_of, decl_at}
 use Rattle.mz_scoped.specs.Scoped.{ScopedTree, IsScoped, IsCyclic, at_decl, at_function}
 use Rattle.mz_include.specs.Naming.{File}
-use Rattle.mz_checks.specs.Headings.{Subject, IsTypeOrder}
+use Rattle.mz_analysis.proofs.Verdicts.{same_verdict}
+use Rattle.mz_core.specs.Program.{PlainProgram}
+use Rattle.mz_checks.specs.Headings.{Subject}
 use Rattle.mz_checks.specs.Checks as checks
-use Rattle.mz_checks.specs.Checks.{Sections, checked}
-use Rattle.mz_analysis.specs.Analysis.{items_of, IsScopedModel, IsIllNamed, by_a_test, by_a_cycle, IsRefused, by_names, by_types, PassesTests}
+use Rattle.mz_checks.specs.Checks.{Checks, Sections, checked}
+use Rattle.mz_analysis.specs.Analysis.{items_of, IsScopedModel, IsIllNamed, by_a_test, by_a_cycle, IsRefused, by_names, by_types, HasTypedModel}
 
 -- the scoped model with this order
 abbrev in_turn : List ItemTree → List ℕ → ScopedTree
@@ -47,9 +49,11 @@ not_both table files s f h (by_a_cycle none cyclic) = not_cyclic (items_of files
 ok_and_err : (table : List (List ℕ)) (s : ScopedTree) (order : List Subject) (all : Sections) (f : Fault) → checked table s order ≡ Ok all → checked table s order ≡ Err f → ⊥
 ok_and_err table s order all f ok err = cc
 
-no_fault : (table : List (List ℕ)) (s : ScopedTree) (f : Fault) → ((order : List Subject) → IsTypeOrder s order → (all : Sections) × (checked table s order ≡ Ok all)) → checks.IsRefused table s f → ⊥
-no_fault table s f each refused = let ok = each refused.order refused.types in ok_and_err table s refused.order ok.0 f ok.1 refused.fault
+-- a scoped model isn't both typed and refused
+not_both_typed : (table : List (List ℕ)) (s : ScopedTree) (p : PlainProgram) (f : Fault) → Checks table s p → checks.IsRefused table s f → ⊥
+not_both_typed table s p f typed refused = ok_and_err table s refused.order typed.all f (same_verdict s table typed.order refused.order typed.types refused.types typed.all typed.are) refused.fault
 
-pub not_refused : (table : List (List ℕ)) (files : List File) (f : Fault) → PassesTests table files → IsRefused table files f → ⊥
-not_refused table files f passed (by_names ill) = not_both table files passed.scoped f passed.is ill
-not_refused table files f passed (by_types ill) = no_fault table passed.scoped f passed.typed (subst (λ s. checks.IsRefused table s f) (one_scoped table files ill.scoped passed.scoped ill.is passed.is) ill.types)
+pub not_refused : (table : List (List ℕ)) (files : List File) (f : Fault) → HasTypedModel table files → IsRefused table files f → ⊥
+not_refused table files f typed (by_names ill) = not_both table files typed.1.scoped f typed.1.is ill
+not_refused table files f typed (by_types ill) =
+    not_both_typed table typed.1.scoped typed.0 f typed.1.types (subst (λ s. checks.IsRefused table s f) (one_scoped table files ill.scoped typed.1.scoped ill.is typed.1.is) ill.types)

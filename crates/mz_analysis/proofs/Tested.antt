@@ -1,6 +1,6 @@
 -- What scoping answers, of the files by name.
 use Rattle.std.proofs.Common.{◌≡◌, ℕ, ◌<◌, List, [], ◌∷◌, length, map, refl, sym, subst, ◌∙◌, arith}
-use Rattle.std.specs.Prelude.{All, Some, None, Result, Ok, Err, IfOk, IfErr}
+use Rattle.std.specs.Prelude.{None, Result, Ok, Err, IfOk, IfErr}
 use Rattle.std.specs.List.{flat_map}
 use Rattle.mz_base.specs.declared.fault.Span.{Span}
 use Rattle.mz_base.specs.declared.fault.Fault.{Fault}
@@ -8,7 +8,6 @@ use Rattle.mz_base.specs.declared.stop.Stop.{Stop}
 use Rattle.mz_base.specs.declared.stop.Stop.TheVariants as stop
 use Rattle.mz_base.specs.Faults.{IfRefused}
 use Rattle.mz_tree.specs.declared.source.SourceFile.{SourceFile}
-use Rattle.mz_tree.specs.Items.{ItemTree}
 use Rattle.mz_occurrence.specs.Given.{occurrences}
 use Rattle.mz_occurrence.specs.StepsWalk as code
 use Rattle.mz_scoped.specs.declared.scoped.Scoped.{Scoped}

@@ -1,6 +1,6 @@
 -- How the types of a model are refused: with a kind of the tests, at a place in it.
-use Rattle.std.proofs.Common.{◌≡◌, ℕ, ◌+◌, ◌<◌, zero, suc, Bool, true, false, List, [], ◌∷◌, ◌++◌, length, map, refl, sym, subst, arith}
-use Rattle.std.specs.Prelude.{All, Option, Some, None, Ok, Err, if◌then◌else◌, nat_lt, slice_index_or}
+use Rattle.std.proofs.Common.{◌≡◌, ℕ, ◌+◌, zero, suc, Bool, true, false, List, [], ◌∷◌, ◌++◌, subst}
+use Rattle.std.specs.Prelude.{Option, Some, None, Ok, Err, if◌then◌else◌, slice_index_or}
 use Rattle.std.specs.List.{AllByRecursion, flat_map, enumerate_from}
 use Rattle.std.proofs.lemmas.List.Elements.{recursion_from_All, All-nil}
 use Rattle.mz_base.specs.declared.fault.Span.{Span}
@@ -17,17 +17,17 @@ use Rattle.mz_tree.specs.Items.{FunctionTree, GoalTree}
 use Rattle.mz_tree.specs.Kinds.{OfTree, OfMaybe, OfDeclaration, OfWritten, OfGoal}
 use Rattle.mz_scoped.specs.Parts.{place_of, decl_at, function_at}
 use Rattle.mz_scoped.specs.Scoped.{ScopedTree}
-use Rattle.mz_checks.specs.Tests.{Test, ◌>>=◌, ◌>>◌, refuse, loop, each}
-use Rattle.mz_checks.specs.Models.{Model, Heading, Env, outermost, in_output, bind, type_of_decl, heading_of, entry_of}
-use Rattle.mz_checks.specs.Coerced.{fitted, condition, is_scalar}
+use Rattle.mz_checks.specs.Tests.{Test, refuse, loop, each}
+use Rattle.mz_checks.specs.Models.{Model, Heading, outermost, in_output, type_of_decl, heading_of, entry_of}
+use Rattle.mz_checks.specs.Coerced.{fitted, is_scalar}
 use Rattle.mz_checks.specs.Typing.{check, check_written}
-use Rattle.mz_checks.specs.Lets.{new_name, decl_of}
+use Rattle.mz_checks.specs.Lets.{new_name}
 use Rattle.mz_checks.specs.Headings.{Parameters, param_next, heading, written_in, Subject, of_decl, of_function, with_type, with_types}
 use Rattle.mz_checks.specs.Duplicates.{Signed, is_taken, duplicate_after}
-use Rattle.mz_checks.specs.Items.{value_of, decl, function, with_params, constraint, integer, objective, goal, texts_fitted, output}
+use Rattle.mz_checks.specs.Items.{value_of, decl, function, with_params, constraint, objective, goal, output}
 use Rattle.mz_checks.specs.Checks.{numbered, Met, met, first_from, stands_before, none_met, type_met, heading_met, types_met, signed_by, signed, no_fault, decl_met, function_met, tree_met, tree_place, value_place, goal_place, items_met, sections, checked_with, checked, untyped, IsRefused}
 use Rattle.mz_analysis.specs.Known.{OfFunction, OfScoped}
-use Rattle.mz_analysis.proofs.Stopping.{OfSome, both_all, one_more_all, entry_all, Refuses, Stops, Any, next, looped, each_stops, anyway}
+use Rattle.mz_analysis.proofs.Stopping.{both_all, one_more_all, Refuses, Stops, Any, next, looped, each_stops}
 use Rattle.mz_analysis.proofs.Leaves.{At, fitted_stops, condition_stops, IsKnown, type_stops, heading_stops, new_stops}
 use Rattle.mz_analysis.proofs.Expressions.{tree_good, type_good}
 

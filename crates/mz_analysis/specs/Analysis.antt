@@ -1,5 +1,5 @@
 -- WHAT THE FILES OF A MODEL ARE TESTED FOR BEFORE THEY ARE COMPILED: their names, and then their types. There is no data.
-use Rattle.std.specs.Prelude.{◌≡◌, ◌<◌, refl, ℕ, length, List, [], ◌∷◌, Option, Some, None, Ok, slice_get, codes}
+use Rattle.std.specs.Prelude.{◌≡◌, ◌<◌, refl, ℕ, length, List, [], ◌∷◌, Option, Some, None, slice_get, codes}
 use Rattle.std.specs.List.{flat_map}
 use Rattle.mz_base.specs.declared.fault.Span.{Span}
 use Rattle.mz_base.specs.declared.fault.Fault.{Fault}
@@ -10,9 +10,8 @@ use Rattle.mz_tree.specs.Items.{ItemTree, satisfy, solve}
 use Rattle.mz_occurrence.specs.Given.{occurrences}
 use Rattle.mz_scoped.specs.Scoped.{ScopedTree, IsScoped, IsCyclic}
 use Rattle.mz_core.specs.Program.{PlainProgram}
-use Rattle.mz_checks.specs.Headings.{Subject, IsTypeOrder}
 use Rattle.mz_checks.specs.Checks as checks
-use Rattle.mz_checks.specs.Checks.{Checks, Sections, checked}
+use Rattle.mz_checks.specs.Checks.{Checks}
 use Rattle.mz_scope.specs.Tests.{known_in, solve_in, refusal, first, first_after}
 use Rattle.mz_include.specs.Naming.{File}
 
@@ -80,12 +79,6 @@ pub record FailsTest (table : List (List ℕ)) (files : List File) (f : Fault) :
   pub refused : IsRefused table files f
   pub kind : IsOfTests f.kind
   pub placed : f.span.file < length files
-
--- a scoped model that passes the tests of types, in whatever order its types are typed
-pub record PassesTests (table : List (List ℕ)) (files : List File) : Type 0 where
-  pub scoped : ScopedTree
-  pub is : IsScopedModel table files scoped
-  pub typed : (order : List Subject) → IsTypeOrder scoped order → (all : Sections) × (checked table scoped order ≡ Ok all)
 
 -- the name of the file of this number; the model's own where no file has it
 abbrev pub own_name : List File → List ℕ

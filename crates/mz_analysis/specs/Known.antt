@@ -1,5 +1,5 @@
 -- Every name and every place in a scoped model is of a kind.
-use Rattle.std.specs.Prelude.{ℕ, ◌<◌, List, length, All}
+use Rattle.std.specs.Prelude.{ℕ, ◌<◌, All}
 use Rattle.mz_base.specs.declared.fault.Span.{Span}
 use Rattle.mz_tree.specs.Tree.{Name}
 use Rattle.mz_tree.specs.Items.{FunctionTree}

@@ -1,11 +1,13 @@
 -- What holds of every model's names.
-use Rattle.std.specs.Prelude.{◌≡◌, ◌<◌, ℕ, List}
+use Rattle.std.specs.Prelude.{◌≡◌, ◌<◌, ℕ, List, Ok}
 use Rattle.mz_base.specs.declared.fault.Fault.{Fault}
 use Rattle.mz_include.specs.Naming.{File}
 use Rattle.mz_scoped.specs.Scoped.{ScopedTree}
+use Rattle.mz_checks.specs.Headings.{Subject, IsTypeOrder}
 use Rattle.mz_checks.specs.Checks as checks
+use Rattle.mz_checks.specs.Checks.{Sections, checked}
 use Rattle.mz_analysis.specs.Known.{IsWithin}
-use Rattle.mz_analysis.specs.Analysis.{IsScopedModel, IsIllNamed, IsRefused, PassesTests, IsOfTests}
+use Rattle.mz_analysis.specs.Analysis.{IsScopedModel, IsIllNamed, IsRefused, HasTypedModel, IsOfTests}
 
 -- files have at most one scoped model
 abbrev pub HaveOneScopedModel : Type 0
@@ -15,9 +17,13 @@ HaveOneScopedModel = (table : List (List ℕ)) (files : List File) (s t : Scoped
 abbrev pub ScopedOrRefused : Type 0
 ScopedOrRefused = (table : List (List ℕ)) (files : List File) (s : ScopedTree) (f : Fault) → IsScopedModel table files s → IsIllNamed table files f → ⊥
 
--- files that pass all tests aren't refused
-abbrev pub PassedOrRefused : Type 0
-PassedOrRefused = (table : List (List ℕ)) (files : List File) (f : Fault) → PassesTests table files → IsRefused table files f → ⊥
+-- files that have a typed model aren't refused
+abbrev pub TypedOrRefused : Type 0
+TypedOrRefused = (table : List (List ℕ)) (files : List File) (f : Fault) → HasTypedModel table files → IsRefused table files f → ⊥
+
+-- A scoped model that is typed in one order of its types is typed in every other, to the same.
+abbrev pub OrderMakesNoDifference : Type 0
+OrderMakesNoDifference = (table : List (List ℕ)) (s : ScopedTree) (order other : List Subject) (all : Sections) → IsTypeOrder s order → IsTypeOrder s other → checked table s order ≡ Ok all → checked table s other ≡ Ok all
 
 -- A model's types are refused with a kind of the tests, at a place of one of its files, where all its places are in so many files.
 abbrev pub TypesAreRefusedInFiles : Type 0

@@ -1,6 +1,6 @@
 // What holds of every model's names.
 
-ghost use Rattle.mz_analysis.specs.Promise.{HaveOneScopedModel, ScopedOrRefused, PassedOrRefused, TypesAreRefusedInFiles};
+ghost use Rattle.mz_analysis.specs.Promise.{HaveOneScopedModel, ScopedOrRefused, TypedOrRefused, TypesAreRefusedInFiles, OrderMakesNoDifference};
 
 /// Files have at most one scoped model.
 pub fn one_scoped_model()
@@ -12,12 +12,17 @@ pub fn scoped_or_refused()
     ensures { ScopedOrRefused }
 {}
 
-/// Files that pass the tests of names and types aren't refused by them.
-pub fn passed_or_refused()
-    ensures { PassedOrRefused }
+/// Files that have a typed model aren't refused for their names or types.
+pub fn typed_or_refused()
+    ensures { TypedOrRefused }
 {}
 
 /// The types of a model are refused at a place in one of its files.
 pub fn types_refused_in_files()
     ensures { TypesAreRefusedInFiles }
+{}
+
+/// The order in which the types of a model are typed makes no difference.
+pub fn any_order_of_types()
+    ensures { OrderMakesNoDifference }
 {}

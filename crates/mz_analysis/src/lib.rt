@@ -5,6 +5,9 @@ mod law;
 mod owner;
 mod scoping;
 
-pub use law::{one_scoped_model, passed_or_refused, scoped_or_refused, types_refused_in_files};
+pub use law::{
+    any_order_of_types, one_scoped_model, scoped_or_refused, typed_or_refused,
+    types_refused_in_files,
+};
 pub use owner::file_name;
 pub use scoping::scoped_model;
