@@ -13,8 +13,8 @@ use Rattle.mz_occurrence.specs.Given.{occurrences}
 use Rattle.mz_occurrence.specs.Occurrences.{in_item}
 use Rattle.mz_occurrence.specs.StepsWalk as code
 use Rattle.mz_occurrence.proofs.Named.{item_named}
-use Rattle.mz_scope.specs.Tests as tests
-use Rattle.mz_scope.specs.Tests.{AreNamed, known_in, solve_in, refusal, refusal_of}
+use Rattle.mz_spaces.specs.Tests as tests
+use Rattle.mz_spaces.specs.Tests.{AreNamed, known_in, solve_in, refusal, refusal_of}
 use Rattle.mz_scope.proofs.Naming.{all_named}
 use Rattle.mz_include.specs.Trees.{IsItemOf}
 use Rattle.mz_include.specs.Views.{file, IsFileOf, AreKnown}

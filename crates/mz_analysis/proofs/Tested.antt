@@ -13,8 +13,8 @@ use Rattle.mz_occurrence.specs.StepsWalk as code
 use Rattle.mz_scoped.specs.declared.scoped.Scoped.{Scoped}
 use Rattle.mz_scoped.specs.Scoped.{scoped_tree, IsScoped, IsCyclic}
 use Rattle.mz_scope.specs.Scope as scope
-use Rattle.mz_scope.specs.Tests as tests
-use Rattle.mz_scope.specs.Tests.{known_in, solve_in, refusal_of}
+use Rattle.mz_spaces.specs.Tests as tests
+use Rattle.mz_spaces.specs.Tests.{known_in, solve_in, refusal_of}
 use Rattle.mz_include.specs.Views.{file, IsFileOf, AreKnown}
 use Rattle.mz_analysis.specs.Analysis.{IsScopedModel, IsIllNamed, by_a_test, by_a_cycle}
 use Rattle.mz_analysis.specs.Known.{IsWithin}

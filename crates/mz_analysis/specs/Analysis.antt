@@ -12,7 +12,7 @@ use Rattle.mz_scoped.specs.Scoped.{ScopedTree, IsScoped, IsCyclic}
 use Rattle.mz_core.specs.Program.{PlainProgram}
 use Rattle.mz_checks.specs.Checks as checks
 use Rattle.mz_checks.specs.Checks.{Checks}
-use Rattle.mz_scope.specs.Tests.{known_in, solve_in, refusal, first, first_after}
+use Rattle.mz_spaces.specs.Tests.{known_in, solve_in, refusal, first, first_after}
 use Rattle.mz_include.specs.Naming.{File}
 
 -- the items of a model's files, in the order of the text
