@@ -1,0 +1,2 @@
+pub mod StepsLayers
+pub mod StepsTables
