@@ -3,10 +3,10 @@
 ghost use Rattle.std.specs.Prelude.{◌≡◌};
 ghost use Rattle.fz_program.specs.Table.{line};
 
-use crate::row_name::Kind::{
+use fz_program::Kind::{
     Bool, Bools, ConstBools, ConstInt, ConstInts, ConstSets, Int, Ints, Set, Sets,
 };
-use crate::row_name::{Kind, RowName};
+use fz_program::{Kind, RowName};
 
 // A line has the constraint, its name, and the kinds of its arguments. What is picked of the line
 // of a constraint is its value under a macro.
@@ -86,7 +86,7 @@ macro_rules! kinds_in {
 }
 
 /// The name that a constraint has in a program's text.
-#[tactic(auto, unfolding(crate::specs::Table::line))]
+#[tactic(auto, unfolding(fz_program::specs::Table::line))]
 pub fn name_of(name: RowName) -> &'static [u8]
     ensures { result.now ≡ (line name).text }
 {
@@ -94,7 +94,7 @@ pub fn name_of(name: RowName) -> &'static [u8]
 }
 
 /// The kinds of a constraint's arguments, in order.
-#[tactic(auto, unfolding(crate::specs::Table::line))]
+#[tactic(auto, unfolding(fz_program::specs::Table::line))]
 pub fn kinds_of(name: RowName) -> &'static [Kind]
     ensures { result.now ≡ (line name).kinds }
 {

@@ -1,6 +1,6 @@
 use Rattle.fz_program.proofs.TestAnswers.{says_false}
 use Rattle.fz_program.proofs.Places.{no_places}
-use Rattle.fz_program.proofs.well_formedness.has_places.Goals as goal
+use Rattle.fz_program.proofs.index.has_places.Goals as goal
 
 pub returns-then-left-size-ne0 : goal.returns-then-left-size-ne0
 returns-then-left-size-ne0 c =

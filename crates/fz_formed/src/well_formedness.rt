@@ -1,8 +1,7 @@
 // The test whether a FlatZinc program is well formed. It changes nothing and takes no memory.
 
-ghost use Rattle.std.specs.Prelude.{◌≡◌, ◌≢◌, ◌↔◌, List, [], map, length, string_bytes, true, IsTrue};
-ghost use Rattle.std.specs.List.{AllByRecursion, list_all};
-ghost use Rattle.mz_value.specs.Ranges.{cardinality, range_of};
+ghost use Rattle.std.specs.Prelude.{◌≡◌, ◌↔◌, map, IsTrue};
+ghost use Rattle.std.specs.List.{AllByRecursion};
 ghost use Rattle.fz_program.specs.Flat.{
   AreMarks,
   AreParts,
@@ -12,24 +11,18 @@ ghost use Rattle.fz_program.specs.Flat.{
   IsWellFormedRow,
   IsWellFormedVariable,
   WellFormed,
-  are_alike,
-  are_variables_of,
   array_item,
   is_goal,
-  is_index,
-  is_index_range,
-  place_count,
   program,
   row,
   variable,
 };
 
-use crate::arguments::{are_arguments, is_definition, is_literal, is_variable_of};
-use crate::linear::is_within;
-use crate::names::are_distinct;
-use crate::program::{Domain, FzArray, FzGoal, FzProgram, FzRow, FzVar};
-use crate::row_name::Kind;
 use crate::table::kinds_of;
+use fz_program::{
+    Domain, FzArray, FzGoal, FzProgram, FzRow, FzVar, Kind, are_alike, are_arguments, are_distinct,
+    has_places, is_definition, is_index, is_variable_of, is_within,
+};
 use mz_base::is_identifier;
 
 /// Whether a program is well formed: distinct identifiers as names, the marks of one line, domains
@@ -116,7 +109,7 @@ fn are_arrays(vars: &[FzVar], arrays: &[FzArray]) -> bool
     true
 }
 
-#[tactic(auto, using(crate::proofs::Places::all_ranges))]
+#[tactic(auto, using(fz_program::proofs::Places::all_ranges))]
 fn is_array(vars: &[FzVar], a: &FzArray) -> bool
     ensures { IsTrue result ↔ IsWellFormedArray (map variable vars.now) (array_item a.now) }
 {
@@ -124,78 +117,6 @@ fn is_array(vars: &[FzVar], a: &FzArray) -> bool
         && is_index(&a.index)
         && has_places(&a.index, a.items.len() as u64)
         && are_alike(vars, &a.items)
-}
-
-// Whether there is an index range, and each is `1..0` or one that isn't empty.
-fn is_index(ranges: &[(i64, i64)]) -> bool
-    ensures { result ≡ is_index ranges.now }
-{
-    match ranges {
-        [] => false,
-        [first, rest @ ..] => is_index_range(*first) && are_index_ranges(rest),
-    }
-}
-
-fn are_index_ranges(ranges: &[(i64, i64)]) -> bool
-    ensures { result ≡ list_all is_index_range ranges.now }
-{
-    ranges.iter().all(|r| is_index_range(*r))
-}
-
-fn is_index_range(range: (i64, i64)) -> bool
-    ensures { result ≡ is_index_range range }
-{
-    (range.0 == 1 && range.1 == 0)
-        || (range.0 <= range.1 && is_literal(range.0) && is_literal(range.1))
-}
-
-// How many places an index range has.
-fn size_of(range: (i64, i64)) -> u64
-    requires { is_index_range range ≡ true }
-    ensures { result ≡ cardinality (range_of range.0 range.1) }
-{
-    if range.0 <= range.1 {
-        (range.1 - range.0) as u64 + 1
-    } else {
-        0
-    }
-}
-
-// Whether index ranges have so many places.
-#[tactic(auto, unfolding(crate::specs::Flat::place_count))]
-fn has_places(ranges: &[(i64, i64)], count: u64) -> bool
-    requires { list_all is_index_range ranges.now ≡ true }
-    ensures { IsTrue result ↔ (place_count ranges.now ≡ count) }
-{
-    let mut rest = ranges;
-    let mut left = count;
-    while let [r, more @ ..] = rest {
-        let size = size_of(*r);
-        if size == 0 {
-            return left == 0;
-        }
-        if left % size != 0 {
-            return false;
-        }
-        left /= size;
-        rest = more;
-    }
-    left == 1
-}
-
-// Whether all places are those of declared variables of one kind.
-fn are_alike(vars: &[FzVar], items: &[u64]) -> bool
-    ensures { result ≡ are_alike (map variable vars.now) items.now }
-{
-    are_variables_of(vars, Kind::Int, items)
-        || are_variables_of(vars, Kind::Bool, items)
-        || are_variables_of(vars, Kind::Set, items)
-}
-
-fn are_variables_of(vars: &[FzVar], kind: Kind, items: &[u64]) -> bool
-    ensures { result ≡ are_variables_of (map variable vars.now) kind items.now }
-{
-    items.iter().all(|k| is_variable_of(vars, kind, *k))
 }
 
 // Whether the rows are well formed, where these variables are declared.
@@ -215,8 +136,7 @@ fn is_row(vars: &[FzVar], r: &FzRow) -> bool
     ensures { IsTrue result ↔ IsWellFormedRow (map variable vars.now) (row r.now) }
 {
     are_arguments(vars, kinds_of(r.name), &r.args)
-        && is_definition(&r.args, r.defines)
-        && is_within(vars, &r.args)
+        && (is_definition(&r.args, r.defines) && is_within(vars, &r.args))
 }
 
 // Whether what is minimized or maximized is an integer variable.

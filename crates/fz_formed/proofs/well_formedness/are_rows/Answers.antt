@@ -2,7 +2,7 @@ use Rattle.std.proofs.Common.{map}
 use Rattle.fz_program.specs.Flat.{IsWellFormedRow, row, variable}
 use Rattle.fz_program.proofs.TestAnswers.{says_true, says_false, denied}
 use Rattle.fz_program.proofs.Each.{each_all, each_from_map, each_to_map, loop_fails}
-use Rattle.fz_program.proofs.well_formedness.are_rows.Goals as goal
+use Rattle.fz_formed.proofs.well_formedness.are_rows.Goals as goal
 
 pub returns-then-not-is_row : goal.returns-then-not-is_row
 returns-then-not-is_row c =

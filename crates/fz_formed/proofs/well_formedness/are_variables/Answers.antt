@@ -1,7 +1,7 @@
 use Rattle.fz_program.specs.Flat.{IsWellFormedVariable, variable}
 use Rattle.fz_program.proofs.TestAnswers.{says_true, says_false, denied}
 use Rattle.fz_program.proofs.Each.{each_all, each_from_map, each_to_map, loop_fails}
-use Rattle.fz_program.proofs.well_formedness.are_variables.Goals as goal
+use Rattle.fz_formed.proofs.well_formedness.are_variables.Goals as goal
 
 pub returns-then-not-is_variable : goal.returns-then-not-is_variable
 returns-then-not-is_variable c =

@@ -1,7 +1,7 @@
 use Rattle.std.proofs.Common.{◌≡◌, length, true}
 use Rattle.std.specs.List.{list_all}
 use Rattle.fz_program.specs.Flat.{place_count, is_index_range}
-use Rattle.fz_program.proofs.well_formedness.has_places.Given as goal
+use Rattle.fz_program.proofs.index.has_places.Given as goal
 
 abbrev pub invariant-loop-rest : goal.invariant-loop-rest
 invariant-loop-rest l = record {
