@@ -1,8 +1,8 @@
 use Rattle.std.proofs.Common.{ap}
 use Rattle.fz_program.specs.declared.program.Arg.{the_lemmas}
 use Rattle.fz_program.specs.Arguments.{array}
-use Rattle.fz_build.proofs.Copies.{same_plains}
-use Rattle.fz_build.proofs.copy.copied.Goals as goal
+use Rattle.fz_domains.proofs.Copies.{same_plains}
+use Rattle.fz_domains.proofs.copy.copied.Goals as goal
 
 pub returns-in_ok-copied_elements-in-Array : goal.returns-in_ok-copied_elements-in-Array
 returns-in_ok-copied_elements-in-Array c =
