@@ -3,7 +3,7 @@
 
 use crate::written::print_written;
 use cases::Page;
-use fz_program::well_formed;
+use fz_formed::well_formed;
 use fz_reading::read_program;
 use fz_text::read;
 use mz_base::{Memory, Stop};

@@ -1,7 +1,8 @@
 // Programs that aren't well formed, and that no text is read to.
 
 use cases::Page;
-use fz_program::{Arg, FzArray, FzGoal, FzName, FzProgram, FzRow, RowName, well_formed};
+use fz_formed::well_formed;
+use fz_program::{Arg, FzArray, FzGoal, FzName, FzProgram, FzRow, RowName};
 use mz_base::Memory;
 use std::alloc::{AllocError, Global};
 

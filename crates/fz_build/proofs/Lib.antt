@@ -1,5 +1,4 @@
 pub mod Lists
-pub mod Copies
 pub mod FreshNames
 pub mod Wider
 pub mod Grown

@@ -9,10 +9,9 @@ ghost use Rattle.fz_build.specs.Naming.{introduced_name, next_number};
 ghost use Rattle.fz_build.specs.Results.{MayDefine};
 ghost use Rattle.fz_build.specs.Growth.{Defines, IsAdded};
 
-use crate::copy::copied_all;
 use crate::naming::{introduced_name, number_after};
 use crate::result_row::args_with;
-use fz_domains::result_domain;
+use fz_domains::{copied_all, result_domain};
 use fz_program::{Arg, Domain, FzArray, FzGoal, FzName, FzProgram, FzRow, FzVar, RowName};
 use mz_base::Memory;
 use std::alloc::Global;

@@ -3,7 +3,6 @@
 #![tactic(auto)]
 
 mod builder;
-mod copy;
 mod naming;
 mod result_row;
 

@@ -1,12 +1,11 @@
 // The arguments of rows that define a variable.
 
-ghost use Rattle.std.specs.Prelude.{◌≡◌, ◌∷◌, ◌++◌, [], IfOk, map};
-ghost use Rattle.fz_program.specs.Arguments.{argument, array, one, plain, plains, var};
-ghost use Rattle.fz_domains.specs.Inputs.{argument_at, is_sum};
+ghost use Rattle.std.specs.Prelude.{◌≡◌, IfOk, map};
+ghost use Rattle.fz_program.specs.Arguments.{argument};
+ghost use Rattle.fz_domains.specs.Inputs.{is_sum};
 ghost use Rattle.fz_build.specs.Build.{args_with, sum_with};
 
-use crate::copy::{copied, copied_all, copied_elements};
-use fz_domains::elements_at;
+use fz_domains::{copied_at, elements_at, with_element, with_last};
 use fz_program::{Arg, RowName};
 use mz_base::Memory;
 use std::alloc::Global;
@@ -17,40 +16,6 @@ pub(crate) fn is_sum(name: RowName) -> bool
     ensures { result ≡ is_sum name }
 {
     matches!(name, RowName::IntLinEq)
-}
-
-// The elements and one more.
-fn with_element(alloc: Global, items: &[Arg], last: Arg) -> Result<Arg, Memory>
-    ensures { IfOk result (λ a. argument a ≡ array (plains items.now ++ plain last ∷ [])) }
-{
-    let mut all = copied_elements(alloc, items)?;
-    all.push(last)?;
-    Ok(Arg::Array(all))
-}
-
-// The arguments, and the variable last.
-fn with_last(alloc: Global, inputs: &[Arg], k: u64) -> Result<Vec<Arg>, Memory>
-    ensures { IfOk result (λ all. map argument all.items ≡ map argument inputs.now ++ one (var k) ∷ []) }
-{
-    let mut all = copied_all(alloc, inputs)?;
-    all.push(Arg::Var(k))?;
-    Ok(all)
-}
-
-fn empty_array(alloc: Global) -> Arg
-    ensures { argument result ≡ array [] }
-{
-    Arg::Array(Vec::new(alloc))
-}
-
-// The input at a place, or an empty array where there is none.
-fn copied_at(alloc: Global, inputs: &[Arg], k: usize) -> Result<Arg, Memory>
-    ensures { IfOk result (λ a. argument a ≡ argument_at (map argument inputs.now) k) }
-{
-    match inputs.get(k) {
-        Some(a) => copied(alloc, a),
-        None => Ok(empty_array(alloc)),
-    }
 }
 
 // The coefficients, the integers and the constant, with -1 times the variable.

@@ -1,3 +1,4 @@
+pub mod Copies
 pub mod InputValues
 pub mod Forms
 pub mod Enclosed

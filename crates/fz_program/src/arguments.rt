@@ -54,8 +54,8 @@ fn same_kind(a: Kind, b: Kind) -> bool
     }
 }
 
-// Whether a variable is declared, and is of a kind.
-pub(crate) fn is_variable_of(vars: &[FzVar], kind: Kind, k: u64) -> bool
+/// Whether a variable is declared, and is of a kind. Places are from 0.
+pub fn is_variable_of(vars: &[FzVar], kind: Kind, k: u64) -> bool
     ensures { result ≡ is_variable_of (map variable vars.now) kind k }
 {
     match vars.get(k as usize) {
@@ -164,9 +164,9 @@ fn is_argument(vars: &[FzVar], kind: Kind, a: &Arg) -> bool
     }
 }
 
-// Whether there are as many arguments as kinds, each of its kind.
+/// Whether there are as many arguments as kinds, each of its kind.
 #[tactic(auto, unfolding(crate::specs::Flat::are_arguments))]
-pub(crate) fn are_arguments(vars: &[FzVar], kinds: &[Kind], args: &[Arg]) -> bool
+pub fn are_arguments(vars: &[FzVar], kinds: &[Kind], args: &[Arg]) -> bool
     ensures { result ≡ are_arguments (map variable vars.now) kinds.now (map argument args.now) }
 {
     match kinds {
@@ -210,8 +210,8 @@ fn have_variable(k: u64, args: &[Arg]) -> bool
     args.iter().any(|a| has_variable(k, a))
 }
 
-// Whether the variable that a row defines, where it defines one, stands in it.
-pub(crate) fn is_definition(args: &[Arg], defines: Option<u64>) -> bool
+/// Whether the variable that a row defines, where it defines one, stands in it.
+pub fn is_definition(args: &[Arg], defines: Option<u64>) -> bool
     ensures { result ≡ is_definition (map argument args.now) defines }
 {
     match defines {

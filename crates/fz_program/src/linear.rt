@@ -111,9 +111,10 @@ fn is_linear(vars: &[FzVar], cs: &[Arg], xs: &[Arg], c: &Arg) -> bool
     cs.len() == xs.len() && is_light(vars, cs, xs, magnitude(vars, c))
 }
 
-// Whether arguments that begin with two arrays and a number make a sum that stays within 64 bits.
+/// Whether arguments that begin with two arrays and a number make a sum that stays within 64 bits,
+/// whatever the values of the variables.
 #[tactic(auto, unfolding(crate::specs::Flat::is_within))]
-pub(crate) fn is_within(vars: &[FzVar], args: &[Arg]) -> bool
+pub fn is_within(vars: &[FzVar], args: &[Arg]) -> bool
     ensures { result ≡ is_within (map variable vars.now) (map argument args.now) }
 {
     match args {

@@ -6,8 +6,8 @@ ghost use Rattle.fz_program.specs.Flat.{AreDistinct, array_item, array_labels, l
 
 use crate::program::{FzArray, FzName, FzVar};
 
-// Whether no name stands twice.
-pub(crate) fn are_distinct(vars: &[FzVar], arrays: &[FzArray]) -> bool
+/// Whether no name stands twice, of a variable or an array.
+pub fn are_distinct(vars: &[FzVar], arrays: &[FzArray]) -> bool
     ensures { IsTrue result
         ↔ AreDistinct (labels_of (map variable vars.now) ++ array_labels (map array_item arrays.now)) }
 {

@@ -23,7 +23,8 @@ ghost use Rattle.fz_reading.specs.Lines.{
 use crate::argument::{all_arguments, place};
 use crate::name_table::NameTable;
 use crate::token::{behind, expect, name};
-use fz_program::{FzGoal, FzRow, RowName, name_of};
+use fz_formed::name_of;
+use fz_program::{FzGoal, FzRow, RowName};
 use soln_items::Miss;
 use std::alloc::Global;
 

@@ -31,7 +31,8 @@ ghost use Rattle.fz_spelling.specs.Spelling.{
 };
 
 use crate::array::push_array;
-use fz_program::{Arg, Domain, FzArray, FzGoal, FzProgram, FzRow, FzVar, name_of};
+use fz_formed::name_of;
+use fz_program::{Arg, Domain, FzArray, FzGoal, FzProgram, FzRow, FzVar};
 use itoa::Buffer;
 use mz_value::RangeSet;
 use std::alloc::{AllocError, Global};

@@ -8,7 +8,8 @@ ghost use Rattle.fz_reading.specs.Lines.{program_at};
 ghost use Rattle.fz_text.specs.Reading.{IsOnly, IsUnspelled};
 ghost use Rattle.fz_spelling.specs.Spelling.{Spells, spelling};
 
-use fz_program::{FzProgram, are_parts};
+use fz_formed::are_parts;
+use fz_program::FzProgram;
 use fz_reading::read_program;
 use fz_spelling::text;
 use mz_base::{Fault, Kind, Span, Stop};

@@ -3,7 +3,8 @@ use Rattle.std.proofs.lemmas.List.{length-map}
 use Rattle.fz_program.specs.declared.program.Arg.{the_lemmas}
 use Rattle.fz_program.specs.Arguments.{one, var}
 use Rattle.fz_program.specs.Flat.{Program, variable}
-use Rattle.fz_build.proofs.Grown.{next_below, stands_variable}
+use Rattle.fz_build.specs.Build.{with_variable}
+use Rattle.fz_build.proofs.Grown.{items_variable, next_below, stands_variable}
 use Rattle.fz_build.proofs.builder.Build.declare.Goals as goal
 
 pub number_after-self-inside-requires : goal.number_after-self-inside-requires
@@ -15,6 +16,11 @@ pub invariant_of-self-2 : goal.invariant_of-self-2
 invariant_of-self-2 c =
     let stands = stands_variable c.self.inside.vars.items c.push.new.self.items c.self.inside.arrays.items c.self.inside.rows.items c.self.inside.next c.args.var c.args.self.now c.in_ok-push.ensures.items c.self.view_is c.self.invariant c.requires in
     (stands.0, c.number_after-self-inside.ensures ∙ stands.1)
+
+pub returns-clause-added : goal.returns-clause-added
+returns-clause-added c =
+    items_variable c.self.inside.vars.items c.push.new.self.items c.self.inside.arrays.items c.self.inside.rows.items c.args.var c.in_ok-push.ensures.items
+    ∙ ap (λ p. with_variable p (variable c.args.var)) c.self.view_is
 
 pub returns-clause-place : goal.returns-clause-place
 returns-clause-place c =
