@@ -1,0 +1,10 @@
+use Rattle.std.proofs.Common.{◌≡◌, [], map, drop}
+use Rattle.mz_tree.specs.Data.{given}
+use Rattle.mz_checks.specs.Tests.{loop, one_more}
+use Rattle.mz_context.specs.Known.{known}
+use Rattle.mz_datum.specs.WithData.{given_value}
+use Rattle.mz_datum.specs.Views.{typed_item}
+use Rattle.mz_datum.proofs.given.given_values.Given as goal
+
+abbrev pub invariant-loop-item : goal.invariant-loop-item
+invariant-loop-item l = loop (one_more (given_value (known l.context))) [] (map given l.items) ≡ loop (one_more (given_value (known l.context))) (map typed_item l.all.items) (map given (drop l.item-index l.items))
