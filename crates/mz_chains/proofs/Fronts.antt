@@ -9,7 +9,7 @@ use Rattle.mz_core.specs.declared.tree.CoreForm.TheViews.{out-CoreForm}
 use Rattle.mz_core.specs.Types.{PlainType, plain_type}
 use Rattle.mz_core.specs.Coercions.{PathLink}
 use Rattle.mz_core.specs.Tree as trees
-use Rattle.mz_core.specs.Tree.{Tree, Shape, Layer, Steps, layer, shape_of, place_of, type_of, steps, all_steps, root_coercions, node, chain, coerce}
+use Rattle.mz_core.specs.Tree.{Tree, Steps, layer, shape_of, place_of, type_of, steps, all_steps, root_coercions, node, chain, coerce}
 use Rattle.mz_core.specs.TreeViews.{tree, step, form_layer}
 use Rattle.mz_core.proofs.TreeLaws.{place_of_tree, type_of_tree, layer_tree}
 use Rattle.mz_meaning.specs.Chains.{Front, Operator, front_of, front_in, back_of, back_in, backed, same_level, coerced_front, with_left, with_right, last_backed, operators_at}

@@ -11,7 +11,7 @@ use Rattle.mz_core.specs.declared.tree.CoreForm.TheViews.{out-CoreForm}
 use Rattle.mz_core.specs.Types.{PlainType, plain_type}
 use Rattle.mz_core.specs.Coercions.{PathLink}
 use Rattle.mz_core.specs.Tree as trees
-use Rattle.mz_core.specs.Tree.{Layer, chain_form, coerce_form, root_coercions, inner_tree, steps}
+use Rattle.mz_core.specs.Tree.{chain_form, coerce_form, root_coercions, inner_tree, steps}
 use Rattle.mz_core.specs.TreeViews.{tree, step, form_layer, inner_in, coercions_in}
 use Rattle.mz_core.proofs.TreeLaws.{inner_tree_is, root_coercions_is}
 use Rattle.mz_meaning.specs.Runs.{State, then_do}

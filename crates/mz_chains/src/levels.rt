@@ -74,13 +74,14 @@ pub fn is_appended(all: &[CoreStep]) -> bool
     same_level(APPEND, all)
 }
 
+// whether an operand is a chain of the level of these operators
 #[tactic(auto, using(crate::proofs::Fronts::front_of_tree))]
-fn is_front(l: u64, e: &Core) -> bool
-    ensures { result ≡ is_some (chains.front_of l (tree e.now)) }
+fn is_front(e: &Core, all: &[CoreStep]) -> bool
+    ensures { result ≡ is_some (chains.front_of (chain_level (map step all.now)) (tree e.now)) }
 {
     match &e.form {
-        CoreForm::Chain(_, all) => same_level(l, all.as_slice()),
-        CoreForm::Coerce(_, part) => is_front(l, part),
+        CoreForm::Chain(_, inner) => same_level(chain_level(all), inner.as_slice()),
+        CoreForm::Coerce(_, part) => is_front(part, all),
         _ => false,
     }
 }
@@ -89,5 +90,5 @@ fn is_front(l: u64, e: &Core) -> bool
 pub fn has_front(first: &Core, all: &[CoreStep]) -> bool
     ensures { result ≡ is_some (chains.front_of (chain_level (map step all.now)) (tree first.now)) }
 {
-    is_front(chain_level(all), first)
+    is_front(first, all)
 }

@@ -10,5 +10,5 @@ mod types;
 pub use bases::{base_of, operand_base};
 pub use chains::all_operators;
 pub use levels::{has_front, is_appended};
-pub use nodes::{coerce_both, finished, inner, place_of};
+pub use nodes::{coerce_both, finished, inner, is_uncoerced, place_of};
 pub use types::{Front, Operator};

@@ -1,6 +1,6 @@
 // The coercions round a node, and its cell under them.
 
-ghost use Rattle.std.specs.Prelude.{◌≡◌, ◌++◌, IfOk, Bool, map, []};
+ghost use Rattle.std.specs.Prelude.{◌≡◌, ◌++◌, IfOk, Bool, map, [], true};
 ghost use Rattle.mz_core.specs.Types.{plain_type};
 ghost use Rattle.mz_core.specs.Paths.{path_links};
 ghost use Rattle.mz_core.specs.Tree.{inner_tree, place_of, root_coercions};
@@ -117,6 +117,16 @@ pub fn coerce_both(
     }
 }
 
+/// Whether no coercion stands round an expression, if there is one, and none follows. Takes no memory.
+pub fn is_uncoerced(round: Option<&Core>, links: &[(Coercion, TypeInst)]) -> bool
+    ensures { result ≡ true → links_round round.entry ++ path_links links.now ≡ [] }
+{
+    match round {
+        None => links.is_empty(),
+        Some(_) => false,
+    }
+}
+
 fn is_name(f: &CoreForm) -> bool
     ensures { result ≡ is_name (form_layer (out-CoreForm f.now)) }
 {
@@ -136,6 +146,25 @@ fn typed_node(alloc: Global, b: &Core, k: Known) -> Result<Known, AllocError>
     typed(alloc, is_name(&b.form), &b.ty, k)
 }
 
+#[tactic(auto, using(mz_core::proofs::TreeLaws::root_coercions_is))]
+fn is_bare(e: &Core) -> bool
+    ensures { result ≡ true → root_coercions (tree e.now) ≡ [] }
+{
+    match &e.form {
+        CoreForm::Coerce(_, _) => false,
+        _ => true,
+    }
+}
+
+// whether an expression surely has its node's cell as it is: no coercion stands round it, and the
+// node's type leaves the cell
+fn is_finished(e: &Core, b: &Core, k: &Known) -> bool
+    ensures bare { result ≡ true → root_coercions (tree e.now) ≡ [] }
+    ensures stays { result ≡ true → (n : Bool) → typed Bare n (plain_type b.now.ty) (cell_of k.now) ≡ cell_of k.now }
+{
+    if is_bare(e) { stays(&b.ty, k) } else { false }
+}
+
 /// The cell of an expression, whose node below its coercions is `b` and has the cell `k` so far: it
 /// takes the node's type, and then the coercions follow.
 pub fn finished(
@@ -148,6 +177,9 @@ pub fn finished(
 ) -> Result<Known, Stop>
     ensures { Meets cell_of result work.new (coerced_by (world_of world.now) b.now.span (root_coercions (tree e.now)) (typed Bare (is_name (form_layer (out-CoreForm b.now.form))) (plain_type b.now.ty) (cell_of k)) (at_work work.old)) }
 {
+    if is_finished(e, b, &k) {
+        return Ok(k);
+    }
     let cell = typed_node(alloc, b, k)?;
     coerce_round(alloc, world, b.span, e, cell, work)
 }

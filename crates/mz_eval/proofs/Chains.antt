@@ -3,7 +3,7 @@ use Rattle.std.proofs.Common.{◌≡◌, ◌∙◌, ℕ, ◌+◌, ◌<◌, Bool,
 use Rattle.std.proofs.lemmas.List.{at_drop_more}
 use Rattle.mz_base.specs.declared.fault.Span.{Span}
 use Rattle.mz_core.specs.Tree.{Tree, Step, steps}
-use Rattle.mz_meaning.specs.Runs.{State, Answer, Out, Stopped, Run, then_do}
+use Rattle.mz_meaning.specs.Runs.{State, Answer, Out, then_do}
 use Rattle.mz_meaning.specs.Cells.{Cell, Env}
 use Rattle.mz_meaning.specs.Contexts.{Untested}
 use Rattle.mz_meaning.specs.Chains.{Operator, Front, fronted, chained, front_of, chain_level, same_level, backed, operand_base}

@@ -1,8 +1,8 @@
 -- How the call ends.
-use Rattle.std.proofs.Common.{◌≡◌, ◌∙◌, ℕ, ◌+◌, ◌≤◌, Result, Err, Ok, IfOk, refl, sym, ap, subst}
+use Rattle.std.proofs.Common.{ℕ, ◌+◌, ◌≤◌, Result, Err, Ok, IfOk, subst}
 use Rattle.mz_base.specs.declared.stop.Stop.{Stop}
 use Rattle.mz_base.specs.declared.stop.Stop.TheVariants.{Refused, Memory}
-use Rattle.mz_meaning.specs.Runs.{Run, State, Answer, Out, Stopped}
+use Rattle.mz_meaning.specs.Runs.{Run, State, Answer}
 use Rattle.mz_meaning.specs.Kinds.{StopsAtEvaluation, IsEvaluation}
 use Rattle.mz_core.specs.Tree.{Tree}
 use Rattle.mz_meaning.specs.Cells.{Cell, Env}

@@ -1,5 +1,5 @@
 -- One level of an evaluation, read from the code's expression.
-use Rattle.std.proofs.Common.{◌≡◌, ◌∙◌, ℕ, zero, suc, ◌+◌, ◌-◌, pos, Bool, List, refl, sym, ap, arith}
+use Rattle.std.proofs.Common.{◌≡◌, ◌∙◌, ℕ, zero, suc, ◌-◌, pos, Bool, refl, ap, arith}
 use Rattle.mz_base.specs.declared.fault.Span.{Span}
 use Rattle.mz_base.specs.declared.kind.Kind.TheVariants.{Depth}
 use Rattle.mz_core.specs.declared.tree.Core.{Core}
@@ -8,7 +8,7 @@ use Rattle.mz_core.specs.Types.{PlainType, plain_type}
 use Rattle.mz_core.specs.Tree.{Tree, Layer, Decl, layer, shape_of, place_of, type_of, inner_tree, root_coercions}
 use Rattle.mz_core.specs.TreeViews.{tree, form_layer}
 use Rattle.mz_core.proofs.TreeLaws.{place_of_tree, type_of_tree, layer_tree}
-use Rattle.mz_meaning.specs.Runs.{State, Answer, Out, Stopped, Run, then_do, loop, stop, give}
+use Rattle.mz_meaning.specs.Runs.{State, Answer, Run, then_do, stop, give}
 use Rattle.mz_meaning.specs.Cells.{Cell, Env, typed}
 use Rattle.mz_meaning.specs.Contexts.{Untested}
 use Rattle.mz_meaning.specs.Forms.{World, Eval, coerced_by}

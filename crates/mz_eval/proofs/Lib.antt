@@ -3,3 +3,4 @@ pub mod Chains
 pub mod Ends
 pub mod Arguments
 pub mod Parts
+pub mod PlainCalls

@@ -1,5 +1,5 @@
 -- At which faults the call may stop.
-use Rattle.std.specs.Prelude.{◌≡◌, true, Result, Ok, Err, ◌≤◌, ◌+◌, ℕ}
+use Rattle.std.specs.Prelude.{◌≡◌, true, Result, Ok, Err}
 use Rattle.mz_base.specs.declared.stop.Stop.{Stop}
 use Rattle.mz_base.specs.declared.stop.Stop.TheVariants.{Refused, Memory}
 use Rattle.mz_meaning.specs.Kinds.{is_evaluation_kind}

@@ -1,3 +1,4 @@
 pub mod Rows
 pub mod Calls
+pub mod PlainCalls
 pub mod Answers

@@ -23,6 +23,7 @@ ghost use Rattle.mz_meaning.specs.Cells as meaning;
 
 use crate::forms::{eval_expression, eval_parts};
 use crate::locals::{eval_indices, eval_want};
+use crate::plain_calls::{eval_plain_call, plain_function};
 use mz_base::{Span, Stop};
 use mz_cells::{Known, Sure, both_sure, guarded, share, undefined};
 use mz_chains::place_of;
@@ -46,6 +47,26 @@ pub(crate) fn eval_call(
 ) -> Result<Known, Stop>
     ensures { Meets cell_of result work.new (call (world_of world.now) (eval (world_of world.now) left) Untested f (map tree all.now) at (env_of world.now scope.now) (at_work work.old)) }
 {
+    match plain_function(world.program, f) {
+        Some(function) => eval_plain_call(alloc, world, function, all, at, scope, left, work),
+        None => eval_declared_call(alloc, world, f, all, at, scope, left, work),
+    }
+}
+
+// A call whose parameters may have declared sets.
+#[cycle(forms)]
+fn eval_declared_call(
+    alloc: Global,
+    world: &World,
+    f: u64,
+    all: &[Core],
+    at: Span,
+    scope: &Scope,
+    left: u64,
+    work: &mut u64,
+) -> Result<Known, Stop>
+    ensures { Meets cell_of result work.new (call (world_of world.now) (eval (world_of world.now) left) Untested f (map tree all.now) at (env_of world.now scope.now) (at_work work.old)) }
+{
     let cells = eval_parts(alloc, world, all, scope, left, work)?;
     eval_call_of(alloc, world, f, all, &cells, at, left, work)
 }
@@ -58,7 +79,7 @@ fn function_in(functions: &[CoreFunction], f: u64) -> Option<&CoreFunction>
 
 // the function with this number, if there is one
 #[tactic(auto, using(crate::proofs::Parts::no_function, crate::proofs::Parts::function_found))]
-fn function_at(program: &Program, f: u64) -> Option<&CoreFunction>
+pub(crate) fn function_at(program: &Program, f: u64) -> Option<&CoreFunction>
     ensures { MatchOption result (slice_get (map function program.now.functions.items) f ≡ None) (λ x. slice_get (map function program.now.functions.items) f ≡ Some (function x.now)) }
 {
     match function_in(&program.functions, f) {
@@ -218,7 +239,7 @@ fn suited(
 
 // The body in the scope of its parameters, and then the result's sets.
 #[cycle(forms)]
-fn eval_called(
+pub(crate) fn eval_called(
     alloc: Global,
     world: &World,
     f: &CoreFunction,

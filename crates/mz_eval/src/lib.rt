@@ -7,6 +7,7 @@ mod comprehensions;
 mod forms;
 mod locals;
 mod operators;
+mod plain_calls;
 mod top_call;
 
 pub use mz_frames::Env;

@@ -7,7 +7,7 @@ use Rattle.mz_base.specs.declared.stop.Stop.{Stop}
 use Rattle.mz_base.specs.declared.stop.Stop.TheVariants.{Refused}
 use Rattle.mz_base.specs.declared.fault.Span.{Span}
 use Rattle.mz_interval.specs.Ends.{Ends, is_number, if_in_limit}
-use Rattle.mz_operations.specs.Bounds.{Bound, Bounds}
+use Rattle.mz_operations.specs.Bounds.{Bounds}
 use Rattle.mz_operations.specs.Bounds as bounds
 use Rattle.mz_meaning.specs.Runs.{State, Out, Stopped, fault}
 use Rattle.mz_meaning.specs.Cells.{Var}

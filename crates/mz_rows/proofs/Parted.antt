@@ -1,13 +1,14 @@
 -- A row over cells, by whether all its arguments are par.
 use Rattle.std.proofs.Common.{◌≡◌, List, [], ◌∷◌, map, refl, sym, subst}
-use Rattle.std.specs.Prelude.{Bool, true, false, ◌&&◌, Result, if◌then◌else◌}
+use Rattle.std.specs.Prelude.{ℤ, Bool, true, false, ◌&&◌, Some, Result, if◌then◌else◌}
 use Rattle.mz_base.specs.declared.fault.Span.{Span}
 use Rattle.mz_base.specs.declared.stop.Stop.{Stop}
+use Rattle.mz_value.specs.Contents.{int}
 use Rattle.mz_value.specs.Shown.{Names}
 use Rattle.mz_core.specs.Types.{PlainType}
 use Rattle.mz_operations.specs.declared.row.Row.{Row}
 use Rattle.mz_meaning.specs.Runs.{Run}
-use Rattle.mz_meaning.specs.Cells.{Bare, Cell, all_par, is_par, value_of}
+use Rattle.mz_meaning.specs.Cells.{Bare, Cell, all_par, is_par, par_value, value_of}
 use Rattle.mz_meaning.specs.Operations.{par_row, row_cell}
 use Rattle.mz_cells.specs.declared.types.Known.{Known}
 use Rattle.mz_cells.specs.Views.{cell_of}
@@ -34,3 +35,7 @@ both_and false b = refl
 
 pub two_par : (c d : Cell) → (is_par c && is_par d) ≡ all_par (c ∷ d ∷ [])
 two_par c d = both_and (is_par c) (is_par d)
+
+-- a row of two integers
+pub integers_row : (names : Names) (r : Row) (t : PlainType) (at : Span) (c d : Cell) (x y : ℤ) (res : Result Known Stop) → c ≡ par_value (int x) → d ≡ par_value (int y) → Tells cell_of res (par_row names r t.base at (Some (int x) ∷ Some (int y) ∷ [])) → Tells cell_of res (row_cell Bare names r t at (c ∷ d ∷ []))
+integers_row names r t at c d x y res e h u = subst (λ k. Tells cell_of res (row_cell Bare names r t at (k ∷ d ∷ []))) (sym e) (subst (λ k. Tells cell_of res (row_cell Bare names r t at (par_value (int x) ∷ k ∷ []))) (sym h) u)

@@ -4,6 +4,7 @@
 mod applied;
 mod costs;
 mod faults;
+mod integers;
 mod limits;
 mod numbers;
 mod opened;

@@ -16,7 +16,7 @@ use crate::rows::operated_two;
 use crate::types::Appended;
 use mz_base::{Span, Stop};
 use mz_cells::{Known, stays, typed};
-use mz_chains::{Operator, coerce_both, operand_base, place_of};
+use mz_chains::{Operator, coerce_both, is_uncoerced, operand_base, place_of};
 use mz_core::TypeInst;
 use mz_frames::World;
 use std::alloc::{AllocError, Global};
@@ -32,6 +32,9 @@ pub fn prepared(
 ) -> Result<Known, Stop>
     ensures { Meets cell_of result work.new (coerced_by (world_of world.now) at (operator_of o.now).step.left (cell_of left) (at_work work.old)) }
 {
+    if is_uncoerced(o.before, &o.step.left) {
+        return Ok(left);
+    }
     coerce_both(alloc, world, at, o.before, &o.step.left, left, work)
 }
 
@@ -71,6 +74,9 @@ pub fn operated_on(
 ) -> Result<Known, Stop>
     ensures { Meets cell_of result work.new (operated_on (world_of world.now) (cell_of a) (operator_of o.now) (cell_of c) (at_work work.old)) }
 {
+    if is_uncoerced(o.after, &o.step.right) {
+        return node_of(alloc, world, o, a, c, work);
+    }
     let place = place_of(o.operand);
     let b = coerce_both(alloc, world, place, o.after, &o.step.right, c, work)?;
     node_of(alloc, world, o, a, b, work)

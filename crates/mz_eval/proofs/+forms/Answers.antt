@@ -1,20 +1,23 @@
 use Rattle.std.proofs.Common.{◌≡◌, ◌∙◌, Err, map, true, sym, ap, rules}
 use Rattle.std.proofs.lemmas.Result.{err_from_is_err_and}
 use Rattle.mz_core.specs.Types.{plain_type}
-use Rattle.mz_core.specs.TreeViews.{tree, step}
+use Rattle.mz_core.specs.Program.{function}
+use Rattle.mz_core.specs.TreeViews.{tree, step, decl}
 use Rattle.mz_meaning.specs.Runs.{then_do}
-use Rattle.mz_meaning.specs.Cells.{Bare}
+use Rattle.mz_meaning.specs.Cells.{Bare, both_sure, bind}
 use Rattle.mz_meaning.specs.Contexts.{Untested}
-use Rattle.mz_meaning.specs.Arrays.{access_cell}
+use Rattle.mz_meaning.specs.Arrays.{Anything, access_cell}
 use Rattle.mz_meaning.specs.Forms.{done, parts}
-use Rattle.mz_meaning.specs.Calls.{call_of}
+use Rattle.mz_meaning.specs.Calls.{argument_suits, call_of}
 use Rattle.mz_meaning.specs.Evaluation.{eval}
-use Rattle.mz_cells.specs.Views.{cell_of, cells_of}
+use Rattle.mz_cells.specs.Views.{cell_of, cells_of, sure_of}
 use Rattle.mz_frames.specs.Runs.{at_work}
 use Rattle.mz_frames.specs.Views.{world_of, env_of}
 use Rattle.mz_chains.proofs.Runs.{meets_is, meets_err}
 use Rattle.mz_eval.proofs.Evaluated.{eval_end, eval_more, finish}
 use Rattle.mz_eval.proofs.Chains.{chain_is, no_front}
+use Rattle.mz_eval.specs.PlainCalls.{called_on}
+use Rattle.mz_eval.proofs.PlainCalls.{called_next, plain_call}
 use Rattle.mz_eval.proofs.+forms.Goals as goal
 
 pub forms::eval_expression-returns : goal.forms::eval_expression-returns
@@ -80,3 +83,31 @@ calls::eval_call_of-returns-in-Some t c =
     meets_is cell_of c.eval_function.result c.eval_function.new.work _ _
     (ap (λ o. call_of w (eval w c.args.left) Untested o (map tree c.args.all.now) (cells_of c.args.cells.now) c.args.at (at_work c.args.work.now)) c.in-Some.ensures)
     c.eval_function.ensures
+
+pub calls::eval_call-returns-in-Some : goal.calls::eval_call-returns-in-Some
+calls::eval_call-returns-in-Some t c =
+    let x = c.args.world.now in
+    meets_is cell_of c.eval_plain_call.result c.eval_plain_call.new.work _ _
+    (plain_call x (eval (world_of x) c.args.left) c.args.f (function c.in-Some.function.now) (map tree c.args.all.now) c.args.at (env_of x c.args.scope.now) (at_work c.args.work.now) c.in-Some.ensures)
+    c.eval_plain_call.ensures
+
+pub plain_calls::eval_first-returns : goal.plain_calls::eval_first-returns
+unfolding plain_type
+plain_calls::eval_first-returns t c =
+    let x = c.args.world.now in
+    let w = world_of x in
+    let go = eval w c.args.left in
+    let f = function c.args.f.now in
+    let d = decl c.args.d.now in
+    let ds = map decl c.args.params.now in
+    let es = map tree c.args.all.now in
+    let env = env_of x c.args.scope.now in
+    let inner = env_of x c.args.bound.now in
+    let cell = cell_of c.in_ok-cell.cell in
+    let holds = sure_of c.args.holds in
+    let so_far : sure_of c.both_sure-so_far.result ≡ both_sure holds (argument_suits f.result.ty.var d.ty.ty.var Anything cell) = c.both_sure-so_far.ensures ∙ ap (both_sure holds) c.plain_suits.ensures in
+    meets_is cell_of c.eval_bound.result c.eval_bound.new.work _ _
+    (called_next w go f c.args.at d ds (tree c.args.e.now) es holds env inner (at_work c.args.work.now)
+    ∙ ap (λ a. then_do a (λ k. called_on w go f c.args.at ds es (both_sure holds (argument_suits f.result.ty.var d.ty.ty.var Anything k)) env (bind d.slot k inner))) c.in_ok-cell.ensures
+    ∙ ap (λ h. called_on w go f c.args.at ds es h env (bind d.slot cell inner) (at_work c.eval_expression.new.work)) (sym so_far))
+    c.eval_bound.ensures

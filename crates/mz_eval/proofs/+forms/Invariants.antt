@@ -165,8 +165,23 @@ decreases-calls::eval_function l = 2 ^ 140 * l.left + 7
 abbrev pub decreases-calls::eval_call_of : goal.decreases-calls::eval_call_of
 decreases-calls::eval_call_of l = 2 ^ 140 * l.left + 8
 
+abbrev pub decreases-calls::eval_declared_call : goal.decreases-calls::eval_declared_call
+decreases-calls::eval_declared_call l = 2 ^ 140 * l.left + 9
+
+abbrev pub decreases-plain_calls::eval_unbound : goal.decreases-plain_calls::eval_unbound
+decreases-plain_calls::eval_unbound l = 2 ^ 140 * l.left + 4
+
+abbrev pub decreases-plain_calls::eval_bound : goal.decreases-plain_calls::eval_bound
+decreases-plain_calls::eval_bound l = 2 ^ 140 * l.left + (2 * length l.all.now + 5)
+
+abbrev pub decreases-plain_calls::eval_first : goal.decreases-plain_calls::eval_first
+decreases-plain_calls::eval_first l = 2 ^ 140 * l.left + (2 * length l.all.now + 6)
+
+abbrev pub decreases-plain_calls::eval_plain_call : goal.decreases-plain_calls::eval_plain_call
+decreases-plain_calls::eval_plain_call l = 2 ^ 140 * l.left + (2 * length l.all.now + 6)
+
 abbrev pub decreases-calls::eval_call : goal.decreases-calls::eval_call
-decreases-calls::eval_call l = 2 ^ 140 * l.left + 9
+decreases-calls::eval_call l = 2 ^ 140 * l.left + (2 * length l.all.now + 10)
 
 abbrev pub decreases-forms::eval_form : goal.decreases-forms::eval_form
 decreases-forms::eval_form l = 2 ^ 140 * l.left + (2 ^ 140 - 1)

@@ -3,7 +3,7 @@ use Rattle.mz_value.specs.Contents.{case_names}
 use Rattle.mz_core.specs.Types.{plain_type}
 use Rattle.mz_cells.specs.Views.{cell_of}
 use Rattle.mz_rows.proofs.Parted.{row_open, row_par}
-use Rattle.mz_rows.proofs.row_of.row_of_two.Goals as goal
+use Rattle.mz_rows.proofs.row_of.row_of_cells.Goals as goal
 
 pub returns-then-are_par : goal.returns-then-are_par
 unfolding plain_type

@@ -1,0 +1,43 @@
+-- Calls of functions whose parameters have no declared sets.
+use Rattle.std.specs.Prelude.{◌≡◌, ℕ, Bool, List, [], ◌∷◌, None, Some, slice_get}
+use Rattle.mz_base.specs.declared.fault.Span.{Span}
+use Rattle.mz_core.specs.Program.{Function}
+use Rattle.mz_core.specs.Tree.{Tree, Decl}
+use Rattle.mz_meaning.specs.Runs.{Run, ◌>>=◌}
+use Rattle.mz_meaning.specs.Cells.{Cell, Env, Sure, both_sure, bind}
+use Rattle.mz_meaning.specs.Arrays.{Anything}
+use Rattle.mz_meaning.specs.Contexts.{Untested}
+use Rattle.mz_meaning.specs.Forms.{World, Eval, parts}
+use Rattle.mz_meaning.specs.Calls.{argument_suits}
+use Rattle.mz_eval.specs.Calls.{called_in}
+
+-- a parameter without declared sets
+pub record IsPlain (d : Decl) : Type 0 where
+  pub index : d.ty.index ≡ []
+  pub set : d.ty.set ≡ None
+
+abbrev pub ArePlain : List Decl → Type 0
+ArePlain [] = Unit {0}
+ArePlain (d ∷ ds) = IsPlain d × ArePlain ds
+
+-- the function with this number
+pub record IsPlainAt (fs : List Function) (n : ℕ) (f : Function) : Type 0 where
+  pub found : slice_get fs n ≡ Some f
+  pub plain : ArePlain f.params
+
+-- whether arguments suit such parameters, and what holds before
+abbrev pub all_suit : Bool → List Decl → List Cell → Sure → Sure
+all_suit var [] cs holds = holds
+all_suit var (d ∷ ds) [] holds = holds
+all_suit var (d ∷ ds) (c ∷ cs) holds = all_suit var ds cs (both_sure holds (argument_suits var d.ty.ty.var Anything c))
+
+abbrev pub with_arguments : List Decl → List Cell → Env → Env
+with_arguments [] cs env = env
+with_arguments (d ∷ ds) [] env = env
+with_arguments (d ∷ ds) (c ∷ cs) env = with_arguments ds cs (bind d.slot c env)
+
+-- a call on the arguments that are left, after others that are bound in `inner`
+abbrev pub called_on : World → Eval → Function → Span → List Decl → List Tree → Sure → Env → Env → Run Cell
+called_on w go f at ds es holds env inner = do
+  cs ← parts go Untested es env
+  called_in w go f at (all_suit f.result.ty.var ds cs holds) (with_arguments ds cs inner)
