@@ -1,0 +1,20 @@
+-- WHAT IS PAR IN A TYPED TREE.
+use Rattle.std.specs.Prelude.{◌≡◌, false, is_none}
+use Rattle.std.specs.List.{AllByRecursion}
+use Rattle.mz_core.specs.Tree.{Tree, Item, declares, constrains, Layer, let_form, layer, shape_of, type_of}
+use Rattle.mz_independence.specs.Independence.{IsParTree}
+
+-- a declaration of a let that is par has a value
+abbrev pub HasValue : Item → Type 0
+HasValue (declares d) = d.ty.ty.var ≡ false → is_none d.value ≡ false
+HasValue (constrains e) = Unit {0}
+
+-- so have all of a let
+abbrev pub HaveValues : Layer → Type 0
+HaveValues (let_form is e) = AllByRecursion HasValue is
+HaveValues l = Unit {0}
+
+-- where a tree is typed par, it is a par node without a coercion to var
+pub record RespectsPar (e : Tree) : Type 0 where
+  pub tree : (type_of e).var ≡ false → IsParTree e
+  pub locals : HaveValues (layer (shape_of e))
