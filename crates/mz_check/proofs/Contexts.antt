@@ -1,0 +1,81 @@
+-- What is known of a model when its types are typed, and what its sections are then.
+use Rattle.std.proofs.Common.{◌≡◌, ℕ, List, [], ◌∷◌, Ok, Err, length, refl, ap, sym, subst}
+use Rattle.std.specs.List.{flat_map}
+use Rattle.mz_scoped.specs.Scoped.{ScopedTree}
+use Rattle.mz_type_order.specs.Subjects.{IsOrderOf}
+use Rattle.mz_checks.specs.Tests.{Test, ◌>>=◌}
+use Rattle.mz_checks.specs.Models.{Model}
+use Rattle.mz_checks.specs.Headings.{Subject, of_decl, of_function, with_type, with_types}
+use Rattle.mz_checks.specs.Duplicates.{duplicate_after}
+use Rattle.mz_checks.specs.Checks.{numbered, with_parameters, untyped, none_met, types_met, no_fault, signed, items_met, Sections, sections, checked_with, checked}
+use Rattle.mz_headings.specs.Naming.{AreNamed}
+use Rattle.mz_headings.specs.Subjects.{AreNew}
+use Rattle.mz_headings.proofs.New.{all_new}
+use Rattle.mz_check.specs.StepsProgram.{AreTexted, AreNumbered}
+use Rattle.mz_check.proofs.Assembling.{sections_numbered}
+use Rattle.mz_texts.proofs.Giving.{Gives}
+use Rattle.mz_check.proofs.Texted.{checked_texted}
+
+-- what stays as types are typed
+pub record IsOf (m : Model) (texts : List (List ℕ)) (functions : List (ℕ × ℕ)) : Type 0 where
+  pub texts_are : m.texts ≡ texts
+  pub functions_are : m.functions ≡ functions
+
+one_kept : (s : ScopedTree) (m : Model) (x : Subject) (texts : List (List ℕ)) (functions : List (ℕ × ℕ)) → IsOf m texts functions → IsOf (with_type s m x) texts functions
+one_kept s m (of_decl d) texts functions h = record { texts_are = h.texts_are; functions_are = h.functions_are }
+one_kept s m (of_function f) texts functions h = record { texts_are = h.texts_are; functions_are = h.functions_are }
+
+all_kept : (s : ScopedTree) (m : Model) (xs : List Subject) (texts : List (List ℕ)) (functions : List (ℕ × ℕ)) → IsOf m texts functions → IsOf (with_types s m xs) texts functions
+unfolding with_types
+all_kept s m [] texts functions h = h
+all_kept s m (x ∷ xs) texts functions h = all_kept s (with_type s m x) xs texts functions (one_kept s m x texts functions h)
+
+at_first : (texts : List (List ℕ)) (s : ScopedTree) → IsOf (untyped texts s) texts (flat_map with_parameters (numbered s.functions))
+unfolding untyped
+at_first texts s = record { texts_are = refl; functions_are = refl }
+
+pub typed_is : (texts : List (List ℕ)) (s : ScopedTree) (order : List Subject) (m : Model) → m ≡ with_types s (untyped texts s) order → IsOf m texts (flat_map with_parameters (numbered s.functions))
+typed_is texts s order m e = subst (λ (n : Model). IsOf n texts (flat_map with_parameters (numbered s.functions))) (sym e) (all_kept s (untyped texts s) order texts (flat_map with_parameters (numbered s.functions)) (at_first texts s))
+
+pub named_of : (texts : List (List ℕ)) (s : ScopedTree) (m : Model) (functions : List (ℕ × ℕ)) → IsOf m texts functions → AreNamed (length texts) s → AreNamed (length m.texts) s
+named_of texts s m functions h named = subst (λ (ts : List (List ℕ)). AreNamed (length ts) s) (sym h.texts_are) named
+
+pub first_is : (texts : List (List ℕ)) (s : ScopedTree) (m : Model) → m ≡ untyped texts s → IsOf m texts (flat_map with_parameters (numbered s.functions))
+first_is texts s m e = subst (λ (n : Model). IsOf n texts (flat_map with_parameters (numbered s.functions))) (sym e) (at_first texts s)
+
+new_at_first : (texts : List (List ℕ)) (s : ScopedTree) (order : List Subject) → IsOrderOf s order → AreNew (untyped texts s) order
+unfolding untyped
+new_at_first texts s order o = all_new (untyped texts s) order refl refl o.once
+
+pub first_new : (texts : List (List ℕ)) (s : ScopedTree) (order : List Subject) (m : Model) → m ≡ untyped texts s → IsOrderOf s order → AreNew m order
+first_new texts s order m e o = subst (λ (n : Model). AreNew n order) (sym e) (new_at_first texts s order o)
+
+pub checked_is : (texts : List (List ℕ)) (s : ScopedTree) (order : List Subject) (m : Model) → m ≡ with_types s (untyped texts s) order → checked texts s order ≡ checked_with s m
+unfolding checked
+checked_is texts s order m e = ap (checked_with s) (sym e)
+
+-- a model that passes its tests has its sections
+
+passed : {A B : Type 0} (t : Test A) (go : A → Test B) (y : B) → (t >>= go) ≡ Ok y → (x : A) × (go x ≡ Ok y)
+passed (Ok x) go y e = (x, e)
+passed (Err f) go y e = absurd (cc)
+
+sections_of_checked : (s : ScopedTree) (m : Model) (all : Sections) → checked_with s m ≡ Ok all → sections s m ≡ Ok all
+unfolding checked_with
+sections_of_checked s m all e =
+    let tested : Test Sections = none_met (items_met s m) >>= λ u. sections s m in
+    let unrepeated : Test Sections = no_fault (duplicate_after m.texts [] (signed s m)) >>= λ u. tested in
+    let a = passed (none_met (types_met s m)) (λ u. unrepeated) all e in
+    let b = passed (no_fault (duplicate_after m.texts [] (signed s m))) (λ u. tested) all a.1 in
+    let c = passed (none_met (items_met s m)) (λ u. sections s m) all b.1 in
+    c.1
+
+pub checked_numbered : (texts : List (List ℕ)) (s : ScopedTree) (order : List Subject) (all : Sections) → checked texts s order ≡ Ok all → AreNumbered all.decls
+unfolding checked
+checked_numbered texts s order all e = sections_numbered s (with_types s (untyped texts s) order) all (sections_of_checked s (with_types s (untyped texts s) order) all e)
+
+given : {A : Type 0} (Q : A → Type 0) (t : Test A) (x : A) → t ≡ Ok x → Gives t Q → Q x
+given Q t x e h = subst (λ (r : Test _). Gives r Q) e h
+
+pub checked_named : (texts : List (List ℕ)) (s : ScopedTree) (order : List Subject) (all : Sections) → AreNamed (length texts) s → IsOrderOf s order → checked texts s order ≡ Ok all → AreTexted (length texts) all
+checked_named texts s order all named o e = given (AreTexted (length texts)) (checked texts s order) all e (checked_texted (length texts) texts s order named o.among)

@@ -1,0 +1,12 @@
+pub mod Answered
+pub mod Assembling
+pub mod Contexts
+pub mod Keeping
+pub mod Meeting
+pub mod Parting
+pub mod Placed
+pub mod Programs
+pub mod Refused
+pub mod Taking
+pub mod Texted
+pub mod Values

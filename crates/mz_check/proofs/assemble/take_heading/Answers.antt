@@ -1,0 +1,12 @@
+use Rattle.std.proofs.Common.{◌∙◌, ap, sym}
+use Rattle.std.specs.Option.{option_map}
+use Rattle.mz_context.specs.Headings.{heading, tested}
+use Rattle.mz_context.proofs.Answering.{answer_found}
+use Rattle.mz_check.specs.StepsTaking.{taken}
+use Rattle.mz_check.proofs.assemble.take_heading.Goals as goal
+
+pub returns-clause-taken : goal.returns-clause-taken
+returns-clause-taken c = c.typed_heading.ensures ∙ ap taken (ap (option_map (tested heading)) c.swap_remove.ensures.value ∙ sym (answer_found heading c.args.f c.args.headings.now.entries))
+
+pub returns-clause-others : goal.returns-clause-others
+returns-clause-others c = λ k e. answer_found heading k c.swap_remove.new.self.entries ∙ ap (option_map (tested heading)) (c.swap_remove.ensures.updates.2 k e) ∙ sym (answer_found heading k c.args.headings.now.entries)

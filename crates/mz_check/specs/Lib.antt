@@ -1,0 +1,6 @@
+pub mod StepsMeeting
+pub mod StepsParts
+pub mod StepsTaking
+pub mod StepsTesting
+pub mod StepsPlacing
+pub mod StepsProgram

@@ -1,0 +1,78 @@
+// From a scoped model to a typed program.
+
+ghost use Rattle.std.specs.Prelude.{◌≡◌, [], length, map, IfOk, IfErr};
+ghost use Rattle.mz_base.specs.Faults.{IfRefused};
+ghost use Rattle.mz_core.specs.Program.{plain_program};
+ghost use Rattle.mz_scoped.specs.Scoped.{scoped_tree, shared_names, AreDistinct, AreRanked};
+ghost use Rattle.mz_type_order.specs.Subjects.{subject, IsOrderOf};
+ghost use Rattle.std.specs.List.{flat_map};
+ghost use Rattle.mz_checks.specs.Checks.{numbered, with_parameters, checked, checked_with, Checks, IsRefused};
+ghost use Rattle.mz_checks.specs.Passes.{Passes};
+ghost use Rattle.mz_context.specs.Known.{known};
+ghost use Rattle.mz_headings.specs.Naming.{AreNamed};
+ghost use Rattle.mz_check.specs.StepsParts.{sections_of};
+
+use crate::assemble::assembled;
+use crate::context::typed_context;
+use crate::parts::TypedSections;
+use crate::program::program_of;
+use crate::sections::typed_items;
+use crate::testing::{test_duplicates, test_types};
+use mz_base::{Names, Stop};
+use mz_context::Context;
+use mz_core::Program;
+use mz_scoped::Scoped;
+use mz_type_order::{Subject, type_order};
+use std::alloc::Global;
+
+/// The typed sections of a model all of whose types are typed, or the fault that is met first.
+#[tactic(auto, unfolding(mz_checks::specs::Checks::checked_with))]
+fn checked_sections(
+    alloc: Global,
+    scoped: &Scoped,
+    context: Context<'_>,
+) -> Result<TypedSections, Stop>
+    requires named { AreNamed (length (known context).texts) (scoped_tree scoped.now) }
+    requires functions { (known context).functions ≡ flat_map with_parameters (numbered (scoped_tree scoped.now).functions) }
+    ensures { Passes sections_of result (checked_with (scoped_tree scoped.now) (known context.entry)) }
+{
+    test_types(alloc, scoped, &context)?;
+    test_duplicates(alloc, scoped, &context)?;
+    let items = typed_items(alloc, scoped, &context)?;
+    let sections = assembled(alloc, scoped, context, items)?;
+    Ok(sections)
+}
+
+/// The typed sections of a model, whose types are typed in this order.
+fn sections_in_order(
+    alloc: Global,
+    scoped: &Scoped,
+    names: &Names,
+    order: &[Subject],
+) -> Result<TypedSections, Stop>
+    requires distinct { AreDistinct (shared_names (scoped_tree scoped.now)) }
+    requires named { AreNamed (length names.now) (scoped_tree scoped.now) }
+    requires order { IsOrderOf (scoped_tree scoped.now) (map subject order.now) }
+    ensures { Passes sections_of result (checked names.now (scoped_tree scoped.now) (map subject order.now)) }
+{
+    let context = typed_context(alloc, scoped, names, order)?;
+    checked_sections(alloc, scoped, context)
+}
+
+/// The typed program of a scoped model, or its first fault of types: first types are typed, in source order and each after those that
+/// it needs; then functions that are declared twice are refused; then values, bodies and all other items are typed, in source order.
+///
+/// `names` has the texts of all names in the model, of which no two in the shared space are the same; and there is no data.
+pub fn check(alloc: Global, scoped: &Scoped, names: &Names) -> Result<Program, Stop>
+    requires distinct { AreDistinct (shared_names (scoped_tree scoped.now)) }
+    requires ranked { AreRanked (scoped_tree scoped.now) }
+    requires named { AreNamed (length names.now) (scoped_tree scoped.now) }
+    requires given { (scoped_tree scoped.now).given ≡ [] }
+    ensures checks { IfOk result (λ p. Checks names.now (scoped_tree scoped.now) (plain_program p)) }
+    ensures refused { IfErr result (λ e. IfRefused e (IsRefused names.now (scoped_tree scoped.now))) }
+{
+    let order = type_order(alloc, scoped)?;
+    let sections = sections_in_order(alloc, scoped, names, order.as_slice())?;
+    let program = program_of(alloc, scoped, names, sections)?;
+    Ok(program)
+}
