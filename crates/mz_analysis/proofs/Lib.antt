@@ -1,12 +1,15 @@
 pub mod Alike
 pub mod Expressions
+pub mod Fails
 pub mod Faults
 pub mod Items
+pub mod Later
 pub mod Leaves
 pub mod Meanings
 pub mod Orders
 pub mod Parts
 pub mod Placed
+pub mod Reasons
 pub mod Single
 pub mod Stopping
 pub mod Tested

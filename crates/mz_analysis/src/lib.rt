@@ -1,9 +1,10 @@
-// The names of a model's files, tested and scoped before the files are compiled.
+// The names and the types of a model's files, tested before the files are compiled.
 #![tactic(auto)]
 
 mod law;
 mod owner;
 mod scoping;
+mod typing;
 
 pub use law::{
     any_order_of_types, one_scoped_model, scoped_or_refused, typed_or_refused,
@@ -11,3 +12,4 @@ pub use law::{
 };
 pub use owner::file_name;
 pub use scoping::scoped_model;
+pub use typing::{test_model, typed_model};

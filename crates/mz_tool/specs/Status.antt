@@ -19,6 +19,7 @@ use Rattle.fz_program.specs.Names.{Name}
 use Rattle.mz_first.specs.Model.{Item}
 use Rattle.mz_first.specs.Reading.{formed}
 use Rattle.mz_first.specs.Promise.{IsNotBuilt}
+use Rattle.mz_analysis.specs.Analysis.{FailsTest, HasTypedModel, file_name}
 use Rattle.mz_tool.specs.declared.status.Status.{Status}
 use Rattle.mz_tool.specs.declared.status.Status.TheVariants.{Done, Refused, Usage, ReadFault, WriteFault, Memory}
 
@@ -57,11 +58,12 @@ IsLineNoted old new before after file status = Notes old new before after (line_
 abbrev pub not_built_at : Span → Fault
 not_built_at place = fault_at NotBuilt place
 
--- Why the model of this name is refused, and the name of the file of the fault's place: a file fails, or the model
--- isn't of the form that is built.
+-- Why the model of this name is refused, and the name of the file of the fault's place: a file fails; or a test of names or of types
+-- fails; or the model is typed, and isn't of the form that is built.
 pub data IsRefusal (table : List Name) (texts : Texts) (name : Name) : Fault → Name → Type 0 where
   a_file_fails : {f : Fault} {file : Name} → IsFirstFailure table texts name f file → IsRefusal table texts name f file
-  not_built : (files : List File) {place : Span} {file : Name} → IsSources table texts name files → IsNotBuilt table files (place, file) → IsRefusal table texts name (not_built_at place) file
+  a_test_fails : {f : Fault} (files : List File) → IsSources table texts name files → FailsTest table files f → IsRefusal table texts name f (file_name files f.span.file)
+  not_built : (files : List File) {place : Span} {file : Name} → IsSources table texts name files → HasTypedModel table files → IsNotBuilt table files (place, file) → IsRefusal table texts name (not_built_at place) file
 
 -- the file that an answer's line names
 abbrev pub IsOwner : Texts → Option Name → Status → Name → Type 0
@@ -115,22 +117,34 @@ CountsOut old new WriteFault = Rose old.faults new.faults × (new.shortages ≡ 
 CountsOut old new Memory = (new.faults ≡ old.faults) × (old.shortages ≤ new.shortages)
 CountsOut old new _ = new ≡ old
 
--- the told texts are a model, by this table
+-- the told texts are a model that has a typed program and is of the form that is built, by this table
 pub record IsToldModel (table : List Name) (texts : Texts) (name : Name) : Type 0 where
   pub told : List ℕ → Option (List ℕ)
   pub is_told : texts ≡ Some told
-  pub distinct : AreDistinct table
   pub files : List File
   pub items : List Item
   pub sources : IsSources table texts name files
+  pub typed : HasTypedModel table files
   pub model : formed table files ≡ Ok items
 
--- A told model is compiled, unless a count of faults rose or memory ran out. Which name has which number is nothing to
--- the model: this is said of every table that goes on from one of the run's.
+-- the told texts are files, by this table
+pub record AreToldFiles (table : List Name) (texts : Texts) (name : Name) (files : List File) : Type 0 where
+  pub told : List ℕ → Option (List ℕ)
+  pub is_told : texts ≡ Some told
+  pub distinct : AreDistinct table
+  pub sources : IsSources table texts name files
+
+-- What a run makes of a told model, by its own table of names: it is compiled. Which name has which number is nothing to the model:
+-- the files that are read by some table that goes on from this one are read by this one too.
+pub record Completes (known : List Name) (texts : Texts) (name : Name) (status : Status) : Type 0 where
+  pub distinct : AreDistinct known
+  pub whole : (table : List Name) (files : List File) → Grows known table → AreToldFiles table texts name files → IsSources known texts name files ⊎ IsDoneOrMemory status
+  pub compiled : IsToldModel known texts name → IsDoneOrMemory status
+
+-- A told model is compiled, unless a count of faults rose or memory ran out.
 abbrev pub IsComplete : Texts → Option Name → FileCounts → FileCounts → SinkCounts → SinkCounts → Status → Type 0
 IsComplete texts word old new before after status =
-    (name : Name) → word ≡ Some name → (Rose old.faults new.faults → ⊥) → (Rose before.faults after.faults → ⊥)
-    → (known : List Name) × AreDistinct known × ((table : List Name) → Grows known table → IsToldModel table texts name → IsDoneOrMemory status)
+    (name : Name) → word ≡ Some name → (Rose old.faults new.faults → ⊥) → (Rose before.faults after.faults → ⊥) → (known : List Name) × Completes known texts name status
 
 -- what a reference to bytes points to
 abbrev pub now : Bor (List ℕ) → List ℕ

@@ -1,11 +1,12 @@
 -- Mirror of src/compile.rt; private clauses only. How a compilation ends.
 use Rattle.std.specs.Prelude.{◌≡◌, ◌<◌, ℕ, List, [], length}
 use Rattle.mz_base.specs.declared.fault.Fault.{Fault}
-use Rattle.mz_base.specs.Names.{Grows, text_of}
+use Rattle.mz_base.specs.declared.stop.Stop.{Stop}
+use Rattle.mz_base.specs.declared.stop.Stop.TheVariants as stop
+use Rattle.mz_base.specs.Names.{text_of}
 use Rattle.mz_io.specs.Files.{Texts}
 use Rattle.mz_io.specs.Sink.{Held, Adds, AddsFront}
 use Rattle.mz_include.specs.Naming.{File}
-use Rattle.mz_include.specs.Sources.{IsSources, IsFirstFailure}
 use Rattle.mz_include.specs.declared.end.GatherEnd.{GatherEnd}
 use Rattle.mz_include.specs.declared.end.GatherEnd.TheVariants as gathered
 use Rattle.fz_program.specs.Names.{Name}
@@ -14,12 +15,13 @@ use Rattle.fz_spelling.specs.Spelling.{spelling}
 use Rattle.mz_first.specs.declared.building.Built.{Built}
 use Rattle.mz_first.specs.declared.building.Built.TheVariants as built
 use Rattle.mz_first.specs.Promise.{IsNotBuilt}
+use Rattle.mz_analysis.specs.Analysis.{FailsTest, HasTypedModel, file_name}
 use Rattle.mz_tool.specs.declared.compile.End.{End}
 use Rattle.mz_tool.specs.declared.compile.End.TheVariants as end
 use Rattle.mz_tool.specs.declared.status.Status.{Status}
 use Rattle.mz_tool.specs.declared.status.Status.TheVariants as status
 use Rattle.mz_tool.specs.Headline.{Compiled, Writes, WritesFront}
-use Rattle.mz_tool.specs.Status.{not_built_at}
+use Rattle.mz_tool.specs.Status.{not_built_at, IsRefusal}
 
 -- the answer, without the file
 abbrev pub status_of : End → Status
@@ -34,10 +36,6 @@ abbrev pub file_of : List Name → End → Name
 file_of table (end.Refused f n) = text_of table n
 file_of table _ = []
 
--- the files aren't a model, by this table and each one that it grows to
-abbrev pub StaysNotBuilt : List Name → List File → Fault → Name → Type 0
-StaysNotBuilt table files f file = (f ≡ not_built_at f.span) × ((later : List Name) → Grows table later → IsNotBuilt later files (f.span, file))
-
 -- a program that is built is well formed
 abbrev pub IsWritable : Built → Type 0
 IsWritable (built.Program p) = WellFormed (program p)
@@ -51,18 +49,37 @@ Puts (built.Program p) old new end.Memory = new ≡ old
 Puts (built.Program p) old new _ = ⊥
 Puts (built.NotBuilt s n) old new e = (new ≡ old) × (e ≡ end.Refused (not_built_at s) n)
 
+-- the files are refused as not built
+pub record IsUnbuilt (table : List Name) (files : List File) (f : Fault) (file : Name) : Type 0 where
+  pub kind : f ≡ not_built_at f.span
+  pub place : IsNotBuilt table files (f.span, file)
+
+-- what compiling the files of a typed model leaves
+abbrev pub Builds : List Name → List File → Held → Held → End → Type 0
+Builds table files old new end.Done = (written : List ℕ) × Compiled table files written × Adds old new written
+Builds table files old new (end.Refused f n) = (new ≡ old) × IsUnbuilt table files f (text_of table n)
+Builds table files old new end.ReadFault = ⊥
+Builds table files old new end.WriteFault = (written : List ℕ) × Compiled table files written × AddsFront old new written
+Builds table files old new end.Memory = new ≡ old
+
+-- how it ended, where a test stopped it
+abbrev pub Stops : List Name → List File → Stop → End → Type 0
+Stops table files (stop.Refused f) (end.Refused g n) = (g ≡ f) × (text_of table n ≡ file_name files f.span.file)
+Stops table files stop.Memory end.Memory = Unit {0}
+Stops table files s e = ⊥
+
+-- why files are refused: by a test, or as not built
+pub data IsRefusedAs (table : List Name) (files : List File) : Fault → Name → Type 0 where
+  by_a_test : {f : Fault} → FailsTest table files f → IsRefusedAs table files f (file_name files f.span.file)
+  as_not_built : {f : Fault} {file : Name} → HasTypedModel table files → IsUnbuilt table files f file → IsRefusedAs table files f file
+
 -- what compiling a model's files leaves
 abbrev pub Leaves : List Name → List File → Held → Held → End → Type 0
-Leaves table files old new end.Done = (written : List ℕ) × Compiled table files written × Adds old new written
-Leaves table files old new (end.Refused f n) = (new ≡ old) × StaysNotBuilt table files f (text_of table n)
+Leaves table files old new end.Done = HasTypedModel table files × Builds table files old new end.Done
+Leaves table files old new (end.Refused f n) = (new ≡ old) × IsRefusedAs table files f (text_of table n)
 Leaves table files old new end.ReadFault = ⊥
-Leaves table files old new end.WriteFault = (written : List ℕ) × Compiled table files written × AddsFront old new written
+Leaves table files old new end.WriteFault = HasTypedModel table files × Builds table files old new end.WriteFault
 Leaves table files old new end.Memory = new ≡ old
-
--- a file fails, or the files aren't a model
-pub data Fails (table : List Name) (texts : Texts) (name : Name) (f : Fault) (file : Name) : Type 0 where
-  at_a_file : IsFirstFailure table texts name f file → Fails table texts name f file
-  as_a_whole : (files : List File) → IsSources table texts name files → StaysNotBuilt table files f file → Fails table texts name f file
 
 -- how it ended, where the files weren't all read
 abbrev pub unread : GatherEnd → End
@@ -73,7 +90,7 @@ unread gathered.Memory = end.Memory
 -- what compiling the model of this name leaves
 abbrev pub Ends : List Name → Texts → Name → Held → Held → End → Type 0
 Ends table texts name old new end.Done = Writes table texts name old new
-Ends table texts name old new (end.Refused f n) = (new ≡ old) × Fails table texts name f (text_of table n)
+Ends table texts name old new (end.Refused f n) = (new ≡ old) × IsRefusal table texts name f (text_of table n)
 Ends table texts name old new end.ReadFault = new ≡ old
 Ends table texts name old new end.WriteFault = WritesFront table texts name old new
 Ends table texts name old new end.Memory = new ≡ old

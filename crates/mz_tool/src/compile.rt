@@ -1,13 +1,14 @@
 // A model with its included files, compiled.
 
-ghost use Rattle.std.specs.Prelude.{◌≡◌, ◌<◌, map, length};
+ghost use Rattle.std.specs.Prelude.{◌≡◌, ◌<◌, List, ℕ, map, length};
 ghost use Rattle.mz_include.specs.Views.{file, AreKnown};
-ghost use Rattle.mz_tool.specs.StepsCompiling.{status_of, IsWritable, Puts, Leaves, unread, Ends, IsNamedEnd};
+ghost use Rattle.mz_tool.specs.StepsCompiling.{status_of, IsWritable, Puts, Stops, Builds, Leaves, unread, Ends, IsNamedEnd};
 ghost use Rattle.mz_tool.specs.Status.{CountsFiles, CountsOut};
 
 use crate::status::Status;
 use fz_text::{Wrote, write};
-use mz_base::{Fault, Kind, Name, Names};
+use mz_analysis::{file_name, test_model};
+use mz_base::{Fault, Kind, Name, Names, Stop};
 use mz_first::{Built, build};
 use mz_include::{GatherEnd, gather};
 use mz_io::{Files, Sink};
@@ -55,7 +56,37 @@ fn write_built<S: Sink>(alloc: Global, built: &Built, out: &mut S) -> End
     }
 }
 
-/// Compiles the files of a model, by the table of their names.
+/// Compiles the files of a model that is typed, by the table of their names.
+fn compile_typed<S: Sink>(alloc: Global, sources: &Sources, names: &Names, out: &mut S) -> End
+    requires some { 0 < length sources.now.files.items }
+    requires known { AreKnown names.now sources.now.files.items }
+    ensures left { Builds names.now (map (file names.now) sources.now.files.items) (S.held out.old) (S.held out.new) result }
+    ensures named { IsNamedEnd names.now result }
+    ensures counted { CountsOut (S.counts out.old) (S.counts out.new) (status_of result) }
+{
+    match build(alloc, sources, names) {
+        Ok(built) => write_built(alloc, &built, out),
+        Err(_) => End::Memory,
+    }
+}
+
+/// How a compilation ended whose names or types are refused.
+fn stopped(sources: &Sources, stop: Stop) -> End
+    requires { 0 < length sources.now.files.items }
+    ensures stops { (table : List (List ℕ)) → Stops table (map (file table) sources.now.files.items) stop result }
+    ensures named { (table : List (List ℕ)) → AreKnown table sources.now.files.items → IsNamedEnd table result }
+{
+    match stop {
+        Stop::Refused(fault) => {
+            let owner = file_name(sources.files.as_slice(), fault.span.file);
+            End::Refused(fault, owner)
+        }
+        Stop::Memory => End::Memory,
+    }
+}
+
+/// Compiles the files of a model, by the table of their names: the names are tested, then the types, and then whether the model
+/// is of the form that is built.
 fn compile_files<S: Sink>(alloc: Global, sources: &Sources, names: &Names, out: &mut S) -> End
     requires some { 0 < length sources.now.files.items }
     requires known { AreKnown names.now sources.now.files.items }
@@ -63,9 +94,9 @@ fn compile_files<S: Sink>(alloc: Global, sources: &Sources, names: &Names, out: 
     ensures named { IsNamedEnd names.now result }
     ensures counted { CountsOut (S.counts out.old) (S.counts out.new) (status_of result) }
 {
-    match build(alloc, sources, names) {
-        Ok(built) => write_built(alloc, &built, out),
-        Err(_) => End::Memory,
+    match test_model(alloc, sources, names) {
+        Ok(()) => compile_typed(alloc, sources, names, out),
+        Err(stop) => stopped(sources, stop),
     }
 }
 

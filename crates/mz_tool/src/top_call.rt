@@ -52,9 +52,12 @@ fn file_of<'a>(end: &End, names: &'a Names) -> &'a str
 /// What is refused has the place of the first fault, in the order of the files, where each is
 /// fetched, lexed whole and parsed before the next one. `MissingFile` and `TooLong` (more than
 /// `FILE_LIMIT` bytes) stand where the file was first named, for MODEL at line 1, column 1;
-/// `Lexical`, `LeftOut`, `Bounds`, `Syntax` and `TooDeep` in the file itself. `NotBuilt` comes
-/// behind all of these, at the first item that isn't of the form that is built, or at the end of
-/// MODEL where only the solve item is missing (`mz_first::build` has the form).
+/// `Lexical`, `LeftOut`, `Bounds`, `Syntax` and `TooDeep` in the file itself. After all files come
+/// the tests of names, in this order, each over the whole: `ReservedName`, `DuplicateName`,
+/// `SolveItems`, `UnknownName`, `MissingData`, `Cyclic`; then the types: `UnknownName` and
+/// `DuplicateName` of local names, `DuplicateName` of functions with parameters, `TypeMismatch`,
+/// `NoOverload`, `Ambiguous`, `LeftOut`. `NotBuilt` comes after all of these, at the first item
+/// that isn't of the form that is built (`mz_first::build` has the form).
 ///
 /// After `Done` `notes` holds what it held, after any other answer besides that one line that
 /// says why; the line of a refusal names the file of its place as it was fetched. A put on
@@ -82,7 +85,7 @@ pub fn run<F: Files, I: Source, S: Sink, E: Sink>(
     ensures counted { CountsFiles (F.counts files.old) (F.counts files.new) result }
     ensures counted_out { CountsOut (S.counts out.old) (S.counts out.new) result }
 
-    // A model that is there is compiled.
+    // A model that is there, passes the tests and is of the form is compiled.
     ensures complete { IsComplete (F.texts files.old) (named_file words.now.items)
         (F.counts files.old) (F.counts files.new) (S.counts out.old) (S.counts out.new) result }
 

@@ -1,7 +1,7 @@
 use Rattle.std.proofs.Common.{◌≡◌, sym, subst, Some}
 use Rattle.mz_base.specs.Names.{AreDistinct}
 use Rattle.mz_tool.specs.Words.{named_file}
-use Rattle.mz_tool.specs.Status.{IsToldModel}
+use Rattle.mz_tool.specs.Status.{Completes}
 use Rattle.mz_tool.proofs.Endings.{refused, owner, completes, same_word}
 use Rattle.mz_tool.proofs.top_call.run.Goals as goal
 
@@ -13,13 +13,12 @@ returns-clause-refused g c =
 pub returns-clause-complete : goal.returns-clause-complete
 returns-clause-complete g c = λ name is read write.
     let texts = g.F.Files.texts c.args.files.now in
-    let same : name ≡ c.in-Some.name.now = same_word _ name c.in-Some.name.now is (sym (rw c.in-Some.is at c.model_of.ensures)) in (
-      c.compile-end.new.names,
-      subst AreDistinct c.names.view_is c.names.invariant,
-      λ table grows told.
-          rw c.status-status.ensures
-          (completes c.compile-end.new.names table texts c.in-Some.name.now grows (subst (IsToldModel table texts) same told) _ _ _ _ _ _ c.compile-end.result read write c.compile-end.ensures.ended c.compile-end.ensures.files
-          c.compile-end.ensures.output),
+    let known = c.compile-end.new.names in
+    let same : c.in-Some.name.now ≡ name = same_word _ c.in-Some.name.now name (sym (rw c.in-Some.is at c.model_of.ensures)) is in (
+      known,
+      subst (λ n. Completes known texts n c.status-status.result) same
+          (rw c.status-status.ensures
+          (completes known texts c.in-Some.name.now _ _ _ _ _ _ c.compile-end.result (subst AreDistinct c.names.view_is c.names.invariant) read write c.compile-end.ensures.ended c.compile-end.ensures.files c.compile-end.ensures.output)),
     )
 
 pub returns-clause-notes : goal.returns-clause-notes

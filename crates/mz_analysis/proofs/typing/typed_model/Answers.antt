@@ -1,0 +1,26 @@
+use Rattle.std.proofs.Common.{map}
+use Rattle.mz_scoped.specs.Scoped.{scoped_tree}
+use Rattle.mz_analysis.proofs.Later.{named_model}
+use Rattle.mz_include.specs.Views.{file}
+use Rattle.mz_analysis.specs.Analysis.{FailsTest}
+use Rattle.mz_analysis.proofs.Fails.{names_fail, types_fail, handed_on}
+use Rattle.mz_analysis.proofs.typing.typed_model.Goals as goal
+
+pub check-requires-clause-given : goal.check-requires-clause-given
+check-requires-clause-given c = c.in_ok-scoped.ensures.scoped.scoped.given
+
+pub check-requires-clause-distinct : goal.check-requires-clause-distinct
+check-requires-clause-distinct c = c.in_ok-scoped.ensures.scoped.scoped.distinct
+
+pub check-requires-clause-named : goal.check-requires-clause-named
+check-requires-clause-named c = named_model _ _ (scoped_tree c.in_ok-scoped.scoped) c.in_ok-scoped.ensures.within
+
+pub returns-in_err-scoped-clause-refused : goal.returns-in_err-scoped-clause-refused
+returns-in_err-scoped-clause-refused c =
+    handed_on (FailsTest c.args.names.now (map (file c.args.names.now) c.args.sources.now.files.items)) c.from_residual.result c.in_err-scoped.field-0.0 c.from_residual.ensures.1
+    (names_fail c.args.names.now c.args.sources.now.files.items c.in_err-scoped.field-0.0 c.in_err-scoped.ensures.refused c.in_err-scoped.ensures.placed)
+
+pub returns-in_err-program-clause-refused : goal.returns-in_err-program-clause-refused
+returns-in_err-program-clause-refused c =
+    handed_on (FailsTest c.args.names.now (map (file c.args.names.now) c.args.sources.now.files.items)) c.from_residual-in_err-program.result c.in_err-program.field-0.0 c.from_residual-in_err-program.ensures.1
+    (types_fail c.args.names.now c.args.sources.now.files.items (scoped_tree c.in_ok-scoped.scoped) c.in_err-program.field-0.0 c.requires.some c.requires.known c.in_ok-scoped.ensures.scoped c.in_ok-scoped.ensures.within c.in_err-program.ensures.refused)
