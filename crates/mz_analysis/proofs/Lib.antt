@@ -1,4 +1,5 @@
 pub mod Alike
+pub mod Dataless
 pub mod Expressions
 pub mod Fails
 pub mod Faults

@@ -7,14 +7,14 @@ use Rattle.mz_base.specs.Faults.{IfRefused}
 use Rattle.mz_scoped.specs.Scoped.{ScopedTree}
 use Rattle.mz_type_order.specs.Subjects.{IsOrderOf}
 use Rattle.mz_checks.specs.Headings.{Subject}
-use Rattle.mz_checks.specs.Checks.{checked, IsRefused}
 use Rattle.mz_checks.specs.Passes.{Passes}
+use Rattle.mz_datum.specs.WithData.{checked_with_data, IsRefusedWithData}
 use Rattle.mz_check.specs.StepsParts.{sections_of}
 
-refused_with : (texts : List (List ℕ)) (s : ScopedTree) (order : List Subject) (stop : Stop) → IsOrderOf s order → Passes sections_of (Err stop) (checked texts s order) → IfRefused stop (IsRefused texts s)
+refused_with : (texts : List (List ℕ)) (s : ScopedTree) (order : List Subject) (stop : Stop) → IsOrderOf s order → Passes sections_of (Err stop) (checked_with_data texts s order) → IfRefused stop (IsRefusedWithData texts s)
 refused_with texts s order (Refused f) o h = record { order = order; types = o.types; fault = h }
 refused_with texts s order Memory o h = tt
 
-pub refused_by : {R : Type 0} (texts : List (List ℕ)) (s : ScopedTree) (order : List Subject) (r : Result R Stop) (stop : Stop) → IsErrAnd r (λ e. e ≡ stop) → IsOrderOf s order → Passes sections_of (Err stop) (checked texts s order) → IfErr r (λ e. IfRefused e (IsRefused texts s))
+pub refused_by : {R : Type 0} (texts : List (List ℕ)) (s : ScopedTree) (order : List Subject) (r : Result R Stop) (stop : Stop) → IsErrAnd r (λ e. e ≡ stop) → IsOrderOf s order → Passes sections_of (Err stop) (checked_with_data texts s order) → IfErr r (λ e. IfRefused e (IsRefusedWithData texts s))
 refused_by texts s order (Ok p) stop is o h = absurd is
-refused_by texts s order (Err e) stop is o h = subst (λ (d : Stop). IfRefused d (IsRefused texts s)) (sym is) (refused_with texts s order stop o h)
+refused_by texts s order (Err e) stop is o h = subst (λ (d : Stop). IfRefused d (IsRefusedWithData texts s)) (sym is) (refused_with texts s order stop o h)

@@ -1,17 +1,20 @@
 -- What is known of a model when its types are typed, and what its sections are then.
-use Rattle.std.proofs.Common.{◌≡◌, ℕ, List, [], ◌∷◌, Ok, Err, length, refl, ap, sym, subst}
+use Rattle.std.proofs.Common.{◌≡◌, ℕ, List, [], ◌∷◌, Ok, length, refl, ap, sym, subst}
 use Rattle.std.specs.List.{flat_map}
+use Rattle.mz_core.specs.Tree.{Tree}
 use Rattle.mz_scoped.specs.Scoped.{ScopedTree}
 use Rattle.mz_type_order.specs.Subjects.{IsOrderOf}
-use Rattle.mz_checks.specs.Tests.{Test, ◌>>=◌}
+use Rattle.mz_checks.specs.Tests.{Test}
 use Rattle.mz_checks.specs.Models.{Model}
 use Rattle.mz_checks.specs.Headings.{Subject, of_decl, of_function, with_type, with_types}
-use Rattle.mz_checks.specs.Duplicates.{duplicate_after}
-use Rattle.mz_checks.specs.Checks.{numbered, with_parameters, untyped, none_met, types_met, no_fault, signed, items_met, Sections, sections, checked_with, checked}
+use Rattle.mz_checks.specs.Checks.{numbered, with_parameters, untyped, Sections}
+use Rattle.mz_datum.specs.WithData.{AreNumbered, with_values, checked_given, checked_with_data}
+use Rattle.mz_datum.proofs.Parted.{parted}
+use Rattle.mz_datum.proofs.Slots.{numbered_stays}
 use Rattle.mz_headings.specs.Naming.{AreNamed}
 use Rattle.mz_headings.specs.Subjects.{AreNew}
 use Rattle.mz_headings.proofs.New.{all_new}
-use Rattle.mz_check.specs.StepsProgram.{AreTexted, AreNumbered}
+use Rattle.mz_check.specs.StepsProgram.{AreTexted}
 use Rattle.mz_check.proofs.Assembling.{sections_numbered}
 use Rattle.mz_texts.proofs.Giving.{Gives}
 use Rattle.mz_check.proofs.Texted.{checked_texted}
@@ -50,32 +53,27 @@ new_at_first texts s order o = all_new (untyped texts s) order refl refl o.once
 pub first_new : (texts : List (List ℕ)) (s : ScopedTree) (order : List Subject) (m : Model) → m ≡ untyped texts s → IsOrderOf s order → AreNew m order
 first_new texts s order m e o = subst (λ (n : Model). AreNew n order) (sym e) (new_at_first texts s order o)
 
-pub checked_is : (texts : List (List ℕ)) (s : ScopedTree) (order : List Subject) (m : Model) → m ≡ with_types s (untyped texts s) order → checked texts s order ≡ checked_with s m
-unfolding checked
-checked_is texts s order m e = ap (checked_with s) (sym e)
+pub checked_is : (texts : List (List ℕ)) (s : ScopedTree) (order : List Subject) (m : Model) → m ≡ with_types s (untyped texts s) order → checked_with_data texts s order ≡ checked_given s m
+unfolding checked_with_data
+checked_is texts s order m e = ap (checked_given s) (sym e)
 
--- a model that passes its tests has its sections
+-- a model that passes its tests has its sections, with the values of the data
 
-passed : {A B : Type 0} (t : Test A) (go : A → Test B) (y : B) → (t >>= go) ≡ Ok y → (x : A) × (go x ≡ Ok y)
-passed (Ok x) go y e = (x, e)
-passed (Err f) go y e = absurd (cc)
+valued_numbered : (vs : List (ℕ × Tree)) (all : Sections) → AreNumbered all.decls → AreNumbered (with_values vs all).decls
+unfolding with_values
+valued_numbered vs all h = numbered_stays vs all.decls h
 
-sections_of_checked : (s : ScopedTree) (m : Model) (all : Sections) → checked_with s m ≡ Ok all → sections s m ≡ Ok all
-unfolding checked_with
-sections_of_checked s m all e =
-    let tested : Test Sections = none_met (items_met s m) >>= λ u. sections s m in
-    let unrepeated : Test Sections = no_fault (duplicate_after m.texts [] (signed s m)) >>= λ u. tested in
-    let a = passed (none_met (types_met s m)) (λ u. unrepeated) all e in
-    let b = passed (no_fault (duplicate_after m.texts [] (signed s m))) (λ u. tested) all a.1 in
-    let c = passed (none_met (items_met s m)) (λ u. sections s m) all b.1 in
-    c.1
+given_numbered : (s : ScopedTree) (m : Model) (all : Sections) → checked_given s m ≡ Ok all → AreNumbered all.decls
+given_numbered s m all e =
+    let p = parted s m all e in
+    subst (λ (a : Sections). AreNumbered a.decls) (sym p.is) (valued_numbered p.values p.before (sections_numbered s m p.before p.typed))
 
-pub checked_numbered : (texts : List (List ℕ)) (s : ScopedTree) (order : List Subject) (all : Sections) → checked texts s order ≡ Ok all → AreNumbered all.decls
-unfolding checked
-checked_numbered texts s order all e = sections_numbered s (with_types s (untyped texts s) order) all (sections_of_checked s (with_types s (untyped texts s) order) all e)
+pub checked_numbered : (texts : List (List ℕ)) (s : ScopedTree) (order : List Subject) (all : Sections) → checked_with_data texts s order ≡ Ok all → AreNumbered all.decls
+unfolding checked_with_data
+checked_numbered texts s order all e = given_numbered s (with_types s (untyped texts s) order) all e
 
 given : {A : Type 0} (Q : A → Type 0) (t : Test A) (x : A) → t ≡ Ok x → Gives t Q → Q x
 given Q t x e h = subst (λ (r : Test _). Gives r Q) e h
 
-pub checked_named : (texts : List (List ℕ)) (s : ScopedTree) (order : List Subject) (all : Sections) → AreNamed (length texts) s → IsOrderOf s order → checked texts s order ≡ Ok all → AreTexted (length texts) all
-checked_named texts s order all named o e = given (AreTexted (length texts)) (checked texts s order) all e (checked_texted (length texts) texts s order named o.among)
+pub checked_named : (texts : List (List ℕ)) (s : ScopedTree) (order : List Subject) (all : Sections) → AreNamed (length texts) s → IsOrderOf s order → checked_with_data texts s order ≡ Ok all → AreTexted (length texts) all
+checked_named texts s order all named o e = given (AreTexted (length texts)) (checked_with_data texts s order) all e (checked_texted (length texts) texts s order named o.among)

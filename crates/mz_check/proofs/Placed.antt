@@ -14,7 +14,7 @@ use Rattle.mz_base.specs.declared.fault.Span.{Span}
 use Rattle.mz_core.specs.Tree.{Decl}
 use Rattle.mz_checks.specs.Checks.{stands_before, decl_in, NoneStandsBefore, StandInSourceOrder}
 use Rattle.mz_check.specs.StepsPlacing.{HasSlot, HoldPlaces, ArePlaces}
-use Rattle.mz_check.specs.StepsProgram.{AreNumbered}
+use Rattle.mz_datum.specs.WithData.{AreNumbered}
 
 -- ---- the order of places
 

@@ -16,7 +16,8 @@ use Rattle.mz_checks.specs.Texts.{texts_in, in_decl, in_function, in_goal, once,
 use Rattle.mz_checks.specs.Checks.{Sections, StandInSourceOrder, text_entry, IsProgramOf}
 use Rattle.mz_texts.specs.StepsLayers.{names_in}
 use Rattle.mz_check.specs.StepsPlacing.{ArePlaces}
-use Rattle.mz_check.specs.StepsProgram.{case_texts, AreBelow, AreTexted, AreNumbered}
+use Rattle.mz_datum.specs.WithData.{AreNumbered}
+use Rattle.mz_check.specs.StepsProgram.{case_texts, AreBelow, AreTexted}
 use Rattle.mz_check.proofs.Keeping.{split}
 use Rattle.mz_check.proofs.Placed.{found_all}
 

@@ -1,5 +1,5 @@
 -- The texts of a typed model are texts of the model: their names are in the table of names.
-use Rattle.std.proofs.Common.{ℕ, suc, ◌+◌, ◌<◌, Bool, true, false, cond, List, [], ◌∷◌, ◌++◌, Option, Some, None, Ok, arith}
+use Rattle.std.proofs.Common.{ℕ, suc, ◌+◌, ◌<◌, Bool, true, false, cond, List, [], ◌∷◌, ◌++◌, Option, Some, None, Ok, map, arith}
 use Rattle.std.specs.Prelude.{All, nat_eq, if◌then◌else◌}
 use Rattle.std.specs.List.{flat_map, enumerate_from}
 use Rattle.mz_base.specs.declared.fault.Span.{Span}
@@ -9,7 +9,7 @@ use Rattle.mz_core.specs.Types.{PlainType}
 use Rattle.mz_core.specs.Tree.{Tree, Decl, DeclaredType, declares, type_of, place_of, maybe, maybes}
 use Rattle.mz_core.specs.Program.{Function, Goal, satisfy, minimize, maximize}
 use Rattle.mz_tree.specs.Tree as source
-use Rattle.mz_tree.specs.Tree.{Name, Declaration, Maybe}
+use Rattle.mz_tree.specs.Tree.{Declaration, Maybe}
 use Rattle.mz_tree.specs.Items as item
 use Rattle.mz_tree.specs.Items.{FunctionTree, GoalTree}
 use Rattle.mz_tree.specs.Kinds.{OfTree, OfMaybe}
@@ -25,7 +25,9 @@ use Rattle.mz_checks.specs.Headings.{Parameters, param_next, heading, written_in
 use Rattle.mz_checks.specs.Items.{value_of, decl, with_params, function, constraint, objective, goal, texts_like, texts_fitted, output}
 use Rattle.mz_checks.specs.Texts.{texts_in, in_maybe, in_maybes, in_decl, in_type, in_function, in_goal}
 use Rattle.mz_checks.specs.Duplicates.{duplicate_after}
-use Rattle.mz_checks.specs.Checks.{numbered, none_met, types_met, items_met, no_fault, signed, untyped, Sections, sections, checked_with, checked}
+use Rattle.mz_checks.specs.Checks.{numbered, none_met, types_met, items_met, no_fault, signed, untyped, Sections, sections}
+use Rattle.mz_datum.specs.WithData.{given_values, with_value, with_values, checked_given, checked_with_data}
+use Rattle.mz_datum.proofs.Textless.{values_textless, decls_texted as with_values_texted}
 use Rattle.mz_typing.specs.Naming.{IsNamed}
 use Rattle.mz_texts.proofs.Giving.{AllBy, all_both, all_indexed, Gives, gives_then, gives_after, loop_gives, each_gives}
 use Rattle.mz_texts.proofs.Leaves.{IsTexted, AreTexted, IsTextedMaybe, IsTextedType, IsTextedDecl, fitted_texted, condition_texted, items_texted, maybe_texted, maybes_texted}
@@ -188,35 +190,39 @@ module _ (k : ℕ) where
   all_below Q names [] go h = tt
   all_below Q names (x ∷ xs) go h = (all_indexed Below (names x) (go x h.0), all_below Q names xs go h.1)
 
-  sections_texted : (s : ScopedTree) (m : Model) → AreNamed k s → AreTextedTables m → Gives (sections s m) (HaveTexts k)
-  unfolding sections
-  sections_texted s m named tables =
+  -- with the values of the data
+  sections_texted : (s : ScopedTree) (m : Model) (vs : List (ℕ × Tree)) → AreNamed k s → AreTextedTables m → AllBy (λ v. IsTexted Below v.1) vs → Gives (sections s m) (λ all. HaveTexts k (with_values vs all))
+  unfolding sections with_values
+  sections_texted s m vs named tables given =
+      let Filled : Sections → Type 0 = λ all. HaveTexts k (with_values vs all) in
       let last : List Decl → List Function → List Tree → Goal → List Tree → Test Sections = λ ds fs cs g os. Ok (record { decls = ds; functions = fs; constraints = cs; goal = g; outputs = os }) in
       let outputs : List Decl → List Function → List Tree → Goal → Test Sections = λ ds fs cs g. each (output m) s.outputs >>= λ os. last ds fs cs g os in
       let objectives : List Decl → List Function → List Tree → Test Sections = λ ds fs cs. goal m s.goal >>= λ g. outputs ds fs cs g in
       let constraints : List Decl → List Function → Test Sections = λ ds fs. each (constraint m) s.constraints >>= λ cs. objectives ds fs cs in
       let functions : List Decl → Test Sections = λ ds. each (λ f. function m f.0 f.1) (numbered s.functions) >>= λ fs. constraints ds fs in
-      gives_then (AllBy (IsTextedDecl Below)) (HaveTexts k) (each (λ d. decl m d.0 d.1) (numbered s.decls)) functions (each_gives (IsTextedDecl Below) (λ d. decl m d.0 d.1) (numbered s.decls) (decls_texted m tables 0 s.decls named.decls)) (λ ds a.
-      gives_then (AllBy IsTextedFunction) (HaveTexts k) (each (λ f. function m f.0 f.1) (numbered s.functions)) (constraints ds) (each_gives IsTextedFunction (λ f. function m f.0 f.1) (numbered s.functions) (functions_texted m tables 0 s.functions named.functions)) (λ fs b.
-      gives_then (AreTexted Below) (HaveTexts k) (each (constraint m) s.constraints) (objectives ds fs) (each_gives (IsTexted Below) (constraint m) s.constraints (trees_texted m tables (constraint m) s.constraints (constraint_texted m tables) named.constraints)) (λ cs c.
-      gives_then IsTextedGoal (HaveTexts k) (goal m s.goal) (outputs ds fs cs) (goal_texted m tables s.goal named.goal) (λ g d.
-      gives_then (AreTexted Below) (HaveTexts k) (each (output m) s.outputs) (last ds fs cs g) (each_gives (IsTexted Below) (output m) s.outputs (trees_texted m tables (output m) s.outputs (output_texted m tables) named.outputs)) (λ os e.
+      gives_then (AllBy (IsTextedDecl Below)) Filled (each (λ d. decl m d.0 d.1) (numbered s.decls)) functions (each_gives (IsTextedDecl Below) (λ d. decl m d.0 d.1) (numbered s.decls) (decls_texted m tables 0 s.decls named.decls)) (λ ds a.
+      gives_then (AllBy IsTextedFunction) Filled (each (λ f. function m f.0 f.1) (numbered s.functions)) (constraints ds) (each_gives IsTextedFunction (λ f. function m f.0 f.1) (numbered s.functions) (functions_texted m tables 0 s.functions named.functions)) (λ fs b.
+      gives_then (AreTexted Below) Filled (each (constraint m) s.constraints) (objectives ds fs) (each_gives (IsTexted Below) (constraint m) s.constraints (trees_texted m tables (constraint m) s.constraints (constraint_texted m tables) named.constraints)) (λ cs c.
+      gives_then IsTextedGoal Filled (goal m s.goal) (outputs ds fs cs) (goal_texted m tables s.goal named.goal) (λ g d.
+      gives_then (AreTexted Below) Filled (each (output m) s.outputs) (last ds fs cs g) (each_gives (IsTexted Below) (output m) s.outputs (trees_texted m tables (output m) s.outputs (output_texted m tables) named.outputs)) (λ os e.
       record {
-        decls = all_indexed (λ x. AreBelow k (in_decl x)) ds (all_below (IsTextedDecl Below) in_decl ds decl_below a);
+        decls = all_indexed (λ x. AreBelow k (in_decl x)) (map (with_value vs) ds) (all_below (IsTextedDecl Below) in_decl (map (with_value vs) ds) decl_below (with_values_texted Below vs ds given a));
         functions = all_indexed (λ x. AreBelow k (in_function x)) fs (all_below IsTextedFunction in_function fs function_below b);
         constraints = all_indexed (λ x. AreBelow k (texts_in x)) cs (all_below (IsTexted Below) texts_in cs (λ x h. h) c);
         goal = all_indexed Below (in_goal g) (goal_below g d);
         outputs = all_indexed (λ x. AreBelow k (texts_in x)) os (all_below (IsTexted Below) texts_in os (λ x h. h) e);
       })))))
 
-  pub checked_texted : (texts : List (List ℕ)) (s : ScopedTree) (order : List Subject) → AreNamed k s → AreOf s order → Gives (checked texts s order) (HaveTexts k)
-  unfolding checked checked_with
+  pub checked_texted : (texts : List (List ℕ)) (s : ScopedTree) (order : List Subject) → AreNamed k s → AreOf s order → Gives (checked_with_data texts s order) (HaveTexts k)
+  unfolding checked_with_data checked_given
   checked_texted texts s order named of =
       let m = with_types s (untyped texts s) order in
-      let all : Test Sections = sections s m in
-      let tested : Test Sections = none_met (items_met s m) >> all in
-      let unrepeated : Test Sections = no_fault (duplicate_after m.texts [] (signed s m)) >> tested in
+      let all : List (ℕ × Tree) → Test Sections = λ vs. sections s m >>= λ a. Ok (with_values vs a) in
+      let tested : List (ℕ × Tree) → Test Sections = λ vs. none_met (items_met s m) >> all vs in
+      let valued : Test Sections = given_values m s.given >>= tested in
+      let unrepeated : Test Sections = no_fault (duplicate_after m.texts [] (signed s m)) >> valued in
       gives_after (HaveTexts k) (none_met (types_met s m)) (λ u. unrepeated) (λ u.
-      gives_after (HaveTexts k) (no_fault (duplicate_after m.texts [] (signed s m))) (λ v. tested) (λ v.
-      gives_after (HaveTexts k) (none_met (items_met s m)) (λ w. all) (λ w.
-      sections_texted s m named (all_typed s (untyped texts s) order named of (none_typed texts s)))))
+      gives_after (HaveTexts k) (no_fault (duplicate_after m.texts [] (signed s m))) (λ v. valued) (λ v.
+      gives_then (AllBy (λ x. IsTexted Below x.1)) (HaveTexts k) (given_values m s.given) tested (values_textless Below m s.given) (λ vs h.
+      gives_after (HaveTexts k) (none_met (items_met s m)) (λ w. all vs) (λ w.
+      gives_then (λ a. HaveTexts k (with_values vs a)) (HaveTexts k) (sections s m) (λ a. Ok (with_values vs a)) (sections_texted s m vs named (all_typed s (untyped texts s) order named of (none_typed texts s)) h) (λ a t. t)))))

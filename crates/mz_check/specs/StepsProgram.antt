@@ -1,7 +1,6 @@
 -- Typed sections of which a program is made. Mirror of src/program.rt; private clauses only.
-use Rattle.std.specs.Prelude.{◌≡◌, ℕ, ◌<◌, List, All, length, map, slice_index_or}
+use Rattle.std.specs.Prelude.{ℕ, ◌<◌, List, All, map}
 use Rattle.mz_base.specs.Names.{text_of}
-use Rattle.mz_core.specs.Tree.{Decl}
 use Rattle.mz_scoped.specs.Parts.{EnumTree}
 use Rattle.mz_checks.specs.Texts.{texts_in, in_decl, in_function, in_goal}
 use Rattle.mz_checks.specs.Checks.{Sections}
@@ -19,7 +18,3 @@ pub record AreTexted (k : ℕ) (all : Sections) : Type 0 where
   pub constraints : All (λ e. AreBelow k (texts_in e)) all.constraints
   pub goal : AreBelow k (in_goal all.goal)
   pub outputs : All (λ e. AreBelow k (texts_in e)) all.outputs
-
--- the slot of each is its place
-abbrev pub AreNumbered : List Decl → Type 0
-AreNumbered ds = (k : ℕ) (d : Decl) → k < length ds → (slice_index_or ds k d).slot ≡ k

@@ -8,7 +8,8 @@ ghost use Rattle.mz_scoped.specs.Scoped.{scoped_tree, enum_tree};
 ghost use Rattle.mz_checks.specs.Checks.{IsProgramOf};
 ghost use Rattle.mz_headings.specs.Naming.{HasNamedCases, AreNamed};
 ghost use Rattle.mz_check.specs.StepsParts.{sections_of};
-ghost use Rattle.mz_check.specs.StepsProgram.{AreNumbered, AreTexted, case_texts};
+ghost use Rattle.mz_datum.specs.WithData.{AreNumbered};
+ghost use Rattle.mz_check.specs.StepsProgram.{AreTexted, case_texts};
 
 use crate::parts::TypedSections;
 use crate::placing::{in_source_order, places_of};

@@ -1,15 +1,17 @@
-// From a scoped model to a typed program.
+// From a scoped model and its data to a typed program.
 
-ghost use Rattle.std.specs.Prelude.{◌≡◌, [], length, map, IfOk, IfErr};
+ghost use Rattle.std.specs.Prelude.{◌≡◌, length, map, IfOk, IfErr};
+ghost use Rattle.std.specs.List.{flat_map};
 ghost use Rattle.mz_base.specs.Faults.{IfRefused};
 ghost use Rattle.mz_core.specs.Program.{plain_program};
 ghost use Rattle.mz_scoped.specs.Scoped.{scoped_tree, shared_names, AreDistinct, AreRanked};
 ghost use Rattle.mz_type_order.specs.Subjects.{subject, IsOrderOf};
-ghost use Rattle.std.specs.List.{flat_map};
-ghost use Rattle.mz_checks.specs.Checks.{numbered, with_parameters, checked, checked_with, Checks, IsRefused};
+ghost use Rattle.mz_checks.specs.Checks.{numbered, with_parameters};
 ghost use Rattle.mz_checks.specs.Passes.{Passes};
 ghost use Rattle.mz_context.specs.Known.{known};
 ghost use Rattle.mz_headings.specs.Naming.{AreNamed};
+ghost use Rattle.mz_datum.specs.WithData.{with_values, checked_given, checked_with_data, AreNumbered, ChecksWithData, IsRefusedWithData};
+ghost use Rattle.mz_datum.specs.Views.{typed_item};
 ghost use Rattle.mz_check.specs.StepsParts.{sections_of};
 
 use crate::assemble::assembled;
@@ -20,13 +22,36 @@ use crate::sections::typed_items;
 use crate::testing::{test_duplicates, test_types};
 use mz_base::{Names, Stop};
 use mz_context::Context;
-use mz_core::Program;
+use mz_core::{Core, Program};
+use mz_datum::{given_values, with_values};
 use mz_scoped::Scoped;
 use mz_type_order::{Subject, type_order};
 use std::alloc::Global;
 
-/// The typed sections of a model all of whose types are typed, or the fault that is met first.
-#[tactic(auto, unfolding(mz_checks::specs::Checks::checked_with))]
+/// The typed sections, whose declarations have the values that data gives them.
+#[tactic(auto, unfolding(mz_datum::specs::WithData::with_values))]
+fn with_data(sections: TypedSections, values: Vec<(u64, Core)>) -> TypedSections
+    requires { AreNumbered (sections_of sections).decls }
+    ensures { sections_of result ≡ with_values (map typed_item values.items) (sections_of sections) }
+{
+    let TypedSections {
+        decls,
+        functions,
+        constraints,
+        goal,
+        outputs,
+    } = sections;
+    TypedSections {
+        decls: with_values(decls, values),
+        functions,
+        constraints,
+        goal,
+        outputs,
+    }
+}
+
+/// The typed sections of a model all of whose types are typed, with its data; or the fault that is met first.
+#[tactic(auto, unfolding(mz_datum::specs::WithData::checked_given))]
 fn checked_sections(
     alloc: Global,
     scoped: &Scoped,
@@ -34,16 +59,17 @@ fn checked_sections(
 ) -> Result<TypedSections, Stop>
     requires named { AreNamed (length (known context).texts) (scoped_tree scoped.now) }
     requires functions { (known context).functions ≡ flat_map with_parameters (numbered (scoped_tree scoped.now).functions) }
-    ensures { Passes sections_of result (checked_with (scoped_tree scoped.now) (known context.entry)) }
+    ensures { Passes sections_of result (checked_given (scoped_tree scoped.now) (known context.entry)) }
 {
     test_types(alloc, scoped, &context)?;
     test_duplicates(alloc, scoped, &context)?;
+    let values = given_values(alloc, &context, scoped.given.as_slice())?;
     let items = typed_items(alloc, scoped, &context)?;
     let sections = assembled(alloc, scoped, context, items)?;
-    Ok(sections)
+    Ok(with_data(sections, values))
 }
 
-/// The typed sections of a model, whose types are typed in this order.
+/// The typed sections of a model with its data, whose types are typed in this order.
 fn sections_in_order(
     alloc: Global,
     scoped: &Scoped,
@@ -53,23 +79,23 @@ fn sections_in_order(
     requires distinct { AreDistinct (shared_names (scoped_tree scoped.now)) }
     requires named { AreNamed (length names.now) (scoped_tree scoped.now) }
     requires order { IsOrderOf (scoped_tree scoped.now) (map subject order.now) }
-    ensures { Passes sections_of result (checked names.now (scoped_tree scoped.now) (map subject order.now)) }
+    ensures { Passes sections_of result (checked_with_data names.now (scoped_tree scoped.now) (map subject order.now)) }
 {
     let context = typed_context(alloc, scoped, names, order)?;
     checked_sections(alloc, scoped, context)
 }
 
-/// The typed program of a scoped model, or its first fault of types: first types are typed, in source order and each after those that
-/// it needs; then functions that are declared twice are refused; then values, bodies and all other items are typed, in source order.
+/// The typed program of a scoped model with its data, or its first fault of types: first types are typed, in source order and each after
+/// those that it needs; then functions that are declared twice are refused; then data that doesn't fit; then values, bodies and all other
+/// items are typed, in source order. A declaration's value is the written one, or the one from data.
 ///
-/// `names` has the texts of all names in the model, of which no two in the shared space are the same; and there is no data.
+/// `names` has the texts of all names in the model, of which no two in the shared space are the same.
 pub fn check(alloc: Global, scoped: &Scoped, names: &Names) -> Result<Program, Stop>
     requires distinct { AreDistinct (shared_names (scoped_tree scoped.now)) }
     requires ranked { AreRanked (scoped_tree scoped.now) }
     requires named { AreNamed (length names.now) (scoped_tree scoped.now) }
-    requires given { (scoped_tree scoped.now).given ≡ [] }
-    ensures checks { IfOk result (λ p. Checks names.now (scoped_tree scoped.now) (plain_program p)) }
-    ensures refused { IfErr result (λ e. IfRefused e (IsRefused names.now (scoped_tree scoped.now))) }
+    ensures checks { IfOk result (λ p. ChecksWithData names.now (scoped_tree scoped.now) (plain_program p)) }
+    ensures refused { IfErr result (λ e. IfRefused e (IsRefusedWithData names.now (scoped_tree scoped.now))) }
 {
     let order = type_order(alloc, scoped)?;
     let sections = sections_in_order(alloc, scoped, names, order.as_slice())?;

@@ -1,13 +1,12 @@
 use Rattle.std.proofs.Common.{map}
+use Rattle.mz_core.specs.Program.{plain_program}
 use Rattle.mz_scoped.specs.Scoped.{scoped_tree}
 use Rattle.mz_analysis.proofs.Later.{named_model}
 use Rattle.mz_include.specs.Views.{file}
 use Rattle.mz_analysis.specs.Analysis.{FailsTest}
+use Rattle.mz_analysis.proofs.Dataless.{typed_without, refused_without}
 use Rattle.mz_analysis.proofs.Fails.{names_fail, types_fail, handed_on}
 use Rattle.mz_analysis.proofs.typing.typed_model.Goals as goal
-
-pub check-requires-clause-given : goal.check-requires-clause-given
-check-requires-clause-given c = c.in_ok-scoped.ensures.scoped.scoped.given
 
 pub check-requires-clause-distinct : goal.check-requires-clause-distinct
 check-requires-clause-distinct c = c.in_ok-scoped.ensures.scoped.scoped.distinct
@@ -23,4 +22,12 @@ returns-in_err-scoped-clause-refused c =
 pub returns-in_err-program-clause-refused : goal.returns-in_err-program-clause-refused
 returns-in_err-program-clause-refused c =
     handed_on (FailsTest c.args.names.now (map (file c.args.names.now) c.args.sources.now.files.items)) c.from_residual-in_err-program.result c.in_err-program.field-0.0 c.from_residual-in_err-program.ensures.1
-    (types_fail c.args.names.now c.args.sources.now.files.items (scoped_tree c.in_ok-scoped.scoped) c.in_err-program.field-0.0 c.requires.some c.requires.known c.in_ok-scoped.ensures.scoped c.in_ok-scoped.ensures.within c.in_err-program.ensures.refused)
+    (types_fail c.args.names.now c.args.sources.now.files.items (scoped_tree c.in_ok-scoped.scoped) c.in_err-program.field-0.0 c.requires.some c.requires.known c.in_ok-scoped.ensures.scoped c.in_ok-scoped.ensures.within
+    (refused_without c.args.names.now (scoped_tree c.in_ok-scoped.scoped) c.in_err-program.field-0.0 c.in_ok-scoped.ensures.scoped.scoped.given c.in_err-program.ensures.refused))
+
+pub returns-clause-typed : goal.returns-clause-typed
+returns-clause-typed c = record {
+  scoped = scoped_tree c.in_ok-scoped.scoped;
+  is = c.in_ok-scoped.ensures.scoped;
+  types = typed_without c.args.names.now (scoped_tree c.in_ok-scoped.scoped) (plain_program c.in_ok-program.program) c.in_ok-scoped.ensures.scoped.scoped.given c.in_ok-program.ensures.checks;
+}
