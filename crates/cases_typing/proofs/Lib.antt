@@ -1,3 +1,1 @@
 pub mod Contexts
-pub mod Known
-pub mod Within
