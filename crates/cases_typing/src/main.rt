@@ -1,12 +1,18 @@
 // What expressions and written types are typed to. The first line of the input is the model that all of them are typed in. Each other
 // line is a case: an expression, after `output ` one in an output item, after `type ` a written type. It is written with its answer:
 // the type and the typed tree, or the refusal and its column.
+//
+// After `given ` stand a declared type, ` = ` and a value of a data file: the answer is what that is typed to for a declaration of the
+// type, in a model with some enums, declarations and functions. After `check ` stands a model of its own, with its data after ` ## ` and that of a second file after another ` ## `. Refusals
+// have the number of their file, the line and the column: the model's file is 0, and those of data come after it.
 #![tactic(auto)]
 
+mod given;
 mod model;
 mod typed;
 mod types;
 mod typing;
+mod with_data;
 mod words;
 
 use cases::Page;
@@ -15,12 +21,23 @@ use std::alloc::Global;
 use std::io;
 use std::io::ErrorKind;
 
+/// What the case of a line answers.
+fn answer(alloc: Global, model: &str, line: &str, page: &mut Page) -> Result<(), Memory> {
+    if let Some(text) = line.strip_prefix("given ") {
+        return with_data::print_given(alloc, text, page);
+    }
+    if let Some(text) = line.strip_prefix("check ") {
+        return with_data::print_checked(alloc, text, page);
+    }
+    model::print(alloc, model, line, page)
+}
+
 /// The cases of these lines, each with its answer.
 fn print_cases(alloc: Global, model: &str, lines: &str, page: &mut Page) -> Result<(), Memory> {
     for line in lines.lines() {
         page.line(line);
         if !line.starts_with("#") {
-            model::print(alloc, model, line, page)?;
+            answer(alloc, model, line, page)?;
         }
     }
     Ok(())

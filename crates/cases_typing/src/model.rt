@@ -22,7 +22,7 @@ fn text_of(alloc: Global, model: &str, kind: Kind, text: &str) -> Result<String,
 }
 
 /// A file with this text.
-fn files_of(alloc: Global, text: &str) -> Result<MemFiles, Memory> {
+pub fn files_of(alloc: Global, text: &str) -> Result<MemFiles, Memory> {
     let mut files = Vec::new(alloc);
     let name = String::from_str(alloc, "m.mzn")?;
     let bytes = bytes_of(alloc, text)?;
