@@ -67,6 +67,10 @@ absent ts t i none e =
 at_place : (ts : List (List ℕ)) (i : ℕ) → i < length ts → slice_get ts i ≡ Some (text_of ts i)
 at_place ts i below = slice_get-get_or ts i [] below
 
+-- a set of keys without a text's place holds it nowhere
+pub lacks : {K : Type 0} (view : K → List ℕ) (ks : List K) (text : List ℕ) (n : ℕ) → list_any (λ k. bytes_eq text (view k)) ks ≡ false → n < length (map view ks) → text_of (map view ks) n ≡ text → ⊥
+lacks view ks text n none below there = absent (map view ks) text n (any-seen (bytes_eq text) view ks ∙ none) (at_place (map view ks) n below ∙ ap Some there)
+
 distinct_push : (ts : List (List ℕ)) (t : List ℕ) → AreDistinct ts → list_any (bytes_eq t) ts ≡ false → AreDistinct (ts ++ t ∷ [])
 distinct_push ts t distinct none i j below_i below_j same =
     let us : List (List ℕ) = ts ++ t ∷ [] in

@@ -1,6 +1,6 @@
 // The table of names: each text of the input is kept once, and named by its number.
 
-ghost use Rattle.std.specs.Prelude.{◌≡◌, ◌<◌, [], length, IfOk, OnErr};
+ghost use Rattle.std.specs.Prelude.{◌≡◌, ◌<◌, ℕ, Some, [], length, IfSome, IfOk, OnErr};
 ghost use Rattle.mz_base.specs.Names.{text_of, with_text, AreDistinct, Grows};
 
 use crate::stop::Memory;
@@ -74,6 +74,15 @@ impl Names {
         let own = String::from_str(self.alloc, text)?;
         let (index, _) = self.texts.insert_full(own)?;
         Ok(Name { index })
+    }
+
+    /// The name of a text that the table has, and None for any other text.
+    pub fn find(&self, text: &str) -> Option<Name>
+        ensures named { IfSome result (λ n. (n < length self.now) × (text_of self.now n ≡ text.now)) }
+        ensures every { (n : ℕ) → n < length self.now → text_of self.now n ≡ text.now → result ≡ Some n }
+    {
+        let index = self.texts.get_index_of(text)?;
+        Some(Name { index })
     }
 
     /// The text of a name of this table.
