@@ -78,6 +78,7 @@ fn set_of_heads(alloc: Global, span: Span, gs: Vec<TypedGen>, e: Core) -> Result
 
 /// A comprehension, in braces or not, with its typed generators and head. TypeMismatch at the first `where` that is no Boolean, and at a
 /// head that can't be an element; LeftOut at a comprehension in braces, where some part is var.
+#[inline(never)]
 #[tactic(auto, unfolding(mz_checks::specs::Comprehensions::comprehended))]
 pub fn comprehended(
     alloc: Global,

@@ -76,6 +76,7 @@ fn is_list(dims: &[Ix]) -> bool
 }
 
 /// The type of a name that runs over the set or array. TypeMismatch at what is neither a set nor an array of one dimension.
+#[inline(never)]
 #[tactic(auto, unfolding(mz_checks::specs::Comprehensions::running_type))]
 pub fn running_type(alloc: Global, e: &Core) -> Result<TypeInst, Stop>
     ensures { Passes plain_type result (running_type (tree e.now)) }

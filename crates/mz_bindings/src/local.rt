@@ -91,6 +91,7 @@ fn kept_items(alloc: Global, is: Vec<TypedItem>) -> Result<Vec<CoreItem>, Memory
 
 /// A `let` with its typed items and body. TypeMismatch at the first constraint that is no Boolean, and at the `let` where it would be of no
 /// type.
+#[inline(never)]
 #[tactic(auto, unfolding(mz_checks::specs::Lets::let_node))]
 pub fn let_node(alloc: Global, span: Span, is: Vec<TypedItem>, e: Core) -> Result<Core, Stop>
     ensures { Passes tree result (let_node span (map typed_item is.items) (tree e)) }

@@ -182,6 +182,7 @@ fn marked(var: bool, opt: bool, base: Base, dims: Vec<Ix>) -> TypeInst
 
 /// A type with its marks `var`, `opt` and `set of`, whose sets are typed. TypeMismatch at the first set that is none, or not par, and at
 /// the written type where an index is `bool` or its sets are of Booleans.
+#[inline(never)]
 #[tactic(auto, unfolding(mz_checks::specs::WrittenTypes::declared))]
 pub fn declared(
     alloc: Global,

@@ -56,6 +56,7 @@ fn types_of(alloc: Global, es: &[Core]) -> Result<Vec<TypeInst>, Memory>
 
 /// The call of a name with these arguments. NoOverload, Ambiguous or LeftOut at the call, where there is no best candidate; or the
 /// fault of the first function of the name whose types are refused.
+#[inline(never)]
 #[tactic(auto, unfolding(mz_checks::specs::Calls::applied))]
 pub fn applied(
     alloc: Global,

@@ -99,6 +99,7 @@ fn meant(
 
 /// A name as an expression. UnknownName at it, where it is neither a local name nor one of the shared space; or the fault of the
 /// type of what it means.
+#[inline(never)]
 #[tactic(auto, unfolding(mz_checks::specs::Names::named))]
 pub fn named(
     alloc: Global,
@@ -133,6 +134,7 @@ fn function_meant(
 }
 
 /// `f()`. NoOverload at it, where the name doesn't mean a function without parameters.
+#[inline(never)]
 #[tactic(auto, unfolding(mz_checks::specs::Names::bare_call))]
 pub fn bare_call(
     alloc: Global,

@@ -55,6 +55,7 @@ fn indices_fitted(alloc: Global, span: Span, es: Vec<Core>, xs: &[Ix]) -> Result
 
 /// An access with its typed array and indices. TypeMismatch at what is no array, at the access where it has more or fewer indices than
 /// the array has dimensions, or at an index; LeftOut at the access where an index is a set.
+#[inline(never)]
 #[tactic(auto, unfolding(mz_checks::specs::Arrays::accessed))]
 pub fn accessed(alloc: Global, span: Span, e: Core, es: Vec<Core>) -> Result<Core, Stop>
     ensures { Passes tree result (accessed span (tree e) (map tree es.items)) }

@@ -166,6 +166,7 @@ fn chosen(
 /// An `if` with its typed conditions, what stands after the `then` of each, and what stands after the `else`. TypeMismatch at the first
 /// condition that is no Boolean, at the first branch that doesn't fit those before it, at the first that is no Boolean where there is no
 /// `else`, and at the whole, where it would be of no type.
+#[inline(never)]
 #[tactic(auto, unfolding(mz_checks::specs::Branches::decided))]
 pub fn decided(
     alloc: Global,

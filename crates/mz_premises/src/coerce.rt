@@ -90,6 +90,7 @@ pub fn all_coerced(alloc: Global, es: Vec<Core>, ts: &[TypeInst]) -> Result<Vec<
 }
 
 /// The expression, coerced to a type that its place needs. TypeMismatch at the expression, where its type isn't below it.
+#[inline(never)]
 #[tactic(auto, unfolding(mz_checks::specs::Coerced::fitted))]
 pub fn fitted(alloc: Global, e: Core, t: &TypeInst) -> Result<Core, Stop>
     ensures { Passes tree result (fitted (tree e) (plain_type t.now)) }

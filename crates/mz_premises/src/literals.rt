@@ -16,6 +16,7 @@ use mz_typed::{make_array, make_rows, make_set, type_of};
 use std::alloc::Global;
 
 /// `[..]` with its typed elements.
+#[inline(never)]
 #[tactic(auto, unfolding(mz_checks::specs::Arrays::listed))]
 pub fn listed(alloc: Global, span: Span, es: Vec<Core>) -> Result<Core, Stop>
     ensures { Passes tree result (listed span (map tree es.items)) }
@@ -37,6 +38,7 @@ fn rows_to(alloc: Global, t: &TypeInst, lines: Vec<Vec<Core>>) -> Result<Vec<Vec
 }
 
 /// `[| .. |]` with its typed rows, which may differ in length.
+#[inline(never)]
 #[tactic(auto, unfolding(mz_checks::specs::Arrays::tabled))]
 pub fn tabled(alloc: Global, span: Span, lines: Vec<Vec<Core>>) -> Result<Core, Stop>
     ensures { Passes tree result (tabled span (map (λ r. map tree r.items) lines.items)) }
@@ -88,6 +90,7 @@ pub fn is_var(e: &Core) -> bool
 }
 
 /// `{..}` with its typed elements. LeftOut at it, where one of them is var.
+#[inline(never)]
 #[tactic(auto, unfolding(mz_checks::specs::Arrays::set_literal))]
 pub fn set_literal(alloc: Global, span: Span, es: Vec<Core>) -> Result<Core, Stop>
     ensures { Passes tree result (set_literal span (map tree es.items)) }
