@@ -30,7 +30,7 @@ fn read(alloc: Global, bytes: &[u8], outside: bool) -> Result<ReadData, Stop>
     if outside {
         table = Names::new(alloc);
     }
-    let data = data_items(alloc, all.as_slice(), end_of(bytes), &mut table)?;
+    let data = data_items(alloc, all.as_slice(), end_of(bytes), &table)?;
     Ok(ReadData { data, names })
 }
 

@@ -14,10 +14,10 @@ use Rattle.mz_grammar.specs.Data.{Place, Value, rule, rank, width, reads}
 use Rattle.mz_grammar.proofs.DataFalls.{low, falls}
 use Rattle.mz_grammar.proofs.DataFaults.{is_syntax}
 
-abbrev Outcome : (n : Place) → ℕ → List Token → Read (Value n) → Type 0
+abbrev pub Outcome : (n : Place) → ℕ → List Token → Read (Value n) → Type 0
 Outcome n room ts o = Laws.Outcome rule rank width low falls n room (rule n) ts o
 
-outcome : (n : Place) (room : ℕ) (ts : List Token) (o : Read (Value n)) → reads n room ts ≡ o → Outcome n room ts o
+pub outcome : (n : Place) (room : ℕ) (ts : List Token) (o : Read (Value n)) → reads n room ts ≡ o → Outcome n room ts o
 unfolding reads
 outcome n room ts o e = subst (Outcome n room ts) e (Laws.read_sound rule rank width low falls n room ts)
 

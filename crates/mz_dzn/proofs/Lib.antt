@@ -1,4 +1,6 @@
-pub mod ArrayNames
+pub mod FoundNames
 pub mod Equations
 pub mod Answer
 pub mod Naming
+pub mod Tables
+pub mod Single

@@ -1,10 +1,9 @@
--- The rules of data files keep what holds of the tokens' names, so it holds of the names in a file's items.
-use Rattle.std.proofs.Common.{ℕ, zero, suc, ◌<◌, List, [], ◌∷◌, true, false, Bool, Option, length, subst, ◌∙◌}
+-- The rules of data files keep what holds of the tokens' names and places, so it holds of those in a file's items.
+use Rattle.std.proofs.Common.{ℕ, zero, suc, ◌<◌, ◌≡◌, List, [], ◌∷◌, true, false, Bool, Option, length, subst, ◌∙◌}
 use Rattle.std.specs.Prelude.{Some, None, All, if◌then◌else◌}
 use Rattle.std.proofs.lemmas.List.{append-nil}
 use Rattle.std.proofs.lemmas.List.Elements.{All-nil, All-cons, All-head, All-tail, All-append, All-weaker}
 use Rattle.mz_base.specs.declared.fault.Span.{Span}
-use Rattle.mz_base.specs.Names.{Grows}
 use Rattle.mz_base.specs.declared.keyword.Keyword.{Keyword}
 use Rattle.mz_base.specs.declared.keyword.Keyword.TheVariants.{KTrue, KFalse}
 use Rattle.mz_lexer.specs.declared.token.Token.{Token}
@@ -25,15 +24,9 @@ use Rattle.mz_grammar.specs.Tests.{ident_of, ends_row}
 use Rattle.mz_grammar.specs.Data as part
 use Rattle.mz_grammar.specs.Data.{Dimensions, Place, Value, Ruled, rule, symbol, opening, behind_element, literal_of, negated_of}
 use Rattle.mz_given.specs.Named.{names_in, names_in_all, names_in_lines, IsGivenWithin}
-use Rattle.mz_given.proofs.Staying.{stays}
+use Rattle.mz_dzn.specs.DataFile.{IsGivenIn}
 
-module _ (count : ℕ) where
-  abbrev Named : Name → Type 0
-  Named n = n < count
-
-  abbrev Placed : Span → Type 0
-  Placed s = Unit {0}
-
+module _ (Named : Name → Type 0) (Placed : Span → Type 0) where
   -- the identifiers of a value are named
   abbrev Within : pure.Value → Type 0
   Within v = All Named (names_in v)
@@ -44,23 +37,27 @@ module _ (count : ℕ) where
   abbrev LinesWithin : List (List pure.Value) → Type 0
   LinesWithin ls = All EachWithin ls
 
+  -- the name and the places of an item, and the identifiers of its value
+  abbrev Kept : Given → Type 0
+  Kept g = Named g.name × Within g.value × Placed g.span × Placed g.at
+
   -- what holds of a part's value
   abbrev Holds : (n : Place) → Value n → Type 0
-  Holds (part.file d) is = All (IsGivenWithin count) is
-  Holds (part.item d) i = IsGivenWithin count i
-  Holds (part.datum d) v = Within v.1
+  Holds (part.file d) is = All Kept is
+  Holds (part.item d) i = Kept i
+  Holds (part.datum d) v = Placed v.0 × Within v.1
   Holds (part.named d n) v = Named n → Within v
   Holds (part.sized d) v = Within v
   Holds (part.index_sets d) vs = EachWithin vs
   Holds part.plains vs = EachWithin vs
   Holds part.rows ls = LinesWithin ls
   Holds part.row vs = EachWithin vs
-  Holds part.plain v = Within v.1
+  Holds part.plain v = Placed v.0 × Within v.1
   Holds (part.range v) w = Within v → Within w
   Holds part.set v = Within v
   Holds (part.bounds v) w = Within v → Within w
   Holds part.ones vs = EachWithin vs
-  Holds part.one v = Within v.1
+  Holds part.one v = Placed v.0 × Within v.1
 
   -- the name of the token in front
   abbrev Fine : Option Tok → Type 0
@@ -74,18 +71,18 @@ module _ (count : ℕ) where
   Fine (Some (tok.TextMid n)) = Unit {0}
   Fine (Some (tok.TextTail n)) = Unit {0}
 
-  abbrev Kept : {n : Place} → Ruled n → Type 0
-  Kept p = Generic.Keeps Holds Fine Placed p
+  abbrev Keeps : {n : Place} → Ruled n → Type 0
+  Keeps p = Generic.Keeps Holds Fine Placed p
 
   abbrev OnSome : {A : Type 0} → (A → Type 0) → Option A → Type 0
   OnSome Q None = Unit {0}
   OnSome Q (Some x) = Q x
 
-  tested : {n : Place} (b : Bool) (p q : Ruled n) → Kept p → Kept q → Kept (if b then p else q)
+  tested : {n : Place} (b : Bool) (p q : Ruled n) → Keeps p → Keeps q → Keeps (if b then p else q)
   tested true p q h g = h
   tested false p q h g = g
 
-  found : {A : Type 0} {n : Place} (Q : A → Type 0) (o : Option A) (p : Ruled n) (f : A → Ruled n) → OnSome Q o → Kept p → ((x : A) → Q x → Kept (f x)) → Kept (on o p f)
+  found : {A : Type 0} {n : Place} (Q : A → Type 0) (o : Option A) (p : Ruled n) (f : A → Ruled n) → OnSome Q o → Keeps p → ((x : A) → Q x → Keeps (f x)) → Keeps (on o p f)
   found Q None p f q h g = h
   found Q (Some x) p f q h g = g x q
 
@@ -150,79 +147,79 @@ module _ (count : ℕ) where
 
   -- Rules
 
-  symbol_kept : {n : Place} (s : Symbol) (p : Ruled n) → Kept p → Kept (symbol s p)
+  symbol_kept : {n : Place} (s : Symbol) (p : Ruled n) → Keeps p → Keeps (symbol s p)
   symbol_kept s p h = λ o fine. tested (is_sym s o) _ _ (λ at u. h) tt
 
-  opening_kept : {n : Place} (s : Symbol) (p : Ruled n) → Kept p → Kept (opening s p)
+  opening_kept : {n : Place} (s : Symbol) (p : Ruled n) → Keeps p → Keeps (opening s p)
   opening_kept s p h = λ o fine. tested (is_sym s o) _ _ (λ at u. h) tt
 
-  behind_kept : {n : Place} (separator closing : Symbol) (more done : Ruled n) → Kept more → Kept done → Kept (behind_element separator closing more done)
+  behind_kept : {n : Place} (separator closing : Symbol) (more done : Ruled n) → Keeps more → Keeps done → Keeps (behind_element separator closing more done)
   behind_kept separator closing more done h g = λ o fine. tested (is_sym separator o) _ _ (λ at u. h) (tested (is_sym closing o) _ _ (λ at u. g) tt)
 
-  one_kept : Kept part.one_rule
+  one_kept : Keeps part.one_rule
   unfolding names_in
   one_kept = λ o fine. tested (is_sym SMinus o) _ _
-      (λ s u. λ p v. found (λ z. Unit {0}) (negated_of p) _ _ (none (negated_of p)) tt (λ z k. λ t w. All-nil Named))
-      (found Within (literal_of o) _ _ (of_literal o fine) tt (λ x h. λ s u. h))
+      (λ s u. λ p v. found (λ z. Unit {0}) (negated_of p) _ _ (none (negated_of p)) tt (λ z k. λ t w. (u, All-nil Named)))
+      (found Within (literal_of o) _ _ (of_literal o fine) tt (λ x h. λ s u. (u, h)))
 
-  range_kept : (v : pure.Value) → Kept (part.range_rule v)
-  range_kept v = λ o fine. tested (is_sym SDots o) _ _ (λ d u. λ w h. λ g. of_bounds v w.1 g h) (λ g. g)
+  range_kept : (v : pure.Value) → Keeps (part.range_rule v)
+  range_kept v = λ o fine. tested (is_sym SDots o) _ _ (λ d u. λ w h. λ g. of_bounds v w.1 g h.1) (λ g. g)
 
-  ones_kept : Kept part.ones_rule
+  ones_kept : Keeps part.ones_rule
   ones_kept = λ o fine. tested (is_sym SRBrace o) _ _ (λ c u. All-nil Within)
-      (λ v h. behind_kept SComma SRBrace _ _ (λ vs g. All-cons Within v.1 vs h g) (All-cons Within v.1 [] h (All-nil Within)))
+      (λ v h. behind_kept SComma SRBrace _ _ (λ vs g. All-cons Within v.1 vs h.1 g) (All-cons Within v.1 [] h.1 (All-nil Within)))
 
-  bounds_kept : (v : pure.Value) → Kept (part.bounds_rule v)
-  bounds_kept v = λ o fine. tested (is_sym SDots o) _ _ (λ d u. λ w h. λ g. of_bounds v w.1 g h) (tested (is_name v) _ _ (λ g. g) tt)
+  bounds_kept : (v : pure.Value) → Keeps (part.bounds_rule v)
+  bounds_kept v = λ o fine. tested (is_sym SDots o) _ _ (λ d u. λ w h. λ g. of_bounds v w.1 g h.1) (tested (is_name v) _ _ (λ g. g) tt)
 
-  set_kept : Kept part.set_rule
-  set_kept = λ o fine. tested (is_sym SLBrace o) _ _ (λ s u. λ vs h. of_set vs h) (λ v h. λ w g. g h)
+  set_kept : Keeps part.set_rule
+  set_kept = λ o fine. tested (is_sym SLBrace o) _ _ (λ s u. λ vs h. of_set vs h) (λ v h. λ w g. g h.1)
 
-  plain_kept : Kept part.plain_rule
+  plain_kept : Keeps part.plain_rule
   unfolding names_in
-  plain_kept = λ o fine. tested (is_sym SLBrace o) _ _ (λ s u. λ vs h. of_set vs h)
-      (tested (is_sym SAbsent o) _ _ (λ s u. All-nil Named) (λ v h. λ w g. g h))
+  plain_kept = λ o fine. tested (is_sym SLBrace o) _ _ (λ s u. λ vs h. (u, of_set vs h))
+      (tested (is_sym SAbsent o) _ _ (λ s u. (u, All-nil Named)) (λ v h. λ w g. (h.0, g h.1)))
 
-  plains_kept : Kept part.plains_rule
+  plains_kept : Keeps part.plains_rule
   plains_kept = λ o fine. tested (is_sym SRBrack o) _ _ (λ c u. All-nil Within)
-      (λ v h. behind_kept SComma SRBrack _ _ (λ vs g. All-cons Within v.1 vs h g) (All-cons Within v.1 [] h (All-nil Within)))
+      (λ v h. behind_kept SComma SRBrack _ _ (λ vs g. All-cons Within v.1 vs h.1 g) (All-cons Within v.1 [] h.1 (All-nil Within)))
 
-  row_kept : Kept part.row_rule
+  row_kept : Keeps part.row_rule
   row_kept = λ v h. λ o fine. tested (is_sym SComma o) _ _
-      (λ c u. λ p w. tested (ends_row p) _ _ (All-cons Within v.1 [] h (All-nil Within)) (λ vs g. All-cons Within v.1 vs h g))
-      (All-cons Within v.1 [] h (All-nil Within))
+      (λ c u. λ p w. tested (ends_row p) _ _ (All-cons Within v.1 [] h.1 (All-nil Within)) (λ vs g. All-cons Within v.1 vs h.1 g))
+      (All-cons Within v.1 [] h.1 (All-nil Within))
 
-  rows_kept : Kept part.rows_rule
+  rows_kept : Keeps part.rows_rule
   rows_kept = λ o fine. tested (is_sym SRRows o) _ _ (λ c u. All-nil EachWithin)
       (λ l h. behind_kept SBar SRRows _ _ (λ ls g. All-cons EachWithin l ls h g) (All-cons EachWithin l [] h (All-nil EachWithin)))
 
-  index_sets_kept : (d : ℕ) → Kept (part.index_sets_rule d)
+  index_sets_kept : (d : ℕ) → Keeps (part.index_sets_rule d)
   index_sets_kept zero = λ o fine. tested (is_sym SComma o) _ _ (λ c u. All-nil Within) (All-nil Within)
   index_sets_kept (suc d) = λ v h. symbol_kept SComma _ (λ vs g. All-cons Within v vs h g)
 
-  sized_kept : (d : ℕ) → Kept (part.sized_rule d)
+  sized_kept : (d : ℕ) → Keeps (part.sized_rule d)
   sized_kept d = λ ss h. opening_kept SLBrack _ (λ vs g. symbol_kept SRParen _ (of_sized ss vs h g))
 
-  named_kept : (d : Dimensions) (n : Name) → Kept (part.named_rule d n)
+  named_kept : (d : Dimensions) (n : Name) → Keeps (part.named_rule d n)
   named_kept d n = λ o fine. tested (is_sym SLParen o) _ _
       (found (λ m. Unit {0}) (d n) _ _ (none (d n)) tt (λ m k. λ p u. λ v h. λ g. h))
       (λ v h. λ g. h (of_one_name n g))
 
-  datum_kept : (d : Dimensions) → Kept (part.datum_rule d)
-  datum_kept d = λ o fine. tested (is_sym SLBrack o) _ _ (λ s u. λ vs h. of_array vs h)
-      (tested (is_sym SLRows o) _ _ (λ s u. λ ls h. of_rows ls h)
-      (found Named (ident_of o) _ _ (ident_named o fine) (λ v h. h) (λ n k. λ s u. λ v h. h k)))
+  datum_kept : (d : Dimensions) → Keeps (part.datum_rule d)
+  datum_kept d = λ o fine. tested (is_sym SLBrack o) _ _ (λ s u. λ vs h. (u, of_array vs h))
+      (tested (is_sym SLRows o) _ _ (λ s u. λ ls h. (u, of_rows ls h))
+      (found Named (ident_of o) _ _ (ident_named o fine) (λ v h. h) (λ n k. λ s u. λ v h. (u, h k))))
 
-  item_kept : (d : Dimensions) → Kept (part.item_rule d)
-  item_kept d = λ o fine. found Named (ident_of o) _ _ (ident_named o fine) tt (λ n k. λ s u. symbol_kept SEq _ (λ v h. record { name = k; names = h }))
+  item_kept : (d : Dimensions) → Keeps (part.item_rule d)
+  item_kept d = λ o fine. found Named (ident_of o) _ _ (ident_named o fine) tt (λ n k. λ s u. symbol_kept SEq _ (λ v h. (k, h.1, u, h.0)))
 
-  file_kept : (d : Dimensions) → Kept (part.file_rule d)
-  file_kept d = λ o fine. found (λ t. Unit {0}) o _ _ (none o) (All-nil (IsGivenWithin count)) (λ t k. λ i h. λ p u.
-      found (λ t. Unit {0}) p _ _ (none p) (All-cons (IsGivenWithin count) i [] h (All-nil (IsGivenWithin count)))
-      (λ w l. symbol_kept SSemi _ (λ is g. All-cons (IsGivenWithin count) i is h g)))
+  file_kept : (d : Dimensions) → Keeps (part.file_rule d)
+  file_kept d = λ o fine. found (λ t. Unit {0}) o _ _ (none o) (All-nil Kept) (λ t k. λ i h. λ p u.
+      found (λ t. Unit {0}) p _ _ (none p) (All-cons Kept i [] h (All-nil Kept))
+      (λ w l. symbol_kept SSemi _ (λ is g. All-cons Kept i is h g)))
 
   -- every rule keeps it
-  all_kept : (n : Place) → Kept (rule n)
+  all_kept : (n : Place) → Keeps (rule n)
   unfolding rule
   all_kept (part.file d) = file_kept d
   all_kept (part.item d) = item_kept d
@@ -243,27 +240,59 @@ module _ (count : ℕ) where
   abbrev AllFine : List Token → Type 0
   AllFine ts = Generic.AllFine {Value = Value} Holds Fine Placed ts
 
-  file_is_within : {d : Dimensions} {room : ℕ} {ts : List Token} {is : List Given} → Runs rule (part.file d) room (rule (part.file d)) ts is None → AllFine ts → All (IsGivenWithin count) is
-  file_is_within {d = d} r fine = Generic.kept Holds Fine Placed rule all_kept r fine tt (all_kept (part.file d))
+  file_keeps : {d : Dimensions} {room : ℕ} {ts : List Token} {is : List Given} → Runs rule (part.file d) room (rule (part.file d)) ts is None → AllFine ts → All Kept is
+  file_keeps {d = d} r fine = Generic.kept Holds Fine Placed rule all_kept r fine tt (all_kept (part.file d))
 
--- Tokens whose names are of a table
+  -- the tokens of a whole file
+  whole_keeps : (d : Dimensions) (room : ℕ) (tokens : List Token) (is : List Given) → IsFront rule (part.file d) room tokens [] is → AllFine tokens → All Kept is
+  whole_keeps d room tokens is h fine = file_keeps h.reads (subst AllFine (h.split ∙ append-nil h.front) fine)
 
-fine_tok : (texts : List (List ℕ)) (t : Tok) → IsNamed texts t → Fine (length texts) (Some t)
-fine_tok texts (tok.Word k) h = tt
-fine_tok texts (tok.Sym s) h = tt
-fine_tok texts (tok.Ident n) h = h
-fine_tok texts (tok.Int z) h = tt
-fine_tok texts (tok.Text n) h = tt
-fine_tok texts (tok.TextHead n) h = tt
-fine_tok texts (tok.TextMid n) h = tt
-fine_tok texts (tok.TextTail n) h = tt
+-- Names of a table
 
-all_fine : (texts : List (List ℕ)) (tokens : List Token) → All (HasName texts) tokens → AllFine (length texts) tokens
-all_fine texts [] all = tt
-all_fine texts (t ∷ ts) all = (fine_tok texts t.tok (All-head (HasName texts) t ts all), tt, all_fine texts ts (All-tail (HasName texts) t ts all))
+abbrev Anywhere : Span → Type 0
+Anywhere s = Unit {0}
 
--- the names in the items of a whole file are of the table that its tokens' names are of, and of the one that it grows to
-pub whole_within : (texts after : List (List ℕ)) (d : Dimensions) (room : ℕ) (tokens : List Token) (is : List Given) → Grows texts after → IsFront rule (part.file d) room tokens [] is → All (HasName texts) tokens → All (IsGivenWithin (length after)) is
-whole_within texts after d room tokens is grows h all =
-    All-weaker (IsGivenWithin (length texts)) (IsGivenWithin (length after)) (λ i k. stays texts after i grows k) is
-    (file_is_within (length texts) h.reads (all_fine texts h.front (subst (All (HasName texts)) (h.split ∙ append-nil h.front) all)))
+named_tok : (texts : List (List ℕ)) (t : Tok) → IsNamed texts t → Fine (λ n. n < length texts) Anywhere (Some t)
+named_tok texts (tok.Word k) h = tt
+named_tok texts (tok.Sym s) h = tt
+named_tok texts (tok.Ident n) h = h
+named_tok texts (tok.Int z) h = tt
+named_tok texts (tok.Text n) h = tt
+named_tok texts (tok.TextHead n) h = tt
+named_tok texts (tok.TextMid n) h = tt
+named_tok texts (tok.TextTail n) h = tt
+
+named_tokens : (texts : List (List ℕ)) (tokens : List Token) → All (HasName texts) tokens → AllFine (λ n. n < length texts) Anywhere tokens
+named_tokens texts [] all = tt
+named_tokens texts (t ∷ ts) all = (named_tok texts t.tok (All-head (HasName texts) t ts all), tt, named_tokens texts ts (All-tail (HasName texts) t ts all))
+
+-- the names in the items of a whole file are of the table that its tokens' names are of
+pub whole_within : (texts : List (List ℕ)) (d : Dimensions) (room : ℕ) (tokens : List Token) (is : List Given) → IsFront rule (part.file d) room tokens [] is → All (HasName texts) tokens → All (IsGivenWithin (length texts)) is
+whole_within texts d room tokens is h all =
+    All-weaker (Kept (λ n. n < length texts) Anywhere) (IsGivenWithin (length texts)) (λ g k. record { name = k.0; names = k.1 }) is
+    (whole_keeps (λ n. n < length texts) Anywhere d room tokens is h (named_tokens texts tokens all))
+
+-- Places in a file
+
+abbrev Any : Name → Type 0
+Any n = Unit {0}
+
+any_tok : (number : ℕ) (t : Tok) → Fine Any (λ s. s.file ≡ number) (Some t)
+any_tok number (tok.Word k) = tt
+any_tok number (tok.Sym s) = tt
+any_tok number (tok.Ident n) = tt
+any_tok number (tok.Int z) = tt
+any_tok number (tok.Text n) = tt
+any_tok number (tok.TextHead n) = tt
+any_tok number (tok.TextMid n) = tt
+any_tok number (tok.TextTail n) = tt
+
+placed_tokens : (number : ℕ) (tokens : List Token) → All (λ t. t.span.file ≡ number) tokens → AllFine Any (λ s. s.file ≡ number) tokens
+placed_tokens number [] all = tt
+placed_tokens number (t ∷ ts) all = (any_tok number t.tok, All-head (λ t. t.span.file ≡ number) t ts all, placed_tokens number ts (All-tail (λ t. t.span.file ≡ number) t ts all))
+
+-- the places of the items of a whole file are in the file of its tokens
+pub whole_placed : (number : ℕ) (d : Dimensions) (room : ℕ) (tokens : List Token) (is : List Given) → IsFront rule (part.file d) room tokens [] is → All (λ t. t.span.file ≡ number) tokens → All (IsGivenIn number) is
+whole_placed number d room tokens is h all =
+    All-weaker (Kept Any (λ s. s.file ≡ number)) (IsGivenIn number) (λ g k. record { name = k.2; value = k.3 }) is
+    (whole_keeps Any (λ s. s.file ≡ number) d room tokens is h (placed_tokens number tokens all))

@@ -1,2 +1,2 @@
-pub mod ArrayNames
+pub mod DataFile
 pub mod Steps

@@ -1,6 +1,6 @@
 // The items of a data file.
 
-ghost use Rattle.std.specs.Prelude.{◌≡◌, ◌<◌, [], length, map, OnOk, IfOk, IfErr, All};
+ghost use Rattle.std.specs.Prelude.{◌≡◌, ◌<◌, ℕ, [], length, map, OnOk, IfOk, IfErr, All};
 ghost use Rattle.mz_cursor.specs.Reads.{Passes, Reads};
 ghost use Rattle.mz_base.specs.Faults.{IfRefused};
 ghost use Rattle.mz_base.specs.declared.limit.TheConstants.{OPEN_LIMIT};
@@ -8,13 +8,12 @@ ghost use Rattle.mz_tree.specs.Data.{value, given};
 ghost use Rattle.mz_cursor.specs.Promise.{Gives, Answers};
 ghost use Rattle.mz_cursor.specs.Tokens.{place};
 ghost use Rattle.mz_grammar.specs.Data.{rule, reads, dimensions_of, file, item, datum, named, sized};
-ghost use Rattle.mz_base.specs.Names.{Grows};
 ghost use Rattle.mz_lexer.specs.Views.{HasName};
 ghost use Rattle.mz_given.specs.Named.{IsGivenWithin};
-ghost use Rattle.mz_dzn.specs.ArrayNames.{meaning};
+ghost use Rattle.mz_dzn.specs.DataFile.{IsGivenIn};
 ghost use Rattle.mz_dzn.specs.Steps.{array_at, table_at, brackets_at};
 
-use crate::array_names::{ArrayNames, array_names, meaning};
+use crate::dimensions::dimensions_of;
 use crate::list::{index_sets, plains, rows};
 use crate::step::file_goes_on;
 use crate::value::{plain, range_from};
@@ -54,13 +53,13 @@ fn sized(alloc: Global, cur: &mut Cursor<'_>, dimensions: u8) -> Result<Datum, S
 
 /// What stands behind an identifier with which a value begins.
 #[tactic(auto, using(crate::proofs::Equations::named_reads))]
-fn named(alloc: Global, cur: &mut Cursor<'_>, names: &ArrayNames, name: Name) -> Result<Datum, Stop>
-    ensures { Passes value (reads (named (meaning names.now) name)) cur.old cur.new result }
+fn named(alloc: Global, cur: &mut Cursor<'_>, names: &Names, name: Name) -> Result<Datum, Stop>
+    ensures { Passes value (reads (named (dimensions_of names.now) name)) cur.old cur.new result }
 {
     if !is_sym(Symbol::SLParen, cur.tok()) {
         return range_from(alloc, cur, make_ident_datum(name));
     }
-    let Some(dimensions) = meaning(names, name) else {
+    let Some(dimensions) = dimensions_of(names, name) else {
         return Err(cur.unfit());
     };
     cur.push()?;
@@ -96,8 +95,8 @@ fn table(alloc: Global, cur: &mut Cursor<'_>) -> Result<Datum, Stop>
 
 /// A value.
 #[tactic(auto, using(crate::proofs::Equations::datum_reads))]
-fn datum(alloc: Global, cur: &mut Cursor<'_>, names: &ArrayNames) -> Result<Datum, Stop>
-    ensures { Reads (λ d. (place cur.old.rest.now, value d)) (reads (datum (meaning names.now))) cur.old cur.new result }
+fn datum(alloc: Global, cur: &mut Cursor<'_>, names: &Names) -> Result<Datum, Stop>
+    ensures { Reads (λ d. (place cur.old.rest.now, value d)) (reads (datum (dimensions_of names.now))) cur.old cur.new result }
 {
     if is_sym(Symbol::SLBrack, cur.tok()) {
         return array(alloc, cur);
@@ -114,8 +113,8 @@ fn datum(alloc: Global, cur: &mut Cursor<'_>, names: &ArrayNames) -> Result<Datu
 
 /// A name and its value.
 #[tactic(auto, using(crate::proofs::Equations::item_reads))]
-fn item(alloc: Global, cur: &mut Cursor<'_>, names: &ArrayNames) -> Result<DataItem, Stop>
-    ensures { Reads given (reads (item (meaning names.now))) cur.old cur.new result }
+fn item(alloc: Global, cur: &mut Cursor<'_>, names: &Names) -> Result<DataItem, Stop>
+    ensures { Reads given (reads (item (dimensions_of names.now))) cur.old cur.new result }
 {
     let Some(name) = ident_of(cur.tok()) else {
         return Err(cur.unfit());
@@ -134,8 +133,8 @@ fn item(alloc: Global, cur: &mut Cursor<'_>, names: &ArrayNames) -> Result<DataI
 
 /// All items, up to the end of the file.
 #[tactic(auto, using(crate::proofs::Equations::file_reads, mz_cursor::proofs::Steps::front_push, std::proofs::lemmas::List::map_push, mz_cursor::proofs::Steps::nothing_behind, mz_cursor::proofs::Steps::no_front))]
-fn file(alloc: Global, cur: &mut Cursor<'_>, names: &ArrayNames) -> Result<Vec<DataItem>, Stop>
-    ensures reads { Gives (λ v. map given v.items) cur.new.end cur.new.rest.now result (reads (file (meaning names.now)) cur.old.room cur.old.rest.now) }
+fn file(alloc: Global, cur: &mut Cursor<'_>, names: &Names) -> Result<Vec<DataItem>, Stop>
+    ensures reads { Gives (λ v. map given v.items) cur.new.end cur.new.rest.now result (reads (file (dimensions_of names.now)) cur.old.room cur.old.rest.now) }
     ensures whole { OnOk result (cur.new.rest.now ≡ []) }
     ensures room { OnOk result (cur.new.room ≡ cur.old.room) }
     ensures end { cur.new.end ≡ cur.old.end }
@@ -154,8 +153,8 @@ fn file(alloc: Global, cur: &mut Cursor<'_>, names: &ArrayNames) -> Result<Vec<D
 /// The items of a data file's tokens, in order.
 ///
 /// `end` is the place of the file's end, and `names` the table of the tokens' names: the texts `array1d` to `array6d`
-/// begin an array with index sets where a `(` follows. After the call, whatever it answers, the table may hold these six
-/// texts more, and each name that it had keeps its text. Where the tokens' names are of the table, the names in the items are.
+/// begin an array with index sets where a `(` follows. The table is only read. Where the tokens' names are of it, the
+/// names in the items are; and where the tokens' places are in one file, so are the items'.
 ///
 /// In an item `span` is the name's place and `at` that of the value's first token: the tokens' own places, with lines
 /// and columns from 1 and bytes from 0. A list may be as long as memory allows, since each is read in a loop.
@@ -163,19 +162,13 @@ fn file(alloc: Global, cur: &mut Cursor<'_>, names: &ArrayNames) -> Result<Vec<D
 /// The one refusal is Syntax, at the first token with which no data file goes on, or at `end` where the file may not
 /// end there. No data file has enough open brackets for TooDeep, and none is LeftOut. After a refusal or want of memory
 /// nothing is given.
-pub fn data_items(
-    alloc: Global,
-    tokens: &[Token],
-    end: Span,
-    names: &mut Names,
-) -> Result<Data, Stop>
-    ensures answers { Answers rule (file (dimensions_of names.new)) (λ d. map given d.items.items) OPEN_LIMIT end tokens.now [] result }
-    ensures grows { Grows names.old names.new }
-    ensures named { IfOk result (λ d. All (HasName names.old) tokens.now → All (IsGivenWithin (length names.new)) (map given d.items.items)) }
+pub fn data_items(alloc: Global, tokens: &[Token], end: Span, names: &Names) -> Result<Data, Stop>
+    ensures answers { Answers rule (file (dimensions_of names.now)) (λ d. map given d.items.items) OPEN_LIMIT end tokens.now [] result }
+    ensures named { IfOk result (λ d. All (HasName names.now) tokens.now → All (IsGivenWithin (length names.now)) (map given d.items.items)) }
+    ensures placed { IfOk result (λ d. (number : ℕ) → All (λ t. t.span.file ≡ number) tokens.now → All (IsGivenIn number) (map given d.items.items)) }
     ensures syntax { IfErr result (λ s. IfRefused s (λ f. f.kind ≡ Kind.Syntax)) }
 {
-    let array_names = array_names(names)?;
     let mut cur = Cursor::new(tokens, end);
-    let items = file(alloc, &mut cur, &array_names)?;
+    let items = file(alloc, &mut cur, names)?;
     Ok(Data { items })
 }

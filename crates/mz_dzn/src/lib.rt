@@ -1,7 +1,7 @@
 // The data of data files, read from their tokens.
 #![tactic(auto)]
 
-mod array_names;
+mod dimensions;
 mod file;
 mod list;
 mod step;

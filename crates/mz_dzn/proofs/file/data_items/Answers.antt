@@ -8,30 +8,30 @@ use Rattle.mz_tree.specs.Data.{given}
 use Rattle.mz_grammar.specs.Data.{dimensions_of, file}
 use Rattle.mz_grammar.proofs.DataViable.{answers}
 use Rattle.mz_dzn.proofs.Answer.{tells_syntax}
-use Rattle.mz_dzn.proofs.Naming.{whole_within}
+use Rattle.mz_dzn.proofs.Naming.{whole_within, whole_placed}
 use Rattle.mz_dzn.proofs.file.data_items.Goals as goal
 
 pub returns-clause-answers : goal.returns-clause-answers
 returns-clause-answers c =
     let start = c.new-cur.ensures in
-    let means = c.in_ok-array_names.ensures.means in
-    answers {X = List DataItem} (file (dimensions_of c.array_names.new.names)) (map given) OPEN_LIMIT c.args.end c.args.tokens.now [] (Ok c.in_ok-items.items.items) refl (rw (means, start.rest, start.room, c.in_ok-items.ensures.whole) at c.in_ok-items.ensures.reads)
+    answers {X = List DataItem} (file (dimensions_of c.args.names.now)) (map given) OPEN_LIMIT c.args.end c.args.tokens.now [] (Ok c.in_ok-items.items.items) refl (rw (start.rest, start.room, c.in_ok-items.ensures.whole) at c.in_ok-items.ensures.reads)
 
 pub returns-clause-named : goal.returns-clause-named
-returns-clause-named c = λ all. whole_within c.args.names.now c.array_names.new.names (dimensions_of c.array_names.new.names) OPEN_LIMIT c.args.tokens.now (map given c.in_ok-items.items.items) c.in_ok-array_names.ensures.grows (returns-clause-answers c) all
+returns-clause-named c = λ all. whole_within c.args.names.now (dimensions_of c.args.names.now) OPEN_LIMIT c.args.tokens.now (map given c.in_ok-items.items.items) (returns-clause-answers c) all
+
+pub returns-clause-placed : goal.returns-clause-placed
+returns-clause-placed c = λ number all. whole_placed number (dimensions_of c.args.names.now) OPEN_LIMIT c.args.tokens.now (map given c.in_ok-items.items.items) (returns-clause-answers c) all
 
 pub returns-in_err-items-clause-answers : goal.returns-in_err-items-clause-answers
 returns-in_err-items-clause-answers c =
     let start = c.new-cur.ensures in
-    let means = c.in_ok-array_names.ensures.means in
-    let from = c.from_residual-in_err-items in
+    let from = c.from_residual in
     let p = err_from_is_err_and from.result from.ensures.1 in
-    rw (p.1, p.2) (answers {X = Data} (file (dimensions_of c.array_names.new.names)) (λ d. map given d.items.items) OPEN_LIMIT c.args.end c.args.tokens.now c.file.new.cur.rest.now (Err c.in_err-items.field-0.0) refl (rw (means, start.rest, start.room, c.file.ensures.end, start.end) at c.in_err-items.ensures.reads))
+    rw (p.1, p.2) (answers {X = Data} (file (dimensions_of c.args.names.now)) (λ d. map given d.items.items) OPEN_LIMIT c.args.end c.args.tokens.now c.file.new.cur.rest.now (Err c.in_err-items.field-0.0) refl (rw (start.rest, start.room, c.file.ensures.end, start.end) at c.in_err-items.ensures.reads))
 
 pub returns-in_err-items-clause-syntax : goal.returns-in_err-items-clause-syntax
 returns-in_err-items-clause-syntax c =
     let start = c.new-cur.ensures in
-    let means = c.in_ok-array_names.ensures.means in
-    let from = c.from_residual-in_err-items in
+    let from = c.from_residual in
     let p = err_from_is_err_and from.result from.ensures.1 in
-    rw (p.1, p.2) (tells_syntax (file (dimensions_of c.array_names.new.names)) OPEN_LIMIT c.args.end c.args.tokens.now c.file.new.cur.rest.now _ (omega arith) (rw (means, start.rest, start.room, c.file.ensures.end, start.end) at c.in_err-items.ensures.reads))
+    rw (p.1, p.2) (tells_syntax (file (dimensions_of c.args.names.now)) OPEN_LIMIT c.args.end c.args.tokens.now c.file.new.cur.rest.now _ (omega arith) (rw (start.rest, start.room, c.file.ensures.end, start.end) at c.in_err-items.ensures.reads))
