@@ -92,20 +92,20 @@ fn post_order(alloc: Global, build: &mut Build) -> Result<(), Memory>
 fn define_square(alloc: Global, build: &mut Build) -> Result<(), Memory>
     requires { build.old ≡ with_order }
 {
-    let inputs = factors(alloc)?;
-    let domain = build.result(RowName::IntTimes, &inputs)?;
-    build.define(RowName::IntTimes, &inputs, domain)?;
+    let inputs = given!(factors(alloc));
+    let domain = given!(build.result(RowName::IntTimes, &inputs));
+    given!(build.define(RowName::IntTimes, &inputs, domain));
     Ok(())
 }
 
 /// Builds the program, with the next introduced name printed before and after a variable is defined.
 pub fn built(alloc: Global, page: &mut Page) -> Result<FzProgram, Memory> {
     let mut build = Build::new(alloc);
-    declare_x(alloc, &mut build)?;
-    add_xs(alloc, &mut build)?;
-    post_order(alloc, &mut build)?;
-    page.line(build.next_name()?.text);
-    define_square(alloc, &mut build)?;
-    page.line(build.next_name()?.text);
+    given!(declare_x(alloc, &mut build));
+    given!(add_xs(alloc, &mut build));
+    given!(post_order(alloc, &mut build));
+    page.line(given!(build.next_name()).text);
+    given!(define_square(alloc, &mut build));
+    page.line(given!(build.next_name()).text);
     Ok(build.finish(FzGoal::Satisfy))
 }

@@ -2,6 +2,16 @@
 // makes; then each text of the input is read, and what it is read to is written again.
 #![tactic(auto)]
 
+// What a call gives. Its error is handed on as it is: `?` would convert it.
+macro_rules! given {
+    ($call:expr) => {
+        match $call {
+            Ok(x) => x,
+            Err(e) => return Err(e),
+        }
+    };
+}
+
 mod built;
 mod reading;
 mod unspelled;
@@ -26,17 +36,17 @@ fn print_words(page: &mut Page) {
 
 /// What is built is written twice, the second time to a sink that takes nothing.
 fn print_built(alloc: Global, page: &mut Page) -> Result<(), Memory> {
-    let made = built(alloc, page)?;
-    print_written(alloc, &made, 9, page)?;
+    let made = given!(built(alloc, page));
+    given!(print_written(alloc, &made, 9, page));
     print_written(alloc, &made, 0, page)
 }
 
 fn all(alloc: Global, input: &str) -> Result<String, Memory> {
     let mut page = Page::new(alloc);
     print_words(&mut page);
-    unspelled::print(alloc, &mut page)?;
-    print_built(alloc, &mut page)?;
-    reading::print(alloc, input, &mut page)?;
+    given!(unspelled::print(alloc, &mut page));
+    given!(print_built(alloc, &mut page));
+    given!(reading::print(alloc, input, &mut page));
     Ok(page.into_text()?)
 }
 

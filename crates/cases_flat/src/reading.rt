@@ -38,7 +38,7 @@ fn print_formed(alloc: Global, text: &str, page: &mut Page) -> Result<(), Memory
 
 /// What reading a text answers.
 fn print_read(alloc: Global, text: &str, page: &mut Page) -> Result<(), Memory> {
-    print_formed(alloc, text, page)?;
+    given!(print_formed(alloc, text, page));
     match read(alloc, text.as_bytes()) {
         Ok(p) => print_written(alloc, &p, 9, page),
         Err(stop) => print_stop(stop, page),
@@ -62,10 +62,10 @@ pub fn print(alloc: Global, input: &str, page: &mut Page) -> Result<(), Memory> 
     let mut begun = false;
     for line in input.lines() {
         if line.starts_with('|') || line.starts_with('+') {
-            add(&mut text, line)?;
+            given!(add(&mut text, line));
         } else {
             if begun {
-                print_read(alloc, text.as_str(), page)?;
+                given!(print_read(alloc, text.as_str(), page));
             }
             begun = true;
             text = String::new(alloc);

@@ -43,7 +43,7 @@ fn nested(alloc: Global) -> Result<bool, AllocError> {
 
 /// An array of no element.
 fn array(alloc: Global, name: &str) -> Result<FzArray, AllocError> {
-    let text = String::from_str(alloc, name)?;
+    let text = given!(String::from_str(alloc, name));
     let index = vec![in alloc; (1, 0)]?;
     Ok(FzArray {
         label: FzName { text },
@@ -54,8 +54,8 @@ fn array(alloc: Global, name: &str) -> Result<FzArray, AllocError> {
 
 /// Whether a program of two arrays with these names is well formed.
 fn of_arrays(alloc: Global, first: &str, second: &str) -> Result<bool, AllocError> {
-    let one = array(alloc, first)?;
-    let two = array(alloc, second)?;
+    let one = given!(array(alloc, first));
+    let two = given!(array(alloc, second));
     let arrays = vec![in alloc; one, two]?;
     Ok(is_formed(alloc, arrays, Vec::new(alloc)))
 }

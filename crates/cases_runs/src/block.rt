@@ -1,12 +1,12 @@
 // A block of the input: a command, the files that it runs over, and the calls that fail.
 
 use crate::gathered;
-use crate::outcome::put_lines;
+use crate::running::{print_run, run_line};
+use crate::streams::SlowWriter;
 use crate::torn::TornSink;
 use cases::{Page, bytes_of};
 use mz_base::Memory;
-use mz_io::{MemFiles, MemSink, MemSource};
-use mz_tool::{Status, run};
+use mz_io::{MemFiles, MemSink, StdSink};
 use std::alloc::Global;
 
 /// A command with its files and the numbers of the fetches, puts and notes that fail.
@@ -19,6 +19,8 @@ pub struct Block<'a> {
     notes: Vec<u64>,
     /// Whether a put fails after four bytes.
     tears: bool,
+    /// How many bytes a slow writer takes, where the output is one.
+    room: Option<u64>,
 }
 
 impl<'a> Block<'a> {
@@ -31,11 +33,13 @@ impl<'a> Block<'a> {
             puts: Vec::new(alloc),
             notes: Vec::new(alloc),
             tears: false,
+            room: None,
         }
     }
 
     /// Adds what an indented line says: `NAME: TEXT`, a file, where `NAME SIZE: TEXT` fills the text with blanks up to
-    /// so many bytes; `fails fetch N`, `fails put N`, `fails note N` and `tears put`.
+    /// so many bytes; `fails fetch N`, `fails put N`, `fails note N` and `tears put`; `slow writer N`, an output that
+    /// goes to a writer of the system which takes so many bytes.
     pub fn add(&mut self, alloc: Global, line: &str) -> Result<(), Memory> {
         if let Some((name, text)) = line.split_once(':') {
             return self.add_file(alloc, name, text);
@@ -48,6 +52,8 @@ impl<'a> Block<'a> {
             self.puts.push(call)?;
         } else if let Some(call) = number_after("fails note ", line) {
             self.notes.push(call)?;
+        } else if let Some(room) = number_after("slow writer ", line) {
+            self.room = Some(room);
         }
         Ok(())
     }
@@ -80,20 +86,25 @@ impl<'a> Block<'a> {
     }
 
     fn run(self, alloc: Global, line: &str, page: &mut Page) -> Result<(), Memory> {
-        let mut words = Vec::new(alloc);
-        for word in line.split_whitespace() {
-            words.push(String::from_str(alloc, word)?)?;
-        }
         let mut files = MemFiles::new(self.files, self.fetches);
-        let mut input = MemSource::new(Vec::new(alloc), 1, Vec::new(alloc));
         let mut notes = MemSink::new(alloc, self.notes);
         if self.tears {
             let mut out = TornSink::new(alloc);
-            let status = run(alloc, &words, &mut files, &mut input, &mut out, &mut notes);
+            let status = run_line(alloc, line, &mut files, &mut out, &mut notes)?;
             print_run(page, status, out.bytes.as_slice(), notes.bytes())
+        } else if let Some(room) = self.room {
+            let mut writer = SlowWriter::new(alloc, room);
+            let status = run_line(
+                alloc,
+                line,
+                &mut files,
+                &mut StdSink::new(&mut writer),
+                &mut notes,
+            )?;
+            print_run(page, status, writer.bytes.as_slice(), notes.bytes())
         } else {
             let mut out = MemSink::new(alloc, self.puts);
-            let status = run(alloc, &words, &mut files, &mut input, &mut out, &mut notes);
+            let status = run_line(alloc, line, &mut files, &mut out, &mut notes)?;
             print_run(page, status, out.bytes(), notes.bytes())
         }
     }
@@ -105,19 +116,4 @@ fn number_after(words: &str, line: &str) -> Option<u64> {
         Some(number) => number.parse::<u64>().ok(),
         None => None,
     }
-}
-
-/// A run's status, each line that it wrote after `> `, and each line that it noted after `! `.
-fn print_run(page: &mut Page, status: Status, out: &[u8], notes: &[u8]) -> Result<(), Memory> {
-    match status {
-        Status::Done => page.line("Done"),
-        Status::Refused(_) => page.line("Refused"),
-        Status::Usage => page.line("Usage"),
-        Status::ReadFault => page.line("ReadFault"),
-        Status::WriteFault => page.line("WriteFault"),
-        Status::Memory => return Err(Memory),
-    }
-    put_lines(page, "> ", out);
-    put_lines(page, "! ", notes);
-    Ok(())
 }

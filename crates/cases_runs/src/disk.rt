@@ -1,8 +1,10 @@
 // Files of the file system.
 
 use crate::outcome::put_fetched;
+use crate::running::{print_run, run_line};
 use cases::Page;
-use mz_io::{DiskFiles, Files};
+use mz_base::Memory;
+use mz_io::{DiskFiles, Files, MemSink};
 use std::rt;
 
 /// Fetches from the folder that the program runs in, where `m.mzn` has 15 bytes.
@@ -16,4 +18,18 @@ pub fn print<R: rt::Files + AllocGlobal>(rt: &R, page: &mut Page) {
         put_fetched(page, files.fetch(rt.alloc(), name, limit));
         page.line("");
     }
+}
+
+/// Compiles from that folder, where `here.mzn` and `there.mzn` include each other through `./`.
+pub fn print_circle<R: rt::Files + AllocGlobal>(rt: &R, page: &mut Page) -> Result<(), Memory> {
+    page.line("# files that include each other through ./ end where a name is too long");
+    let line = "compile here.mzn";
+    page.put("mzc ");
+    page.line(line);
+    let alloc = rt.alloc();
+    let mut files = DiskFiles::new(rt);
+    let mut out = MemSink::new(alloc, Vec::new(alloc));
+    let mut notes = MemSink::new(alloc, Vec::new(alloc));
+    let status = run_line(alloc, line, &mut files, &mut out, &mut notes)?;
+    print_run(page, status, out.bytes(), notes.bytes())
 }

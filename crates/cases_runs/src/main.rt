@@ -7,6 +7,7 @@ mod disk;
 mod gathered;
 mod memory;
 mod outcome;
+mod running;
 mod streams;
 mod torn;
 
@@ -41,6 +42,7 @@ fn print_blocks(alloc: Global, input: &str, page: &mut Page) -> Result<(), Memor
 fn print_all(rt: &HostRuntime, page: &mut Page) -> Result<(), Memory> {
     let alloc = rt.alloc();
     disk::print(rt, page);
+    disk::print_circle(rt, page)?;
     memory::print_fetches(alloc, page)?;
     memory::print_takes(alloc, page)?;
     memory::print_puts(alloc, page)?;

@@ -24,7 +24,8 @@ pub fn read_all<I: Source>(alloc: Global, input: &mut I) -> Result<String, Memor
     }
 }
 
-/// Gives two bytes, an interruption before and an error after. Takes one byte in a write, and at the third write none.
+/// Gives two bytes, an interruption before and an error after. Takes one byte in a write, an interruption before, and none
+/// from the fourth write on.
 #[derive(Drop)]
 struct Flaky {
     calls: u8,
@@ -44,10 +45,10 @@ impl Read for Flaky {
 impl Write for Flaky {
     fn write(&mut self, buf: &[u8]) -> io::Result<usize> {
         self.calls = self.calls.saturating_add(1);
-        if self.calls < 3 && !buf.is_empty() {
-            Ok(1)
-        } else {
-            Ok(0)
+        match self.calls {
+            1 => Err(io::Error::from(ErrorKind::Interrupted)),
+            2 | 3 if !buf.is_empty() => Ok(1),
+            _ => Ok(0),
         }
     }
 
@@ -56,8 +57,46 @@ impl Write for Flaky {
     }
 }
 
+/// A writer in memory that is interrupted before each write, takes three bytes at most in one, and has so much room in all.
+#[derive(Drop)]
+pub struct SlowWriter {
+    pub bytes: Vec<u8>,
+    room: u64,
+    interrupted: bool,
+}
+
+impl SlowWriter {
+    pub fn new(alloc: Global, room: u64) -> SlowWriter {
+        SlowWriter {
+            bytes: Vec::new(alloc),
+            room,
+            interrupted: false,
+        }
+    }
+}
+
+impl Write for SlowWriter {
+    fn write(&mut self, buf: &[u8]) -> io::Result<usize> {
+        self.interrupted = !self.interrupted;
+        if self.interrupted {
+            return Err(io::Error::from(ErrorKind::Interrupted));
+        }
+        let most = buf.len().min(3).min(self.room as usize);
+        if most == 0 {
+            return Err(io::Error::from(ErrorKind::Other));
+        }
+        self.bytes.extend_from_slice(&buf[..most])?;
+        self.room = self.room.saturating_sub(most as u64);
+        Ok(most)
+    }
+
+    fn flush(&mut self) -> io::Result<()> {
+        Ok(())
+    }
+}
+
 pub fn print(page: &mut Page) {
-    page.line("# streams that fail in mid-stream");
+    page.line("# streams that are interrupted, and fail in mid-stream");
     let mut source = StdSource::new(Flaky { calls: 0 });
     page.case("take", source.take(&mut [0; 8]));
     page.case("take", source.take(&mut [0; 8]));

@@ -23,7 +23,19 @@ pub fn names(alloc: Global, page: &mut Page) -> Result<(), Memory> {
     page.case("the empty text and itself", names.intern("")? == none);
     page.case("queens and queen", queens == queen);
     page.case("queens and the empty text", queens == none);
+    found_text(alloc, page)?;
     kept_text(alloc, page)
+}
+
+fn found_text(alloc: Global, page: &mut Page) -> Result<(), Memory> {
+    let mut names = Names::new(alloc);
+    let rook = names.intern("rook")?;
+    page.case(
+        "rook is found as what it is",
+        names.find("rook") == Some(rook),
+    );
+    page.case("knight is found", names.find("knight").is_some());
+    Ok(())
 }
 
 fn kept_text(alloc: Global, page: &mut Page) -> Result<(), Memory> {

@@ -58,9 +58,13 @@ constraint name args = record { name = name; args = args; defines = None }
 abbrev pub defined_variable : Program → Domain → Variable
 defined_variable p domain = record { label = introduced_name (next_number p.vars); domain = domain; introduced = true; defined = true; output = false }
 
+-- the coefficients, with -1 for one variable more
+abbrev pub coefficients_with : List Argument → Argument
+coefficients_with inputs = array (elements_at inputs 0 ++ int (negsuc 0) ∷ [])
+
 -- the coefficients, the integers and the constant, with -1 times the variable k
 abbrev pub sum_with : List Argument → ℕ → List Argument
-sum_with inputs k = array (elements_at inputs 0 ++ int (negsuc 0) ∷ []) ∷ array (elements_at inputs 1 ++ var k ∷ []) ∷ argument_at inputs 2 ∷ []
+sum_with inputs k = coefficients_with inputs ∷ array (elements_at inputs 1 ++ var k ∷ []) ∷ argument_at inputs 2 ∷ []
 
 abbrev pub args_by : Bool → List Argument → ℕ → List Argument
 args_by true inputs k = sum_with inputs k

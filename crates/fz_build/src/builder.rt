@@ -130,19 +130,14 @@ impl Build {
     {
         has_set(&domain);
         let k = self.vars.len() as u64;
-        let label = introduced_name(self.alloc, self.next)?;
-        let args = args_with(self.alloc, name, inputs, k)?;
-        let row = FzRow {
-            name,
-            args,
-            defines: Some(k),
-        };
-        push_both(
+        let label = given!(introduced_name(self.alloc, self.next));
+        let args = given!(args_with(self.alloc, name, inputs, k));
+        given!(push_both(
             &mut self.vars,
             &mut self.rows,
             defined_variable(label, domain),
-            row,
-        )?;
+            defining_row(name, args, k),
+        ));
         self.next = number_after(true, self.next);
         Ok(Arg::Var(k))
     }
@@ -204,6 +199,17 @@ fn defined_variable(label: FzName, domain: Domain) -> FzVar
         introduced: true,
         defined: true,
         output: false,
+    }
+}
+
+// The row that defines the variable at place `k`.
+fn defining_row(name: RowName, args: Vec<Arg>, k: u64) -> FzRow
+    ensures { row result ≡ record { name = name; args = map argument args.items; defines = Some k } }
+{
+    FzRow {
+        name,
+        args,
+        defines: Some(k),
     }
 }
 

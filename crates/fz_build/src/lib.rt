@@ -2,6 +2,16 @@
 // models that programs are made of.
 #![tactic(auto)]
 
+// What a call gives. Its error is handed on as it is: `?` would convert it.
+macro_rules! given {
+    ($call:expr) => {
+        match $call {
+            Ok(x) => x,
+            Err(e) => return Err(e),
+        }
+    };
+}
+
 mod builder;
 mod naming;
 mod result_row;

@@ -17,7 +17,7 @@ fn copied_element(alloc: Global, a: &Arg) -> Result<Arg, Memory>
     match a {
         Arg::Bool(b) => Ok(Arg::Bool(*b)),
         Arg::Int(n) => Ok(Arg::Int(*n)),
-        Arg::Set(s) => Ok(Arg::Set(copied_set(alloc, s)?)),
+        Arg::Set(s) => Ok(Arg::Set(given!(copied_set(alloc, s)))),
         Arg::Var(k) => Ok(Arg::Var(*k)),
         Arg::Array(_) => Ok(Arg::Array(Vec::new(alloc))),
     }
@@ -29,7 +29,7 @@ fn copied_elements(alloc: Global, items: &[Arg]) -> Result<Vec<Arg>, Memory>
 {
     let mut all = Vec::new(alloc);
     for a in items {
-        all.push(copied_element(alloc, a)?)?;
+        all.push(given!(copied_element(alloc, a)))?;
     }
     Ok(all)
 }
@@ -41,7 +41,7 @@ fn copied(alloc: Global, a: &Arg) -> Result<Arg, Memory>
     match a {
         Arg::Bool(b) => Ok(Arg::Bool(*b)),
         Arg::Int(n) => Ok(Arg::Int(*n)),
-        Arg::Set(s) => Ok(Arg::Set(copied_set(alloc, s)?)),
+        Arg::Set(s) => Ok(Arg::Set(given!(copied_set(alloc, s)))),
         Arg::Var(k) => Ok(Arg::Var(*k)),
         Arg::Array(items) => Ok(Arg::Array(copied_elements(alloc, items)?)),
     }
@@ -53,7 +53,7 @@ pub fn copied_all(alloc: Global, args: &[Arg]) -> Result<Vec<Arg>, Memory>
 {
     let mut all = Vec::new(alloc);
     for a in args {
-        all.push(copied(alloc, a)?)?;
+        all.push(given!(copied(alloc, a)))?;
     }
     Ok(all)
 }
@@ -71,7 +71,7 @@ pub fn with_element(alloc: Global, items: &[Arg], last: Arg) -> Result<Arg, Memo
 pub fn with_last(alloc: Global, inputs: &[Arg], k: u64) -> Result<Vec<Arg>, Memory>
     ensures { IfOk result (λ all. map argument all.items ≡ map argument inputs.now ++ one (var k) ∷ []) }
 {
-    let mut all = copied_all(alloc, inputs)?;
+    let mut all = given!(copied_all(alloc, inputs));
     all.push(Arg::Var(k))?;
     Ok(all)
 }

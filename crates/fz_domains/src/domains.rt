@@ -72,7 +72,7 @@ fn counted(alloc: Global, vars: &[FzVar], inputs: &[Arg]) -> Result<Option<Domai
     ensures is { IfOk result (λ d. d ≡ domain_by Size (map variable vars.now) (map argument inputs.now)) }
     ensures some { IfOk result (λ d. IfSome d IsSome) }
 {
-    let set = upper_at(alloc, vars, inputs, 0)?;
+    let set = given!(upper_at(alloc, vars, inputs, 0));
     whole(alloc, size(&set))
 }
 
@@ -87,7 +87,8 @@ fn set_operated(
     ensures is { IfOk result (λ d. d ≡ domain_by (Combined op) (map variable vars.now) (map argument inputs.now)) }
     ensures some { IfOk result (λ d. IfSome d IsSome) }
 {
-    Ok(Some(Domain::SetOf(combined(alloc, op, vars, inputs)?)))
+    let set = given!(combined(alloc, op, vars, inputs));
+    Ok(Some(Domain::SetOf(set)))
 }
 
 // An element of an array of sets.
@@ -97,7 +98,8 @@ fn set_element(alloc: Global, vars: &[FzVar], inputs: &[Arg]) -> Result<Option<D
     ensures some { IfOk result (λ d. IfSome d IsSome) }
 {
     let index = number_at(vars, inputs, 0);
-    Ok(Some(Domain::SetOf(union_reached(alloc, vars, index, elements_at(inputs, 1))?)))
+    let set = given!(union_reached(alloc, vars, index, elements_at(inputs, 1)));
+    Ok(Some(Domain::SetOf(set)))
 }
 
 #[tactic(auto, unfolding(crate::specs::Bounds::domain_by))]
@@ -131,7 +133,7 @@ fn found(alloc: Global, name: RowName, vars: &[FzVar], inputs: &[Arg]) -> Result
     ensures is { IfOk result (λ d. result_domain (map variable vars.now) name (map argument inputs.now) ≡ Some d) }
     ensures some { IfOk result IsSome }
 {
-    match domain_by(alloc, form_of(name), vars, inputs)? {
+    match given!(domain_by(alloc, form_of(name), vars, inputs)) {
         Some(d) => Ok(d),
         None => unreachable!(),
     }

@@ -2,6 +2,16 @@
 // and copies of inputs.
 #![tactic(auto)]
 
+// What a call gives. Its error is handed on as it is: `?` would convert it.
+macro_rules! given {
+    ($call:expr) => {
+        match $call {
+            Ok(x) => x,
+            Err(e) => return Err(e),
+        }
+    };
+}
+
 mod copy;
 mod domains;
 mod form;

@@ -59,8 +59,8 @@ pub(crate) fn combined(
 ) -> Result<RangeSet, Memory>
     ensures { IfOk result (λ s. s ≡ combined_upper op (upper_at (map variable vars.now) (map argument inputs.now) 0) (upper_at (map variable vars.now) (map argument inputs.now) 1)) }
 {
-    let a = upper_at(alloc, vars, inputs, 0)?;
-    let b = upper_at(alloc, vars, inputs, 1)?;
+    let a = given!(upper_at(alloc, vars, inputs, 0));
+    let b = given!(upper_at(alloc, vars, inputs, 1));
     operated(alloc, op, a, b)
 }
 
@@ -76,7 +76,8 @@ fn with_reached(
     ensures { IfOk result (λ s. s ≡ union_with (is_within index (pos place)) acc (upper_of (map variable vars.now) (plain a.now))) }
 {
     if is_reached(index, place) {
-        united(alloc, &acc, &upper_of(alloc, vars, a)?)
+        let upper = given!(upper_of(alloc, vars, a));
+        united(alloc, &acc, &upper)
     } else {
         Ok(acc)
     }
@@ -92,11 +93,11 @@ pub(crate) fn union_reached(
 ) -> Result<RangeSet, Memory>
     ensures { IfOk result (λ s. s ≡ union_reached (map variable vars.now) index (pos 1) [] (plains items.now)) }
 {
-    let mut acc = empty_set(alloc)?;
+    let mut acc = given!(empty_set(alloc));
     let mut place: usize = 1;
     let mut rest = items;
     while let [a, more @ ..] = rest {
-        acc = with_reached(alloc, vars, index, place, acc, a)?;
+        acc = given!(with_reached(alloc, vars, index, place, acc, a));
         place += 1;
         rest = more;
     }

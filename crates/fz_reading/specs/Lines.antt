@@ -92,13 +92,19 @@ is_no_colon b = not (nat_eq b 58)
 unfoldable pub from_colon : List ℕ → List ℕ
 from_colon bs = drop (prefix_len is_no_colon bs) bs
 
--- an array's line, behind `array [1..`
-unfoldable pub array_item_at : List Name → List ℕ → Read ArrayItem
-array_item_at names bs = do
+-- an array's name, up to the ranges of its indices
+unfoldable pub array_name_at : List ℕ → Read Name
+array_name_at bs = do
   colon ← behind (codes ": ") (from_colon bs)
   n ← name_at colon
   sets ← behind (codes " :: output_array([") n.1
-  index ← filled_at (codes "]) = [") range_at sets
+  Some (n.0, sets)
+
+-- an array's line, behind `array [1..`
+unfoldable pub array_item_at : List Name → List ℕ → Read ArrayItem
+array_item_at names bs = do
+  n ← array_name_at bs
+  index ← filled_at (codes "]) = [") range_at n.1
   items ← closed_at (codes "];\n") (place_at names) index.1
   Some (record { label = n.0; index = index.0; items = items.0 }, items.1)
 

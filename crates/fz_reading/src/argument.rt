@@ -1,10 +1,10 @@
 // The arguments of rows.
 
 ghost use Rattle.std.specs.Prelude.{◌≡◌, codes, map};
+ghost use Rattle.fz_reading.specs.Lists.{filled_at};
 ghost use Rattle.soln_items.specs.Bytes.{first_byte, is_letter as letter};
 ghost use Rattle.soln_items.specs.Gives.{Gives, with_rest};
 ghost use Rattle.fz_program.specs.Arguments.{argument};
-ghost use Rattle.fz_reading.specs.Lists.{all_at, closed_at, filled_at};
 ghost use Rattle.fz_reading.specs.Arguments.{
   argument_at,
   array_at,
@@ -20,7 +20,8 @@ ghost use Rattle.fz_reading.specs.Arguments.{
 
 use crate::list::{braces, interval_from};
 use crate::name_table::NameTable;
-use crate::token::{behind, expect, is_letter, name, number};
+use crate::parts::{Part, closed, filled};
+use crate::token::{behind, is_letter, name, number};
 use fz_program::Arg;
 use soln_items::Miss;
 use std::alloc::Global;
@@ -46,8 +47,9 @@ fn word_of<'a>(names: &NameTable<'a>, word: &'a str) -> Result<Arg, Miss>
 fn word<'a>(names: &NameTable<'a>, bytes: &'a [u8]) -> Result<(Arg, &'a [u8]), Miss>
     ensures { Gives (with_rest argument) result (word_at names.now bytes.now) }
 {
-    let (w, rest) = name(bytes)?;
-    Ok((word_of(names, w)?, rest))
+    let (w, rest) = given!(name(bytes));
+    let a = given!(word_of(names, w));
+    Ok((a, rest))
 }
 
 /// The set from `low` to the number that stands first.
@@ -55,7 +57,7 @@ fn word<'a>(names: &NameTable<'a>, bytes: &'a [u8]) -> Result<(Arg, &'a [u8]), M
 fn interval(alloc: Global, low: i64, bytes: &[u8]) -> Result<(Arg, &[u8]), Miss>
     ensures { Gives (with_rest argument) result (interval_set_at low bytes.now) }
 {
-    let (s, rest) = interval_from(alloc, low, bytes)?;
+    let (s, rest) = given!(interval_from(alloc, low, bytes));
     Ok((Arg::Set(s), rest))
 }
 
@@ -64,7 +66,7 @@ fn interval(alloc: Global, low: i64, bytes: &[u8]) -> Result<(Arg, &[u8]), Miss>
 fn number_or_interval(alloc: Global, bytes: &[u8]) -> Result<(Arg, &[u8]), Miss>
     ensures { Gives (with_rest argument) result (number_or_interval_at bytes.now) }
 {
-    let (n, rest) = number(bytes)?;
+    let (n, rest) = given!(number(bytes));
     match behind(b"..", rest) {
         Some(high) => interval(alloc, n, high),
         None => Ok((Arg::Int(n), rest)),
@@ -76,7 +78,7 @@ fn number_or_interval(alloc: Global, bytes: &[u8]) -> Result<(Arg, &[u8]), Miss>
 fn set_in_braces(alloc: Global, bytes: &[u8]) -> Result<(Arg, &[u8]), Miss>
     ensures { Gives (with_rest argument) result (braces_set_at bytes.now) }
 {
-    let (s, rest) = braces(alloc, bytes)?;
+    let (s, rest) = given!(braces(alloc, bytes));
     Ok((Arg::Set(s), rest))
 }
 
@@ -112,56 +114,27 @@ fn plain<'a>(alloc: Global, names: &NameTable<'a>, bytes: &'a [u8]) -> Result<(A
     }
 }
 
-/// Elements of an array with commas between them. Each takes a byte.
-fn elements<'a>(
+/// An element of an array.
+#[derive(Drop)]
+struct Element<'t, 'a> {
     alloc: Global,
-    names: &NameTable<'a>,
-    bytes: &'a [u8],
-) -> Result<(Vec<Arg>, &'a [u8]), Miss>
-    ensures { Gives (with_rest (λ v. map argument v.items)) result (all_at (plain_at names.now) bytes.now) }
-{
-    let mut items = Vec::new(alloc);
-    let mut rest = bytes;
-    for _turn in 0..bytes.len() {
-        let (x, next) = match plain(alloc, names, rest) {
-            Ok(read) => read,
-            Err(miss) => return Err(miss),
-        };
-        items.push(x)?;
-        match behind(b",", next) {
-            Some(more) => rest = more,
-            None => return Ok((items, next)),
-        }
-    }
-    Err(Miss::Unfit)
+    names: &'t NameTable<'a>,
 }
 
-/// Elements and the closing bracket.
-#[tactic(auto, unfolding(crate::specs::Lists::filled_at))]
-fn filled<'a>(
-    alloc: Global,
-    names: &NameTable<'a>,
-    bytes: &'a [u8],
-) -> Result<(Vec<Arg>, &'a [u8]), Miss>
-    ensures { Gives (with_rest (λ v. map argument v.items)) result (filled_at (codes "]") (plain_at names.now) bytes.now) }
-{
-    let (items, rest) = elements(alloc, names, bytes)?;
-    let rest = expect(b"]", rest)?;
-    Ok((items, rest))
-}
+impl<'t, 'a> Part<'a> for Element<'t, 'a> {
+    ghost use Rattle.fz_program.specs.Arguments.{Argument, argument};
+    ghost use Rattle.fz_reading.specs.Arguments.{plain_at};
 
-/// What stands behind an opening bracket.
-#[tactic(auto, unfolding(crate::specs::Lists::closed_at))]
-fn closed<'a>(
-    alloc: Global,
-    names: &NameTable<'a>,
-    bytes: &'a [u8],
-) -> Result<(Vec<Arg>, &'a [u8]), Miss>
-    ensures { Gives (with_rest (λ v. map argument v.items)) result (closed_at (codes "]") (plain_at names.now) bytes.now) }
-{
-    match behind(b"]", bytes) {
-        Some(rest) => Ok((Vec::new(alloc), rest)),
-        None => filled(alloc, names, bytes),
+    type Item = Arg;
+
+    ghost Seen = { Argument };
+
+    ghost seen = { argument };
+
+    ghost read_at = { λ p. plain_at p.names.now };
+
+    fn read(&self, bytes: &'a [u8]) -> Result<(Arg, &'a [u8]), Miss> {
+        plain(self.alloc, self.names, bytes)
     }
 }
 
@@ -169,7 +142,7 @@ fn closed<'a>(
 fn array<'a>(alloc: Global, names: &NameTable<'a>, bytes: &'a [u8]) -> Result<(Arg, &'a [u8]), Miss>
     ensures { Gives (with_rest argument) result (array_at names.now bytes.now) }
 {
-    let (items, rest) = closed(alloc, names, bytes)?;
+    let (items, rest) = given!(closed(alloc, &Element { alloc, names }, b"]", bytes));
     Ok((Arg::Array(items), rest))
 }
 
@@ -187,32 +160,31 @@ fn argument<'a>(
     }
 }
 
-/// Arguments with commas between them. Each takes a byte.
-fn arguments<'a>(
+/// An argument of a row.
+#[derive(Drop)]
+struct RowArgument<'t, 'a> {
     alloc: Global,
-    names: &NameTable<'a>,
-    bytes: &'a [u8],
-) -> Result<(Vec<Arg>, &'a [u8]), Miss>
-    ensures { Gives (with_rest (λ v. map argument v.items)) result (all_at (argument_at names.now) bytes.now) }
-{
-    let mut items = Vec::new(alloc);
-    let mut rest = bytes;
-    for _turn in 0..bytes.len() {
-        let (x, next) = match argument(alloc, names, rest) {
-            Ok(read) => read,
-            Err(miss) => return Err(miss),
-        };
-        items.push(x)?;
-        match behind(b",", next) {
-            Some(more) => rest = more,
-            None => return Ok((items, next)),
-        }
+    names: &'t NameTable<'a>,
+}
+
+impl<'t, 'a> Part<'a> for RowArgument<'t, 'a> {
+    ghost use Rattle.fz_program.specs.Arguments.{Argument as Shape, argument};
+    ghost use Rattle.fz_reading.specs.Arguments.{argument_at};
+
+    type Item = Arg;
+
+    ghost Seen = { Shape };
+
+    ghost seen = { argument };
+
+    ghost read_at = { λ p. argument_at p.names.now };
+
+    fn read(&self, bytes: &'a [u8]) -> Result<(Arg, &'a [u8]), Miss> {
+        argument(self.alloc, self.names, bytes)
     }
-    Err(Miss::Unfit)
 }
 
 /// The arguments of a row and the closing parenthesis.
-#[tactic(auto, unfolding(crate::specs::Lists::filled_at))]
 pub(crate) fn all_arguments<'a>(
     alloc: Global,
     names: &NameTable<'a>,
@@ -220,9 +192,7 @@ pub(crate) fn all_arguments<'a>(
 ) -> Result<(Vec<Arg>, &'a [u8]), Miss>
     ensures { Gives (with_rest (λ v. map argument v.items)) result (filled_at (codes ")") (argument_at names.now) bytes.now) }
 {
-    let (items, rest) = arguments(alloc, names, bytes)?;
-    let rest = expect(b")", rest)?;
-    Ok((items, rest))
+    filled(alloc, &RowArgument { alloc, names }, b")", bytes)
 }
 
 /// The place of the variable whose name stands first.
@@ -230,9 +200,32 @@ pub(crate) fn all_arguments<'a>(
 pub(crate) fn place<'a>(names: &NameTable<'a>, bytes: &'a [u8]) -> Result<(u64, &'a [u8]), Miss>
     ensures { Gives (with_rest (λ k. k)) result (place_at names.now bytes.now) }
 {
-    let (w, rest) = name(bytes)?;
+    let (w, rest) = given!(name(bytes));
     match names.place(w) {
         Some(k) => Ok((k as u64, rest)),
         None => Err(Miss::Unfit),
+    }
+}
+
+/// The place of an array's element.
+#[derive(Drop)]
+pub(crate) struct ArrayPlace<'t, 'a> {
+    pub names: &'t NameTable<'a>,
+}
+
+impl<'t, 'a> Part<'a> for ArrayPlace<'t, 'a> {
+    ghost use Rattle.std.specs.Prelude.{ℕ};
+    ghost use Rattle.fz_reading.specs.Arguments.{place_at};
+
+    type Item = u64;
+
+    ghost Seen = { ℕ };
+
+    ghost seen = { λ k. k };
+
+    ghost read_at = { λ p. place_at p.names.now };
+
+    fn read(&self, bytes: &'a [u8]) -> Result<(u64, &'a [u8]), Miss> {
+        place(self.names, bytes)
     }
 }

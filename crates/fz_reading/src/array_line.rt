@@ -1,18 +1,18 @@
 // The lines of arrays.
 
-ghost use Rattle.std.specs.Prelude.{◌≡◌, ◌≤◌, codes, length, map};
+ghost use Rattle.std.specs.Prelude.{◌≡◌, ◌≤◌, codes, length};
 ghost use Rattle.std.specs.List.{prefix_len};
 ghost use Rattle.soln_items.specs.Gives.{Gives, with_rest};
-ghost use Rattle.fz_program.specs.Flat.{array_item};
-ghost use Rattle.fz_reading.specs.Lists.{all_at, closed_at, filled_at};
+ghost use Rattle.fz_reading.specs.Lists.{closed_at};
 ghost use Rattle.fz_reading.specs.Arguments.{place_at};
-ghost use Rattle.fz_reading.specs.Lines.{array_item_at, every_at, from_colon, is_no_colon};
+ghost use Rattle.fz_reading.specs.Lines.{array_name_at, from_colon, is_no_colon};
 
-use crate::argument::place;
+use crate::argument::ArrayPlace;
 use crate::list::index;
 use crate::name_table::NameTable;
-use crate::token::{behind, expect, name};
-use fz_program::{FzArray, FzName};
+use crate::parts::{Part, closed};
+use crate::token::{expect, label, name};
+use fz_program::FzArray;
 use soln_items::Miss;
 use std::alloc::Global;
 
@@ -33,46 +33,7 @@ fn from_colon(bytes: &[u8]) -> &[u8]
     &bytes[n..]
 }
 
-/// The places of variables with commas between their names. Each takes a byte.
-fn places<'a>(
-    alloc: Global,
-    names: &NameTable<'a>,
-    bytes: &'a [u8],
-) -> Result<(Vec<u64>, &'a [u8]), Miss>
-    ensures { Gives (with_rest (λ v. v.items)) result (all_at (place_at names.now) bytes.now) }
-{
-    let mut items = Vec::new(alloc);
-    let mut rest = bytes;
-    for _turn in 0..bytes.len() {
-        let (k, next) = match place(names, rest) {
-            Ok(read) => read,
-            Err(miss) => return Err(miss),
-        };
-        items.push(k)?;
-        match behind(b",", next) {
-            Some(more) => rest = more,
-            None => return Ok((items, next)),
-        }
-    }
-    Err(Miss::Unfit)
-}
-
 /// The elements of an array and the end of its line.
-#[tactic(auto, unfolding(crate::specs::Lists::filled_at))]
-fn filled<'a>(
-    alloc: Global,
-    names: &NameTable<'a>,
-    bytes: &'a [u8],
-) -> Result<(Vec<u64>, &'a [u8]), Miss>
-    ensures { Gives (with_rest (λ v. v.items)) result (filled_at (codes "];\n") (place_at names.now) bytes.now) }
-{
-    let (items, rest) = places(alloc, names, bytes)?;
-    let rest = expect(b"];\n", rest)?;
-    Ok((items, rest))
-}
-
-/// The same, or no element.
-#[tactic(auto, unfolding(crate::specs::Lists::closed_at))]
 fn elements<'a>(
     alloc: Global,
     names: &NameTable<'a>,
@@ -80,61 +41,53 @@ fn elements<'a>(
 ) -> Result<(Vec<u64>, &'a [u8]), Miss>
     ensures { Gives (with_rest (λ v. v.items)) result (closed_at (codes "];\n") (place_at names.now) bytes.now) }
 {
-    match behind(b"];\n", bytes) {
-        Some(rest) => Ok((Vec::new(alloc), rest)),
-        None => filled(alloc, names, bytes),
-    }
+    closed(alloc, &ArrayPlace { names }, b"];\n", bytes)
 }
 
-/// An array's line, behind `array [1..`. How many elements there are, and what they are, is told
-/// again behind it.
-#[tactic(auto, unfolding(crate::specs::Lines::array_item_at))]
-fn array<'a>(
-    alloc: Global,
-    names: &NameTable<'a>,
-    bytes: &'a [u8],
-) -> Result<(FzArray, &'a [u8]), Miss>
-    ensures { Gives (with_rest array_item) result (array_item_at names.now bytes.now) }
+/// An array's name, behind `array [1..`, up to the ranges of its indices. How many elements there
+/// are, and what they are, is told again behind it.
+#[tactic(auto, unfolding(crate::specs::Lines::array_name_at))]
+fn array_name(bytes: &[u8]) -> Result<(&str, &[u8]), Miss>
+    ensures { Gives (with_rest (λ n. n.now)) result (array_name_at bytes.now) }
 {
-    let rest = expect(b": ", from_colon(bytes))?;
-    let (label, rest) = name(rest)?;
-    let rest = expect(b" :: output_array([", rest)?;
-    let (index, rest) = index(alloc, rest)?;
-    let (items, rest) = elements(alloc, names, rest)?;
-    let label = FzName {
-        text: String::from_str(alloc, label)?,
-    };
-    Ok((
-        FzArray {
-            label,
-            index,
-            items,
-        },
-        rest,
-    ))
+    let rest = given!(expect(b": ", from_colon(bytes)));
+    let (label, rest) = given!(name(rest));
+    let rest = given!(expect(b" :: output_array([", rest));
+    Ok((label, rest))
 }
 
-/// The lines of all arrays. Each takes a byte.
-pub(crate) fn arrays<'a>(
-    alloc: Global,
-    names: &NameTable<'a>,
-    bytes: &'a [u8],
-) -> Result<(Vec<FzArray>, &'a [u8]), Miss>
-    ensures { Gives (with_rest (λ v. map array_item v.items)) result (every_at (codes "array [1..") (array_item_at names.now) bytes.now) }
-{
-    let mut items = Vec::new(alloc);
-    let mut rest = bytes;
-    for _turn in 0..bytes.len() {
-        let inside = match behind(b"array [1..", rest) {
-            Some(inside) => inside,
-            None => return Ok((items, rest)),
-        };
-        let (a, next) = match array(alloc, names, inside) {
-            Ok(read) => read,
-            Err(miss) => return Err(miss),
-        };
-        items.push(a)?;
-        rest = next;
+/// An array's line, behind `array [1..`.
+#[derive(Drop)]
+pub(crate) struct ArrayLine<'t, 'a> {
+    pub alloc: Global,
+    pub names: &'t NameTable<'a>,
+}
+
+impl<'t, 'a> Part<'a> for ArrayLine<'t, 'a> {
+    ghost use Rattle.fz_program.specs.Flat.{ArrayItem, array_item};
+    ghost use Rattle.fz_reading.specs.Lines.{array_item_at};
+
+    type Item = FzArray;
+
+    ghost Seen = { ArrayItem };
+
+    ghost seen = { array_item };
+
+    ghost read_at = { λ p. array_item_at p.names.now };
+
+    #[tactic(auto, unfolding(crate::specs::Lines::array_item_at))]
+    fn read(&self, bytes: &'a [u8]) -> Result<(FzArray, &'a [u8]), Miss> {
+        let (name, rest) = given!(array_name(bytes));
+        let label = given!(label(self.alloc, name));
+        let (index, rest) = given!(index(self.alloc, rest));
+        let (items, rest) = given!(elements(self.alloc, self.names, rest));
+        Ok((
+            FzArray {
+                label,
+                index,
+                items,
+            },
+            rest,
+        ))
     }
-    Ok((items, rest))
 }

@@ -1,13 +1,14 @@
 // Lists of parts with commas between them, and sets.
 
-ghost use Rattle.std.specs.Prelude.{◌≡◌, IfOk, IsTrue, codes, length, All};
+ghost use Rattle.std.specs.Prelude.{◌≡◌, IsTrue, codes, All};
 ghost use Rattle.std.specs.List.{list_all};
 ghost use Rattle.mz_value.specs.Ranges.{IsInLimit};
 ghost use Rattle.soln_items.specs.Gives.{Gives, with_rest};
 ghost use Rattle.soln_items.specs.Items.{interval, is_in_limit, listed};
 ghost use Rattle.fz_reading.specs.Tokens.{interval_at, interval_from, number_at, range_at};
-ghost use Rattle.fz_reading.specs.Lists.{all_at, braces_at, filled_at, set_at};
+ghost use Rattle.fz_reading.specs.Lists.{braces_at, filled_at, set_at};
 
+use crate::parts::{Part, filled};
 use crate::token::{behind, expect, number, range};
 use mz_value::{GREATEST, LEAST, RangeSet};
 use soln_items::Miss;
@@ -42,8 +43,9 @@ pub(crate) fn interval_from(
 ) -> Result<(RangeSet, &[u8]), Miss>
     ensures { Gives (with_rest (λ s. s)) result (interval_from low bytes.now) }
 {
-    let (high, rest) = number(bytes)?;
-    Ok((interval(alloc, low, high)?, rest))
+    let (high, rest) = given!(number(bytes));
+    let s = given!(interval(alloc, low, high));
+    Ok((s, rest))
 }
 
 /// `l..u`
@@ -51,39 +53,9 @@ pub(crate) fn interval_from(
 fn interval_of(alloc: Global, bytes: &[u8]) -> Result<(RangeSet, &[u8]), Miss>
     ensures { Gives (with_rest (λ s. s)) result (interval_at bytes.now) }
 {
-    let (low, rest) = number(bytes)?;
-    let rest = expect(b"..", rest)?;
+    let (low, rest) = given!(number(bytes));
+    let rest = given!(expect(b"..", rest));
     interval_from(alloc, low, rest)
-}
-
-/// Numbers with commas between them. Each takes a byte.
-fn numbers(alloc: Global, bytes: &[u8]) -> Result<(Vec<i64>, &[u8]), Miss>
-    ensures { Gives (with_rest (λ v. v.items)) result (all_at number_at bytes.now) }
-{
-    let mut items = Vec::new(alloc);
-    let mut rest = bytes;
-    for _turn in 0..bytes.len() {
-        let (x, next) = match number(rest) {
-            Ok(read) => read,
-            Err(miss) => return Err(miss),
-        };
-        items.push(x)?;
-        match behind(b",", next) {
-            Some(more) => rest = more,
-            None => return Ok((items, next)),
-        }
-    }
-    Err(Miss::Unfit)
-}
-
-/// Numbers and the closing brace.
-#[tactic(auto, unfolding(crate::specs::Lists::filled_at))]
-fn filled(alloc: Global, bytes: &[u8]) -> Result<(Vec<i64>, &[u8]), Miss>
-    ensures { Gives (with_rest (λ v. v.items)) result (filled_at (codes "}") number_at bytes.now) }
-{
-    let (items, rest) = numbers(alloc, bytes)?;
-    let rest = expect(b"}", rest)?;
-    Ok((items, rest))
 }
 
 fn are_in_limit(items: &[i64]) -> bool
@@ -103,13 +75,34 @@ fn listed(alloc: Global, items: &[i64]) -> Result<RangeSet, Miss>
     Ok(RangeSet::of(alloc, items)?)
 }
 
+/// A number of a set in braces.
+struct Number;
+
+impl<'a> Part<'a> for Number {
+    ghost use Rattle.std.specs.Prelude.{ℤ};
+    ghost use Rattle.fz_reading.specs.Tokens.{number_at};
+
+    type Item = i64;
+
+    ghost Seen = { ℤ };
+
+    ghost seen = { λ n. n };
+
+    ghost read_at = { λ p. number_at };
+
+    fn read(&self, bytes: &'a [u8]) -> Result<(i64, &'a [u8]), Miss> {
+        number(bytes)
+    }
+}
+
 /// What stands behind an opening brace.
 #[tactic(auto, unfolding(crate::specs::Lists::braces_at))]
 pub(crate) fn braces(alloc: Global, bytes: &[u8]) -> Result<(RangeSet, &[u8]), Miss>
     ensures { Gives (with_rest (λ s. s)) result (braces_at bytes.now) }
 {
-    let (items, rest) = filled(alloc, bytes)?;
-    Ok((listed(alloc, &items)?, rest))
+    let (items, rest) = given!(filled(alloc, &Number, b"}", bytes));
+    let s = given!(listed(alloc, &items));
+    Ok((s, rest))
 }
 
 /// A set.
@@ -123,32 +116,29 @@ pub(crate) fn set(alloc: Global, bytes: &[u8]) -> Result<(RangeSet, &[u8]), Miss
     }
 }
 
-/// Ranges of indices with commas between them. Each takes a byte.
-fn ranges(alloc: Global, bytes: &[u8]) -> Result<(Vec<(i64, i64)>, &[u8]), Miss>
-    ensures { Gives (with_rest (λ v. v.items)) result (all_at range_at bytes.now) }
-{
-    let mut items = Vec::new(alloc);
-    let mut rest = bytes;
-    for _turn in 0..bytes.len() {
-        let (x, next) = match range(rest) {
-            Ok(read) => read,
-            Err(miss) => return Err(miss),
-        };
-        items.push(x)?;
-        match behind(b",", next) {
-            Some(more) => rest = more,
-            None => return Ok((items, next)),
-        }
+/// A range of an array's indices.
+struct IndexRange;
+
+impl<'a> Part<'a> for IndexRange {
+    ghost use Rattle.mz_value.specs.Ranges.{Range};
+    ghost use Rattle.fz_reading.specs.Tokens.{range_at};
+
+    type Item = (i64, i64);
+
+    ghost Seen = { Range };
+
+    ghost seen = { λ r. r };
+
+    ghost read_at = { λ p. range_at };
+
+    fn read(&self, bytes: &'a [u8]) -> Result<((i64, i64), &'a [u8]), Miss> {
+        range(bytes)
     }
-    Err(Miss::Unfit)
 }
 
 /// The ranges of an array's indices, up to its elements.
-#[tactic(auto, unfolding(crate::specs::Lists::filled_at))]
 pub(crate) fn index(alloc: Global, bytes: &[u8]) -> Result<(Vec<(i64, i64)>, &[u8]), Miss>
     ensures { Gives (with_rest (λ v. v.items)) result (filled_at (codes "]) = [") range_at bytes.now) }
 {
-    let (items, rest) = ranges(alloc, bytes)?;
-    let rest = expect(b"]) = [", rest)?;
-    Ok((items, rest))
+    filled(alloc, &IndexRange, b"]) = [", bytes)
 }

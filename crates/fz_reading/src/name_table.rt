@@ -96,7 +96,7 @@ pub(crate) fn table_of<'a>(alloc: Global, vars: &'a [FzVar]) -> Result<NameTable
     ensures { Gives (λ t. t) result (named_variables (map variable vars.now)) }
 {
     let mut table = NameTable::new(alloc);
-    table.add_variables(vars)?;
+    given!(table.add_variables(vars));
     Ok(table)
 }
 
@@ -110,6 +110,6 @@ pub(crate) fn names_once<'a>(
     ensures { Gives (λ t. t) result (named_items (map variable vars.now) (map array_item arrays.now)) }
 {
     let mut table = NameTable::new(alloc);
-    table.add_variables(vars)?;
+    given!(table.add_variables(vars));
     table.add_arrays(arrays)
 }

@@ -6,10 +6,11 @@ ghost use Rattle.fz_program.specs.Flat.{program, variable};
 ghost use Rattle.fz_reading.specs.Lines.{body_at, named_at, program_at};
 ghost use Rattle.fz_reading.specs.Views.{body_of};
 
-use crate::array_line::arrays;
+use crate::array_line::ArrayLine;
 use crate::name_table::{NameTable, names_once, table_of};
-use crate::row_line::{goal, rows};
-use crate::variable_line::variables;
+use crate::parts::lines;
+use crate::row_line::{RowLine, goal};
+use crate::variable_line::VariableLine;
 use fz_program::{FzArray, FzGoal, FzProgram, FzRow, FzVar};
 use soln_items::Miss;
 use std::alloc::Global;
@@ -27,9 +28,9 @@ pub(crate) struct Body {
 fn read_body<'a>(alloc: Global, names: &NameTable<'a>, bytes: &'a [u8]) -> Result<Body, Miss>
     ensures { Gives body_of result (body_at names.now bytes.now) }
 {
-    let (arrays, rest) = arrays(alloc, names, bytes)?;
-    let (rows, rest) = rows(alloc, names, rest)?;
-    let (goal, rest) = goal(names, rest)?;
+    let (arrays, rest) = given!(lines(alloc, &ArrayLine { alloc, names }, b"array [1..", bytes));
+    let (rows, rest) = given!(lines(alloc, &RowLine { alloc, names }, b"constraint ", rest));
+    let (goal, rest) = given!(goal(names, rest));
     if rest.is_empty() {
         Ok(Body { arrays, rows, goal })
     } else {
@@ -41,7 +42,7 @@ fn read_body<'a>(alloc: Global, names: &NameTable<'a>, bytes: &'a [u8]) -> Resul
 fn named<'a>(alloc: Global, vars: &'a [FzVar], bytes: &'a [u8]) -> Result<Body, Miss>
     ensures { Gives body_of result (named_at (map variable vars.now) bytes.now) }
 {
-    let names = table_of(alloc, vars)?;
+    let names = given!(table_of(alloc, vars));
     read_body(alloc, &names, bytes)
 }
 
@@ -54,9 +55,9 @@ fn named<'a>(alloc: Global, vars: &'a [FzVar], bytes: &'a [u8]) -> Result<Body, 
 pub fn read_program(alloc: Global, bytes: &[u8]) -> Result<FzProgram, Miss>
     ensures { Gives program result (program_at bytes.now) }
 {
-    let (vars, rest) = variables(alloc, bytes)?;
-    let Body { arrays, rows, goal } = named(alloc, &vars, rest)?;
-    names_once(alloc, &vars, &arrays)?;
+    let (vars, rest) = given!(lines(alloc, &VariableLine { alloc }, b"var ", bytes));
+    let Body { arrays, rows, goal } = given!(named(alloc, &vars, rest));
+    given!(names_once(alloc, &vars, &arrays));
     Ok(FzProgram {
         vars,
         arrays,

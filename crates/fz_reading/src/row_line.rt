@@ -1,19 +1,16 @@
 // The lines of rows, and the solve item.
 
-ghost use Rattle.std.specs.Prelude.{◌≡◌, codes, find, map};
+ghost use Rattle.std.specs.Prelude.{◌≡◌, find};
 ghost use Rattle.std.specs.Str.{bytes_eq};
 ghost use Rattle.soln_items.specs.Gives.{Gives, with_rest};
-ghost use Rattle.fz_program.specs.Flat.{row};
 ghost use Rattle.fz_program.specs.Table.{line};
 ghost use Rattle.fz_program.specs.declared.program.FzGoal.TheVariants.{Maximize, Minimize};
 ghost use Rattle.fz_reading.specs.Lines.{
   defined_at,
   definition_at,
-  every_at,
   goal_at,
   objective_at,
   optimum_at,
-  row_at,
   row_name_at,
   row_named,
   satisfy_at,
@@ -22,6 +19,7 @@ ghost use Rattle.fz_reading.specs.Lines.{
 
 use crate::argument::{all_arguments, place};
 use crate::name_table::NameTable;
+use crate::parts::Part;
 use crate::token::{behind, expect, name};
 use fz_formed::name_of;
 use fz_program::{FzGoal, FzRow, RowName};
@@ -99,7 +97,7 @@ fn row_named(word: &[u8]) -> Option<RowName>
 fn row_name(bytes: &[u8]) -> Result<(RowName, &[u8]), Miss>
     ensures { Gives (with_rest (λ r. r)) result (row_name_at bytes.now) }
 {
-    let (w, rest) = name(bytes)?;
+    let (w, rest) = given!(name(bytes));
     match row_named(w.as_bytes()) {
         Some(r) => Ok((r, rest)),
         None => Err(Miss::Unfit),
@@ -111,8 +109,8 @@ fn row_name(bytes: &[u8]) -> Result<(RowName, &[u8]), Miss>
 fn defined<'a>(names: &NameTable<'a>, bytes: &'a [u8]) -> Result<(Option<u64>, &'a [u8]), Miss>
     ensures { Gives (with_rest (λ d. d)) result (defined_at names.now bytes.now) }
 {
-    let (k, rest) = place(names, bytes)?;
-    let rest = expect(b");\n", rest)?;
+    let (k, rest) = given!(place(names, bytes));
+    let rest = given!(expect(b");\n", rest));
     Ok((Some(k), rest))
 }
 
@@ -120,7 +118,7 @@ fn defined<'a>(names: &NameTable<'a>, bytes: &'a [u8]) -> Result<(Option<u64>, &
 fn undefined(bytes: &[u8]) -> Result<(Option<u64>, &[u8]), Miss>
     ensures { Gives (with_rest (λ d. d)) result (undefined_at bytes.now) }
 {
-    let rest = expect(b";\n", bytes)?;
+    let rest = given!(expect(b";\n", bytes));
     Ok((None, rest))
 }
 
@@ -135,54 +133,46 @@ fn definition<'a>(names: &NameTable<'a>, bytes: &'a [u8]) -> Result<(Option<u64>
 }
 
 /// A row's line, behind `constraint `.
-#[tactic(auto, unfolding(crate::specs::Lines::row_at))]
-fn row<'a>(alloc: Global, names: &NameTable<'a>, bytes: &'a [u8]) -> Result<(FzRow, &'a [u8]), Miss>
-    ensures { Gives (with_rest row) result (row_at names.now bytes.now) }
-{
-    let (name, rest) = row_name(bytes)?;
-    let rest = expect(b"(", rest)?;
-    let (args, rest) = all_arguments(alloc, names, rest)?;
-    let (defines, rest) = definition(names, rest)?;
-    Ok((
-        FzRow {
-            name,
-            args,
-            defines,
-        },
-        rest,
-    ))
+#[derive(Drop)]
+pub(crate) struct RowLine<'t, 'a> {
+    pub alloc: Global,
+    pub names: &'t NameTable<'a>,
 }
 
-/// The lines of all rows. Each takes a byte.
-pub(crate) fn rows<'a>(
-    alloc: Global,
-    names: &NameTable<'a>,
-    bytes: &'a [u8],
-) -> Result<(Vec<FzRow>, &'a [u8]), Miss>
-    ensures { Gives (with_rest (λ v. map row v.items)) result (every_at (codes "constraint ") (row_at names.now) bytes.now) }
-{
-    let mut items = Vec::new(alloc);
-    let mut rest = bytes;
-    for _turn in 0..bytes.len() {
-        let inside = match behind(b"constraint ", rest) {
-            Some(inside) => inside,
-            None => return Ok((items, rest)),
-        };
-        let (r, next) = match row(alloc, names, inside) {
-            Ok(read) => read,
-            Err(miss) => return Err(miss),
-        };
-        items.push(r)?;
-        rest = next;
+impl<'t, 'a> Part<'a> for RowLine<'t, 'a> {
+    ghost use Rattle.fz_program.specs.Flat.{Row, row};
+    ghost use Rattle.fz_reading.specs.Lines.{row_at};
+
+    type Item = FzRow;
+
+    ghost Seen = { Row };
+
+    ghost seen = { row };
+
+    ghost read_at = { λ p. row_at p.names.now };
+
+    #[tactic(auto, unfolding(crate::specs::Lines::row_at))]
+    fn read(&self, bytes: &'a [u8]) -> Result<(FzRow, &'a [u8]), Miss> {
+        let (name, rest) = given!(row_name(bytes));
+        let rest = given!(expect(b"(", rest));
+        let (args, rest) = given!(all_arguments(self.alloc, self.names, rest));
+        let (defines, rest) = given!(definition(self.names, rest));
+        Ok((
+            FzRow {
+                name,
+                args,
+                defines,
+            },
+            rest,
+        ))
     }
-    Ok((items, rest))
 }
 
 #[tactic(auto, unfolding(crate::specs::Lines::satisfy_at))]
 fn satisfy(bytes: &[u8]) -> Result<(FzGoal, &[u8]), Miss>
     ensures { Gives (with_rest (λ g. g)) result (satisfy_at bytes.now) }
 {
-    let rest = expect(b"satisfy;\n", bytes)?;
+    let rest = given!(expect(b"satisfy;\n", bytes));
     Ok((FzGoal::Satisfy, rest))
 }
 
@@ -190,8 +180,8 @@ fn satisfy(bytes: &[u8]) -> Result<(FzGoal, &[u8]), Miss>
 fn minimize<'a>(names: &NameTable<'a>, bytes: &'a [u8]) -> Result<(FzGoal, &'a [u8]), Miss>
     ensures { Gives (with_rest (λ g. g)) result (objective_at names.now Minimize bytes.now) }
 {
-    let (k, rest) = place(names, bytes)?;
-    let rest = expect(b";\n", rest)?;
+    let (k, rest) = given!(place(names, bytes));
+    let rest = given!(expect(b";\n", rest));
     Ok((FzGoal::Minimize(k), rest))
 }
 
@@ -199,8 +189,8 @@ fn minimize<'a>(names: &NameTable<'a>, bytes: &'a [u8]) -> Result<(FzGoal, &'a [
 fn maximize<'a>(names: &NameTable<'a>, bytes: &'a [u8]) -> Result<(FzGoal, &'a [u8]), Miss>
     ensures { Gives (with_rest (λ g. g)) result (objective_at names.now Maximize bytes.now) }
 {
-    let (k, rest) = place(names, bytes)?;
-    let rest = expect(b";\n", rest)?;
+    let (k, rest) = given!(place(names, bytes));
+    let rest = given!(expect(b";\n", rest));
     Ok((FzGoal::Maximize(k), rest))
 }
 
@@ -222,6 +212,6 @@ fn optimum<'a>(names: &NameTable<'a>, bytes: &'a [u8]) -> Result<(FzGoal, &'a [u
 pub(crate) fn goal<'a>(names: &NameTable<'a>, bytes: &'a [u8]) -> Result<(FzGoal, &'a [u8]), Miss>
     ensures { Gives (with_rest (λ g. g)) result (goal_at names.now bytes.now) }
 {
-    let rest = expect(b"solve ", bytes)?;
+    let rest = given!(expect(b"solve ", bytes));
     optimum(names, rest)
 }

@@ -1,6 +1,6 @@
 // Texts, numbers and names. Each function looks at the first bytes, and gives the bytes after what it reads.
 
-ghost use Rattle.std.specs.Prelude.{◌≡◌, ◌≤◌, length, IfOk};
+ghost use Rattle.std.specs.Prelude.{◌≡◌, ◌≤◌, length, IfOk, Some, string_bytes};
 ghost use Rattle.std.specs.Option.{option_map};
 ghost use Rattle.std.specs.List.{prefix_len};
 ghost use Rattle.soln_items.specs.Bytes.{is_digit, is_letter, is_name_byte};
@@ -8,7 +8,9 @@ ghost use Rattle.soln_items.specs.Gives.{Gives, with_rest};
 ghost use Rattle.soln_items.specs.Items.{digits_at, number_from, past};
 ghost use Rattle.fz_reading.specs.Tokens.{behind, name_at, natural_at, negative_at, number_at, range_at};
 
+use fz_program::FzName;
 use soln_items::Miss;
+use std::alloc::Global;
 use std::str::from_utf8;
 
 /// The first number past the limit. What is past the limit counts as this.
@@ -100,7 +102,7 @@ fn digits(bytes: &[u8]) -> Result<(u64, &[u8]), Miss>
 fn negative(bytes: &[u8]) -> Result<(i64, &[u8]), Miss>
     ensures { Gives (with_rest (λ n. n)) result (negative_at bytes.now) }
 {
-    let (n, rest) = digits(bytes)?;
+    let (n, rest) = given!(digits(bytes));
     Ok((-(n as i64), rest))
 }
 
@@ -109,7 +111,7 @@ fn negative(bytes: &[u8]) -> Result<(i64, &[u8]), Miss>
 fn natural(bytes: &[u8]) -> Result<(i64, &[u8]), Miss>
     ensures { Gives (with_rest (λ n. n)) result (natural_at bytes.now) }
 {
-    let (n, rest) = digits(bytes)?;
+    let (n, rest) = given!(digits(bytes));
     Ok((n as i64, rest))
 }
 
@@ -129,9 +131,9 @@ pub(crate) fn number(bytes: &[u8]) -> Result<(i64, &[u8]), Miss>
 pub(crate) fn range(bytes: &[u8]) -> Result<((i64, i64), &[u8]), Miss>
     ensures { Gives (with_rest (λ r. r)) result (range_at bytes.now) }
 {
-    let (low, rest) = number(bytes)?;
-    let rest = expect(b"..", rest)?;
-    let (high, rest) = number(rest)?;
+    let (low, rest) = given!(number(bytes));
+    let rest = given!(expect(b"..", rest));
+    let (high, rest) = given!(number(rest));
     Ok(((low, high), rest))
 }
 
@@ -148,5 +150,15 @@ pub(crate) fn name(bytes: &[u8]) -> Result<(&str, &[u8]), Miss>
     match from_utf8(&bytes[..n]) {
         Ok(text) => Ok((text, &bytes[n..])),
         Err(_) => Err(Miss::Unfit),
+    }
+}
+
+/// A name with memory of its own.
+pub(crate) fn label(alloc: Global, text: &str) -> Result<FzName, Miss>
+    ensures { Gives (λ n. string_bytes n.text) result (Some text.now) }
+{
+    match String::from_str(alloc, text) {
+        Ok(text) => Ok(FzName { text }),
+        Err(_) => Err(Miss::Memory),
     }
 }

@@ -1,24 +1,23 @@
 // The lines of variables.
 
-ghost use Rattle.std.specs.Prelude.{◌≡◌, codes, map, string_bytes};
+ghost use Rattle.std.specs.Prelude.{◌≡◌};
 ghost use Rattle.soln_items.specs.Gives.{Gives, with_rest};
 ghost use Rattle.fz_program.specs.Flat.{variable};
 ghost use Rattle.fz_reading.specs.Lines.{
   defined_mark,
   domain_at,
-  every_at,
   integers_at,
   introduced_mark,
   mark_at,
   marked_at,
   output_mark,
   set_of_at,
-  variable_at,
 };
 
 use crate::list::set;
-use crate::token::{behind, expect, name};
-use fz_program::{Domain, FzName, FzVar};
+use crate::parts::Part;
+use crate::token::{behind, expect, label as named, name};
+use fz_program::{Domain, FzVar};
 use soln_items::Miss;
 use std::alloc::Global;
 
@@ -26,7 +25,7 @@ use std::alloc::Global;
 fn set_of(alloc: Global, bytes: &[u8]) -> Result<(Domain, &[u8]), Miss>
     ensures { Gives (with_rest (λ d. d)) result (set_of_at bytes.now) }
 {
-    let (s, rest) = set(alloc, bytes)?;
+    let (s, rest) = given!(set(alloc, bytes));
     Ok((Domain::SetOf(s), rest))
 }
 
@@ -34,7 +33,7 @@ fn set_of(alloc: Global, bytes: &[u8]) -> Result<(Domain, &[u8]), Miss>
 fn integers(alloc: Global, bytes: &[u8]) -> Result<(Domain, &[u8]), Miss>
     ensures { Gives (with_rest (λ d. d)) result (integers_at bytes.now) }
 {
-    let (s, rest) = set(alloc, bytes)?;
+    let (s, rest) = given!(set(alloc, bytes));
     Ok((Domain::Ints(s), rest))
 }
 
@@ -76,10 +75,8 @@ fn marked<'a>(
     let (output, rest) = mark(b" :: output_var", bytes);
     let (introduced, rest) = mark(b" :: var_is_introduced", rest);
     let (defined, rest) = mark(b" :: is_defined_var", rest);
-    let rest = expect(b";\n", rest)?;
-    let label = FzName {
-        text: String::from_str(alloc, label)?,
-    };
+    let rest = given!(expect(b";\n", rest));
+    let label = given!(named(alloc, label));
     Ok((
         FzVar {
             label,
@@ -93,33 +90,28 @@ fn marked<'a>(
 }
 
 /// A variable's line, behind `var `.
-#[tactic(auto, unfolding(crate::specs::Lines::variable_at))]
-fn variable(alloc: Global, bytes: &[u8]) -> Result<(FzVar, &[u8]), Miss>
-    ensures { Gives (with_rest variable) result (variable_at bytes.now) }
-{
-    let (domain, rest) = domain_of(alloc, bytes)?;
-    let rest = expect(b": ", rest)?;
-    let (label, rest) = name(rest)?;
-    marked(alloc, domain, label, rest)
+#[derive(Drop)]
+pub(crate) struct VariableLine {
+    pub alloc: Global,
 }
 
-/// The lines of all variables. Each takes a byte.
-pub(crate) fn variables(alloc: Global, bytes: &[u8]) -> Result<(Vec<FzVar>, &[u8]), Miss>
-    ensures { Gives (with_rest (λ v. map variable v.items)) result (every_at (codes "var ") variable_at bytes.now) }
-{
-    let mut vars = Vec::new(alloc);
-    let mut rest = bytes;
-    for _turn in 0..bytes.len() {
-        let inside = match behind(b"var ", rest) {
-            Some(inside) => inside,
-            None => return Ok((vars, rest)),
-        };
-        let (v, next) = match variable(alloc, inside) {
-            Ok(read) => read,
-            Err(miss) => return Err(miss),
-        };
-        vars.push(v)?;
-        rest = next;
+impl<'a> Part<'a> for VariableLine {
+    ghost use Rattle.fz_program.specs.Flat.{Variable, variable};
+    ghost use Rattle.fz_reading.specs.Lines.{variable_at};
+
+    type Item = FzVar;
+
+    ghost Seen = { Variable };
+
+    ghost seen = { variable };
+
+    ghost read_at = { λ p. variable_at };
+
+    #[tactic(auto, unfolding(crate::specs::Lines::variable_at))]
+    fn read(&self, bytes: &'a [u8]) -> Result<(FzVar, &'a [u8]), Miss> {
+        let (domain, rest) = given!(domain_of(self.alloc, bytes));
+        let rest = given!(expect(b": ", rest));
+        let (label, rest) = given!(name(rest));
+        marked(self.alloc, domain, label, rest)
     }
-    Ok((vars, rest))
 }

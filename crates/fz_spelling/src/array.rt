@@ -29,16 +29,16 @@ pub(crate) fn push_array(vars: &[FzVar], a: &FzArray, out: &mut Vec<u8>) -> Resu
     ensures { OnOk result (out.new.items
         ≡ out.old.items ++ array_line (map variable vars.now) (array_item a.now)) }
 {
-    push_text(b"array [1..", out)?;
-    push_count(a.items.len(), out)?;
-    push_text(b"] of var ", out)?;
-    push_element(vars, &a.items, out)?;
-    push_text(b": ", out)?;
-    push_text(a.label.text.as_bytes(), out)?;
-    push_text(b" :: output_array([", out)?;
-    push_intervals(&a.index, out)?;
-    push_text(b"]) = [", out)?;
-    push_labels(vars, &a.items, out)?;
+    given!(push_text(b"array [1..", out));
+    given!(push_count(a.items.len(), out));
+    given!(push_text(b"] of var ", out));
+    given!(push_element(vars, &a.items, out));
+    given!(push_text(b": ", out));
+    given!(push_text(a.label.text.as_bytes(), out));
+    given!(push_text(b" :: output_array([", out));
+    given!(push_intervals(&a.index, out));
+    given!(push_text(b"]) = [", out));
+    given!(push_labels(vars, &a.items, out));
     push_text(b"];\n", out)
 }
 
@@ -99,7 +99,7 @@ fn push_hull(vars: &[FzVar], items: &[u64], out: &mut Vec<u8>) -> Result<(), All
     ensures { OnOk result (out.new.items ≡ out.old.items
         ++ codes "set of " ++ hull_text (hull (map variable vars.now) None items.now)) }
 {
-    push_text(b"set of ", out)?;
+    given!(push_text(b"set of ", out));
     push_ends(hull(vars, items), out)
 }
 
@@ -177,7 +177,7 @@ fn push_intervals(ranges: &[(i64, i64)], out: &mut Vec<u8>) -> Result<(), AllocE
     match ranges {
         [] => Ok(()),
         [first, rest @ ..] => {
-            push_interval(*first, out)?;
+            given!(push_interval(*first, out));
             push_more_intervals(rest, out)
         }
     }
@@ -189,8 +189,8 @@ fn push_more_intervals(ranges: &[(i64, i64)], out: &mut Vec<u8>) -> Result<(), A
         ≡ out.old.items ++ flat_map (λ r. 44 ∷ interval r) ranges.now) }
 {
     for r in ranges {
-        push_text(b",", out)?;
-        push_interval(*r, out)?;
+        given!(push_text(b",", out));
+        given!(push_interval(*r, out));
     }
     Ok(())
 }
@@ -203,7 +203,7 @@ fn push_labels(vars: &[FzVar], items: &[u64], out: &mut Vec<u8>) -> Result<(), A
     match items {
         [] => Ok(()),
         [first, rest @ ..] => {
-            push_label(vars, *first, out)?;
+            given!(push_label(vars, *first, out));
             push_more_labels(vars, rest, out)
         }
     }
@@ -215,8 +215,8 @@ fn push_more_labels(vars: &[FzVar], items: &[u64], out: &mut Vec<u8>) -> Result<
         ++ flat_map (λ k. 44 ∷ label_at (labels_of (map variable vars.now)) k) items.now) }
 {
     for k in items {
-        push_text(b",", out)?;
-        push_label(vars, *k, out)?;
+        given!(push_text(b",", out));
+        given!(push_label(vars, *k, out));
     }
     Ok(())
 }

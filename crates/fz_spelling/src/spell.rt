@@ -43,10 +43,10 @@ pub fn text(alloc: Global, p: &FzProgram) -> Result<Vec<u8>, AllocError>
     ensures { IfOk result (λ t. t.items ≡ spelling (program p.now)) }
 {
     let mut out = Vec::new(alloc);
-    push_variables(&p.vars, &mut out)?;
-    push_arrays(&p.vars, &p.arrays, &mut out)?;
-    push_rows(&p.vars, &p.rows, &mut out)?;
-    push_goal(&p.vars, p.goal, &mut out)?;
+    given!(push_variables(&p.vars, &mut out));
+    given!(push_arrays(&p.vars, &p.arrays, &mut out));
+    given!(push_rows(&p.vars, &p.rows, &mut out));
+    given!(push_goal(&p.vars, p.goal, &mut out));
     Ok(out)
 }
 
@@ -56,7 +56,7 @@ fn push_variables(vars: &[FzVar], out: &mut Vec<u8>) -> Result<(), AllocError>
         ≡ out.old.items ++ flat_map variable_line (map variable vars.now)) }
 {
     for v in vars {
-        push_variable(v, out)?;
+        given!(push_variable(v, out));
     }
     Ok(())
 }
@@ -67,7 +67,7 @@ fn push_rows(vars: &[FzVar], rows: &[FzRow], out: &mut Vec<u8>) -> Result<(), Al
         ≡ out.old.items ++ flat_map (row_line (labels_of (map variable vars.now))) (map row rows.now)) }
 {
     for r in rows {
-        push_row(vars, r, out)?;
+        given!(push_row(vars, r, out));
     }
     Ok(())
 }
@@ -78,7 +78,7 @@ fn push_arrays(vars: &[FzVar], arrays: &[FzArray], out: &mut Vec<u8>) -> Result<
         ≡ out.old.items ++ flat_map (array_line (map variable vars.now)) (map array_item arrays.now)) }
 {
     for a in arrays {
-        push_array(vars, a, out)?;
+        given!(push_array(vars, a, out));
     }
     Ok(())
 }
@@ -100,21 +100,21 @@ fn push_objective(vars: &[FzVar], text: &[u8], k: u64, out: &mut Vec<u8>) -> Res
     ensures { OnOk result (out.new.items ≡ out.old.items
         ++ text.now ++ label_at (labels_of (map variable vars.now)) k ++ codes ";\n") }
 {
-    push_text(text, out)?;
-    push_label(vars, k, out)?;
+    given!(push_text(text, out));
+    given!(push_label(vars, k, out));
     push_text(b";\n", out)
 }
 
 fn push_variable(v: &FzVar, out: &mut Vec<u8>) -> Result<(), AllocError>
     ensures { OnOk result (out.new.items ≡ out.old.items ++ variable_line (variable v.now)) }
 {
-    push_text(b"var ", out)?;
-    push_domain(&v.domain, out)?;
-    push_text(b": ", out)?;
-    push_text(v.label.text.as_bytes(), out)?;
-    push_mark(v.output, b"output_var", out)?;
-    push_mark(v.introduced, b"var_is_introduced", out)?;
-    push_mark(v.defined, b"is_defined_var", out)?;
+    given!(push_text(b"var ", out));
+    given!(push_domain(&v.domain, out));
+    given!(push_text(b": ", out));
+    given!(push_text(v.label.text.as_bytes(), out));
+    given!(push_mark(v.output, b"output_var", out));
+    given!(push_mark(v.introduced, b"var_is_introduced", out));
+    given!(push_mark(v.defined, b"is_defined_var", out));
     push_text(b";\n", out)
 }
 
@@ -122,12 +122,12 @@ fn push_row(vars: &[FzVar], r: &FzRow, out: &mut Vec<u8>) -> Result<(), AllocErr
     ensures { OnOk result (out.new.items
         ≡ out.old.items ++ row_line (labels_of (map variable vars.now)) (row r.now)) }
 {
-    push_text(b"constraint ", out)?;
-    push_text(name_of(r.name), out)?;
-    push_text(b"(", out)?;
-    push_arguments(vars, &r.args, out)?;
-    push_text(b")", out)?;
-    push_definition(vars, r.defines, out)?;
+    given!(push_text(b"constraint ", out));
+    given!(push_text(name_of(r.name), out));
+    given!(push_text(b"(", out));
+    given!(push_arguments(vars, &r.args, out));
+    given!(push_text(b")", out));
+    given!(push_definition(vars, r.defines, out));
     push_text(b";\n", out)
 }
 
@@ -145,7 +145,7 @@ fn push_domain(domain: &Domain, out: &mut Vec<u8>) -> Result<(), AllocError>
 fn push_set_of(s: &RangeSet, out: &mut Vec<u8>) -> Result<(), AllocError>
     ensures { OnOk result (out.new.items ≡ out.old.items ++ codes "set of " ++ set s.now) }
 {
-    push_text(b"set of ", out)?;
+    given!(push_text(b"set of ", out));
     push_set(s, out)
 }
 
@@ -176,8 +176,8 @@ pub(crate) fn push_ranges(
 pub(crate) fn push_interval(range: (i64, i64), out: &mut Vec<u8>) -> Result<(), AllocError>
     ensures { OnOk result (out.new.items ≡ out.old.items ++ interval range) }
 {
-    push_number(range.0, out)?;
-    push_text(b"..", out)?;
+    given!(push_number(range.0, out));
+    given!(push_text(b"..", out));
     push_number(range.1, out)
 }
 
@@ -186,8 +186,8 @@ fn push_braces(first: (i64, i64), rest: &[(i64, i64)], out: &mut Vec<u8>) -> Res
     requires { AreCanonical (first ∷ rest.now) }
     ensures { OnOk result (out.new.items ≡ out.old.items ++ braces (first ∷ rest.now)) }
 {
-    push_text(b"{", out)?;
-    push_elements(first, rest, out)?;
+    given!(push_text(b"{", out));
+    given!(push_elements(first, rest, out));
     push_text(b"}", out)
 }
 
@@ -200,10 +200,10 @@ fn push_elements(
     ensures { OnOk result (out.new.items
         ≡ out.old.items ++ numbers (flat_map elements (first ∷ rest.now))) }
 {
-    push_numbers(first, out)?;
+    given!(push_numbers(first, out));
     for r in rest {
-        push_text(b",", out)?;
-        push_numbers(*r, out)?;
+        given!(push_text(b",", out));
+        given!(push_numbers(*r, out));
     }
     Ok(())
 }
@@ -214,11 +214,11 @@ fn push_numbers(range: (i64, i64), out: &mut Vec<u8>) -> Result<(), AllocError>
     ensures { OnOk result (out.new.items ≡ out.old.items ++ numbers (elements range)) }
 {
     let mut n = range.0;
-    push_number(n, out)?;
+    given!(push_number(n, out));
     while n < range.1 {
         n += 1;
-        push_text(b",", out)?;
-        push_number(n, out)?;
+        given!(push_text(b",", out));
+        given!(push_number(n, out));
     }
     Ok(())
 }
@@ -237,7 +237,7 @@ fn push_mark(has: bool, text: &[u8], out: &mut Vec<u8>) -> Result<(), AllocError
     if !has {
         return Ok(());
     }
-    push_text(b" :: ", out)?;
+    given!(push_text(b" :: ", out));
     out.extend_from_slice(text)
 }
 
@@ -249,7 +249,7 @@ fn push_arguments(vars: &[FzVar], args: &[Arg], out: &mut Vec<u8>) -> Result<(),
     match args {
         [] => Ok(()),
         [first, rest @ ..] => {
-            push_argument(vars, first, out)?;
+            given!(push_argument(vars, first, out));
             push_more_arguments(vars, rest, out)
         }
     }
@@ -261,8 +261,8 @@ fn push_more_arguments(vars: &[FzVar], args: &[Arg], out: &mut Vec<u8>) -> Resul
         ++ flat_map (λ a. 44 ∷ argument_text (labels_of (map variable vars.now)) (argument a)) args.now) }
 {
     for a in args {
-        push_text(b",", out)?;
-        push_argument(vars, a, out)?;
+        given!(push_text(b",", out));
+        given!(push_argument(vars, a, out));
     }
     Ok(())
 }
@@ -283,8 +283,8 @@ fn push_array_of(vars: &[FzVar], items: &[Arg], out: &mut Vec<u8>) -> Result<(),
     ensures { OnOk result (out.new.items
         ≡ out.old.items ++ array_text (labels_of (map variable vars.now)) (plains items.now)) }
 {
-    push_text(b"[", out)?;
-    push_plains(vars, items, out)?;
+    given!(push_text(b"[", out));
+    given!(push_plains(vars, items, out));
     push_text(b"]", out)
 }
 
@@ -295,7 +295,7 @@ fn push_plains(vars: &[FzVar], items: &[Arg], out: &mut Vec<u8>) -> Result<(), A
     match items {
         [] => Ok(()),
         [first, rest @ ..] => {
-            push_plain(vars, first, out)?;
+            given!(push_plain(vars, first, out));
             push_more_plains(vars, rest, out)
         }
     }
@@ -307,8 +307,8 @@ fn push_more_plains(vars: &[FzVar], items: &[Arg], out: &mut Vec<u8>) -> Result<
         ++ flat_map (λ a. 44 ∷ plain_text (labels_of (map variable vars.now)) (plain a)) items.now) }
 {
     for a in items {
-        push_text(b",", out)?;
-        push_plain(vars, a, out)?;
+        given!(push_text(b",", out));
+        given!(push_plain(vars, a, out));
     }
     Ok(())
 }
@@ -370,8 +370,8 @@ fn push_defined(vars: &[FzVar], k: u64, out: &mut Vec<u8>) -> Result<(), AllocEr
     ensures { OnOk result (out.new.items
         ≡ out.old.items ++ definition (labels_of (map variable vars.now)) (Some k)) }
 {
-    push_text(b" :: defines_var(", out)?;
-    push_label(vars, k, out)?;
+    given!(push_text(b" :: defines_var(", out));
+    given!(push_label(vars, k, out));
     push_text(b")", out)
 }
 

@@ -22,7 +22,7 @@ use Rattle.fz_program.specs.Flat.{Variable, ArrayItem, Row, IsWellFormedVariable
 use Rattle.fz_reading.specs.Tokens.{behind, range_at}
 use Rattle.fz_reading.specs.Lists.{filled_at, closed_at}
 use Rattle.fz_reading.specs.Arguments.{argument_at, place_at}
-use Rattle.fz_reading.specs.Lines.{array_item_at, defined_at, definition_at, domain_at, from_colon, goal_at, integers_at, is_no_colon, mark_at, marked_at, objective_at, optimum_at, row_at, row_name_at, row_named, satisfy_at, set_of_at, undefined_at, variable_at}
+use Rattle.fz_reading.specs.Lines.{array_item_at, array_name_at, defined_at, definition_at, domain_at, from_colon, goal_at, integers_at, is_no_colon, mark_at, marked_at, objective_at, optimum_at, row_at, row_name_at, row_named, satisfy_at, set_of_at, undefined_at, variable_at}
 use Rattle.fz_spelling.specs.Spelling.{argument_list, argument_text, commas, definition, domain_text, element_by, element_of, element_text, goal_line, hull, hull_text, interval, label_at, mark, set}
 use Rattle.fz_text.proofs.Prefixes.{all_append, both, decimal_has_no_colon, drop_front, first_is, other_byte, name_again, not_behind, run_is, signed_has_no_colon, word_is}
 use Rattle.fz_text.proofs.PartsAgain.{Again, either, filled_again, none_again, pieces, some_again, stop_is_no_digit, stop_is_no_name_byte}
@@ -407,7 +407,7 @@ abbrev pub inside_array : List Variable → ArrayItem → List ℕ → List ℕ
 inside_array vs a rest = head_of vs a ++ (codes ": " ++ (a.label ++ (codes " :: output_array([" ++ (commas (map interval a.index) ++ (codes "]) = [" ++ (commas (map (label_at (labels_of vs)) a.items) ++ (codes "];\n" ++ rest)))))))
 
 pub array_line_again : (vs : List Variable) (a : ArrayItem) (rest : List ℕ) → AreNames (labels_of vs) → IsWellFormedArray vs a → array_item_at (labels_of vs) (inside_array vs a rest) ≡ Some (a, rest)
-unfolding array_item_at
+unfolding array_item_at array_name_at
 array_line_again vs a rest are h =
     let names = labels_of vs in
     let word = word_of_identifier a.label h.label in

@@ -119,6 +119,7 @@ fn then_step(alloc: Global, done: Vec<CoreStep>, s: CoreStep) -> Result<Chained,
 
 impl Chained {
     /// No operator after this operand.
+    #[inline(never)]
     pub fn of(alloc: Global, e: &Core) -> Result<Chained, Memory>
         ensures { IfOk result (λ c. chained c ≡ record { ty = type_of (tree e.now); done = [] }) }
     {
@@ -128,22 +129,18 @@ impl Chained {
             done: Vec::new(alloc),
         })
     }
-}
 
-/// One more operator of a chain that groups to the left, after those that are typed, each at the chain's place.
-pub fn from_left(
-    alloc: Global,
-    span: Span,
-    before: Chained,
-    op: BinOp,
-    e: Core,
-) -> Result<Chained, Stop>
-    ensures { Passes chained result (from_left span (chained before) (record { operator = op; tree = tree e })) }
-{
-    let Chained { ty, done } = before;
-    let right = copy_type(alloc, type_of(&e))?;
-    let s = operated(alloc, span, op, &ty, &right, e)?;
-    Ok(then_step(alloc, done, s)?)
+    /// One more operator of a chain that groups to the left, after those that are typed, each at the chain's place.
+    #[inline(never)]
+    pub fn add_left(&mut self, alloc: Global, span: Span, op: BinOp, e: Core) -> Result<(), Stop>
+        ensures { Passes (λ _. chained self.new) result (from_left span (chained self.old) (record { operator = op; tree = tree e })) }
+    {
+        let right = copy_type(alloc, type_of(&e))?;
+        let s = operated(alloc, span, op, &self.ty, &right, e)?;
+        self.ty = copy_type(alloc, &s.ty)?;
+        self.done.push(s)?;
+        Ok(())
+    }
 }
 
 /// One more operator of a chain that groups to the right, before those that are typed, of which the last is the first in the list.
@@ -185,6 +182,7 @@ fn from_last(
 }
 
 /// The node of a chain with its first operand and its operators.
+#[inline(never)]
 pub fn chain_node(alloc: Global, span: Span, e: Core, c: Chained) -> Result<Core, Memory>
     ensures { IfOk result (λ x. tree x ≡ chain_node span (tree e) (chained c)) }
 {
@@ -219,6 +217,7 @@ fn operators_of(
 }
 
 /// A chain of `++` with all its operands, which are typed before its operators. The last operator is tested first.
+#[inline(never)]
 #[tactic(auto, unfolding(mz_checks::specs::Chains::appended))]
 pub fn appended(alloc: Global, span: Span, e: Core, operands: Vec<Operand>) -> Result<Core, Stop>
     ensures { Passes tree result (appended span (tree e) (map operand operands.items)) }

@@ -11,6 +11,6 @@ mod pairs;
 mod rows;
 
 pub use calls::{applied, row_node};
-pub use chains::{Chained, Operand, appended, chain_node, from_left};
+pub use chains::{Chained, Operand, appended, chain_node};
 pub use operators::{groups_right, prefix_name};
 pub use rows::rows_for;

@@ -13,9 +13,43 @@ use mz_tree::{
 };
 use std::alloc::{AllocError, Global};
 
-/// A copy of an expression.
+/// A copy of an expression. A tall tree is almost all accesses and chains, so each of these two is copied by a function of its own, which
+/// takes little of the stack.
+#[inline(never)]
 #[cycle(copies)]
 pub fn copy_expression(alloc: Global, e: &Expr) -> Result<Expr, AllocError>
+    ensures { IfOk result (λ copy. tree copy ≡ tree e.now) }
+{
+    match &e.form {
+        Form::Access(x, xs) => {
+            let of = copy_expression(alloc, x)?;
+            let indices = copy_all(alloc, xs.as_slice())?;
+            make_access(alloc, e.span, of, indices)
+        }
+        _ => copy_chain(alloc, e),
+    }
+}
+
+/// A copy of an expression, with the arm for chains alone.
+#[inline(never)]
+#[cycle(copies)]
+fn copy_chain(alloc: Global, e: &Expr) -> Result<Expr, AllocError>
+    ensures { IfOk result (λ copy. tree copy ≡ tree e.now) }
+{
+    match &e.form {
+        Form::Chain(x, rest) => {
+            let first = copy_expression(alloc, x)?;
+            let steps = copy_operands(alloc, rest.as_slice())?;
+            make_chain(alloc, e.span, first, steps)
+        }
+        _ => copy_form(alloc, e),
+    }
+}
+
+/// A copy of an expression of any form.
+#[inline(never)]
+#[cycle(copies)]
+fn copy_form(alloc: Global, e: &Expr) -> Result<Expr, AllocError>
     ensures { IfOk result (λ copy. tree copy ≡ tree e.now) }
 {
     match &e.form {
@@ -96,6 +130,7 @@ pub fn copy_expression(alloc: Global, e: &Expr) -> Result<Expr, AllocError>
     }
 }
 
+#[inline(never)]
 #[cycle(copies)]
 fn copy_all(alloc: Global, es: &[Expr]) -> Result<Vec<Expr>, AllocError>
     ensures { IfOk result (λ copies. map tree copies.items ≡ map tree es.now) }
@@ -108,6 +143,7 @@ fn copy_all(alloc: Global, es: &[Expr]) -> Result<Vec<Expr>, AllocError>
     Ok(copies)
 }
 
+#[inline(never)]
 #[cycle(copies)]
 fn copy_operands(
     alloc: Global,
@@ -123,6 +159,7 @@ fn copy_operands(
     Ok(copies)
 }
 
+#[inline(never)]
 #[cycle(copies)]
 fn copy_choices(alloc: Global, choices: &[(Expr, Expr)]) -> Result<Vec<(Expr, Expr)>, AllocError>
     ensures { IfOk result (λ copies. map branch copies.items ≡ map branch choices.now) }
@@ -136,6 +173,7 @@ fn copy_choices(alloc: Global, choices: &[(Expr, Expr)]) -> Result<Vec<(Expr, Ex
     Ok(copies)
 }
 
+#[inline(never)]
 #[cycle(copies)]
 fn copy_pieces(alloc: Global, pieces: &[TextPart]) -> Result<Vec<TextPart>, AllocError>
     ensures { IfOk result (λ copies. map part copies.items ≡ map part pieces.now) }
@@ -161,6 +199,7 @@ fn copy_piece(alloc: Global, piece: &TextPart) -> Result<TextPart, AllocError>
     }
 }
 
+#[inline(never)]
 #[cycle(copies)]
 fn copy_generators(alloc: Global, generators: &[Gen]) -> Result<Vec<Gen>, AllocError>
     ensures { IfOk result (λ copies. map generator copies.items ≡ map generator generators.now) }
@@ -188,6 +227,7 @@ fn copy_generator(alloc: Global, g: &Gen) -> Result<Gen, AllocError>
     }
 }
 
+#[inline(never)]
 #[cycle(copies)]
 fn copy_let_items(alloc: Global, items: &[LetItem]) -> Result<Vec<LetItem>, AllocError>
     ensures { IfOk result (λ copies. map let_of copies.items ≡ map let_of items.now) }
@@ -217,6 +257,7 @@ fn copy_let_item(alloc: Global, item: &LetItem) -> Result<LetItem, AllocError>
 }
 
 /// A copy of a declaration.
+#[inline(never)]
 #[cycle(copies)]
 pub fn copy_declaration(alloc: Global, d: &Decl) -> Result<Decl, AllocError>
     ensures { IfOk result (λ copy. declaration copy ≡ declaration d.now) }
@@ -232,6 +273,7 @@ pub fn copy_declaration(alloc: Global, d: &Decl) -> Result<Decl, AllocError>
 }
 
 /// A copy of a written type.
+#[inline(never)]
 #[cycle(copies)]
 pub fn copy_type(alloc: Global, t: &TypeText) -> Result<TypeText, AllocError>
     ensures { IfOk result (λ copy. written copy ≡ written t.now) }

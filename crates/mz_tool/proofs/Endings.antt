@@ -1,5 +1,5 @@
 -- What the ends of the parts of a compilation say of its end.
-use Rattle.std.proofs.Common.{◌≡◌, ℕ, ◌<◌, List, [], ◌∷◌, length, map, refl, sym, subst, inl, inr, arith}
+use Rattle.std.proofs.Common.{◌≡◌, ℕ, ◌<◌, List, [], ◌∷◌, length, map, refl, sym, ap, subst, inl, inr, arith}
 use Rattle.std.specs.Prelude.{◌⊎◌, Option, Some, Err}
 use Rattle.std.proofs.lemmas.List.{length-map}
 use Rattle.mz_base.specs.declared.fault.Fault.{Fault}
@@ -36,8 +36,10 @@ use Rattle.mz_analysis.specs.Analysis.{FailsTest, IsOfTests, IsRefused, HasTyped
 use Rattle.mz_analysis.proofs.Single.{not_refused}
 use Rattle.mz_tool.specs.declared.compile.End.{End}
 use Rattle.mz_tool.specs.declared.compile.End.TheVariants as end
-use Rattle.mz_tool.specs.Headline.{Compiled}
-use Rattle.mz_tool.specs.Status.{not_built_at, IsRefusal, a_file_fails, a_test_fails, not_built, IsOwner, IfRefused, CountsFiles, CountsOut, IsToldModel, AreToldFiles, Completes, IsDoneOrMemory}
+use Rattle.mz_tool.specs.declared.status.Status.{Status}
+use Rattle.mz_tool.specs.declared.status.Status.TheVariants as status
+use Rattle.mz_tool.specs.Headline.{Compiled, Writes, WritesFront}
+use Rattle.mz_tool.specs.Status.{not_built_at, IsRefusal, a_file_fails, a_test_fails, not_built, ByDistinctNames, IsOwner, OnDone, OnWriteFault, IfRefused, CountsFiles, CountsOut, IsToldModel, AreToldFiles, Completes, IsDoneOrMemory}
 use Rattle.mz_tool.specs.StepsCompiling.{status_of, file_of, IsWritable, Puts, IsUnbuilt, Builds, Stops, IsRefusedAs, by_a_test, as_not_built, Leaves, unread, Ends, IsNamedEnd}
 
 compiled : (table : List Name) (files : List File) (p : Program) → IsProgram table files p → Compiled table files (spelling p)
@@ -160,20 +162,60 @@ ends table texts name files old new end.ReadFault sources left = absurd left
 ends table texts name files old new end.WriteFault sources left = record { files = files; written = left.1.0; sources = sources; typed = left.0; compiled = left.1.1; adds = left.1.2 }
 ends table texts name files old new end.Memory sources left = left
 
--- why it is refused, and which file its line names
-pub refused : (table : List Name) (texts : Texts) (name : Name) (old new : Held) (e : End) → Ends table texts name old new e → IfRefused (status_of e) (λ f. (t : List Name) × (owner : Name) × IsRefusal t texts name f owner)
-refused table texts name old new end.Done ended = tt
-refused table texts name old new (end.Refused f n) ended = (table, text_of table n, ended.1)
-refused table texts name old new end.ReadFault ended = tt
-refused table texts name old new end.WriteFault ended = tt
-refused table texts name old new end.Memory ended = tt
+-- what an end says by a table whose texts are distinct: what is written, why it is refused, and which file its line names
+module _ (table : List Name) (distinct : AreDistinct table) (texts : Texts) (name : Name) (old new : Held) where
+  pub headline : (e : End) → Ends table texts name old new e → OnDone (status_of e) (ByDistinctNames (λ t. Writes t texts name old new))
+  headline end.Done ended = record { table = table; distinct = distinct; holds = ended }
+  headline (end.Refused f n) ended = tt
+  headline end.ReadFault ended = tt
+  headline end.WriteFault ended = tt
+  headline end.Memory ended = tt
 
-pub owner : (table : List Name) (texts : Texts) (name : Name) (old new : Held) (e : End) → Ends table texts name old new e → IsOwner texts (Some name) (status_of e) (file_of table e)
-owner table texts name old new end.Done ended = tt
-owner table texts name old new (end.Refused f n) ended = (table, ended.1)
-owner table texts name old new end.ReadFault ended = tt
-owner table texts name old new end.WriteFault ended = tt
-owner table texts name old new end.Memory ended = tt
+  pub cut_short : (e : End) → Ends table texts name old new e → OnWriteFault (status_of e) (ByDistinctNames (λ t. WritesFront t texts name old new))
+  cut_short end.Done ended = tt
+  cut_short (end.Refused f n) ended = tt
+  cut_short end.ReadFault ended = tt
+  cut_short end.WriteFault ended = record { table = table; distinct = distinct; holds = ended }
+  cut_short end.Memory ended = tt
+
+  pub refused : (e : End) → Ends table texts name old new e → IfRefused (status_of e) (λ f. ByDistinctNames (λ t. (owner : Name) × IsRefusal t texts name f owner))
+  refused end.Done ended = tt
+  refused (end.Refused f n) ended = record { table = table; distinct = distinct; holds = (text_of table n, ended.1) }
+  refused end.ReadFault ended = tt
+  refused end.WriteFault ended = tt
+  refused end.Memory ended = tt
+
+  pub owner : (e : End) → Ends table texts name old new e → IsOwner texts (Some name) (status_of e) (file_of table e)
+  owner end.Done ended = tt
+  owner (end.Refused f n) ended = record { table = table; distinct = distinct; holds = ended.1 }
+  owner end.ReadFault ended = tt
+  owner end.WriteFault ended = tt
+  owner end.Memory ended = tt
+
+-- a count of faults that rose tells the answer
+not_risen : (before now : ℕ) → now ≡ before → before < now → ⊥
+not_risen before now same rose = omega (arith, same, rose)
+
+same_faults : (k : Kind) (old new : FileCounts) → CountsRefusal k old new → new.faults ≡ old.faults
+same_faults kind.MissingFile old new counted = counted.1
+same_faults kind.TooLong old new counted = counted.1
+same_faults _ old new counted = ap (λ (c : FileCounts). c.faults) counted
+
+pub failed_fetch : (old new : FileCounts) (s : Status) → CountsFiles old new s → old.faults < new.faults → s ≡ status.ReadFault
+failed_fetch old new status.ReadFault counted rose = refl
+failed_fetch old new (status.Refused f) counted rose = absurd (not_risen old.faults new.faults (same_faults f.kind old new counted) rose)
+failed_fetch old new status.Done counted rose = absurd (not_risen old.faults new.faults (ap (λ (c : FileCounts). c.faults) counted) rose)
+failed_fetch old new status.Usage counted rose = absurd (not_risen old.faults new.faults (ap (λ (c : FileCounts). c.faults) counted) rose)
+failed_fetch old new status.WriteFault counted rose = absurd (not_risen old.faults new.faults (ap (λ (c : FileCounts). c.faults) counted) rose)
+failed_fetch old new status.Memory counted rose = absurd (not_risen old.faults new.faults (ap (λ (c : FileCounts). c.faults) counted) rose)
+
+pub failed_put : (old new : SinkCounts) (s : Status) → CountsOut old new s → old.faults < new.faults → s ≡ status.WriteFault
+failed_put old new status.WriteFault counted rose = refl
+failed_put old new status.Memory counted rose = absurd (not_risen old.faults new.faults counted.0 rose)
+failed_put old new (status.Refused f) counted rose = absurd (not_risen old.faults new.faults (ap (λ (c : SinkCounts). c.faults) counted) rose)
+failed_put old new status.Done counted rose = absurd (not_risen old.faults new.faults (ap (λ (c : SinkCounts). c.faults) counted) rose)
+failed_put old new status.Usage counted rose = absurd (not_risen old.faults new.faults (ap (λ (c : SinkCounts). c.faults) counted) rose)
+failed_put old new status.ReadFault counted rose = absurd (not_risen old.faults new.faults (ap (λ (c : SinkCounts). c.faults) counted) rose)
 
 -- files that are read by a later table are read by this one, unless a file fails
 module _ (known table : List Name) (texts : Texts) (name : Name) (files : List File) (grows : Grows known table) (are : AreToldFiles table texts name files) where

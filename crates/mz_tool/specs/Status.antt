@@ -65,10 +65,16 @@ pub data IsRefusal (table : List Name) (texts : Texts) (name : Name) : Fault →
   a_test_fails : {f : Fault} (files : List File) → IsSources table texts name files → FailsTest table files f → IsRefusal table texts name f (file_name files f.span.file)
   not_built : (files : List File) {place : Span} {file : Name} → IsSources table texts name files → HasTypedModel table files → IsNotBuilt table files (place, file) → IsRefusal table texts name (not_built_at place) file
 
+-- by some table of names, whose texts are distinct, this holds
+pub record ByDistinctNames (P : List Name → Type 0) : Type 0 where
+  pub table : List Name
+  pub distinct : AreDistinct table
+  pub holds : P table
+
 -- the file that an answer's line names
 abbrev pub IsOwner : Texts → Option Name → Status → Name → Type 0
 IsOwner texts None (Refused f) file = ⊥
-IsOwner texts (Some name) (Refused f) file = (table : List Name) × IsRefusal table texts name f file
+IsOwner texts (Some name) (Refused f) file = ByDistinctNames (λ table. IsRefusal table texts name f file)
 IsOwner texts word status file = Unit {0}
 
 -- what a run leaves in its notes

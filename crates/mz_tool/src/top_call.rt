@@ -1,12 +1,12 @@
 // The top call.
 
-ghost use Rattle.std.specs.Prelude.{◌≡◌, ◌↔◌, List, ℕ, None, IsSomeAnd};
+ghost use Rattle.std.specs.Prelude.{◌≡◌, ◌<◌, ◌↔◌, List, ℕ, None, IsSomeAnd};
 ghost use Rattle.std.specs.Option.{option_copied};
 ghost use Rattle.mz_io.specs.Counts.{Rose};
 ghost use Rattle.mz_tool.specs.Words.{named_file};
 ghost use Rattle.mz_tool.specs.Headline.{Writes, WritesFront};
 ghost use Rattle.mz_tool.specs.StepsCompiling.{file_of, IsNamedEnd};
-ghost use Rattle.mz_tool.specs.Status.{OnDone, IfRefused, OnReadFault, OnWriteFault, OnNothingWritten, IsRefusal, CountsFiles, CountsOut, IsComplete, IsNoted};
+ghost use Rattle.mz_tool.specs.Status.{OnDone, IfRefused, OnReadFault, OnWriteFault, OnNothingWritten, IsRefusal, ByDistinctNames, CountsFiles, CountsOut, IsComplete, IsNoted};
 
 use crate::compile::{End, compile};
 use crate::note::note;
@@ -73,15 +73,19 @@ pub fn run<F: Files, I: Source, S: Sink, E: Sink>(
     notes: &mut E,
 ) -> Status
     // Done: the bytes written spell a program with the model's solutions and no others.
-    ensures headline { OnDone result (IsSomeAnd (named_file words.now.items) (λ name. (table : List (List ℕ)) ×
-        Writes table (F.texts files.old) name (S.held out.old) (S.held out.new))) }
+    ensures headline { OnDone result (IsSomeAnd (named_file words.now.items) (λ name. ByDistinctNames (λ table.
+        Writes table (F.texts files.old) name (S.held out.old) (S.held out.new)))) }
 
     // Each other answer has its cause; want of memory alone is free.
     ensures usage { (result ≡ Status.Usage) ↔ (named_file words.now.items ≡ None) }
-    ensures refused { IfRefused result (λ fault. IsSomeAnd (named_file words.now.items) (λ name. (table : List (List ℕ)) × (file : List ℕ) ×
-        IsRefusal table (F.texts files.old) name fault file)) }
+    ensures refused { IfRefused result (λ fault. IsSomeAnd (named_file words.now.items) (λ name. ByDistinctNames (λ table.
+        (file : List ℕ) × IsRefusal table (F.texts files.old) name fault file))) }
     ensures read_fault { OnReadFault result (Rose (F.counts files.old).faults (F.counts files.new).faults) }
     ensures write_fault { OnWriteFault result (Rose (S.counts out.old).faults (S.counts out.new).faults) }
+
+    // A fetch or a put on `out` that fails is answered as such; each count tells it up to the last u64.
+    ensures failed_fetch { (F.counts files.old).faults < (F.counts files.new).faults → result ≡ Status.ReadFault }
+    ensures failed_put { (S.counts out.old).faults < (S.counts out.new).faults → result ≡ Status.WriteFault }
     ensures counted { CountsFiles (F.counts files.old) (F.counts files.new) result }
     ensures counted_out { CountsOut (S.counts out.old) (S.counts out.new) result }
 
@@ -90,8 +94,8 @@ pub fn run<F: Files, I: Source, S: Sink, E: Sink>(
         (F.counts files.old) (F.counts files.new) (S.counts out.old) (S.counts out.new) result }
 
     // What an answer other than Done leaves, and what is noted.
-    ensures cut_short { OnWriteFault result (IsSomeAnd (named_file words.now.items) (λ name. (table : List (List ℕ)) ×
-        WritesFront table (F.texts files.old) name (S.held out.old) (S.held out.new))) }
+    ensures cut_short { OnWriteFault result (IsSomeAnd (named_file words.now.items) (λ name. ByDistinctNames (λ table.
+        WritesFront table (F.texts files.old) name (S.held out.old) (S.held out.new)))) }
     ensures untouched { OnNothingWritten result (S.held out.new ≡ S.held out.old) }
     ensures texts { F.texts files.new ≡ F.texts files.old }
     ensures input { input.new ≡ input.old }

@@ -23,10 +23,11 @@ use Rattle.mz_checks.specs.Coerced.{bool_type, int_type, text_type, absent_type}
 use Rattle.mz_checks.specs.Names.{named}
 use Rattle.mz_checks.specs.Lets.{new_name, decl_of}
 use Rattle.mz_checks.specs.Calls.{applied}
-use Rattle.mz_checks.specs.Comprehensions.{comprehended}
+use Rattle.mz_checks.specs.Comprehensions.{running_type, bind_names, comprehended}
+use Rattle.mz_checks.specs.Arrays.{accessed}
 use Rattle.mz_tree.specs.Tree.{Name}
 use Rattle.mz_checks.specs.WrittenTypes.{Based, of_bool, of_int, of_set}
-use Rattle.mz_checks.specs.Forms.{Check, GenCheck, LetCheck, declares_by, constrains_by, PieceCheck, plain_by, shown_by, unary_of, chain_of, call_of, gen_call_of, array_of, rows_of, set_of, access_of, choice_of, comp_of, let_of, text_of, written_of, Declared, local_value}
+use Rattle.mz_checks.specs.Forms.{parts, maybe_part, Generated, Check, GenCheck, LetCheck, declares_by, constrains_by, PieceCheck, plain_by, shown_by, unary_of, chain_of, call_of, gen_call_of, array_of, rows_of, set_of, access_of, choice_of, comp_of, let_of, text_of, written_of, Declared, local_value}
 use Rattle.mz_checks.specs.Typing.{check, check_written}
 
 abbrev pub expression : Model → Expr → Check
@@ -111,3 +112,15 @@ form_by m f at env = form_layer m (out-Form f) at env
 -- a call of a name with a comprehension
 abbrev pub called_over : Model → Span → Name → List typed.Gen → typed.Tree → Test typed.Tree
 called_over m at n gs e = comprehended at false gs e >>= λ c. applied m at n (c ∷ [])
+
+-- one more generator, after its set
+abbrev pub gen_after : ℕ → Generated → GenCheck → typed.Tree → Test Generated
+gen_after start acc g s = do
+  t ← running_type s
+  b ← bind_names start t g.names acc.env
+  c ← maybe_part g.cond b.env
+  Ok (record { gens = acc.gens ++ record { slots = b.slots; set = s; cond = c } ∷ []; env = b.env })
+
+-- an access of a typed tree
+abbrev pub accessed_by : Span → typed.Tree → List Check → Check
+accessed_by at e gos env = parts gos env >>= λ es. accessed at e es

@@ -23,6 +23,7 @@ use mz_typed::make_declaration;
 use std::alloc::Global;
 
 /// Tests that a name is new since a slot was the next. DuplicateName at it, where it isn't.
+#[inline(never)]
 pub(crate) fn new_name(scope: &Scope, start: u64, name: Name, span: Span) -> Result<(), Stop>
     ensures { Passes (λ _. tt) result (new_name start name span scope.now) }
 {
@@ -52,6 +53,7 @@ fn bind_next(
 
 /// Binds the names of a generator to this type, and gives their slots. DuplicateName at a name that was bound since `start` was the
 /// next slot.
+#[inline(never)]
 #[tactic(auto, unfolding(mz_checks::specs::Comprehensions::bind_names))]
 pub(crate) fn bind_names(
     alloc: Global,
@@ -71,6 +73,7 @@ pub(crate) fn bind_names(
 }
 
 /// Adds a declaration with the next slot, and binds its name.
+#[inline(never)]
 pub(crate) fn add_declaration(
     alloc: Global,
     name: Name,

@@ -13,17 +13,17 @@ ghost use Rattle.mz_context.specs.Known.{known};
 ghost use Rattle.mz_context.specs.Extending.{Extends};
 ghost use Rattle.mz_bindings.specs.Views.{typed_base};
 ghost use Rattle.mz_typing.specs.Naming.{IsNamed, IsNamedExpression, IsNamedPiece, IsNamedGen, IsNamedBase, IsNamedWritten, IsNamedDecl, IsNamedItem, IsNamedForm, IsNamedCallee};
-ghost use Rattle.mz_typing.specs.StepsForms.{expression, operand_by, branch_by, piece_layer, piece_by, gen_by, base_layer, base_by, type_by, local_next, item_layer, item_by, form_layer};
+ghost use Rattle.mz_typing.specs.StepsForms.{expression, operand_by, branch_by, piece_layer, piece_by, gen_by, base_layer, base_by, type_by, local_next, item_layer, item_by, form_layer, accessed_by, gen_after};
 ghost use Rattle.mz_typing.specs.Views.{generated, declared_in, branched};
 
 use crate::binding::{add_declaration, bind_names, new_name};
-use crate::ending::{end_call, end_comprehension, end_let};
+use crate::ending::{end_call, end_chain, end_comprehension, end_let};
 use crate::laws::form_is_named;
 use crate::texts::{group_right, prefixed, shown, texted};
 use crate::written::absent_type;
 use mz_base::{Kind, Name, Span, Stop};
 use mz_bindings::{TypedBase, TypedGen, TypedItem, declared, running_type};
-use mz_callees::{Chained, Operand, appended, applied, chain_node, from_left};
+use mz_callees::{Chained, Operand, appended, applied};
 use mz_context::{Context, Scope, bare_call, named};
 use mz_core::{Base, Core, CoreType};
 use mz_premises::{
@@ -35,6 +35,7 @@ use std::alloc::Global;
 
 /// An expression, typed where these names are in scope; or the first fault. The scope is as it was, but where the expression is refused
 /// or memory runs out: then some local names may still be in scope.
+#[inline(always)]
 #[cycle(typing)]
 pub fn check(
     alloc: Global,
@@ -47,6 +48,76 @@ pub fn check(
     ensures kept { OnOk result (scope.new ≡ scope.old) }
 {
     form_is_named(context, e);
+    match &e.form {
+        Form::Access(_, _) => check_access(alloc, context, scope, e),
+        Form::Chain(_, _) => check_chain(alloc, context, scope, e),
+        _ => check_other(alloc, context, scope, e),
+    }
+}
+
+/// An access, by a function of its own: a tall tree has few forms but accesses and chains, so each of their levels takes little of the
+/// stack.
+#[inline(never)]
+#[cycle(typing)]
+fn check_access(
+    alloc: Global,
+    context: &Context<'_>,
+    scope: &mut Scope,
+    e: &Expr,
+) -> Result<Core, Stop>
+    requires parts { IsNamedForm (length (known context.now).texts) (out-Form e.now.form) }
+    requires callee { IsNamedCallee (length (known context.now).texts) (out-Form e.now.form) }
+    ensures passes { Passes tree result (form_layer (known context.now) (out-Form e.now.form) e.now.span scope.old) }
+    ensures kept { OnOk result (scope.new ≡ scope.old) }
+{
+    match &e.form {
+        Form::Access(x, xs) => {
+            let of = check(alloc, context, scope, x)?;
+            check_indices(alloc, context, scope, xs.as_slice(), e.span, of)
+        }
+        _ => check_other(alloc, context, scope, e),
+    }
+}
+
+/// A chain, by a function of its own.
+#[inline(never)]
+#[cycle(typing)]
+fn check_chain(
+    alloc: Global,
+    context: &Context<'_>,
+    scope: &mut Scope,
+    e: &Expr,
+) -> Result<Core, Stop>
+    requires parts { IsNamedForm (length (known context.now).texts) (out-Form e.now.form) }
+    requires callee { IsNamedCallee (length (known context.now).texts) (out-Form e.now.form) }
+    ensures passes { Passes tree result (form_layer (known context.now) (out-Form e.now.form) e.now.span scope.old) }
+    ensures kept { OnOk result (scope.new ≡ scope.old) }
+{
+    match &e.form {
+        Form::Chain(x, rest) => {
+            let first = check(alloc, context, scope, x)?;
+            if group_right(rest.as_slice()) {
+                return check_right(alloc, context, scope, rest.as_slice(), e.span, first);
+            }
+            check_left(alloc, context, scope, rest.as_slice(), e.span, first)
+        }
+        _ => check_other(alloc, context, scope, e),
+    }
+}
+
+#[inline(never)]
+#[cycle(typing)]
+fn check_other(
+    alloc: Global,
+    context: &Context<'_>,
+    scope: &mut Scope,
+    e: &Expr,
+) -> Result<Core, Stop>
+    requires parts { IsNamedForm (length (known context.now).texts) (out-Form e.now.form) }
+    requires callee { IsNamedCallee (length (known context.now).texts) (out-Form e.now.form) }
+    ensures passes { Passes tree result (form_layer (known context.now) (out-Form e.now.form) e.now.span scope.old) }
+    ensures kept { OnOk result (scope.new ≡ scope.old) }
+{
     check_form(alloc, context, scope, &e.form, e.span)
 }
 
@@ -101,8 +172,7 @@ fn check_form(
         }
         Form::Access(x, xs) => {
             let of = check(alloc, context, scope, x)?;
-            let indices = check_all(alloc, context, scope, xs.as_slice())?;
-            accessed(alloc, span, of, indices)
+            check_indices(alloc, context, scope, xs.as_slice(), span, of)
         }
         Form::Array(xs) => {
             let elements = check_all(alloc, context, scope, xs.as_slice())?;
@@ -158,6 +228,26 @@ fn check_form(
     }
 }
 
+/// An access, after what is accessed.
+#[inline(never)]
+#[cycle(typing)]
+fn check_indices(
+    alloc: Global,
+    context: &Context<'_>,
+    scope: &mut Scope,
+    xs: &[Expr],
+    span: Span,
+    of: Core,
+) -> Result<Core, Stop>
+    requires { All (IsNamedExpression (length (known context.now).texts)) xs.now }
+    ensures passes { Passes tree result (accessed_by span (tree of) (map (expression (known context.now)) xs.now) scope.old) }
+    ensures kept { OnOk result (scope.new ≡ scope.old) }
+{
+    let indices = check_all(alloc, context, scope, xs)?;
+    accessed(alloc, span, of, indices)
+}
+
+#[inline(never)]
 #[cycle(typing)]
 fn check_all(
     alloc: Global,
@@ -178,6 +268,7 @@ fn check_all(
 }
 
 /// The pieces of a text, from the left.
+#[inline(never)]
 #[cycle(typing)]
 fn check_pieces(
     alloc: Global,
@@ -198,6 +289,7 @@ fn check_pieces(
     Ok(all)
 }
 
+#[inline(never)]
 #[cycle(typing)]
 fn check_piece(
     alloc: Global,
@@ -220,6 +312,7 @@ fn check_piece(
 }
 
 /// A chain of operators that group to the left, after its first operand.
+#[inline(never)]
 #[cycle(typing)]
 fn check_left(
     alloc: Global,
@@ -236,12 +329,13 @@ fn check_left(
     let mut done = Chained::of(alloc, &first)?;
     for o in rest {
         let e = check(alloc, context, scope, &o.1)?;
-        done = from_left(alloc, span, done, o.0, e)?;
+        done.add_left(alloc, span, o.0, e)?;
     }
-    Ok(chain_node(alloc, span, first, done)?)
+    end_chain(alloc, span, first, done)
 }
 
 /// A chain of operators that group to the right, after its first operand.
+#[inline(never)]
 #[cycle(typing)]
 fn check_right(
     alloc: Global,
@@ -267,6 +361,7 @@ fn check_right(
 }
 
 /// Adds the conditions of an `if`, and what stands after the `then` of each.
+#[inline(never)]
 #[cycle(typing)]
 fn check_branches(
     alloc: Global,
@@ -290,6 +385,7 @@ fn check_branches(
 }
 
 /// The generators of a comprehension, whose names stay in scope. `start` is the slot that was the next before them.
+#[inline(never)]
 #[cycle(typing)]
 fn check_gens(
     alloc: Global,
@@ -310,6 +406,7 @@ fn check_gens(
 }
 
 /// Adds one more generator.
+#[inline(never)]
 #[cycle(typing)]
 fn check_gen(
     alloc: Global,
@@ -324,6 +421,25 @@ fn check_gen(
     ensures extends { OnOk result (Extends scope.old scope.new) }
 {
     let set = check(alloc, context, scope, &g.set)?;
+    check_where(alloc, context, scope, g, set, start, all)
+}
+
+/// The same, after its set.
+#[inline(never)]
+#[cycle(typing)]
+fn check_where(
+    alloc: Global,
+    context: &Context<'_>,
+    scope: &mut Scope,
+    g: &Gen,
+    set: Core,
+    start: u64,
+    all: &mut Vec<TypedGen>,
+) -> Result<(), Stop>
+    requires { IsNamedGen (length (known context.now).texts) g.now }
+    ensures passes { Passes (λ _. generated all.new.items scope.new) result (gen_after start (generated all.old.items scope.old) (gen_by (known context.now) g.now) (tree set)) }
+    ensures extends { OnOk result (Extends scope.old scope.new) }
+{
     let ty = running_type(alloc, &set)?;
     let slots = bind_names(alloc, start, &ty, g.names.as_slice(), scope)?;
     match &g.cond {
@@ -348,6 +464,7 @@ fn check_gen(
 }
 
 /// Adds the items of a `let`, whose names stay in scope. `start` is the slot that was the next before them.
+#[inline(never)]
 #[cycle(typing)]
 fn check_items(
     alloc: Global,
@@ -367,6 +484,7 @@ fn check_items(
     Ok(())
 }
 
+#[inline(never)]
 #[cycle(typing)]
 fn check_item(
     alloc: Global,
@@ -391,6 +509,7 @@ fn check_item(
 }
 
 /// Adds a declaration of a `let`: its type, then its name, then its value, in which the name isn't bound yet.
+#[inline(never)]
 #[cycle(typing)]
 fn check_local(
     alloc: Global,
@@ -422,6 +541,7 @@ fn check_local(
 }
 
 /// A written type: all its sets are typed, from left to right, and then they are tested.
+#[inline(never)]
 #[cycle(typing)]
 pub(crate) fn check_type(
     alloc: Global,
@@ -446,6 +566,7 @@ pub(crate) fn check_type(
     }
 }
 
+#[inline(never)]
 #[cycle(typing)]
 fn check_bases(
     alloc: Global,
@@ -466,6 +587,7 @@ fn check_bases(
 }
 
 /// What stands where a type says which values there are.
+#[inline(never)]
 #[cycle(typing)]
 fn check_base(
     alloc: Global,

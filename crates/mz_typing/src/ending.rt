@@ -1,11 +1,13 @@
 // What comes after the parts of a comprehension or of a `let`: their names go out of scope, and then their own premises are tested.
 
-ghost use Rattle.std.specs.Prelude.{◌≡◌, ◌<◌, OnOk, length, map};
+ghost use Rattle.std.specs.Prelude.{◌≡◌, ◌<◌, Ok, OnOk, length, map};
 ghost use Rattle.mz_core.specs.TreeViews.{tree};
 ghost use Rattle.mz_checks.specs.Models.{Env};
 ghost use Rattle.mz_checks.specs.Comprehensions.{comprehended};
 ghost use Rattle.mz_checks.specs.Lets.{let_node};
+ghost use Rattle.mz_checks.specs.Chains.{chain_node};
 ghost use Rattle.mz_checks.specs.Passes.{Passes};
+ghost use Rattle.mz_callees.specs.Views.{chained};
 ghost use Rattle.mz_context.specs.Known.{known};
 ghost use Rattle.mz_context.specs.Extending.{Extends};
 ghost use Rattle.mz_bindings.specs.Views.{typed_gen, typed_item};
@@ -13,12 +15,13 @@ ghost use Rattle.mz_typing.specs.StepsForms.{called_over};
 
 use mz_base::{Name, Span, Stop};
 use mz_bindings::{TypedGen, TypedItem, comprehended, let_node};
-use mz_callees::applied;
+use mz_callees::{Chained, applied, chain_node};
 use mz_context::{Context, Scope};
 use mz_core::Core;
 use std::alloc::Global;
 
 /// A comprehension with its typed parts. The scope goes back to what it was when it had so many local names.
+#[inline(never)]
 pub(crate) fn end_comprehension(
     alloc: Global,
     scope: &mut Scope,
@@ -36,6 +39,7 @@ pub(crate) fn end_comprehension(
 }
 
 /// A call of a name with a comprehension, as `forall(i in S)(..)`. The scope goes back to what it was when it had so many local names.
+#[inline(never)]
 pub(crate) fn end_call(
     alloc: Global,
     context: &Context<'_>,
@@ -56,6 +60,7 @@ pub(crate) fn end_call(
 }
 
 /// A `let` with its typed parts. The scope goes back to what it was when it had so many local names.
+#[inline(never)]
 pub(crate) fn end_let(
     alloc: Global,
     scope: &mut Scope,
@@ -69,4 +74,12 @@ pub(crate) fn end_let(
 {
     scope.leave(mark)?;
     let_node(alloc, span, items, body)
+}
+
+/// A chain with its first operand and its typed operators.
+#[inline(never)]
+pub(crate) fn end_chain(alloc: Global, span: Span, first: Core, done: Chained) -> Result<Core, Stop>
+    ensures { Passes tree result (Ok (chain_node span (tree first) (chained done))) }
+{
+    Ok(chain_node(alloc, span, first, done)?)
 }

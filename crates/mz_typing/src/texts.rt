@@ -21,6 +21,7 @@ use mz_typed::place_of;
 use std::alloc::Global;
 
 /// A prefix operator with its typed operand.
+#[inline(never)]
 pub(crate) fn prefixed(alloc: Global, span: Span, op: UnOp, e: Core) -> Result<Core, Stop>
     ensures { Passes tree result (row_node span (prefix_name op) (tree e ∷ [])) }
 {
@@ -29,6 +30,7 @@ pub(crate) fn prefixed(alloc: Global, span: Span, op: UnOp, e: Core) -> Result<C
 }
 
 /// What is shown in a text, as a text.
+#[inline(never)]
 pub(crate) fn shown(alloc: Global, e: Core) -> Result<Core, Stop>
     ensures { Passes tree result (row_node (place_of (tree e)) (codes "show") (tree e ∷ [])) }
 {
@@ -62,6 +64,7 @@ fn concatenated(alloc: Global, es: Vec<Core>) -> Result<Vec<Operand>, Memory>
 }
 
 /// The text of typed pieces, from left to right. Syntax at it, where there is no piece, which no reader gives.
+#[inline(never)]
 pub(crate) fn texted(alloc: Global, span: Span, es: Vec<Core>) -> Result<Core, Stop>
     ensures { Passes tree result (texted span (map tree es.items)) }
 {

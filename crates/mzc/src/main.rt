@@ -1,12 +1,16 @@
 // The compiler as a program: the command's words, the system's files and streams, the exit status.
 #![tactic(auto)]
 
-ghost use Rattle.std.specs.Prelude.{◌≡◌};
-ghost use Rattle.mzc.specs.Exit.{exit_status};
+ghost use Rattle.std.specs.Prelude.{◌≡◌, ◌↔◌, None, IsSomeAnd};
+ghost use Rattle.std.specs.Process.{exit_status};
+ghost use Rattle.mz_tool.specs.Words.{named_file};
+ghost use Rattle.mz_tool.specs.Headline.{Writes};
+ghost use Rattle.mz_tool.specs.Status.{OnDone, ByDistinctNames, IsNoted};
+ghost use Rattle.mzc.specs.Exit.{number_of, EndsWith};
 
-use mz_io::{DiskFiles, Sink, StdSink, StdSource};
+use mz_io::{DiskFiles, Files, Sink, Source, StdSink, StdSource};
 use mz_tool::Status;
-use std::alloc::AllocError;
+use std::alloc::{AllocError, Global};
 use std::env;
 use std::io::ErrorKind;
 use std::process::ExitCode;
@@ -14,8 +18,8 @@ use std::rt::Env;
 
 fn main(rt: HostRuntime) -> ExitCode {
     let mut notes = StdSink::new(rt.stderr());
-    let status = match command_words(&rt) {
-        Ok(words) => mz_tool::run(
+    match command_words(&rt) {
+        Ok(words) => ended(
             rt.alloc(),
             &words,
             &mut DiskFiles::new(&rt),
@@ -25,10 +29,9 @@ fn main(rt: HostRuntime) -> ExitCode {
         ),
         Err(AllocError) => {
             let _ = notes.put(b"mzc: out of memory\n");
-            Status::Memory
+            code_of(&Status::Memory)
         }
-    };
-    ExitCode::from(code_of(&status))
+    }
 }
 
 // The words after the program's name. There are none where one isn't text, which is a wrong use.
@@ -40,15 +43,34 @@ fn command_words<R: Env + AllocGlobal>(rt: &R) -> Result<Vec<String>, AllocError
     }
 }
 
-fn code_of(status: &Status) -> u8
-    ensures { result ≡ exit_status status.now }
+// Runs the words, and gives the exit status of the answer.
+fn ended<F: Files, I: Source, S: Sink, E: Sink>(
+    alloc: Global,
+    words: &Vec<String>,
+    files: &mut F,
+    input: &mut I,
+    out: &mut S,
+    notes: &mut E,
+) -> ExitCode
+    ensures usage { EndsWith result (λ answer. (answer ≡ Status.Usage) ↔ (named_file words.now.items ≡ None)) }
+    ensures headline { EndsWith result (λ answer. OnDone answer (IsSomeAnd (named_file words.now.items) (λ name. ByDistinctNames (λ table.
+        Writes table (F.texts files.old) name (S.held out.old) (S.held out.new))))) }
+    ensures notes { EndsWith result (λ answer. IsNoted (F.texts files.old) (named_file words.now.items) answer
+        (E.held notes.old) (E.held notes.new) (E.counts notes.old) (E.counts notes.new)) }
+{
+    let status = mz_tool::run(alloc, words, files, input, out, notes);
+    code_of(&status)
+}
+
+fn code_of(status: &Status) -> ExitCode
+    ensures { exit_status result ≡ number_of status.now }
 {
     match status {
-        Status::Done => 0,
-        Status::Refused(_) => 1,
-        Status::Usage => 2,
-        Status::ReadFault => 3,
-        Status::WriteFault => 4,
-        Status::Memory => 5,
+        Status::Done => ExitCode::from(0),
+        Status::Refused(_) => ExitCode::from(1),
+        Status::Usage => ExitCode::from(2),
+        Status::ReadFault => ExitCode::from(3),
+        Status::WriteFault => ExitCode::from(4),
+        Status::Memory => ExitCode::from(5),
     }
 }

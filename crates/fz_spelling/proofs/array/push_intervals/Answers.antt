@@ -11,8 +11,8 @@ returns-in-empty c =
     let below : length c.args.ranges.now < 1 = c.in-empty.len_below in
     rw (nil_from_length c.args.ranges.now (omega arith)) (sym (append-nil c.args.out.now.items))
 
-pub returns-in_ok-push_interval-in-len1-up : goal.returns-in_ok-push_interval-in-len1-up
-returns-in_ok-push_interval-in-len1-up c =
+pub returns-in-Ok : goal.returns-in-Ok
+returns-in-Ok c =
     let old = c.args.out.now.items in
     let items = c.args.ranges.now in
-    listed c.push_more_intervals.result interval items (pos 0, pos 0) old c.push_interval.new.out.items c.push_more_intervals.new.out.items (commas (map interval items)) c.in-len1-up.len_at_least (refl) (c.in_ok-push_interval-in-len1-up.ensures) c.push_more_intervals.ensures
+    listed c.push_more_intervals.result interval items (pos 0, pos 0) old c.push_interval.new.out.items c.push_more_intervals.new.out.items (commas (map interval items)) c.in-len1-up.len_at_least (refl) (c.in-Ok.ensures) c.push_more_intervals.ensures

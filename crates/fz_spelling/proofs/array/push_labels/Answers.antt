@@ -11,9 +11,9 @@ returns-in-empty c =
     let below : length c.args.items.now < 1 = c.in-empty.len_below in
     rw (nil_from_length c.args.items.now (omega arith)) (sym (append-nil c.args.out.now.items))
 
-pub returns-in_ok-push_label-in-len1-up : goal.returns-in_ok-push_label-in-len1-up
-returns-in_ok-push_label-in-len1-up c =
+pub returns-in-Ok : goal.returns-in-Ok
+returns-in-Ok c =
     let old = c.args.out.now.items in
     let items = c.args.items.now in
     let names = labels_of (map variable c.args.vars.now) in
-    listed c.push_more_labels.result (label_at names) items 0 old c.push_label.new.out.items c.push_more_labels.new.out.items (commas (map (label_at names) items)) c.in-len1-up.len_at_least (refl) (c.in_ok-push_label-in-len1-up.ensures) c.push_more_labels.ensures
+    listed c.push_more_labels.result (label_at names) items 0 old c.push_label.new.out.items c.push_more_labels.new.out.items (commas (map (label_at names) items)) c.in-len1-up.len_at_least (refl) (c.in-Ok.ensures) c.push_more_labels.ensures

@@ -7,7 +7,7 @@ use Rattle.fz_spelling.proofs.array.push_more_labels.Goals as goal
 pub loop-k-preserved : goal.loop-k-preserved
 loop-k-preserved c =
     let names = labels_of (map variable c.args.vars.now) in
-    let piece = comma_joined c.loop-k.out.items (label_at names (get_or c.args.items.now c.loop-k.k-index 0)) c.in_ok-push_text.ensures c.in_ok-push_label.ensures in
+    let piece = comma_joined c.loop-k.out.items (label_at names (get_or c.args.items.now c.loop-k.k-index 0)) c.in-Ok.ensures c.in-Ok-push_label.ensures in
     loop_joined_at (λ x. 44 ∷ label_at names x) c.args.items.now c.loop-k.k-index 0 c.args.out.now.items c.loop-k-test.true c.loop-k.invariant piece
 
 pub returns : goal.returns

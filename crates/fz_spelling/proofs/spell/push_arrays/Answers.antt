@@ -7,7 +7,7 @@ use Rattle.fz_spelling.proofs.spell.push_arrays.Goals as goal
 pub loop-a-preserved : goal.loop-a-preserved
 loop-a-preserved c =
     let vs = map variable c.args.vars.now in
-    loop_joined (λ r. array_line vs (array_item r)) c.args.arrays.now c.loop-a.a-index c.a-item.result c.args.out.now.items c.loop-a-test.true c.a-item.is c.loop-a.invariant c.in_ok-push_array.ensures
+    loop_joined (λ r. array_line vs (array_item r)) c.args.arrays.now c.loop-a.a-index c.a-item.result c.args.out.now.items c.loop-a-test.true c.a-item.is c.loop-a.invariant c.in-Ok.ensures
 
 pub returns : goal.returns
 returns c =

@@ -7,5 +7,5 @@ pub returns : goal.returns
 returns c =
     let old = c.args.out.now.items in
     let inner = numbers (flat_map elements (c.args.first ∷ c.args.rest.now)) in
-    let both = joined old (codes "{") inner c.in_ok-push_text.ensures c.in_ok-push_elements.ensures in
+    let both = joined old (codes "{") inner c.in-Ok.ensures c.in-Ok-push_elements.ensures in
     joined_on_ok c.push_text-2.result old (codes "{" ++ inner) (codes "}") c.push_elements.new.out.items c.push_text-2.new.out.items both c.push_text-2.ensures

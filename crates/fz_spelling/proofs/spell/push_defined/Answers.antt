@@ -9,5 +9,5 @@ unfolding definition
 returns c =
     let old = c.args.out.now.items in
     let label = label_at (labels_of (map variable c.args.vars.now)) c.args.k in
-    let e1 = joined old (codes " :: defines_var(") label c.in_ok-push_text.ensures c.in_ok-push_label.ensures in
+    let e1 = joined old (codes " :: defines_var(") label c.in-Ok.ensures c.in-Ok-push_label.ensures in
     joined_on_ok c.push_text-2.result old (codes " :: defines_var(" ++ label) (codes ")") c.push_label.new.out.items c.push_text-2.new.out.items e1 c.push_text-2.ensures

@@ -17,7 +17,7 @@ loop-r-preserved c =
     let i = c.loop-r.r-index in
     let r = get_or rest i (pos 0, pos 0) in
     let before = numbers (flat_map elements (c.args.first ∷ take i rest)) in
-    let piece = joined c.loop-r.out.items (44 ∷ []) (numbers (elements r)) c.in_ok-push_text.ensures c.in_ok-push_numbers-2.ensures in
+    let piece = joined c.loop-r.out.items (44 ∷ []) (numbers (elements r)) c.in-Ok-push_text.ensures c.in-Ok-push_numbers.ensures in
     let whole = joined old before (44 ∷ numbers (elements r)) c.loop-r.invariant.0 piece in
     let more = numbers_more c.args.first rest i (pos 0, pos 0) c.loop-r-test.true in
     (whole ∙ ap (λ t. old ++ t) (sym more), (subst AreCanonical (drop_more rest i (pos 0, pos 0) c.loop-r-test.true) c.loop-r.invariant.1).2)

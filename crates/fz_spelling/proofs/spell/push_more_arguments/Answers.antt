@@ -8,7 +8,7 @@ use Rattle.fz_spelling.proofs.spell.push_more_arguments.Goals as goal
 pub loop-a-preserved : goal.loop-a-preserved
 loop-a-preserved c =
     let names = labels_of (map variable c.args.vars.now) in
-    let piece = comma_joined c.loop-a.out.items (argument_text names (argument c.a-item.result)) c.in_ok-push_text.ensures c.in_ok-push_argument.ensures in
+    let piece = comma_joined c.loop-a.out.items (argument_text names (argument c.a-item.result)) c.in-Ok.ensures c.in-Ok-push_argument.ensures in
     loop_joined (λ x. 44 ∷ argument_text names (argument x)) c.args.args.now c.loop-a.a-index c.a-item.result c.args.out.now.items c.loop-a-test.true c.a-item.is c.loop-a.invariant piece
 
 pub returns : goal.returns

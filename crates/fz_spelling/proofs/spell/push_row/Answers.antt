@@ -17,9 +17,9 @@ returns c =
     let t3 = t2 ++ argument_list names r.args in
     let t4 = t3 ++ codes ")" in
     let t5 = t4 ++ definition names r.defines in
-    let e1 = joined old (codes "constraint ") (line r.name).text c.in_ok-push_text.ensures (c.in_ok-push_text-2.ensures ∙ ap (λ t. c.push_text.new.out.items ++ t) c.name_of.ensures) in
-    let e2 = joined old t1 (codes "(") e1 c.in_ok-push_text-3.ensures in
-    let e3 = joined old t2 (argument_list names r.args) e2 (c.in_ok-push_arguments.ensures ∙ ap (λ t. c.push_text-3.new.out.items ++ argument_list names (map argument t)) c.deref.ensures.value) in
-    let e4 = joined old t3 (codes ")") e3 c.in_ok-push_text-4.ensures in
-    let e5 = joined old t4 (definition names r.defines) e4 c.in_ok-push_definition.ensures in
+    let e1 = joined old (codes "constraint ") (line r.name).text c.in-Ok.ensures (c.in-Ok-push_text.ensures ∙ ap (λ t. c.push_text.new.out.items ++ t) c.name_of.ensures) in
+    let e2 = joined old t1 (codes "(") e1 c.in-Ok-push_text-2.ensures in
+    let e3 = joined old t2 (argument_list names r.args) e2 (c.in-Ok-push_arguments.ensures ∙ ap (λ t. c.push_text-3.new.out.items ++ argument_list names (map argument t)) c.deref.ensures.value) in
+    let e4 = joined old t3 (codes ")") e3 c.in-Ok-push_text-3.ensures in
+    let e5 = joined old t4 (definition names r.defines) e4 c.in-Ok-push_definition.ensures in
     joined_on_ok c.push_text-5.result old t5 (codes ";\n") c.push_definition.new.out.items c.push_text-5.new.out.items e5 c.push_text-5.ensures

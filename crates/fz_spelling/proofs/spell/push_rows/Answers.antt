@@ -7,7 +7,7 @@ use Rattle.fz_spelling.proofs.spell.push_rows.Goals as goal
 pub loop-r-preserved : goal.loop-r-preserved
 loop-r-preserved c =
     let names = labels_of (map variable c.args.vars.now) in
-    loop_joined (λ r. row_line names (row r)) c.args.rows.now c.loop-r.r-index c.r-item.result c.args.out.now.items c.loop-r-test.true c.r-item.is c.loop-r.invariant c.in_ok-push_row.ensures
+    loop_joined (λ r. row_line names (row r)) c.args.rows.now c.loop-r.r-index c.r-item.result c.args.out.now.items c.loop-r-test.true c.r-item.is c.loop-r.invariant c.in-Ok.ensures
 
 pub returns : goal.returns
 returns c =

@@ -5,8 +5,8 @@ use Rattle.mz_copy.proofs.expression.+copies.Given as goal
 abbrev pub invariant-copy_all-loop-e : goal.invariant-copy_all-loop-e
 invariant-copy_all-loop-e l = map tree l.copies.items ++ map tree (drop l.e-index l.es) ≡ map tree l.es
 
-abbrev pub invariant-copy_expression-loop-row : goal.invariant-copy_expression-loop-row
-invariant-copy_expression-loop-row l = map tree_row l.lines.items ++ map tree_row (drop l.row-index l.row-items) ≡ map tree_row l.row-items
+abbrev pub invariant-copy_form-loop-row : goal.invariant-copy_form-loop-row
+invariant-copy_form-loop-row l = map tree_row l.lines.items ++ map tree_row (drop l.row-index l.row-items) ≡ map tree_row l.row-items
 
 abbrev pub invariant-copy_operands-loop-operand : goal.invariant-copy_operands-loop-operand
 invariant-copy_operands-loop-operand l = map link l.copies.items ++ map link (drop l.operand-index l.operands) ≡ map link l.operands

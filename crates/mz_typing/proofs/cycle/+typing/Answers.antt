@@ -18,8 +18,14 @@ use Rattle.mz_typing.proofs.Arms.{call_made, rows_made, rows_refused, decl_made,
 use Rattle.mz_typing.proofs.Generators.{gens_smaller, gens_in_table}
 use Rattle.mz_typing.proofs.cycle.+typing.Goals as goal
 
-pub check-returns-clause-passes : goal.check-returns-clause-passes
-check-returns-clause-passes t c = subst (Passes tree c.check_form.result) (sym (expression_is (known c.args.context.now) c.args.e.now c.args.scope.now)) c.check_form.ensures.passes
+pub check-returns-in-Access-clause-passes : goal.check-returns-in-Access-clause-passes
+check-returns-in-Access-clause-passes t c = subst (Passes tree c.check_access.result) (sym (expression_is (known c.args.context.now) c.args.e.now c.args.scope.now)) c.check_access.ensures.passes
+
+pub check-returns-in-Chain-clause-passes : goal.check-returns-in-Chain-clause-passes
+check-returns-in-Chain-clause-passes t c = subst (Passes tree c.check_chain.result) (sym (expression_is (known c.args.context.now) c.args.e.now c.args.scope.now)) c.check_chain.ensures.passes
+
+pub check-returns-in_default-clause-passes : goal.check-returns-in_default-clause-passes
+check-returns-in_default-clause-passes t c = subst (Passes tree c.check_other.result) (sym (expression_is (known c.args.context.now) c.args.e.now c.args.scope.now)) c.check_other.ensures.passes
 
 pub check_gens-loop-g-init : goal.check_gens-loop-g-init
 check_gens-loop-g-init t c = record { built = search rules; extends = itself }

@@ -18,16 +18,16 @@ number : (c : goal.After-self-1) → c.self.inside.next ≡ next_number c.args.s
 number c = c.self.invariant.1 ∙ ap (λ (p : Program). next_number p.vars) c.self.view_is
 
 the_variable : (c : goal.After-self-1) → variable c.defined_variable.result ≡ defined_variable c.args.self.now c.args.domain
-the_variable c = c.defined_variable.ensures ∙ named_variable c.args.self.now _ c.args.domain (c.in_ok-label.ensures ∙ ap introduced_name (number c))
+the_variable c = c.defined_variable.ensures ∙ named_variable c.args.self.now _ c.args.domain (c.in-Ok.ensures ∙ ap introduced_name (number c))
 
 abbrev the_row : (c : goal.After-self-1) → FzRow
-the_row c = record { name = c.args.name; args = c.in_ok-args.args; defines = Some c.len-k.result }
+the_row c = c.defining_row.result
 
 row_is : (c : goal.After-self-1) → row (the_row c) ≡ defining c.args.name (map argument c.args.inputs.now) (length c.args.self.now.vars)
-row_is c = row_of c.args.name (map argument c.in_ok-args.args.items) (map argument c.args.inputs.now) c.len-k.result (length c.args.self.now.vars) c.in_ok-args.ensures (place c)
+row_is c = c.defining_row.ensures ∙ row_of c.args.name (map argument c.in-Ok-args_with.x.items) (map argument c.args.inputs.now) c.len-k.result (length c.args.self.now.vars) c.in-Ok-args_with.ensures (place c)
 
 added : (c : goal.After-self-1) → items c.push_both.new.vars.items c.self.inside.arrays.items c.push_both.new.rows.items ≡ with_defined c.args.self.now c.args.name (map argument c.args.inputs.now) c.args.domain
-added c = items_defined c.self.inside.vars.items c.push_both.new.vars.items c.self.inside.arrays.items c.self.inside.rows.items c.push_both.new.rows.items c.defined_variable.result (the_row c) c.args.self.now c.args.name (map argument c.args.inputs.now) c.args.domain c.in_ok-push_both.ensures.vars c.in_ok-push_both.ensures.rows c.self.view_is (the_variable c) (row_is c)
+added c = items_defined c.self.inside.vars.items c.push_both.new.vars.items c.self.inside.arrays.items c.self.inside.rows.items c.push_both.new.rows.items c.defined_variable.result (the_row c) c.args.self.now c.args.name (map argument c.args.inputs.now) c.args.domain c.in-Ok-push_both.ensures.vars c.in-Ok-push_both.ensures.rows c.self.view_is (the_variable c) (row_is c)
 
 pub number_after-self-inside-requires : goal.number_after-self-inside-requires
 number_after-self-inside-requires c =
@@ -38,7 +38,7 @@ pub invariant_of-self-2 : goal.invariant_of-self-2
 invariant_of-self-2 c =
     let most = next_below c.self.inside.vars.items c.self.inside.next c.self.invariant.1 in
     let room : c.self.inside.next < 2 ^ 64 = omega (arith, most, c.self.inside.vars.ok.0, c.self.inside.vars.ok.1, c.self.inside.vars.small) in
-    let stands = stands_defined c.self.inside.vars.items c.push_both.new.vars.items c.self.inside.arrays.items c.self.inside.rows.items c.push_both.new.rows.items c.self.inside.next c.defined_variable.result (the_row c) c.args.self.now c.args.name (map argument c.args.inputs.now) c.args.domain c.in_ok-push_both.ensures.vars c.in_ok-push_both.ensures.rows c.self.view_is (the_variable c) (row_is c) c.self.invariant room c.has_set.ensures c.requires in
+    let stands = stands_defined c.self.inside.vars.items c.push_both.new.vars.items c.self.inside.arrays.items c.self.inside.rows.items c.push_both.new.rows.items c.self.inside.next c.defined_variable.result (the_row c) c.args.self.now c.args.name (map argument c.args.inputs.now) c.args.domain c.in-Ok-push_both.ensures.vars c.in-Ok-push_both.ensures.rows c.self.view_is (the_variable c) (row_is c) c.self.invariant room c.has_set.ensures c.requires in
     (stands.0, c.number_after-self-inside.ensures ∙ stands.1)
 
 pub returns-clause-added : goal.returns-clause-added

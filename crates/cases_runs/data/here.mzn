@@ -1,0 +1,2 @@
+include "./there.mzn";
+solve satisfy;

@@ -1,0 +1,2 @@
+include "./here.mzn";
+var 1..2: x;

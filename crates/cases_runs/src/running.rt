@@ -1,0 +1,39 @@
+// Runs of the compiler.
+
+use crate::outcome::put_lines;
+use cases::Page;
+use mz_base::Memory;
+use mz_io::{Files, MemSource, Sink};
+use mz_tool::{Status, run};
+use std::alloc::Global;
+
+/// Runs the words of a line, with an empty input.
+pub fn run_line<F: Files, S: Sink, E: Sink>(
+    alloc: Global,
+    line: &str,
+    files: &mut F,
+    out: &mut S,
+    notes: &mut E,
+) -> Result<Status, Memory> {
+    let mut words = Vec::new(alloc);
+    for word in line.split_whitespace() {
+        words.push(String::from_str(alloc, word)?)?;
+    }
+    let mut input = MemSource::new(Vec::new(alloc), 1, Vec::new(alloc));
+    Ok(run(alloc, &words, files, &mut input, out, notes))
+}
+
+/// A run's status, each line that it wrote after `> `, and each line that it noted after `! `.
+pub fn print_run(page: &mut Page, status: Status, out: &[u8], notes: &[u8]) -> Result<(), Memory> {
+    match status {
+        Status::Done => page.line("Done"),
+        Status::Refused(_) => page.line("Refused"),
+        Status::Usage => page.line("Usage"),
+        Status::ReadFault => page.line("ReadFault"),
+        Status::WriteFault => page.line("WriteFault"),
+        Status::Memory => return Err(Memory),
+    }
+    put_lines(page, "> ", out);
+    put_lines(page, "! ", notes);
+    Ok(())
+}

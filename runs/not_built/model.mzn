@@ -1,0 +1,3 @@
+var 1..9: cost;
+constraint cost > 3;
+solve minimize cost;
