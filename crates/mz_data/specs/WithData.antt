@@ -37,6 +37,6 @@ pub record IsItemKnown (names files : ℕ) (g : Given) : Type 0 where
 -- in the data the number of one of all files; and the data files have these names.
 pub record AreKnownWithData (names : List (List ℕ)) (data_names : List (List ℕ)) (s : SourcesWithData) : Type 0 where
   pub files : AreKnown names s.sources.files.items
-  pub items : All (IsItemKnown (length names) (length s.sources.files.items + length s.data_files.items)) (map given s.data.items.items)
+  pub items : All (IsItemKnown (length names) (length s.sources.files.items + length s.data_files.items)) (map given s.given_data.items.items)
   pub named : All (λ n. n < length names) s.data_files.items
   pub data_files : map (text_of names) s.data_files.items ≡ data_names

@@ -22,12 +22,12 @@ pub struct DataFiles {
 }
 
 /// Puts one more data file last. After `Memory` it may be there in part.
-fn push(read: &mut DataFiles, name: Name, mut data: Data) -> Result<(), Memory>
+fn push(read: &mut DataFiles, name: Name, mut given_data: Data) -> Result<(), Memory>
     ensures names { OnOk result (read.new.names.items ≡ read.old.names.items ++ name ∷ []) }
-    ensures items { OnOk result (read.new.items.items ≡ read.old.items.items ++ data.items.items) }
+    ensures items { OnOk result (read.new.items.items ≡ read.old.items.items ++ given_data.items.items) }
 {
     read.names.push(name)?;
-    read.items.append(&mut data.items)?;
+    read.items.append(&mut given_data.items)?;
     Ok(())
 }
 

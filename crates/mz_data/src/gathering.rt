@@ -18,13 +18,13 @@ use std::alloc::Global;
 /// The files of a model with its data.
 ///
 /// `sources` has the model and the files that it includes. `data_files` has the names of the data files as they were fetched, in
-/// the order in which they were given, and `data` the items of all of them in this order. The places in the data go on with the
-/// numbers of the files: the first data file has the number of files in `sources`, and each one after it the next number.
+/// the order in which they were given, and `given_data` the items of all of them in this order. The places in the data go on with
+/// the numbers of the files: the first data file has the number of files in `sources`, and each one after it the next number.
 #[derive(Debug, Drop)]
 pub struct SourcesWithData {
     pub sources: Sources,
     pub data_files: Vec<Name>,
-    pub data: Data,
+    pub given_data: Data,
 }
 
 /// The model `model`, the files that it includes, and then these data files, in the order in which they are given.
@@ -47,7 +47,7 @@ pub fn gather_with_data<F: Files>(
 ) -> Result<SourcesWithData, GatherEnd>
     // Ok: the model with its included files, and the items of its data files. Every name in them is of the table, and every place
     // in a file has the file's number.
-    ensures sources { IfOk result (λ s. IsSourcesWithData names.new (F.texts files.old) model.now (words_of data_files.now) (map (file names.new) s.sources.files.items) (map given s.data.items.items)) }
+    ensures sources { IfOk result (λ s. IsSourcesWithData names.new (F.texts files.old) model.now (words_of data_files.now) (map (file names.new) s.sources.files.items) (map given s.given_data.items.items)) }
     ensures known { IfOk result (λ s. AreKnownWithData names.new (words_of data_files.now) s) }
 
     // Each other answer has its cause; want of memory alone is free.
@@ -71,6 +71,6 @@ pub fn gather_with_data<F: Files>(
     Ok(SourcesWithData {
         sources,
         data_files: read.names,
-        data: Data { items: read.items },
+        given_data: Data { items: read.items },
     })
 }
