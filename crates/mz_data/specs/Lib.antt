@@ -1,0 +1,4 @@
+pub mod DataTexts
+pub mod DataFiles
+pub mod WithData
+pub mod Promise
