@@ -42,7 +42,7 @@ use Rattle.mz_tool.specs.declared.compile.End.{End}
 use Rattle.mz_tool.specs.declared.compile.End.TheVariants as end
 use Rattle.mz_tool.specs.declared.status.Status.{Status}
 use Rattle.mz_tool.specs.declared.status.Status.TheVariants as status
-use Rattle.mz_tool.specs.Words.{settings_in, IsUsage, OnCheck}
+use Rattle.mz_tool.specs.Words.{settings_in, IsUsage}
 use Rattle.mz_tool.specs.Headline.{Compiled, Compiles, Writes, WritesFront}
 use Rattle.mz_tool.specs.Status.{not_built_at, first_value, IsUnbuilt, an_item, a_value, IsRefusal, a_file_fails, a_test_fails, not_built, ByDistinctNames, IsOwner, OnDone, OnWriteFault, IfRefused, CountsFiles, CountsOut, IsToldModel, AreToldFiles, Completes, IsDoneOrMemory}
 use Rattle.mz_tool.specs.StepsCompiling.{status_of, file_of, data_names, IsWritable, IsWritten, IsFinished, StopsAt, Puts, PutsBuilt, Builds, Stops, IsRefusedAs, by_a_test, as_not_built, IsLeft, unread, Ends, IsNamedEnd}
@@ -398,13 +398,3 @@ is_usage (Some x) a end.Memory is = tt
 
 pub same_asked : (x y : Asked) → Some x ≡ Some y → x ≡ y
 same_asked x y is = cc
-
--- what holds, holds where `check` is asked for
-pub on_check : (asked : Option Asked) (P : Type 0) → P → OnCheck asked P
-on_check None P p = tt
-on_check (Some (compile s)) P p = tt
-on_check (Some (check s)) P p = p
-
--- words that ran out of memory
-pub memory_completes : (texts : Texts) (s : Settings) → Completes [] texts s status.Memory
-memory_completes texts s = record { distinct = λ i j below also same. absurd (omega (arith, below)); whole = λ table files items grows are. inr tt; compiled = λ told. tt }

@@ -16,3 +16,6 @@ returns-in-Err-clause-left g c =
 pub returns-in-Err-clause-counted : goal.returns-in-Err-clause-counted
 returns-in-Err-clause-counted g c =
     counts_out (request_of c.args.request.now) c.args.names.now (files_read c.args.names.now c.args.read.now) (data_names c.args.names.now c.args.read.now) (items_read c.args.read.now) _ c.in-Err.stop c.stopped.result (c.stopped.ensures.stops c.args.names.now)
+
+pub returns-in-Err-clause-named : goal.returns-in-Err-clause-named
+returns-in-Err-clause-named g c = c.stopped.ensures.named c.args.names.now c.requires
