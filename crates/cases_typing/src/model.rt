@@ -1,15 +1,16 @@
 // The model of a case: the expression is that of its last constraint, and the written type that of the result of its last function.
 
-ghost use Rattle.mz_include.specs.Views.{AreKnown};
+ghost use Rattle.std.specs.Prelude.{List, ℕ};
+ghost use Rattle.mz_data.specs.WithData.{AreKnownWithData};
 
 use crate::typing;
 use crate::typing::Kind;
 use cases::{Page, bytes_of};
 use mz_analysis::scoped_model;
 use mz_base::{Memory, Names};
-use mz_include::{GatherEnd, gather};
+use mz_data::{SourcesWithData, gather_with_data};
+use mz_include::GatherEnd;
 use mz_io::MemFiles;
-use mz_tree::Sources;
 use std::alloc::Global;
 
 /// The text of the model with that of the case, which is its third line.
@@ -33,18 +34,18 @@ pub fn files_of(alloc: Global, text: &str) -> Result<MemFiles, Memory> {
 /// What a case is typed to in the scope of these files.
 fn print_in(
     alloc: Global,
-    sources: &Sources,
+    read: &SourcesWithData,
     names: &Names,
     kind: Kind,
     text: &str,
     page: &mut Page,
 ) -> Result<(), Memory>
-    requires { AreKnown names.now sources.now.files.items }
+    requires { (data_names : List (List ℕ)) × AreKnownWithData names.now data_names read.now }
 {
-    if sources.files.is_empty() {
+    if read.sources.files.is_empty() {
         return Ok(());
     }
-    match scoped_model(alloc, sources, names) {
+    match scoped_model(alloc, read, names) {
         Ok(scoped) => typing::print(alloc, &scoped, names, kind, text, page),
         Err(stop) => typing::print_stop(page, stop),
     }
@@ -67,8 +68,8 @@ pub fn print(alloc: Global, model: &str, line: &str, page: &mut Page) -> Result<
     let source = text_of(alloc, model, kind, text)?;
     let mut files = files_of(alloc, source.as_str())?;
     let mut names = Names::new(alloc);
-    match gather(alloc, "m.mzn", &mut files, &mut names) {
-        Ok(sources) => print_in(alloc, &sources, &names, kind, text, page),
+    match gather_with_data(alloc, "m.mzn", &[], &mut files, &mut names) {
+        Ok(read) => print_in(alloc, &read, &names, kind, text, page),
         Err(GatherEnd::Memory) => Err(Memory),
         Err(_) => {
             page.line("  not read");

@@ -7,7 +7,7 @@ use Rattle.mz_base.specs.declared.fault.Span.{Span}
 use Rattle.mz_base.specs.declared.kind.Kind.TheVariants as kind
 use Rattle.mz_core.specs.Types.{PlainType}
 use Rattle.mz_core.specs.Tree as typed
-use Rattle.mz_core.specs.Tree.{Tree, Gen, Item, node, type_of, place_of}
+use Rattle.mz_core.specs.Tree.{Tree, type_of, place_of}
 use Rattle.mz_tree.specs.declared.expr.UnOp.{UnOp}
 use Rattle.mz_tree.specs.declared.expr.BinOp.{BinOp}
 use Rattle.mz_tree.specs.declared.expr.BinOp.TheVariants as op

@@ -1,9 +1,9 @@
 -- Where the names of a model are refused.
-use Rattle.std.proofs.Common.{◌≡◌, ℕ, ◌<◌, Bool, true, false, List, [], ◌∷◌, ◌++◌, length, refl, subst, sym}
+use Rattle.std.proofs.Common.{◌≡◌, ℕ, ◌<◌, Bool, true, false, List, [], ◌∷◌, ◌++◌, length, refl, subst}
 use Rattle.std.specs.Prelude.{All, Option, Some, None, if◌then◌else◌}
 use Rattle.std.specs.List.{flat_map}
-use Rattle.std.proofs.lemmas.List.{length-map, append-nil}
-use Rattle.std.proofs.lemmas.List.Elements.{All-nil, All-cons, All-head, All-tail}
+use Rattle.std.proofs.lemmas.List.{length-map}
+use Rattle.std.proofs.lemmas.List.Elements.{All-nil, All-cons, All-head, All-tail, All-append}
 use Rattle.mz_base.specs.declared.fault.Span.{Span}
 use Rattle.mz_base.specs.declared.fault.Fault.{Fault}
 use Rattle.mz_base.specs.declared.kind.Kind.{Kind}
@@ -11,6 +11,7 @@ use Rattle.mz_base.specs.declared.kind.Kind.TheVariants.{ReservedName, Duplicate
 use Rattle.mz_base.specs.Faults.{fault_at}
 use Rattle.mz_tree.specs.Tree.{Name}
 use Rattle.mz_tree.specs.Items.{ItemTree, include, declare, assign, constraint, solve, output, function, enum, annotation, FunctionTree}
+use Rattle.mz_tree.specs.Data.{Given}
 use Rattle.mz_tree.specs.Kinds.{OfItem}
 use Rattle.mz_tree.proofs.Collected.{all_flat}
 use Rattle.mz_occurrence.specs.declared.occurrence.Occurrence.{Occurrence}
@@ -20,9 +21,10 @@ use Rattle.mz_uses.specs.Outlines.{decl_sketch, function_sketch}
 use Rattle.mz_scoped.specs.Parts.{decls_of, functions_of, decl_at, function_at}
 use Rattle.mz_scoped.specs.Scoped.{IsCyclic, at_decl, at_function}
 use Rattle.mz_spaces.specs.Tests.{first, first_after, is_reserved, is_repeated, is_misfit, first_unknown_of, first_missing_of, solve_in, solve_fault, or_refused, refusal}
-use Rattle.mz_analysis.specs.Known.{OfFunction}
+use Rattle.mz_analysis.specs.Known.{OfFunction, OfGiven}
 use Rattle.mz_analysis.proofs.Placed.{item_placed}
 use Rattle.mz_analysis.proofs.Parts as parts
+use Rattle.mz_analysis.proofs.DataParts.{all_placed}
 
 module _ (P : Span → Type 0) where
   abbrev Placed : Occurrence → Type 0
@@ -88,8 +90,8 @@ module _ (N : Name → Type 0) (P : Span → Type 0) where
   pub solves : (is : List ItemTree) → All Item is → All P (flat_map solve_in is)
   solves is all = all_flat P Item solve_in solve_of is all
 
-  pub places : (is : List ItemTree) → All Item is → All (λ o. P o.span) (occurrences is [])
-  places is all = subst (All (λ o. P o.span)) (sym (append-nil (flat_map in_item is))) (all_flat (λ o. P o.span) Item in_item (item_placed N P) is all)
+  pub places : (is : List ItemTree) (gs : List Given) → All Item is → All (OfGiven N P) gs → All (λ o. P o.span) (occurrences is gs)
+  places is gs all known = All-append (λ o. P o.span) (flat_map in_item is) _ (all_flat (λ o. P o.span) Item in_item (item_placed N P) is all) (all_placed N P is gs known)
 
   function_placed : (f : FunctionTree) → OfFunction N P f → P f.span
   function_placed f h = h.1

@@ -1,5 +1,5 @@
 -- A scoped model's names and places, where more names and places are of the kind.
-use Rattle.std.specs.Prelude.{◌≡◌, ℕ, ◌<◌, List, [], length, All}
+use Rattle.std.specs.Prelude.{ℕ, ◌<◌}
 use Rattle.std.proofs.lemmas.List.Elements.{All-weaker}
 use Rattle.mz_base.specs.declared.fault.Span.{Span}
 use Rattle.mz_tree.specs.Tree.{Name, Tree, Declaration}
@@ -9,7 +9,7 @@ use Rattle.mz_tree.proofs.Later.{item_later}
 use Rattle.mz_scoped.specs.Parts.{EnumTree}
 use Rattle.mz_scoped.specs.Scoped.{ScopedTree}
 use Rattle.mz_headings.specs.Naming.{AreNamed, HasNamedCases, IsNamedFunction}
-use Rattle.mz_analysis.specs.Known.{OfEnum, OfFunction, OfScoped, IsWithin}
+use Rattle.mz_analysis.specs.Known.{OfEnum, OfFunction, IsWithin}
 
 module _ (count files : ℕ) where
   abbrev N : Name → Type 0

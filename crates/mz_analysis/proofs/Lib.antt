@@ -1,5 +1,5 @@
 pub mod Alike
-pub mod Dataless
+pub mod DataParts
 pub mod Expressions
 pub mod Fails
 pub mod Faults

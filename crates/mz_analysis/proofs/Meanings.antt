@@ -128,6 +128,10 @@ module _ (s : ScopedTree) (table : List (List ℕ)) where
   unfolding untyped
   functions_call = flat_all (IsAt s.functions (function_at [] 0)) Calls with_parameters calls (numbered s.functions) (numbered_at s.functions (function_at [] 0))
 
+  -- a name that is a declaration's has one of the declarations
+  pub declared_below : (n : Name) (d : ℕ) → entry_of n (untyped table s).names ≡ Some (meaning.Decl d) → d < length s.decls
+  declared_below n d is = (entry_holds MeansIt n (untyped table s).names (meaning.Decl d) names_mean is).0
+
   -- ---- what is used is referred to
 
   decl_sketched : (ds : List Declaration) (k : ℕ) → decl_sketch (decl_at ds k) ≡ sketch_at (map decl_sketch ds) k

@@ -8,18 +8,20 @@ use Rattle.mz_base.specs.declared.fault.Span.{Span}
 use Rattle.mz_tree.specs.Tree as pure
 use Rattle.mz_tree.specs.Tree.{Name, Tree, Maybe, Declaration}
 use Rattle.mz_tree.specs.Items.{GoalTree, ItemTree, include, declare, assign, constraint, solve, output, function, enum, annotation}
+use Rattle.mz_tree.specs.Data.{Given}
 use Rattle.mz_tree.specs.Kinds.{IsSpot, OfTree, OfMaybe, OfDeclaration, OfGoal, OfItem}
 use Rattle.mz_tree.proofs.Collected.{all_flat}
 use Rattle.mz_uses.specs.Outlines.{decl_sketch}
-use Rattle.mz_scoped.specs.Parts.{value_in, assigned, or_assigned, filled, declared_in, decls_of, function_in, functions_of, constraint_in, output_in, goal_in, goal_of, enum_in, enums_of, given_cases, all_cases, place_of, decl_at}
+use Rattle.mz_scoped.specs.Parts.{value_in, assigned, or_assigned, filled, declared_in, decls_of, function_in, functions_of, constraint_in, output_in, goal_in, goal_of, enum_in, enums_of, all_cases, given_of, place_of, decl_at}
 use Rattle.mz_scoped.specs.Scoped.{ScopedTree, IsScoped}
 use Rattle.mz_scope.proofs.Turned.{all_counted}
-use Rattle.mz_analysis.specs.Known.{OfEnum, OfFunction, OfScoped}
+use Rattle.mz_analysis.specs.Known.{OfEnum, OfFunction, OfGiven, OfScoped}
 use Rattle.mz_analysis.proofs.Items.{all_mapped}
+use Rattle.mz_analysis.proofs.DataParts.{cases_given, items_given}
 
 -- the places in the order of evaluation are places of declarations
-counted : (is : List ItemTree) {s : ScopedTree} (h : IsScoped is [] s) → All (λ k. k < length (decls_of is)) h.order
-counted is h = subst (λ n. All (λ k. k < n) h.order) (length-map (decls_of is) decl_sketch) (all_counted (length (map decl_sketch (decls_of is))) h.order h.sequence.is)
+counted : (is : List ItemTree) (gs : List Given) {s : ScopedTree} (h : IsScoped is gs s) → All (λ k. k < length (decls_of is)) h.order
+counted is gs h = subst (λ n. All (λ k. k < n) h.order) (length-map (decls_of is) decl_sketch) (all_counted (length (map decl_sketch (decls_of is))) h.order h.sequence.is)
 
 module _ (N : Name → Type 0) (P : Span → Type 0) where
   abbrev Item : ItemTree → Type 0
@@ -136,33 +138,33 @@ module _ (N : Name → Type 0) (P : Span → Type 0) where
   goals [] all = tt
   goals (i ∷ is) all = goal_next i (goal_of is) (All-head Item i is all) (goals is (All-tail Item i is all))
 
-  cases_of : (n : Name) (s : Span) (cs : Option (List (Name × Span))) → Item (enum n s cs) → All (IsSpot N P) (all_cases n [] cs)
-  unfolding given_cases
-  cases_of n s None h = All-nil (IsSpot N P)
-  cases_of n s (Some cs) h = h.2
+  cases_of : (gs : List Given) → All (OfGiven N P) gs → (n : Name) (s : Span) (cs : Option (List (Name × Span))) → Item (enum n s cs) → All (IsSpot N P) (all_cases n gs cs)
+  cases_of gs known n s None h = cases_given N P n gs known
+  cases_of gs known n s (Some cs) h = h.2
 
-  enum_of : (i : ItemTree) → Item i → All (OfEnum N P) (enum_in [] i)
-  enum_of (enum n s cs) h = one (OfEnum N P) (record { name = n; span = s; cases = all_cases n [] cs }) (h.0, h.1, cases_of n s cs h)
-  enum_of (output e) h = All-nil (OfEnum N P)
-  enum_of (constraint e) h = All-nil (OfEnum N P)
-  enum_of (function f) h = All-nil (OfEnum N P)
-  enum_of (declare d) h = All-nil (OfEnum N P)
-  enum_of (include m s) h = All-nil (OfEnum N P)
-  enum_of (assign m s e) h = All-nil (OfEnum N P)
-  enum_of (solve s g) h = All-nil (OfEnum N P)
-  enum_of (annotation m) h = All-nil (OfEnum N P)
+  enum_of : (gs : List Given) → All (OfGiven N P) gs → (i : ItemTree) → Item i → All (OfEnum N P) (enum_in gs i)
+  enum_of gs known (enum n s cs) h = one (OfEnum N P) (record { name = n; span = s; cases = all_cases n gs cs }) (h.0, h.1, cases_of gs known n s cs h)
+  enum_of gs known (output e) h = All-nil (OfEnum N P)
+  enum_of gs known (constraint e) h = All-nil (OfEnum N P)
+  enum_of gs known (function f) h = All-nil (OfEnum N P)
+  enum_of gs known (declare d) h = All-nil (OfEnum N P)
+  enum_of gs known (include m s) h = All-nil (OfEnum N P)
+  enum_of gs known (assign m s e) h = All-nil (OfEnum N P)
+  enum_of gs known (solve s g) h = All-nil (OfEnum N P)
+  enum_of gs known (annotation m) h = All-nil (OfEnum N P)
 
   -- in an order of evaluation
 
   turned : (ds : List Declaration) (order : List ℕ) → All Decl ds → All (λ k. k < length ds) order → All Decl (map (decl_at ds) order)
   turned ds order all counted = all_mapped Decl (decl_at ds) order (All-weaker (λ k. k < length ds) (λ k. Decl (decl_at ds k)) (λ k below. all k _ below) order counted)
 
-  pub of_scoped : (is : List ItemTree) (s : ScopedTree) → All Item is → IsScoped is [] s → OfScoped N P s
-  of_scoped is s all h = record {
-    enums = All-same (OfEnum N P) s.enums (enums_of is []) h.enums (all_flat (OfEnum N P) Item (enum_in []) enum_of is all);
-    decls = All-same Decl s.decls (map (decl_at (decls_of is)) h.order) h.decls (turned (decls_of is) h.order (decls is all) (counted is h));
+  pub of_scoped : (is : List ItemTree) (gs : List Given) (s : ScopedTree) → All Item is → All (OfGiven N P) gs → IsScoped is gs s → OfScoped N P s
+  of_scoped is gs s all known h = record {
+    enums = All-same (OfEnum N P) s.enums (enums_of is gs) h.enums (all_flat (OfEnum N P) Item (enum_in gs) (enum_of gs known) is all);
+    decls = All-same Decl s.decls (map (decl_at (decls_of is)) h.order) h.decls (turned (decls_of is) h.order (decls is all) (counted is gs h));
     functions = All-same (OfFunction N P) s.functions (functions_of is) h.functions (functions is all);
     constraints = All-same (OfTree N P) s.constraints (flat_map constraint_in is) h.constraints (all_flat (OfTree N P) Item constraint_in constraint_of is all);
     goal = subst (OfGoal N P) (sym h.goal) (goals is all);
     outputs = All-same (OfTree N P) s.outputs (flat_map output_in is) h.outputs (all_flat (OfTree N P) Item output_in output_of is all);
+    given = All-same (OfGiven N P) s.given (given_of is gs) h.given (items_given N P is gs known);
   }

@@ -8,10 +8,11 @@ use Rattle.mz_base.specs.declared.kind.Kind.{Kind}
 use Rattle.mz_base.specs.declared.kind.Kind.TheVariants.{ReservedName, DuplicateName, SolveItems, UnknownName, DataForm, MissingData}
 use Rattle.mz_base.specs.Faults.{fault_at}
 use Rattle.mz_tree.specs.Items.{ItemTree}
+use Rattle.mz_tree.specs.Data.{Given}
 use Rattle.mz_occurrence.specs.declared.occurrence.Occurrence.{Occurrence}
 use Rattle.mz_occurrence.specs.Given.{occurrences}
 use Rattle.mz_scoped.specs.Scoped.{IsCyclic, at_decl, at_function}
-use Rattle.mz_scope.specs.Tests.{known_in, solve_in, or_refused, refusal, refusal_after_solves, first_unknown_of, first_missing_of, first, first_after, is_reserved, is_repeated, solve_fault, is_misfit}
+use Rattle.mz_scope.specs.Tests.{known_in, solve_in, or_refused, refusal, first_unknown_of, first_missing_of, first, first_after, is_reserved, is_repeated, solve_fault, is_misfit}
 use Rattle.mz_include.specs.Naming.{File}
 use Rattle.mz_analysis.specs.Analysis.{items_of, end_of, IsOfTests, IsIllNamed, by_a_test, by_a_cycle}
 
@@ -38,6 +39,6 @@ cyclic_kind : (is : List ItemTree) (f : Fault) → IsCyclic is f → IsOfTests f
 cyclic_kind is _ (at_decl d stuck) = tt
 cyclic_kind is _ (at_function k back) = tt
 
-pub ill_kind : (table : List (List ℕ)) (files : List File) (f : Fault) → IsIllNamed table files f → IsOfTests f.kind
-ill_kind table files f (by_a_test found) = refusal_kind table (known_in table) (end_of files) (flat_map solve_in (items_of files)) (occurrences (items_of files) []) f found
-ill_kind table files f (by_a_cycle none cyclic) = cyclic_kind (items_of files) f cyclic
+pub ill_kind : (table : List (List ℕ)) (files : List File) (items : List Given) (f : Fault) → IsIllNamed table files items f → IsOfTests f.kind
+ill_kind table files items f (by_a_test found) = refusal_kind table (known_in table) (end_of files) (flat_map solve_in (items_of files)) (occurrences (items_of files) items) f found
+ill_kind table files items f (by_a_cycle none cyclic) = cyclic_kind (items_of files) f cyclic

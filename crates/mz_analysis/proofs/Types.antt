@@ -1,4 +1,4 @@
--- How the types of a model are refused: with a kind of the tests, at a place in it.
+-- How the types of a model, and its data, are refused: with a kind of the tests, at a place in it.
 use Rattle.std.proofs.Common.{◌≡◌, ℕ, ◌+◌, zero, suc, Bool, true, false, List, [], ◌∷◌, ◌++◌, subst}
 use Rattle.std.specs.Prelude.{Option, Some, None, Ok, Err, if◌then◌else◌, slice_index_or}
 use Rattle.std.specs.List.{AllByRecursion, flat_map, enumerate_from}
@@ -8,12 +8,13 @@ use Rattle.mz_base.specs.declared.fault.Fault.{Fault}
 use Rattle.mz_base.specs.declared.kind.Kind.TheVariants.{DuplicateName, TypeMismatch}
 use Rattle.mz_base.specs.Faults.{start_of, fault_at}
 use Rattle.mz_core.specs.Tree as core
-use Rattle.mz_core.specs.Tree.{Tree, Decl, DeclaredType, type_of}
+use Rattle.mz_core.specs.Tree.{Tree, DeclaredType, type_of}
 use Rattle.mz_core.specs.Types.{PlainType}
 use Rattle.mz_tree.specs.Tree as source
-use Rattle.mz_tree.specs.Tree.{Name, Declaration, Written}
+use Rattle.mz_tree.specs.Tree.{Name, Declaration}
 use Rattle.mz_tree.specs.Items as item
 use Rattle.mz_tree.specs.Items.{FunctionTree, GoalTree}
+use Rattle.mz_tree.specs.Data.{Given}
 use Rattle.mz_tree.specs.Kinds.{OfTree, OfMaybe, OfDeclaration, OfWritten, OfGoal}
 use Rattle.mz_scoped.specs.Parts.{place_of, decl_at, function_at}
 use Rattle.mz_scoped.specs.Scoped.{ScopedTree}
@@ -25,8 +26,12 @@ use Rattle.mz_checks.specs.Lets.{new_name}
 use Rattle.mz_checks.specs.Headings.{Parameters, param_next, heading, written_in, Subject, of_decl, of_function, with_type, with_types}
 use Rattle.mz_checks.specs.Duplicates.{Signed, is_taken, duplicate_after}
 use Rattle.mz_checks.specs.Items.{value_of, decl, function, with_params, constraint, objective, goal, output}
-use Rattle.mz_checks.specs.Checks.{numbered, Met, met, first_from, stands_before, none_met, type_met, heading_met, types_met, signed_by, signed, no_fault, decl_met, function_met, tree_met, tree_place, value_place, goal_place, items_met, sections, checked_with, checked, untyped, IsRefused}
-use Rattle.mz_analysis.specs.Known.{OfFunction, OfScoped}
+use Rattle.mz_checks.specs.Checks.{numbered, Met, met, first_from, stands_before, none_met, type_met, heading_met, types_met, signed_by, signed, no_fault, decl_met, function_met, tree_met, tree_place, value_place, goal_place, items_met, sections, untyped}
+use Rattle.mz_checks.specs.declared.meaning.Meaning.{Meaning}
+use Rattle.mz_checks.specs.declared.meaning.Meaning.TheVariants as meaning
+use Rattle.mz_datum.specs.Datum.{Meanings, as_data_form, typed_value}
+use Rattle.mz_datum.specs.WithData.{declared_as, given_value, given_values, checked_given, checked_with_data, IsRefusedWithData}
+use Rattle.mz_analysis.specs.Known.{OfFunction, OfGiven, OfScoped}
 use Rattle.mz_analysis.proofs.Stopping.{both_all, one_more_all, Refuses, Stops, Any, next, looped, each_stops}
 use Rattle.mz_analysis.proofs.Leaves.{At, fitted_stops, condition_stops, IsKnown, type_stops, heading_stops, new_stops}
 use Rattle.mz_analysis.proofs.Expressions.{tree_good, type_good}
@@ -60,6 +65,7 @@ module _ (N : Name → Type 0) (P : Span → Type 0) (start : P (start_of 0)) (f
     constraints : AllByRecursion (OfTree N P) s.constraints
     goal : OfGoal N P s.goal
     outputs : AllByRecursion (OfTree N P) s.outputs
+    given : AllByRecursion (OfGiven N P) s.given
 
   parts_of : (s : ScopedTree) → OfScoped N P s → Parts s
   parts_of s h = record {
@@ -68,6 +74,7 @@ module _ (N : Name → Type 0) (P : Span → Type 0) (start : P (start_of 0)) (f
     constraints = recursion_from_All (OfTree N P) s.constraints h.constraints;
     goal = h.goal;
     outputs = recursion_from_All (OfTree N P) s.outputs h.outputs;
+    given = recursion_from_All (OfGiven N P) s.given h.given;
   }
 
   decl_of_number : (s : ScopedTree) (k : ℕ) → Parts s → DeclOf (decl_at s.decls k)
@@ -171,6 +178,35 @@ module _ (N : Name → Type 0) (P : Span → Type 0) (start : P (start_of 0)) (f
   duplicates_stop texts before [] h = tt
   duplicates_stop texts before (f ∷ fs) h = taken (is_taken texts before f) f (duplicate_after texts (before ++ f ∷ []) fs) h.0 (duplicates_stop texts (before ++ f ∷ []) fs h.1)
 
+  -- ---- data
+
+  declared_stops : (at : Span) (o : Option Meaning) → P at → Stops P (Any P) (declared_as at o)
+  unfolding declared_as
+  declared_stops at None p = (p, tt)
+  declared_stops at (Some (meaning.Decl d)) p = tt
+  declared_stops at (Some (meaning.Enum e)) p = (p, tt)
+  declared_stops at (Some (meaning.Case e k)) p = (p, tt)
+  declared_stops at (Some (meaning.Function f)) p = (p, tt)
+
+  formed : {A : Type 0} (at : Span) (t : Test A) → P at → Stops P (Any P) (as_data_form at t)
+  formed at (Ok x) p = tt
+  formed at (Err f) p = (p, tt)
+
+  datum_stops : (ms : Meanings) (u : PlainType) (g : Given) → P g.at → Stops P (Any P) (typed_value ms u g)
+  unfolding typed_value
+  datum_stops ms u g p = formed g.at _ p
+
+  given_stops : (m : Model) (g : Given) → IsKnown P m → OfGiven N P g → Stops P (Any P) (given_value m g)
+  unfolding given_value
+  given_stops m g known h =
+      next P (Any P) (Any P) (declared_as g.at (entry_of g.name m.names)) _ (declared_stops g.at (entry_of g.name m.names) h.value)
+      (λ d u. next P (Any P) (Any P) (type_of_decl m g.span d) _ (type_stops P m g.span d known h.span)
+      (λ t v. next P (Any P) (Any P) (typed_value m.names t.ty g) _ (datum_stops m.names t.ty g h.value) (λ e w. tt)))
+
+  all_given_stop : (m : Model) (gs : List Given) → IsKnown P m → AllByRecursion (OfGiven N P) gs → Stops P (AllByRecursion (Any P)) (given_values m gs)
+  unfolding given_values
+  all_given_stop m gs known h = each_stops P (OfGiven N P) (Any P) (given_value m) (λ g k. given_stops m g known k) gs h
+
   -- ---- values, bodies and items
 
   value_stops : (m : Model) (t : PlainType) (e : source.Maybe) → IsKnown P m → OfMaybe N P e → Stops P (Any P) (value_of m t e)
@@ -235,12 +271,14 @@ module _ (N : Name → Type 0) (P : Span → Type 0) (start : P (start_of 0)) (f
       (λ cs w. next P (Any P) (Any P) (goal m s.goal) _ (goal_stops m s.goal known h.goal)
       (λ g x. next P (AllByRecursion (At P)) (Any P) (each (output m) s.outputs) _ (each_stops P (OfTree N P) (At P) (output m) (λ e k. output_stops m e known k) s.outputs h.outputs) (λ os y. tt)))))
 
-  checked_stops : (s : ScopedTree) (m : Model) → Parts s → IsKnown P m → Stops P (Any P) (checked_with s m)
-  unfolding checked_with
+  checked_stops : (s : ScopedTree) (m : Model) → Parts s → IsKnown P m → Stops P (Any P) (checked_given s m)
+  unfolding checked_given
   checked_stops s m h known =
       next P (Any P) (Any P) (none_met (types_met s m)) _ (none_stops (types_met s m) (types_stop s m known))
       (λ a u. next P (Any P) (Any P) (no_fault (duplicate_after m.texts [] (signed s m))) _ (duplicates_stop m.texts [] (signed s m) (signed_placed s m h))
-      (λ b v. next P (Any P) (Any P) (none_met (items_met s m)) _ (none_stops (items_met s m) (items_stop s m h known)) (λ c w. sections_stop s m h known)))
+      (λ b v. next P (AllByRecursion (Any P)) (Any P) (given_values m s.given) _ (all_given_stop m s.given known h.given)
+      (λ vs w. next P (Any P) (Any P) (none_met (items_met s m)) _ (none_stops (items_met s m) (items_stop s m h known))
+      (λ c x. next P (Any P) (Any P) (sections s m) _ (sections_stop s m h known) (λ all y. tt)))))
 
   nothing_known : (texts : List (List ℕ)) (s : ScopedTree) → IsKnown P (untyped texts s)
   unfolding untyped
@@ -250,8 +288,8 @@ module _ (N : Name → Type 0) (P : Span → Type 0) (start : P (start_of 0)) (f
   at_fault (Ok x) f is h = absurd (cc)
   at_fault (Err g) f is h = let same : g ≡ f = cc in subst (λ (x : Fault). Refuses P x) same h
 
-  pub types_placed : (texts : List (List ℕ)) (s : ScopedTree) (f : Fault) → OfScoped N P s → IsRefused texts s f → Refuses P f
-  unfolding checked
+  pub types_placed : (texts : List (List ℕ)) (s : ScopedTree) (f : Fault) → OfScoped N P s → IsRefusedWithData texts s f → Refuses P f
+  unfolding checked_with_data
   types_placed texts s f h refused =
-      at_fault (checked_with s (with_types s (untyped texts s) refused.order)) f refused.fault
+      at_fault (checked_given s (with_types s (untyped texts s) refused.order)) f refused.fault
       (checked_stops s (with_types s (untyped texts s) refused.order) (parts_of s h) (all_typed s (untyped texts s) refused.order (parts_of s h) (nothing_known texts s)))

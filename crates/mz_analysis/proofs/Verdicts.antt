@@ -1,6 +1,6 @@
--- A model that is typed in one order of its types is typed in every other to the same.
+-- A model that is typed with its data in one order of its types is typed in every other to the same.
 use Rattle.std.proofs.Common.{◌≡◌, ℕ, ◌<◌, ◌≤◌, zero, suc, List, [], ◌∷◌, ◌++◌, length, refl, ap, sym, subst, ◌∙◌, inl, inr, append_assoc, arith}
-use Rattle.std.specs.Prelude.{◌⊎◌, Option, Some, Ok, Err, slice_index_or}
+use Rattle.std.specs.Prelude.{◌⊎◌, Option, Some, None, Ok, Err, slice_index_or}
 use Rattle.std.specs.List.{AllByRecursion, flat_map}
 use Rattle.std.proofs.lemmas.List.{append-nil, length-map}
 use Rattle.mz_base.specs.declared.fault.Span.{Span}
@@ -8,7 +8,7 @@ use Rattle.mz_core.specs.Tree.{Tree, DeclaredType}
 use Rattle.mz_core.specs.Types.{PlainType}
 use Rattle.mz_core.specs.Program.{minimize, maximize}
 use Rattle.mz_tree.specs.Tree as source
-use Rattle.mz_tree.specs.Tree.{Name, Declaration}
+use Rattle.mz_tree.specs.Tree.{Declaration}
 use Rattle.mz_tree.specs.Items as item
 use Rattle.mz_tree.specs.Items.{FunctionTree, GoalTree}
 use Rattle.mz_graph.proofs.Membership.{below_or_not}
@@ -25,10 +25,14 @@ use Rattle.mz_checks.specs.Typing.{check, check_written}
 use Rattle.mz_checks.specs.Headings.{heading, written_in, Subject, of_decl, of_function, with_type, with_types, IsAmong, AreTyped, types_in, ComeAfterNeeds, IsTypeOrder}
 use Rattle.mz_checks.specs.Duplicates.{duplicate_after}
 use Rattle.mz_checks.specs.Items.{value_of, decl, function, with_params, constraint, integer, objective, goal, texts_fitted, output}
-use Rattle.mz_checks.specs.Checks.{numbered, Met, met, none_met, type_met, heading_met, types_met, signed_by, signed, no_fault, decl_met, function_met, tree_met, tree_place, value_place, goal_place, items_met, Sections, sections, checked_with, checked, untyped}
+use Rattle.mz_checks.specs.Checks.{numbered, Met, met, none_met, type_met, heading_met, types_met, signed_by, signed, no_fault, decl_met, function_met, tree_met, tree_place, value_place, goal_place, items_met, Sections, sections, untyped}
+use Rattle.mz_checks.specs.declared.meaning.Meaning.{Meaning}
+use Rattle.mz_checks.specs.declared.meaning.Meaning.TheVariants as meaning
+use Rattle.mz_tree.specs.Data.{Given}
+use Rattle.mz_datum.specs.WithData.{declared_as, given_value, given_values, with_values, checked_given, checked_with_data}
 use Rattle.mz_analysis.proofs.Stopping.{OfSome, one_more_all, entry_all}
-use Rattle.mz_analysis.proofs.Alike.{same_next, same_then, same_all, told, Alike, tree_alike}
-use Rattle.mz_analysis.proofs.Meanings.{uses_alike, Calls, functions_call, any_list, IsAt, numbered_at}
+use Rattle.mz_analysis.proofs.Alike.{same_case, same_next, same_then, same_all, told, Alike, tree_alike}
+use Rattle.mz_analysis.proofs.Meanings.{uses_alike, Calls, functions_call, any_list, IsAt, numbered_at, declared_below}
 use Rattle.mz_analysis.proofs.Orders.{SameEntry, T, Agree, same_entries, is_told, TypedAlike, IsTypedTo, alike_after, needs_at, first_of, typed_first, stays_among, among_or_not, among_front, entry_then, entry_back, one_more}
 
 -- ---- lists
@@ -94,6 +98,15 @@ passed_first (Err f) go y is = absurd (cc)
 
 entry_ok : {A : Type 0} (o : Option (Test A)) (t : Test A) → o ≡ Some t → OfSome IsOk o → IsOk t
 entry_ok o t is h = subst (OfSome IsOk) is h
+
+-- what is declared as a declaration is one
+declared_is : (at : Span) (o : Option Meaning) (d : ℕ) → declared_as at o ≡ Ok d → o ≡ Some (meaning.Decl d)
+unfolding declared_as
+declared_is at None d is = absurd (cc)
+declared_is at (Some (meaning.Decl k)) d is = let same : k ≡ d = cc in ap (λ z. Some (meaning.Decl z)) same
+declared_is at (Some (meaning.Enum e)) d is = absurd (cc)
+declared_is at (Some (meaning.Case e k)) d is = absurd (cc)
+declared_is at (Some (meaning.Function f)) d is = absurd (cc)
 
 module _ (s : ScopedTree) (table : List (List ℕ)) where
   abbrev b : Model
@@ -284,23 +297,38 @@ module _ (s : ScopedTree) (table : List (List ℕ)) where
         flat_same (Calls s table) (λ f. signed_by s f (entry_of f.1 M.headings)) (λ f. signed_by s f (entry_of f.1 O.headings))
         (λ f h. ap (signed_by s f) (agree (of_function f.1) (first.functions f.1 h.0) (second.functions f.1 h.0))) b.functions (functions_call s table)
 
+    -- ---- data
+
+    given_alike : (g : Given) → given_value left g ≡ given_value right g
+    unfolding given_value
+    given_alike g =
+        same_case (declared_as g.at (entry_of g.name b.names)) _ _
+        (λ d is. let below : d < length s.decls = declared_below s table g.name d (declared_is g.at (entry_of g.name b.names) d is) in
+        same_then (type_of_decl left g.span d) (type_of_decl right g.span d) _ (ap (typed_so_far g.span) (agree (of_decl d) (first.decls d below) (second.decls d below))))
+
+    all_given_alike : given_values left s.given ≡ given_values right s.given
+    unfolding given_values
+    all_given_alike = same_all (λ g. Unit {0}) (given_value left) (given_value right) (λ g u. given_alike g) s.given (any_list s.given)
+
     abbrev rest_of : Model → Test Sections
-    rest_of m = no_fault (duplicate_after m.texts [] (signed s m)) >> (none_met (items_met s m) >> sections s m)
+    rest_of m = no_fault (duplicate_after m.texts [] (signed s m)) >> (given_values m s.given >>= λ vs. none_met (items_met s m) >> (sections s m >>= λ all. Ok (with_values vs all)))
 
     rest_same : rest_of left ≡ rest_of right
     rest_same =
         same_next (no_fault (duplicate_after b.texts [] (signed s left))) (no_fault (duplicate_after b.texts [] (signed s right))) _ _ (ap (λ fs. no_fault (duplicate_after b.texts [] fs)) signed_same)
-        (λ u i. same_next (none_met (items_met s left)) (none_met (items_met s right)) _ _ (ap none_met items_same) (λ v j. sections_same))
+        (λ u i. same_next (given_values left s.given) (given_values right s.given) _ _ all_given_alike
+        (λ vs k. same_next (none_met (items_met s left)) (none_met (items_met s right)) _ _ (ap none_met items_same)
+        (λ v j. same_then (sections s left) (sections s right) (λ all. Ok (with_values vs all)) sections_same)))
 
-    whole : (all : Sections) → checked_with s left ≡ Ok all → checked_with s right ≡ Ok all
-    unfolding checked_with
+    whole : (all : Sections) → checked_given s left ≡ Ok all → checked_given s right ≡ Ok all
+    unfolding checked_given
     whole all is =
         let none : types_met s left ≡ [] = ok_none (types_met s left) (passed_first (none_met (types_met s left)) (λ u. rest_of left) all is) in
         let rest : rest_of left ≡ Ok all = subst (λ xs. (none_met xs >>= λ u. rest_of left) ≡ Ok all) none is in
         let too : types_met s right ≡ [] = ok_types right (other_ok (types_ok left tt (ap none_met none))) in
         subst (λ xs. (none_met xs >>= λ u. rest_of right) ≡ Ok all) (sym too) (sym rest_same ∙ rest)
 
-    pub same_verdict : (all : Sections) → checked table s order ≡ Ok all → checked table s other ≡ Ok all
-    unfolding checked
+    pub same_verdict : (all : Sections) → checked_with_data table s order ≡ Ok all → checked_with_data table s other ≡ Ok all
+    unfolding checked_with_data
     same_verdict all is =
-        subst (λ z. checked_with s z ≡ Ok all) (sym (is_told s table b other)) (whole all (subst (λ z. checked_with s z ≡ Ok all) (is_told s table b order) is))
+        subst (λ z. checked_given s z ≡ Ok all) (sym (is_told s table b other)) (whole all (subst (λ z. checked_given s z ≡ Ok all) (is_told s table b order) is))

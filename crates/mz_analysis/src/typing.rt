@@ -1,39 +1,37 @@
-// The typed program of a model's files.
+// The typed program of a model's files with their data.
 
-ghost use Rattle.std.specs.Prelude.{◌≡◌, ◌<◌, length, map, IfOk, IfErr};
+ghost use Rattle.std.specs.Prelude.{◌≡◌, length, IfOk, IfErr};
 ghost use Rattle.mz_base.specs.Faults.{IfRefused};
 ghost use Rattle.mz_core.specs.Program.{plain_program};
-ghost use Rattle.mz_include.specs.Views.{file, AreKnown};
-ghost use Rattle.mz_analysis.specs.Analysis.{IsTypedModel, HasTypedModel, FailsTest};
+ghost use Rattle.mz_analysis.specs.Analysis.{IsTypedModel, HasTypedModel, FailsTest, IsRead, files_read, items_read};
 
 use crate::scoping::scoped_model;
 use mz_base::{Names, Stop};
 use mz_check::check;
 use mz_core::Program;
-use mz_tree::Sources;
+use mz_data::SourcesWithData;
 use std::alloc::Global;
 
-/// The typed program of a model's files, without data, by the table of their names.
+/// The typed program of a model's files with the items of its data, by the table of their names.
 ///
-/// What `scoped_model` refuses is refused first, and then the first fault of types. The place of a refusal lies in one of the files.
-pub fn typed_model(alloc: Global, sources: &Sources, names: &Names) -> Result<Program, Stop>
-    requires some { 0 < length sources.now.files.items }
-    requires known { AreKnown names.now sources.now.files.items }
-    ensures typed { IfOk result (λ p. IsTypedModel names.now (map (file names.now) sources.now.files.items) (plain_program p)) }
-    ensures refused { IfErr result (λ s. IfRefused s (FailsTest names.now (map (file names.now) sources.now.files.items))) }
+/// What `scoped_model` refuses is refused first, and then the first fault of types: those of declarations and functions, functions that
+/// are declared twice, data that doesn't fit its declaration, and then all else. The place of a refusal lies in one of the files.
+pub fn typed_model(alloc: Global, read: &SourcesWithData, names: &Names) -> Result<Program, Stop>
+    requires { IsRead names.now read.now }
+    ensures typed { IfOk result (λ p. IsTypedModel names.now (files_read names.now read.now) (items_read read.now) (plain_program p)) }
+    ensures refused { IfErr result (λ s. IfRefused s (FailsTest names.now (files_read names.now read.now) (length read.now.data_files.items) (items_read read.now))) }
 {
-    let scoped = scoped_model(alloc, sources, names)?;
+    let scoped = scoped_model(alloc, read, names)?;
     let program = check(alloc, &scoped, names)?;
     Ok(program)
 }
 
-/// Tests the names and the types of a model's files, as `typed_model` does, and lets the program go.
-pub fn test_model(alloc: Global, sources: &Sources, names: &Names) -> Result<(), Stop>
-    requires some { 0 < length sources.now.files.items }
-    requires known { AreKnown names.now sources.now.files.items }
-    ensures typed { IfOk result (λ _. HasTypedModel names.now (map (file names.now) sources.now.files.items)) }
-    ensures refused { IfErr result (λ s. IfRefused s (FailsTest names.now (map (file names.now) sources.now.files.items))) }
+/// Tests the names, the types and the data of a model, as `typed_model` does, and lets the program go.
+pub fn test_model(alloc: Global, read: &SourcesWithData, names: &Names) -> Result<(), Stop>
+    requires { IsRead names.now read.now }
+    ensures typed { IfOk result (λ _. HasTypedModel names.now (files_read names.now read.now) (items_read read.now)) }
+    ensures refused { IfErr result (λ s. IfRefused s (FailsTest names.now (files_read names.now read.now) (length read.now.data_files.items) (items_read read.now))) }
 {
-    let _program = typed_model(alloc, sources, names)?;
+    let _program = typed_model(alloc, read, names)?;
     Ok(())
 }

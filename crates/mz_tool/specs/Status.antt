@@ -1,5 +1,5 @@
 -- What a run answers, and the line that it writes of it.
-use Rattle.std.specs.Prelude.{◌≡◌, ◌≤◌, ◌⊎◌, ℕ, ℤ, List, [], ◌++◌, Option, Some, None, Ok, codes, decimal, if◌then◌else◌}
+use Rattle.std.specs.Prelude.{◌≡◌, ◌≤◌, ◌⊎◌, ℕ, ℤ, List, [], ◌∷◌, ◌++◌, length, Option, Some, None, Ok, codes, decimal, if◌then◌else◌}
 use Rattle.std.specs.Fmt.{signed_decimal}
 use Rattle.std.specs.Borrow.{Bor}
 use Rattle.mz_base.specs.declared.fault.Fault.{Fault}
@@ -12,14 +12,17 @@ use Rattle.mz_base.specs.Names.{AreDistinct, Grows}
 use Rattle.mz_io.specs.Counts.{Rose}
 use Rattle.mz_io.specs.Files.{Texts, FileCounts}
 use Rattle.mz_io.specs.Sink.{Held, SinkCounts, Adds}
+use Rattle.mz_tree.specs.Data.{Given}
 use Rattle.mz_include.specs.Naming.{File}
-use Rattle.mz_include.specs.Sources.{IsSources, IsFirstFailure}
+use Rattle.mz_data.specs.WithData.{IsSourcesWithData, FailsWithData}
+use Rattle.mz_words.specs.Requests.{Settings, Asked}
 use Rattle.mz_include.specs.Ends.{CountsRefusal}
 use Rattle.fz_program.specs.Names.{Name}
 use Rattle.mz_first.specs.Model.{Item}
 use Rattle.mz_first.specs.Reading.{formed}
 use Rattle.mz_first.specs.Promise.{IsNotBuilt}
 use Rattle.mz_analysis.specs.Analysis.{FailsTest, HasTypedModel, file_name}
+use Rattle.mz_tool.specs.Words.{settings_in}
 use Rattle.mz_tool.specs.declared.status.Status.{Status}
 use Rattle.mz_tool.specs.declared.status.Status.TheVariants.{Done, Refused, Usage, ReadFault, WriteFault, Memory}
 
@@ -58,12 +61,23 @@ IsLineNoted old new before after file status = Notes old new before after (line_
 abbrev pub not_built_at : Span → Fault
 not_built_at place = fault_at NotBuilt place
 
--- Why the model of this name is refused, and the name of the file of the fault's place: a file fails; or a test of names or of types
--- fails; or the model is typed, and isn't of the form that is built.
-pub data IsRefusal (table : List Name) (texts : Texts) (name : Name) : Fault → Name → Type 0 where
-  a_file_fails : {f : Fault} {file : Name} → IsFirstFailure table texts name f file → IsRefusal table texts name f file
-  a_test_fails : {f : Fault} (files : List File) → IsSources table texts name files → FailsTest table files f → IsRefusal table texts name f (file_name files f.span.file)
-  not_built : (files : List File) {place : Span} {file : Name} → IsSources table texts name files → HasTypedModel table files → IsNotBuilt table files (place, file) → IsRefusal table texts name (not_built_at place) file
+-- where the first value stands that data gives
+abbrev pub first_value : List Given → Option Span
+first_value [] = None
+first_value (g ∷ gs) = Some g.span
+
+-- What isn't built yet, and the name of its file: the first item of the model that isn't of the form that is built; or, where all are,
+-- the first value that data gives.
+pub data IsUnbuilt (table : List Name) (files : List File) (data_files : List Name) (items : List Given) : Fault → Name → Type 0 where
+  an_item : {place : Span} {file : Name} → IsNotBuilt table files (place, file) → IsUnbuilt table files data_files items (not_built_at place) file
+  a_value : {is : List Item} {place : Span} → formed table files ≡ Ok is → first_value items ≡ Some place → IsUnbuilt table files data_files items (not_built_at place) (file_name files data_files place.file)
+
+-- Why the model of these settings is refused, and the name of the file of the fault's place: a file of the model or of its data fails;
+-- or a test of names, of types or of data fails; or the model is typed, and isn't of the form that is built.
+pub data IsRefusal (table : List Name) (texts : Texts) (s : Settings) : Fault → Name → Type 0 where
+  a_file_fails : {f : Fault} {file : Name} → FailsWithData table texts s.model s.data_files f file → IsRefusal table texts s f file
+  a_test_fails : {f : Fault} (files : List File) (items : List Given) → IsSourcesWithData table texts s.model s.data_files files items → FailsTest table files (length s.data_files) items f → IsRefusal table texts s f (file_name files s.data_files f.span.file)
+  not_built : (files : List File) (items : List Given) {f : Fault} {file : Name} → IsSourcesWithData table texts s.model s.data_files files items → HasTypedModel table files items → IsUnbuilt table files s.data_files items f file → IsRefusal table texts s f file
 
 -- by some table of names, whose texts are distinct, this holds
 pub record ByDistinctNames (P : List Name → Type 0) : Type 0 where
@@ -71,16 +85,20 @@ pub record ByDistinctNames (P : List Name → Type 0) : Type 0 where
   pub distinct : AreDistinct table
   pub holds : P table
 
+-- the file that the line of a refusal names
+abbrev pub IsOwnerOf : Texts → Option Asked → Fault → Name → Type 0
+IsOwnerOf texts None f file = ⊥
+IsOwnerOf texts (Some a) f file = ByDistinctNames (λ table. IsRefusal table texts (settings_in a) f file)
+
 -- the file that an answer's line names
-abbrev pub IsOwner : Texts → Option Name → Status → Name → Type 0
-IsOwner texts None (Refused f) file = ⊥
-IsOwner texts (Some name) (Refused f) file = ByDistinctNames (λ table. IsRefusal table texts name f file)
-IsOwner texts word status file = Unit {0}
+abbrev pub IsOwner : Texts → Option Asked → Status → Name → Type 0
+IsOwner texts asked (Refused f) file = IsOwnerOf texts asked f file
+IsOwner texts asked _ file = Unit {0}
 
 -- what a run leaves in its notes
-pub record IsNoted (texts : Texts) (word : Option Name) (status : Status) (old new : Held) (before after : SinkCounts) : Type 0 where
+pub record IsNoted (texts : Texts) (asked : Option Asked) (status : Status) (old new : Held) (before after : SinkCounts) : Type 0 where
   pub file : Name
-  pub owner : IsOwner texts word status file
+  pub owner : IsOwner texts asked status file
   pub line : IsLineNoted old new before after file status
 
 -- where it answers so, this holds
@@ -123,34 +141,36 @@ CountsOut old new WriteFault = Rose old.faults new.faults × (new.shortages ≡ 
 CountsOut old new Memory = (new.faults ≡ old.faults) × (old.shortages ≤ new.shortages)
 CountsOut old new _ = new ≡ old
 
--- the told texts are a model that has a typed program and is of the form that is built, by this table
-pub record IsToldModel (table : List Name) (texts : Texts) (name : Name) : Type 0 where
+-- the told texts are a model with data files that give no value; it has a typed program and is of the form that is built, by this table
+pub record IsToldModel (table : List Name) (texts : Texts) (s : Settings) : Type 0 where
   pub told : List ℕ → Option (List ℕ)
   pub is_told : texts ≡ Some told
   pub files : List File
+  pub values : List Given
+  pub sources : IsSourcesWithData table texts s.model s.data_files files values
+  pub typed : HasTypedModel table files values
+  pub no_values : values ≡ []
   pub items : List Item
-  pub sources : IsSources table texts name files
-  pub typed : HasTypedModel table files
   pub model : formed table files ≡ Ok items
 
--- the told texts are files, by this table
-pub record AreToldFiles (table : List Name) (texts : Texts) (name : Name) (files : List File) : Type 0 where
+-- the told texts are files of a model and items of its data, by this table
+pub record AreToldFiles (table : List Name) (texts : Texts) (s : Settings) (files : List File) (values : List Given) : Type 0 where
   pub told : List ℕ → Option (List ℕ)
   pub is_told : texts ≡ Some told
   pub distinct : AreDistinct table
-  pub sources : IsSources table texts name files
+  pub sources : IsSourcesWithData table texts s.model s.data_files files values
 
 -- What a run makes of a told model, by its own table of names: it is compiled. Which name has which number is nothing to the model:
 -- the files that are read by some table that goes on from this one are read by this one too.
-pub record Completes (known : List Name) (texts : Texts) (name : Name) (status : Status) : Type 0 where
+pub record Completes (known : List Name) (texts : Texts) (s : Settings) (status : Status) : Type 0 where
   pub distinct : AreDistinct known
-  pub whole : (table : List Name) (files : List File) → Grows known table → AreToldFiles table texts name files → IsSources known texts name files ⊎ IsDoneOrMemory status
-  pub compiled : IsToldModel known texts name → IsDoneOrMemory status
+  pub whole : (table : List Name) (files : List File) (values : List Given) → Grows known table → AreToldFiles table texts s files values → IsSourcesWithData known texts s.model s.data_files files values ⊎ IsDoneOrMemory status
+  pub compiled : IsToldModel known texts s → IsDoneOrMemory status
 
 -- A told model is compiled, unless a count of faults rose or memory ran out.
-abbrev pub IsComplete : Texts → Option Name → FileCounts → FileCounts → SinkCounts → SinkCounts → Status → Type 0
-IsComplete texts word old new before after status =
-    (name : Name) → word ≡ Some name → (Rose old.faults new.faults → ⊥) → (Rose before.faults after.faults → ⊥) → (known : List Name) × Completes known texts name status
+abbrev pub IsComplete : Texts → Option Asked → FileCounts → FileCounts → SinkCounts → SinkCounts → Status → Type 0
+IsComplete texts asked old new before after status =
+    (a : Asked) → asked ≡ Some a → (Rose old.faults new.faults → ⊥) → (Rose before.faults after.faults → ⊥) → (known : List Name) × Completes known texts (settings_in a) status
 
 -- what a reference to bytes points to
 abbrev pub now : Bor (List ℕ) → List ℕ

@@ -1,17 +1,22 @@
--- The words of a command line.
-use Rattle.std.specs.Prelude.{ℕ, List, [], ◌∷◌, Option, Some, None, codes, nat_eq, if◌then◌else◌, map, String, string_bytes}
-use Rattle.std.specs.Str.{bytes_eq}
+-- What the words of a command line ask for, in the words of `mz_words`.
+use Rattle.std.specs.Prelude.{◌≡◌, Option, Some, None}
+use Rattle.mz_words.specs.Requests.{Settings, Asked, compile, check}
+use Rattle.mz_tool.specs.declared.status.Status.{Status}
+use Rattle.mz_tool.specs.declared.status.Status.TheVariants.{Usage, Memory}
 
--- the byte in front, 0 where there is none
-abbrev pub front_byte : List ℕ → ℕ
-front_byte [] = 0
-front_byte (b ∷ bs) = b
+-- the files and the options of either command
+abbrev pub settings_in : Asked → Settings
+settings_in (compile s) = s
+settings_in (check s) = s
 
--- the model's file in `compile MODEL`, where MODEL doesn't begin with `-`
-abbrev pub model_word : List (List ℕ) → Option (List ℕ)
-model_word (c ∷ m ∷ []) = if bytes_eq c (codes "compile") then (if nat_eq (front_byte m) 45 then None else Some m) else None
-model_word _ = None
+-- Usage comes where the words are used wrongly, and nowhere else. Memory may run out while they are read.
+abbrev pub IsUsage : Option Asked → Status → Type 0
+IsUsage asked Usage = asked ≡ None
+IsUsage asked Memory = Unit {0}
+IsUsage asked _ = asked ≡ None → ⊥
 
--- the same of the words of the code
-abbrev pub named_file : {Z : Type 0} → List (String Z) → Option (List ℕ)
-named_file words = model_word (map string_bytes words)
+-- where the words ask for `check`, this holds
+abbrev pub OnCheck : Option Asked → Type 0 → Type 0
+OnCheck (Some (check s)) P = P
+OnCheck (Some (compile s)) P = Unit {0}
+OnCheck None P = Unit {0}

@@ -1,18 +1,23 @@
-// A model with its included files, compiled.
+// A model with its included files and its data, compiled or checked.
 
-ghost use Rattle.std.specs.Prelude.{◌≡◌, ◌<◌, List, ℕ, map, length};
-ghost use Rattle.mz_include.specs.Views.{file, AreKnown};
-ghost use Rattle.mz_tool.specs.StepsCompiling.{status_of, IsWritable, Puts, Stops, Builds, Leaves, unread, Ends, IsNamedEnd};
-ghost use Rattle.mz_tool.specs.Status.{CountsFiles, CountsOut};
+ghost use Rattle.std.specs.Prelude.{◌≡◌, ◌<◌, List, ℕ, Some, length};
+ghost use Rattle.mz_words.specs.Requests.{request_of, settings};
+ghost use Rattle.fz_program.specs.Flat.{program, WellFormed};
+ghost use Rattle.mz_analysis.specs.Analysis.{IsRead, files_read, items_read};
+ghost use Rattle.mz_tool.specs.Words.{settings_in, OnCheck};
+ghost use Rattle.mz_tool.specs.StepsCompiling.{status_of, data_names, IsWritable, IsWritten, IsFinished, StopsAt, PutsBuilt, Builds, Stops, IsLeft, unread, Ends, IsNamedEnd};
+ghost use Rattle.mz_tool.specs.Status.{first_value, CountsFiles, CountsOut};
 
 use crate::status::Status;
+use fz_program::FzProgram;
 use fz_text::{Wrote, write};
 use mz_analysis::{file_name, test_model};
-use mz_base::{Fault, Kind, Name, Names, Stop};
+use mz_base::{Fault, Kind, Name, Names, Span, Stop};
+use mz_data::{SourcesWithData, gather_with_data};
 use mz_first::{Built, build};
-use mz_include::{GatherEnd, gather};
+use mz_include::GatherEnd;
 use mz_io::{Files, Sink};
-use mz_tree::Sources;
+use mz_words::{Options, Request};
 use std::alloc::Global;
 
 /// How a compilation ended. A refusal has the name of the file of its place.
@@ -40,63 +45,129 @@ impl End {
     }
 }
 
-/// Writes the program of a model's files, or refuses them.
-fn write_built<S: Sink>(alloc: Global, built: &Built, out: &mut S) -> End
-    requires { IsWritable built.now }
-    ensures left { Puts built.now (S.held out.old) (S.held out.new) result }
+/// Writes a program.
+fn write_program<S: Sink>(alloc: Global, flat: &FzProgram, out: &mut S) -> End
+    requires { WellFormed (program flat.now) }
+    ensures left { IsWritten (program flat.now) (S.held out.old) (S.held out.new) result }
     ensures counted { CountsOut (S.counts out.old) (S.counts out.new) (status_of result) }
 {
+    match write(alloc, flat, out) {
+        Wrote::All => End::Done,
+        Wrote::Failed => End::WriteFault,
+        Wrote::Memory => End::Memory,
+    }
+}
+
+/// Writes a program where that is asked for.
+fn finish<S: Sink>(alloc: Global, request: &Request<'_>, flat: &FzProgram, out: &mut S) -> End
+    requires { WellFormed (program flat.now) }
+    ensures left { IsFinished (request_of request.now) (program flat.now) (S.held out.old) (S.held out.new) result }
+    ensures counted { CountsOut (S.counts out.old) (S.counts out.new) (status_of result) }
+    ensures silent { OnCheck (Some (request_of request.now)) (out.new ≡ out.old) }
+{
+    match request {
+        Request::Compile(_) => write_program(alloc, flat, out),
+        Request::Check(_) => End::Done,
+    }
+}
+
+/// Where the first value stands that data gives.
+fn first_value(read: &SourcesWithData) -> Option<Span>
+    ensures { result ≡ first_value (items_read read.now) }
+{
+    match read.data.items.as_slice().first() {
+        Some(item) => Some(item.span),
+        None => None,
+    }
+}
+
+/// A refusal at a value of the data.
+fn not_built_value(read: &SourcesWithData, place: Span) -> End
+    requires { 0 < length read.now.sources.files.items }
+    ensures { StopsAt read.now place result }
+{
+    End::Refused(
+        Fault::at(Kind::NotBuilt, place),
+        file_name(read, place.file),
+    )
+}
+
+/// What is asked for, of what was built.
+fn finish_built<S: Sink>(
+    alloc: Global,
+    request: &Request<'_>,
+    read: &SourcesWithData,
+    built: &Built,
+    out: &mut S,
+) -> End
+    requires some { 0 < length read.now.sources.files.items }
+    requires writable { IsWritable built.now }
+    ensures left { PutsBuilt (request_of request.now) read.now built.now (S.held out.old) (S.held out.new) result }
+    ensures counted { CountsOut (S.counts out.old) (S.counts out.new) (status_of result) }
+    ensures silent { OnCheck (Some (request_of request.now)) (out.new ≡ out.old) }
+{
     match built {
-        Built::Program(program) => match write(alloc, program, out) {
-            Wrote::All => End::Done,
-            Wrote::Failed => End::WriteFault,
-            Wrote::Memory => End::Memory,
+        Built::Program(program) => match first_value(read) {
+            None => finish(alloc, request, program, out),
+            Some(place) => not_built_value(read, place),
         },
         Built::NotBuilt(span, file) => End::Refused(Fault::at(Kind::NotBuilt, *span), *file),
     }
 }
 
-/// Compiles the files of a model that is typed, by the table of their names.
-fn compile_typed<S: Sink>(alloc: Global, sources: &Sources, names: &Names, out: &mut S) -> End
-    requires some { 0 < length sources.now.files.items }
-    requires known { AreKnown names.now sources.now.files.items }
-    ensures left { Builds names.now (map (file names.now) sources.now.files.items) (S.held out.old) (S.held out.new) result }
+/// What is asked for, of the files of a model that is typed, by the table of their names.
+fn compile_typed<S: Sink>(
+    alloc: Global,
+    request: &Request<'_>,
+    read: &SourcesWithData,
+    names: &Names,
+    out: &mut S,
+) -> End
+    requires { IsRead names.now read.now }
+    ensures left { Builds (request_of request.now) names.now (files_read names.now read.now) (data_names names.now read.now) (items_read read.now) (S.held out.old) (S.held out.new) result }
     ensures named { IsNamedEnd names.now result }
     ensures counted { CountsOut (S.counts out.old) (S.counts out.new) (status_of result) }
+    ensures silent { OnCheck (Some (request_of request.now)) (out.new ≡ out.old) }
 {
-    match build(alloc, sources, names) {
-        Ok(built) => write_built(alloc, &built, out),
+    match build(alloc, &read.sources, names) {
+        Ok(built) => finish_built(alloc, request, read, &built, out),
         Err(_) => End::Memory,
     }
 }
 
-/// How a compilation ended whose names or types are refused.
-fn stopped(sources: &Sources, stop: Stop) -> End
-    requires { 0 < length sources.now.files.items }
-    ensures stops { (table : List (List ℕ)) → Stops table (map (file table) sources.now.files.items) stop result }
-    ensures named { (table : List (List ℕ)) → AreKnown table sources.now.files.items → IsNamedEnd table result }
+/// How a compilation ended whose names, types or data are refused.
+fn stopped(read: &SourcesWithData, stop: Stop) -> End
+    requires { 0 < length read.now.sources.files.items }
+    ensures stops { (table : List (List ℕ)) → Stops table (files_read table read.now) (data_names table read.now) stop result }
+    ensures named { (table : List (List ℕ)) → IsRead table read.now → IsNamedEnd table result }
 {
     match stop {
         Stop::Refused(fault) => {
-            let owner = file_name(sources.files.as_slice(), fault.span.file);
+            let owner = file_name(read, fault.span.file);
             End::Refused(fault, owner)
         }
         Stop::Memory => End::Memory,
     }
 }
 
-/// Compiles the files of a model, by the table of their names: the names are tested, then the types, and then whether the model
-/// is of the form that is built.
-fn compile_files<S: Sink>(alloc: Global, sources: &Sources, names: &Names, out: &mut S) -> End
-    requires some { 0 < length sources.now.files.items }
-    requires known { AreKnown names.now sources.now.files.items }
-    ensures left { Leaves names.now (map (file names.now) sources.now.files.items) (S.held out.old) (S.held out.new) result }
+/// What is asked for, of the files of a model, by the table of their names: the names are tested, then the types and the data, and then
+/// whether the model is of the form that is built.
+fn compile_files<S: Sink>(
+    alloc: Global,
+    request: &Request<'_>,
+    read: &SourcesWithData,
+    names: &Names,
+    out: &mut S,
+) -> End
+    requires { IsRead names.now read.now }
+    ensures left { IsLeft (request_of request.now) names.now (files_read names.now read.now) (data_names names.now read.now) (items_read read.now) (S.held out.old) (S.held out.new) result }
     ensures named { IsNamedEnd names.now result }
     ensures counted { CountsOut (S.counts out.old) (S.counts out.new) (status_of result) }
+    ensures silent { OnCheck (Some (request_of request.now)) (out.new ≡ out.old) }
 {
-    match test_model(alloc, sources, names) {
-        Ok(()) => compile_typed(alloc, sources, names, out),
-        Err(stop) => stopped(sources, stop),
+    match test_model(alloc, read, names) {
+        Ok(()) => compile_typed(alloc, request, read, names, out),
+        Err(stop) => stopped(read, stop),
     }
 }
 
@@ -111,22 +182,40 @@ fn not_gathered(end: &GatherEnd) -> End
     }
 }
 
-/// Compiles the model of this name with its included files.
+/// The files and the options of a request.
+fn options_of<'a, 'b>(request: &'a Request<'b>) -> &'a Options<'b>
+    ensures { settings result.now ≡ settings_in (request_of request.now) }
+{
+    match request {
+        Request::Compile(options) => options,
+        Request::Check(options) => options,
+    }
+}
+
+/// Does what is asked for: reads the model with its included files and its data, and compiles it or checks it.
 pub fn compile<F: Files, S: Sink>(
     alloc: Global,
-    name: &str,
+    request: &Request<'_>,
     files: &mut F,
     names: &mut Names,
     out: &mut S,
 ) -> End
-    ensures ended { Ends names.new (F.texts files.old) name.now (S.held out.old) (S.held out.new) result }
+    ensures ended { Ends names.new (F.texts files.old) (request_of request.now) (S.held out.old) (S.held out.new) result }
     ensures named { IsNamedEnd names.new result }
     ensures files { CountsFiles (F.counts files.old) (F.counts files.new) (status_of result) }
     ensures output { CountsOut (S.counts out.old) (S.counts out.new) (status_of result) }
+    ensures silent { OnCheck (Some (request_of request.now)) (out.new ≡ out.old) }
     ensures texts { F.texts files.new ≡ F.texts files.old }
 {
-    match gather(alloc, name, files, names) {
-        Ok(sources) => compile_files(alloc, &sources, names, out),
+    let options = options_of(request);
+    match gather_with_data(
+        alloc,
+        options.model,
+        options.data_files.as_slice(),
+        files,
+        names,
+    ) {
+        Ok(read) => compile_files(alloc, request, &read, names, out),
         Err(end) => not_gathered(&end),
     }
 }

@@ -1,9 +1,11 @@
 // The compiler as a program: the command's words, the system's files and streams, the exit status.
 #![tactic(auto)]
 
-ghost use Rattle.std.specs.Prelude.{◌≡◌, ◌↔◌, None, IsSomeAnd};
+ghost use Rattle.std.specs.Prelude.{◌≡◌, IsSomeAnd};
 ghost use Rattle.std.specs.Process.{exit_status};
-ghost use Rattle.mz_tool.specs.Words.{named_file};
+ghost use Rattle.mz_command.specs.Found.{text_of};
+ghost use Rattle.mz_words.specs.Requests.{asked};
+ghost use Rattle.mz_tool.specs.Words.{IsUsage};
 ghost use Rattle.mz_tool.specs.Headline.{Writes};
 ghost use Rattle.mz_tool.specs.Status.{OnDone, ByDistinctNames, IsNoted};
 ghost use Rattle.mzc.specs.Exit.{number_of, EndsWith};
@@ -52,10 +54,10 @@ fn ended<F: Files, I: Source, S: Sink, E: Sink>(
     out: &mut S,
     notes: &mut E,
 ) -> ExitCode
-    ensures usage { EndsWith result (λ answer. (answer ≡ Status.Usage) ↔ (named_file words.now.items ≡ None)) }
-    ensures headline { EndsWith result (λ answer. OnDone answer (IsSomeAnd (named_file words.now.items) (λ name. ByDistinctNames (λ table.
-        Writes table (F.texts files.old) name (S.held out.old) (S.held out.new))))) }
-    ensures notes { EndsWith result (λ answer. IsNoted (F.texts files.old) (named_file words.now.items) answer
+    ensures usage { EndsWith result (IsUsage (asked (text_of words.now.items))) }
+    ensures headline { EndsWith result (λ answer. OnDone answer (IsSomeAnd (asked (text_of words.now.items)) (λ a. ByDistinctNames (λ table.
+        Writes table (F.texts files.old) a (S.held out.old) (S.held out.new))))) }
+    ensures notes { EndsWith result (λ answer. IsNoted (F.texts files.old) (asked (text_of words.now.items)) answer
         (E.held notes.old) (E.held notes.new) (E.counts notes.old) (E.counts notes.new)) }
 {
     let status = mz_tool::run(alloc, words, files, input, out, notes);

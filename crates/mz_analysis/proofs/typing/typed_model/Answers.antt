@@ -1,10 +1,7 @@
-use Rattle.std.proofs.Common.{map}
-use Rattle.mz_core.specs.Program.{plain_program}
+use Rattle.std.proofs.Common.{length}
 use Rattle.mz_scoped.specs.Scoped.{scoped_tree}
+use Rattle.mz_analysis.specs.Analysis.{FailsTest, files_read, items_read}
 use Rattle.mz_analysis.proofs.Later.{named_model}
-use Rattle.mz_include.specs.Views.{file}
-use Rattle.mz_analysis.specs.Analysis.{FailsTest}
-use Rattle.mz_analysis.proofs.Dataless.{typed_without, refused_without}
 use Rattle.mz_analysis.proofs.Fails.{names_fail, types_fail, handed_on}
 use Rattle.mz_analysis.proofs.typing.typed_model.Goals as goal
 
@@ -16,18 +13,17 @@ check-requires-clause-named c = named_model _ _ (scoped_tree c.in_ok-scoped.scop
 
 pub returns-in_err-scoped-clause-refused : goal.returns-in_err-scoped-clause-refused
 returns-in_err-scoped-clause-refused c =
-    handed_on (FailsTest c.args.names.now (map (file c.args.names.now) c.args.sources.now.files.items)) c.from_residual.result c.in_err-scoped.field-0.0 c.from_residual.ensures.1
-    (names_fail c.args.names.now c.args.sources.now.files.items c.in_err-scoped.field-0.0 c.in_err-scoped.ensures.refused c.in_err-scoped.ensures.placed)
+    handed_on (FailsTest c.args.names.now (files_read c.args.names.now c.args.read.now) (length c.args.read.now.data_files.items) (items_read c.args.read.now)) c.from_residual.result c.in_err-scoped.field-0.0 c.from_residual.ensures.1
+    (names_fail c.args.names.now c.args.read.now.sources.files.items (length c.args.read.now.data_files.items) (items_read c.args.read.now) c.in_err-scoped.field-0.0 c.in_err-scoped.ensures.refused c.in_err-scoped.ensures.placed)
 
 pub returns-in_err-program-clause-refused : goal.returns-in_err-program-clause-refused
 returns-in_err-program-clause-refused c =
-    handed_on (FailsTest c.args.names.now (map (file c.args.names.now) c.args.sources.now.files.items)) c.from_residual-in_err-program.result c.in_err-program.field-0.0 c.from_residual-in_err-program.ensures.1
-    (types_fail c.args.names.now c.args.sources.now.files.items (scoped_tree c.in_ok-scoped.scoped) c.in_err-program.field-0.0 c.requires.some c.requires.known c.in_ok-scoped.ensures.scoped c.in_ok-scoped.ensures.within
-    (refused_without c.args.names.now (scoped_tree c.in_ok-scoped.scoped) c.in_err-program.field-0.0 c.in_ok-scoped.ensures.scoped.scoped.given c.in_err-program.ensures.refused))
+    handed_on (FailsTest c.args.names.now (files_read c.args.names.now c.args.read.now) (length c.args.read.now.data_files.items) (items_read c.args.read.now)) c.from_residual-in_err-program.result c.in_err-program.field-0.0 c.from_residual-in_err-program.ensures.1
+    (types_fail c.args.names.now c.args.read.now.sources.files.items (length c.args.read.now.data_files.items) (items_read c.args.read.now) (scoped_tree c.in_ok-scoped.scoped) c.in_err-program.field-0.0 c.requires.some c.requires.files c.in_ok-scoped.ensures.scoped c.in_ok-scoped.ensures.within c.in_err-program.ensures.refused)
 
 pub returns-clause-typed : goal.returns-clause-typed
 returns-clause-typed c = record {
   scoped = scoped_tree c.in_ok-scoped.scoped;
   is = c.in_ok-scoped.ensures.scoped;
-  types = typed_without c.args.names.now (scoped_tree c.in_ok-scoped.scoped) (plain_program c.in_ok-program.program) c.in_ok-scoped.ensures.scoped.scoped.given c.in_ok-program.ensures.checks;
+  types = c.in_ok-program.ensures.checks;
 }
