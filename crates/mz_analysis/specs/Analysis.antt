@@ -107,7 +107,7 @@ abbrev pub files_read : List (List ℕ) → SourcesWithData → List File
 files_read table read = map (file table) read.sources.files.items
 
 abbrev pub items_read : SourcesWithData → List Given
-items_read read = map given read.data.items.items
+items_read read = map given read.given_data.items.items
 
 abbrev pub count_read : SourcesWithData → ℕ
 count_read read = length read.sources.files.items + length read.data_files.items

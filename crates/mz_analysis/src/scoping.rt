@@ -25,5 +25,5 @@ pub fn scoped_model(alloc: Global, read: &SourcesWithData, names: &Names) -> Res
     ensures refused { IfErr result (λ s. IfRefused s (IsIllNamed names.now (files_read names.now read.now) (items_read read.now))) }
     ensures placed { IfErr result (λ s. IfRefused s (λ f. f.span.file < count_read read.now)) }
 {
-    scope(alloc, &read.sources, &read.data, names)
+    scope(alloc, &read.sources, &read.given_data, names)
 }

@@ -75,7 +75,7 @@ fn finish<S: Sink>(alloc: Global, request: &Request<'_>, flat: &FzProgram, out: 
 fn first_value(read: &SourcesWithData) -> Option<Span>
     ensures { result ≡ first_value (items_read read.now) }
 {
-    match read.data.items.as_slice().first() {
+    match read.given_data.items.as_slice().first() {
         Some(item) => Some(item.span),
         None => None,
     }
