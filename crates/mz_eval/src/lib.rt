@@ -11,4 +11,4 @@ mod plain_calls;
 mod top_call;
 
 pub use mz_frames::Env;
-pub use top_call::value;
+pub use top_call::{evaluated, value};

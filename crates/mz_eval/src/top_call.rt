@@ -58,8 +58,14 @@ fn spent_of(budget: u64, work: u64) -> Steps
     steps
 }
 
-// an expression's cell at the top level
-fn evaluated(
+/// The cell of an expression, par or var, over the top-level names of `world`: at most `left` levels
+/// of nesting are open at once. `work` is what is spent so far, at most the budget and 1, and then
+/// with what the expression takes. A free local has no value here, nor has a part of a var type; no
+/// context is tested.
+///
+/// Refused Bounds, Budget, Depth, AssertFailed, IndexMismatch and NegativeArgument, each at its place
+/// and where it comes first. After an error the work tells nothing.
+pub fn evaluated(
     alloc: Global,
     world: &World,
     e: &Core,

@@ -33,6 +33,14 @@ impl Env {
         ensures kept { OnErr result ((k : ℕ) → env_cells self.new k ≡ env_cells self.old k) }
     {
         let cell = known_of(self.alloc, value)?;
+        self.set_cell(slot, cell)
+    }
+
+    /// Gives a slot this cell, par or var; all else as `set` does.
+    pub fn set_cell(&mut self, slot: u64, cell: Known) -> Result<(), Memory>
+        ensures set { OnOk result ((k : ℕ) → env_cells self.new k ≡ bind slot (cell_of cell) (env_cells self.old) k) }
+        ensures kept { OnErr result ((k : ℕ) → env_cells self.new k ≡ env_cells self.old k) }
+    {
         self.grow(slot)?;
         self.put(slot, cell);
         Ok(())

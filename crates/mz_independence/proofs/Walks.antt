@@ -80,24 +80,24 @@ declare_in_outlined {w = w} g h a b p z i =
     then_outlined _ (set_want_outlined g h walks.defined_set defined_set_outlined p.ty.set z.ty.set i) (λ x.
     declare_value_outlined g h a b p ixs x i p.value z.value)))
 
-names_outlined : (xs : List Declared) → HasOutlines (names_env xs) (names_env (outline_all_declared xs))
+pub names_outlined : (xs : List Declared) → HasOutlines (names_env xs) (names_env (outline_all_declared xs))
 names_outlined [] = record { at = λ k. refl }
 names_outlined (x ∷ xs) = bind_outlined x.slot x.cell (names_outlined xs)
 
-push_declared : (xs : List Declared) (x : Declared) → outline_all_declared xs ++ outline_declared x ∷ [] ≡ outline_all_declared (xs ++ x ∷ [])
+pub push_declared : (xs : List Declared) (x : Declared) → outline_all_declared xs ++ outline_declared x ∷ [] ≡ outline_all_declared (xs ++ x ∷ [])
 push_declared [] x = refl
 push_declared (y ∷ xs) x = ap (λ ys. outline_declared y ∷ ys) (push_declared xs x)
 
 -- the evaluation under the names so far
-eval_under : {t : Tie} {n : Bool} (l : Limits) (m : Mode) → HasNotes n m → (p : PlainProgram) → ((k : ℕ) → AllowsFound t (slice_get p.functions k)) → (xs : List Declared) → EvalHasOutline t n (world_at l m p (names_env xs)) (names_env (outline_all_declared xs)) (eval (world_at l m p (names_env xs)) levels) (eval (world_at l (Blank n) p (names_env (outline_all_declared xs))) levels)
+pub eval_under : {t : Tie} {n : Bool} (l : Limits) (m : Mode) → HasNotes n m → (p : PlainProgram) → ((k : ℕ) → AllowsFound t (slice_get p.functions k)) → (xs : List Declared) → EvalHasOutline t n (world_at l m p (names_env xs)) (names_env (outline_all_declared xs)) (eval (world_at l m p (names_env xs)) levels) (eval (world_at l (Blank n) p (names_env (outline_all_declared xs))) levels)
 eval_under l m z p a xs = eval_outlined (world_at l m p (names_env xs)) (names_env (outline_all_declared xs)) z (names_outlined xs) a levels
 
-declare_outlined : {t : Tie} {n : Bool} {c d : Context} → Ties t c d → (l : Limits) (m : Mode) → HasNotes n m → (a b : Assignment) (p : PlainProgram) → ((k : ℕ) → AllowsFound t (slice_get p.functions k)) → (xs : List Declared) (x : Decl) → AllowsDecl t x → HasOutline t n outline_all_declared (walks.declare c l m a p xs x) (walks.declare d l (Blank n) b p (outline_all_declared xs) x)
+pub declare_outlined : {t : Tie} {n : Bool} {c d : Context} → Ties t c d → (l : Limits) (m : Mode) → HasNotes n m → (a b : Assignment) (p : PlainProgram) → ((k : ℕ) → AllowsFound t (slice_get p.functions k)) → (xs : List Declared) (x : Decl) → AllowsDecl t x → HasOutline t n outline_all_declared (walks.declare c l m a p xs x) (walks.declare d l (Blank n) b p (outline_all_declared xs) x)
 declare_outlined h l m z a b p f xs x y = then_outlined _ (declare_in_outlined (eval_under l m z p f xs) h a b x y (names_outlined xs)) (λ y. give_outlined (push_declared xs y))
 
 -- ---- the whole model
 
-bounded_outlined : {t : Tie} {n : Bool} (s : Option Span) → HasOutline t n (same {A = Unit {0}}) (walks.bounded s) (walks.bounded s)
+pub bounded_outlined : {t : Tie} {n : Bool} (s : Option Span) → HasOutline t n (same {A = Unit {0}}) (walks.bounded s) (walks.bounded s)
 bounded_outlined None = give_outlined refl
 bounded_outlined (Some at) = stop_outlined kind.UnboundedSet at (pos 0)
 
