@@ -1,0 +1,4 @@
+pub mod Places
+pub mod Variables
+pub mod Comparisons
+pub mod Unbuilt
