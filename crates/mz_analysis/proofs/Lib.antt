@@ -1,5 +1,6 @@
 pub mod Alike
 pub mod DataParts
+pub mod Declared
 pub mod Expressions
 pub mod Fails
 pub mod Faults

@@ -11,6 +11,8 @@ use Rattle.mz_tree.specs.Data.{Given, given}
 use Rattle.mz_occurrence.specs.Given.{occurrences}
 use Rattle.mz_scoped.specs.Scoped.{ScopedTree, IsScoped, IsCyclic}
 use Rattle.mz_core.specs.Program.{PlainProgram}
+use Rattle.mz_core.specs.Tree.{Decl}
+use Rattle.mz_meaning.specs.Walk.{ordered}
 use Rattle.mz_datum.specs.WithData.{ChecksWithData, IsRefusedWithData}
 use Rattle.mz_spaces.specs.Tests.{known_in, solve_in, refusal, first, first_after}
 use Rattle.mz_include.specs.Naming.{File}
@@ -46,6 +48,13 @@ pub record IsTypedModel (table : List (List ℕ)) (files : List File) (items : L
   pub scoped : ScopedTree
   pub is : IsScopedModel table files items scoped
   pub types : ChecksWithData table scoped p
+
+-- its declarations in the order of evaluation, and their names
+abbrev pub evaluated : PlainProgram → List Decl
+evaluated p = ordered p.decls p.order
+
+abbrev pub names_of : List Decl → List ℕ
+names_of ds = map (λ d. d.name) ds
 
 abbrev pub HasTypedModel : List (List ℕ) → List File → List Given → Type 0
 HasTypedModel table files items = (p : PlainProgram) × IsTypedModel table files items p

@@ -3,12 +3,13 @@ use Rattle.std.specs.Prelude.{◌≡◌, ◌<◌, ℕ, List, Ok}
 use Rattle.mz_base.specs.declared.fault.Fault.{Fault}
 use Rattle.mz_tree.specs.Data.{Given}
 use Rattle.mz_include.specs.Naming.{File}
-use Rattle.mz_scoped.specs.Scoped.{ScopedTree}
+use Rattle.mz_scoped.specs.Scoped.{ScopedTree, AreDistinct}
 use Rattle.mz_checks.specs.Headings.{Subject, IsTypeOrder}
 use Rattle.mz_checks.specs.Checks.{Sections}
-use Rattle.mz_datum.specs.WithData.{checked_with_data, IsRefusedWithData}
+use Rattle.mz_datum.specs.WithData.{AreNumbered, checked_with_data, IsRefusedWithData}
 use Rattle.mz_analysis.specs.Known.{IsWithin}
-use Rattle.mz_analysis.specs.Analysis.{IsScopedModel, IsIllNamed, IsRefused, HasTypedModel, IsOfTests}
+use Rattle.mz_core.specs.Program.{PlainProgram}
+use Rattle.mz_analysis.specs.Analysis.{IsScopedModel, IsIllNamed, IsTypedModel, IsRefused, HasTypedModel, IsOfTests, evaluated, names_of}
 
 -- files and items of data have at most one scoped model
 abbrev pub HaveOneScopedModel : Type 0
@@ -30,3 +31,7 @@ OrderMakesNoDifference = (table : List (List ℕ)) (s : ScopedTree) (order other
 -- files.
 abbrev pub TypesAreRefusedInFiles : Type 0
 TypesAreRefusedInFiles = (names files : ℕ) (table : List (List ℕ)) (s : ScopedTree) (f : Fault) → 0 < names → 0 < files → IsWithin names files s → IsRefusedWithData table s f → (f.span.file < files) × IsOfTests f.kind
+
+-- The declarations of a typed program, in the order of evaluation, have their places as slots, and no name stands twice.
+abbrev pub DeclarationsAreNumbered : Type 0
+DeclarationsAreNumbered = (table : List (List ℕ)) (files : List File) (items : List Given) (p : PlainProgram) → IsTypedModel table files items p → AreNumbered (evaluated p) × AreDistinct (names_of (evaluated p))

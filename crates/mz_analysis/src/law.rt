@@ -1,6 +1,6 @@
 // What holds of every model's names.
 
-ghost use Rattle.mz_analysis.specs.Promise.{HaveOneScopedModel, ScopedOrRefused, TypedOrRefused, TypesAreRefusedInFiles, OrderMakesNoDifference};
+ghost use Rattle.mz_analysis.specs.Promise.{HaveOneScopedModel, ScopedOrRefused, TypedOrRefused, TypesAreRefusedInFiles, OrderMakesNoDifference, DeclarationsAreNumbered};
 
 /// Files have at most one scoped model.
 pub fn one_scoped_model()
@@ -25,4 +25,9 @@ pub fn types_refused_in_files()
 /// The order in which the types of a model are typed makes no difference.
 pub fn any_order_of_types()
     ensures { OrderMakesNoDifference }
+{}
+
+/// The declarations of a typed program, in the order of evaluation, have their places as slots, and no name stands twice.
+pub fn declarations_are_numbered()
+    ensures { DeclarationsAreNumbered }
 {}

@@ -1,9 +1,9 @@
 // The typed program of a model's files with their data.
 
-ghost use Rattle.std.specs.Prelude.{◌≡◌, length, IfOk, IfErr};
+ghost use Rattle.std.specs.Prelude.{◌≡◌, ◌<◌, length, IfOk, IfErr, All};
 ghost use Rattle.mz_base.specs.Faults.{IfRefused};
 ghost use Rattle.mz_core.specs.Program.{plain_program};
-ghost use Rattle.mz_analysis.specs.Analysis.{IsTypedModel, HasTypedModel, FailsTest, IsRead, files_read, items_read};
+ghost use Rattle.mz_analysis.specs.Analysis.{IsTypedModel, HasTypedModel, FailsTest, IsRead, files_read, items_read, evaluated, names_of};
 
 use crate::scoping::scoped_model;
 use mz_base::{Names, Stop};
@@ -19,6 +19,8 @@ use std::alloc::Global;
 pub fn typed_model(alloc: Global, read: &SourcesWithData, names: &Names) -> Result<Program, Stop>
     requires { IsRead names.now read.now }
     ensures typed { IfOk result (λ p. IsTypedModel names.now (files_read names.now read.now) (items_read read.now) (plain_program p)) }
+    ensures named { IfOk result (λ p. All (λ n. n < length names.now) (names_of (plain_program p).decls)) }
+    ensures named_in_order { IfOk result (λ p. All (λ n. n < length names.now) (names_of (evaluated (plain_program p)))) }
     ensures refused { IfErr result (λ s. IfRefused s (FailsTest names.now (files_read names.now read.now) (length read.now.data_files.items) (items_read read.now))) }
 {
     let scoped = scoped_model(alloc, read, names)?;

@@ -22,118 +22,91 @@ use Rattle.mz_include.specs.declared.end.GatherEnd.TheVariants as gathered
 use Rattle.mz_include.specs.Ends as gather_end
 use Rattle.mz_include.specs.Ends.{CountsRefusal}
 use Rattle.mz_include.specs.Views.{file}
-use Rattle.mz_include.specs.Walks.{Where}
 use Rattle.mz_data.specs.declared.gathering.SourcesWithData.{SourcesWithData}
 use Rattle.mz_data.specs.WithData.{IsSourcesWithData, FailsWithData, AreKnownWithData}
 use Rattle.mz_data.proofs.OneData.{one_sources, sources_or_failure}
 use Rattle.mz_data.proofs.Later.{sources_later, failure_later}
 use Rattle.mz_words.specs.Requests.{Settings, Asked, compile, check}
 use Rattle.fz_program.specs.Names.{Name}
-use Rattle.fz_program.specs.Flat.{Program, program}
+use Rattle.fz_program.specs.Flat.{Program, WellFormed}
 use Rattle.fz_spelling.specs.Spelling.{spelling}
-use Rattle.mz_first.specs.Model.{Item}
-use Rattle.mz_first.specs.declared.building.Built.{Built}
-use Rattle.mz_first.specs.declared.building.Built.TheVariants as built
-use Rattle.mz_first.specs.Reading.{formed}
-use Rattle.mz_first.specs.Promise.{IsBuilt, IsProgram, IsNamedBuilt}
-use Rattle.mz_analysis.specs.Analysis.{FailsTest, IsOfTests, IsRefused, HasTypedModel, IsRead, file_name, files_read, items_read}
+use Rattle.mz_value.specs.Contents.{Content, absent}
+use Rattle.mz_core.specs.Program.{PlainProgram}
+use Rattle.mz_meaning.specs.Runs.{State, Answer, Out, Stopped, start}
+use Rattle.mz_meaning.specs.Cells.{Bare}
+use Rattle.mz_meaning.specs.Cells as cells
+use Rattle.mz_meaning.specs.Contexts.{Untested, Positive}
+use Rattle.mz_meaning.specs.Walk.{Limits, Assignment, walk}
+use Rattle.mz_unbuilt.specs.Unbuilt.{first_unbuilt}
+use Rattle.mz_unbuilt.proofs.Laws.{nothing_unbuilt}
+use Rattle.mz_posting.specs.Ends.{is_walk_kind, EndAlike}
+use Rattle.mz_direct.specs.Emission.{writing_walk}
+use Rattle.mz_direct.specs.Headline.{AreNumberedAndNamed, KeepsSolutions}
+use Rattle.mz_direct.proofs.Laws.{headline, ends, kinds}
+use Rattle.mz_analysis.specs.Analysis.{FailsTest, IsOfTests, IsRefused, IsTypedModel, HasTypedModel, IsRead, evaluated, file_name, files_read, items_read}
 use Rattle.mz_analysis.proofs.Single.{not_refused}
 use Rattle.mz_tool.specs.declared.compile.End.{End}
 use Rattle.mz_tool.specs.declared.compile.End.TheVariants as end
 use Rattle.mz_tool.specs.declared.status.Status.{Status}
 use Rattle.mz_tool.specs.declared.status.Status.TheVariants as status
 use Rattle.mz_tool.specs.Words.{settings_in, IsUsage}
-use Rattle.mz_tool.specs.Headline.{Compiled, Compiles, Writes, WritesFront}
-use Rattle.mz_tool.specs.Status.{not_built_at, first_value, IsUnbuilt, an_item, a_value, IsRefusal, a_file_fails, a_test_fails, not_built, ByDistinctNames, IsOwner, OnDone, OnWriteFault, IfRefused, CountsFiles, CountsOut, IsToldModel, AreToldFiles, Completes, IsDoneOrMemory}
-use Rattle.mz_tool.specs.StepsCompiling.{status_of, file_of, data_names, IsWritable, IsWritten, IsFinished, StopsAt, Puts, PutsBuilt, Builds, Stops, IsRefusedAs, by_a_test, as_not_built, IsLeft, unread, Ends, IsNamedEnd}
+use Rattle.mz_tool.specs.Headline.{limits_of, Compiled, Compiles, Writes, WritesFront}
+use Rattle.mz_tool.specs.Status.{not_built_at, GoesThrough, IsStopped, not_built, by_evaluation, IsRefusal, a_file_fails, a_test_fails, not_compiled, ByDistinctNames, IsOwner, OnDone, OnWriteFault, IfRefused, CountsFiles, CountsOut, IsToldModel, AreToldFiles, Completes, IsDoneOrMemory}
+use Rattle.mz_tool.specs.StepsCompiling.{status_of, file_of, data_names, IsWritten, IsFinished, Stops, IsRefusedAs, by_a_test, as_stopped, IsLeft, unread, Ends, IsNamedEnd}
 
-compiled : (table : List Name) (files : List File) (p : Program) → IsProgram table files p → Compiled table files (spelling p)
-compiled table files p is = record { program = p; is_program = is; spelled = record { well_formed = is.well_formed; spelled = refl } }
+-- values of no variable
+abbrev no_values : Assignment
+no_values = λ k. None
 
-pub writable : (table : List Name) (files : List File) (b : Built) → IsBuilt table files b → IsWritable b
-writable table files (built.Program p) is = is.well_formed
-writable table files (built.NotBuilt s n) is = tt
+-- what is left of a program that is written, or that could be
+module _ (table : List Name) (files : List File) (data_files : List Name) (items : List Given) where
+  compiled : (l : Limits) (p : PlainProgram) (flat : Program) → IsTypedModel table files items p → KeepsSolutions l table p flat → WellFormed flat → Compiled l table files items (spelling flat)
+  compiled l p flat typed keeps formed = record { model = p; typed = typed; program = flat; keeps = keeps; spelled = record { well_formed = formed; spelled = refl } }
 
-no_values : (items : List Given) → first_value items ≡ None → items ≡ []
-no_values [] is = refl
-no_values (g ∷ gs) is = absurd (cc)
+  written : (s : Settings) (flat : Program) (old new : Held) (e : End) → Compiled (limits_of s) table files items (spelling flat) → IsWritten flat old new e → IsLeft (compile s) table files data_files items old new e
+  written s flat old new end.Done is put = (spelling flat, is, put)
+  written s flat old new end.WriteFault is put = (spelling flat, is, put)
+  written s flat old new end.Memory is put = put
+  written s flat old new (end.Refused f n) is put = absurd put
+  written s flat old new end.ReadFault is put = absurd put
 
--- what was built, and what is left of it
-module _ (table : List Name) (read : SourcesWithData) where
-  abbrev Files : List File
-  Files = files_read table read
+  finished : (a : Asked) (flat : Program) (old new : Held) (e : End) → Compiled (limits_of (settings_in a)) table files items (spelling flat) → IsFinished a flat old new e → IsLeft a table files data_files items old new e
+  finished (compile s) flat old new e is left = written s flat old new e is left
+  finished (check s) flat old new e is left = subst (IsLeft (check s) table files data_files items old new) (sym left.1) (spelling flat, is, left.0)
 
-  abbrev Data : List Name
-  Data = data_names table read
+  -- of a program of which all is built, where the walk that writes goes through
+  pub writes : (a : Asked) (p : PlainProgram) (flat : Program) (t : State) (old new : Held) (e : End) → IsTypedModel table files items p → first_unbuilt table p ≡ None → AreNumberedAndNamed table (evaluated p)
+      → writing_walk Untested (limits_of (settings_in a)) Bare no_values table p start ≡ Out flat t → WellFormed flat → IsFinished a flat old new e → IsLeft a table files data_files items old new e
+  writes a p flat t old new e typed none named runs formed left =
+      finished a flat old new e
+      (compiled (limits_of (settings_in a)) p flat typed (headline (limits_of (settings_in a)) table p (nothing_unbuilt table p none) named no_values flat t runs formed) formed)
+      left
 
-  abbrev Items : List Given
-  Items = items_read read
+written_named : (table : List Name) (flat : Program) (old new : Held) (e : End) → IsWritten flat old new e → IsNamedEnd table e
+written_named table flat old new end.Done put = tt
+written_named table flat old new end.WriteFault put = tt
+written_named table flat old new end.Memory put = tt
+written_named table flat old new (end.Refused f n) put = absurd put
+written_named table flat old new end.ReadFault put = absurd put
 
-  abbrev IsUnbuiltHere : Fault → Name → Type 0
-  IsUnbuiltHere f n = IsUnbuilt table Files Data Items f n
+pub finished_named : (table : List Name) (a : Asked) (flat : Program) (old new : Held) (e : End) → IsFinished a flat old new e → IsNamedEnd table e
+finished_named table (compile s) flat old new e left = written_named table flat old new e left
+finished_named table (check s) flat old new e left = subst (IsNamedEnd table) (sym left.1) tt
 
-  written : (s : Settings) (p : Program) (old new : Held) (e : End) → IsProgram table Files p → Items ≡ [] → IsWritten p old new e → Builds (compile s) table Files Data Items old new e
-  written s p old new end.Done is none put = (spelling p, none, compiled table Files p is, put)
-  written s p old new end.WriteFault is none put = (spelling p, none, compiled table Files p is, put)
-  written s p old new end.Memory is none put = put
-  written s p old new (end.Refused f n) is none put = absurd put
-  written s p old new end.ReadFault is none put = absurd put
+-- a run that ends as one that stops
+ends_stopped : {A B : Type 0} (x : Answer A) (y : Answer B) (f : Fault) → EndAlike x y → x ≡ Stopped f → y ≡ Stopped f
+ends_stopped (Out v s) y f alike is = absurd (cc)
+ends_stopped (Stopped g) (Out w t) f alike is = absurd alike
+ends_stopped (Stopped g) (Stopped h) f alike is = cc
 
-  finished : (a : Asked) (p : Program) (old new : Held) (e : End) → IsProgram table Files p → Items ≡ [] → IsFinished a p old new e → Builds a table Files Data Items old new e
-  finished (compile s) p old new e is none left = written s p old new e is none left
-  finished (check s) p old new e is none left = subst (Builds (check s) table Files Data Items old new) (sym left.1) (spelling p, none, compiled table Files p is, left.0)
-
-  value_stops : (a : Asked) (is : List Item) (place : Span) (old new : Held) (e : End) → formed table Files ≡ Ok is → first_value Items ≡ Some place → new ≡ old → StopsAt read place e → Builds a table Files Data Items old new e
-  value_stops a is place old new (end.Refused f n) model first same stops = (
-    same,
-    subst (λ g. IsUnbuiltHere g (text_of table n)) (sym stops.0) (subst (IsUnbuiltHere (not_built_at place)) (sym (stops.1 table)) (a_value {is = is} {place = place} model first)),
-  )
-  value_stops a is place old new end.Done model first same stops = absurd stops
-  value_stops a is place old new end.ReadFault model first same stops = absurd stops
-  value_stops a is place old new end.WriteFault model first same stops = absurd stops
-  value_stops a is place old new end.Memory model first same stops = absurd stops
-
-  puts : (a : Asked) (p : Program) (value : Option Span) (old new : Held) (e : End) → first_value Items ≡ value → IsProgram table Files p → Puts a read p value old new e → Builds a table Files Data Items old new e
-  puts a p None old new e first is put = finished a p old new e is (no_values Items first) put
-  puts a p (Some place) old new e first is put = value_stops a is.items place old new e is.model first put.0 put.1
-
-  pub builds : (a : Asked) (b : Built) (old new : Held) (e : End) → IsBuilt table Files b → PutsBuilt a read b old new e → Builds a table Files Data Items old new e
-  builds a (built.Program p) old new e is put = puts a (program p) (first_value Items) old new e refl is put
-  builds a (built.NotBuilt s n) old new e is put = subst (Builds a table Files Data Items old new) (sym put.1) (put.0, an_item {place = s} {file = text_of table n} is)
-
-  written_named : (p : Program) (old new : Held) (e : End) → IsWritten p old new e → IsNamedEnd table e
-  written_named p old new end.Done put = tt
-  written_named p old new end.WriteFault put = tt
-  written_named p old new end.Memory put = tt
-  written_named p old new (end.Refused f n) put = absurd put
-  written_named p old new end.ReadFault put = absurd put
-
-  finished_named : (a : Asked) (p : Program) (old new : Held) (e : End) → IsFinished a p old new e → IsNamedEnd table e
-  finished_named (compile s) p old new e left = written_named p old new e left
-  finished_named (check s) p old new e left = subst (IsNamedEnd table) (sym left.1) tt
-
-  value_named : (place : Span) (e : End) → IsRead table read → StopsAt read place e → IsNamedEnd table e
-  value_named place (end.Refused f n) known stops = stops.2 table known
-  value_named place end.Done known stops = absurd stops
-  value_named place end.ReadFault known stops = absurd stops
-  value_named place end.WriteFault known stops = absurd stops
-  value_named place end.Memory known stops = absurd stops
-
-  puts_named : (a : Asked) (p : Program) (value : Option Span) (old new : Held) (e : End) → IsRead table read → Puts a read p value old new e → IsNamedEnd table e
-  puts_named a p None old new e known put = finished_named a p old new e put
-  puts_named a p (Some place) old new e known put = value_named place e known put.1
-
-  pub named_end : (a : Asked) (b : Built) (old new : Held) (e : End) → IsRead table read → IsNamedBuilt table b → PutsBuilt a read b old new e → IsNamedEnd table e
-  named_end a (built.Program p) old new e known is put = puts_named a (program p) (first_value Items) old new e known put
-  named_end a (built.NotBuilt s n) old new e known is put = subst (IsNamedEnd table) (sym put.1) is
-
--- how it ends where a value stops it
-pub stops_counted : (read : SourcesWithData) (place : Span) (counts : SinkCounts) (e : End) → StopsAt read place e → CountsOut counts counts (status_of e)
-stops_counted read place counts (end.Refused f n) stops = refl
-stops_counted read place counts end.Done stops = absurd stops
-stops_counted read place counts end.ReadFault stops = absurd stops
-stops_counted read place counts end.WriteFault stops = absurd stops
-stops_counted read place counts end.Memory stops = absurd stops
+-- evaluating a program stops where the walk that writes does
+evaluation_stops : (l : Limits) (table : List Name) (p : PlainProgram) (f : Fault) → first_unbuilt table p ≡ None → writing_walk Untested l Bare no_values table p start ≡ Stopped f → IsStopped l table p f
+evaluation_stops l table p f none stops = by_evaluation none (record {
+  kind = kinds l table p (nothing_unbuilt table p none) no_values f stops;
+  stops = λ a choices.
+      ends_stopped (writing_walk Untested l Bare no_values table p start) (walk Positive l (cells.Given choices) a p start) f
+      (ends l table p (nothing_unbuilt table p none) a no_values choices) stops;
+})
 
 -- a kind of the tests raises no count of the files
 raises_none : (k : Kind) (counts : FileCounts) → IsOfTests k → CountsRefusal k counts counts
@@ -151,19 +124,21 @@ raises_none kind.LeftOut counts h = refl
 raises_none kind.Syntax counts h = refl
 raises_none _ counts h = absurd h
 
--- what compiling leaves, after the tests
+-- nor does a kind of evaluation
+walk_raises_none : (k : Kind) (counts : FileCounts) → is_walk_kind k ≡ true → CountsRefusal k counts counts
+walk_raises_none kind.MissingFile counts h = absurd (cc)
+walk_raises_none kind.TooLong counts h = absurd (cc)
+walk_raises_none _ counts h = refl
+
+-- what stopping leaves
 module _ (a : Asked) (table : List Name) (files : List File) (data_files : List Name) (items : List Given) where
-  pub leaves : (old new : Held) (e : End) → HasTypedModel table files items → Builds a table files data_files items old new e → IsLeft a table files data_files items old new e
-  leaves old new end.Done typed left = (typed, left)
-  leaves old new (end.Refused f n) typed left = (left.0, as_not_built typed left.1)
-  leaves old new end.ReadFault typed left = absurd left
-  leaves old new end.WriteFault typed left = (typed, left)
-  leaves old new end.Memory typed left = left
+  abbrev TheLimits : Limits
+  TheLimits = limits_of (settings_in a)
 
-  refused_by : (f g : Fault) (owner : Name) → g ≡ f → owner ≡ file_name files data_files f.span.file → FailsTest table files (length data_files) items f → IsRefusedAs table files data_files items g owner
-  refused_by f g owner same is refused = rw (same, is) (by_a_test refused)
+  refused_by : (f g : Fault) (owner : Name) → g ≡ f → owner ≡ file_name files data_files f.span.file → IsRefusedAs TheLimits table files data_files items f → IsRefusedAs TheLimits table files data_files items g × (owner ≡ file_name files data_files g.span.file)
+  refused_by f g owner same is refused = rw (same) (refused, is)
 
-  pub stopped : (h : Held) (s : Stop) (e : End) → stops.IfRefused s (FailsTest table files (length data_files) items) → Stops table files data_files s e → IsLeft a table files data_files items h h e
+  pub stopped : (h : Held) (s : Stop) (e : End) → stops.IfRefused s (IsRefusedAs TheLimits table files data_files items) → Stops table files data_files s e → IsLeft a table files data_files items h h e
   stopped h (stop.Refused f) (end.Refused g n) refused made = (refl, refused_by f g (text_of table n) made.0 made.1 refused)
   stopped h (stop.Refused f) end.Done refused made = absurd made
   stopped h (stop.Refused f) end.ReadFault refused made = absurd made
@@ -174,6 +149,18 @@ module _ (a : Asked) (table : List Name) (files : List File) (data_files : List 
   stopped h stop.Memory (end.Refused g n) refused made = absurd made
   stopped h stop.Memory end.ReadFault refused made = absurd made
   stopped h stop.Memory end.WriteFault refused made = absurd made
+
+  -- by a test; at what isn't built; by evaluation
+  pub test_stopped : (h : Held) (s : Stop) (e : End) → stops.IfRefused s (FailsTest table files (length data_files) items) → Stops table files data_files s e → IsLeft a table files data_files items h h e
+  test_stopped h (stop.Refused f) e fails made = stopped h (stop.Refused f) e (by_a_test fails) made
+  test_stopped h stop.Memory e fails made = stopped h stop.Memory e tt made
+
+  pub unbuilt_stopped : (h : Held) (p : PlainProgram) (place : Span) (e : End) → IsTypedModel table files items p → first_unbuilt table p ≡ Some place → Stops table files data_files (stop.Refused (not_built_at place)) e → IsLeft a table files data_files items h h e
+  unbuilt_stopped h p place e typed first made = stopped h (stop.Refused (not_built_at place)) e (as_stopped p typed (not_built first)) made
+
+  pub evaluation_stopped : (h : Held) (p : PlainProgram) (s : Stop) (e : End) → IsTypedModel table files items p → first_unbuilt table p ≡ None → stops.IfRefused s (λ f. writing_walk Untested TheLimits Bare no_values table p start ≡ Stopped f) → Stops table files data_files s e → IsLeft a table files data_files items h h e
+  evaluation_stopped h p (stop.Refused f) e typed none runs made = stopped h (stop.Refused f) e (as_stopped p typed (evaluation_stops TheLimits table p f none runs)) made
+  evaluation_stopped h p stop.Memory e typed none runs made = stopped h stop.Memory e tt made
 
   pub counts_out : (counts : SinkCounts) (s : Stop) (e : End) → Stops table files data_files s e → CountsOut counts counts (status_of e)
   counts_out counts (stop.Refused f) (end.Refused g n) made = refl
@@ -187,17 +174,17 @@ module _ (a : Asked) (table : List Name) (files : List File) (data_files : List 
   counts_out counts stop.Memory end.ReadFault made = absurd made
   counts_out counts stop.Memory end.WriteFault made = absurd made
 
-  unbuilt_counts : (counts : FileCounts) (f : Fault) (owner : Name) → IsUnbuilt table files data_files items f owner → CountsRefusal f.kind counts counts
-  unbuilt_counts counts _ _ (an_item not) = refl
-  unbuilt_counts counts _ _ (a_value model first) = refl
+  stopped_counts : (counts : FileCounts) (p : PlainProgram) (f : Fault) → IsStopped TheLimits table p f → CountsRefusal f.kind counts counts
+  stopped_counts counts p _ (not_built first) = refl
+  stopped_counts counts p f (by_evaluation none stops) = walk_raises_none f.kind counts stops.kind
 
-  refusal_counts : (counts : FileCounts) (f : Fault) (owner : Name) → IsRefusedAs table files data_files items f owner → CountsRefusal f.kind counts counts
-  refusal_counts counts f _ (by_a_test fails) = raises_none f.kind counts fails.kind
-  refusal_counts counts f owner (as_not_built typed unbuilt) = unbuilt_counts counts f owner unbuilt
+  refusal_counts : (counts : FileCounts) (f : Fault) → IsRefusedAs TheLimits table files data_files items f → CountsRefusal f.kind counts counts
+  refusal_counts counts f (by_a_test fails) = raises_none f.kind counts fails.kind
+  refusal_counts counts f (as_stopped p typed is) = stopped_counts counts p f is
 
   pub counts_files : (counts : FileCounts) (old new : Held) (e : End) → IsLeft a table files data_files items old new e → CountsFiles counts counts (status_of e)
   counts_files counts old new end.Done left = refl
-  counts_files counts old new (end.Refused f n) left = refusal_counts counts f (text_of table n) left.1
+  counts_files counts old new (end.Refused f n) left = refusal_counts counts f left.1
   counts_files counts old new end.ReadFault left = absurd left
   counts_files counts old new end.WriteFault left = refl
   counts_files counts old new end.Memory left = refl
@@ -232,20 +219,27 @@ module _ (table : List Name) (texts : Texts) (a : Asked) where
   unread_ends s h gathered.Memory same fails = refl
 
   module _ (s : Settings) (files : List File) (items : List Given) (sources : IsSourcesWithData table texts s.model s.data_files files items) where
-    refusal : (f : Fault) (owner : Name) → IsRefusedAs table files s.data_files items f owner → IsRefusal table texts s f owner
-    refusal f _ (by_a_test refused) = a_test_fails files items sources refused
-    refusal f owner (as_not_built typed unbuilt) = not_built files items sources typed unbuilt
+    refusal : (f : Fault) → IsRefusedAs (limits_of s) table files s.data_files items f → IsRefusal table texts s f (file_name files s.data_files f.span.file)
+    refusal f (by_a_test refused) = a_test_fails files items sources refused
+    refusal f (as_stopped p typed is) = not_compiled files items p sources typed is
 
-    compiles : (written : List ℕ) → HasTypedModel table files items → items ≡ [] → Compiled table files written → Compiles table texts s written
-    compiles written typed none is = record { files = files; items = items; sources = sources; typed = typed; no_values = none; compiled = is }
+    compiles : (written : List ℕ) → Compiled (limits_of s) table files items written → Compiles table texts s written
+    compiles written is = record { files = files; items = items; sources = sources; compiled = is }
+
+    -- the settings are those of the request
+    its_own : (written : List ℕ) → s ≡ settings_in a → Compiled (limits_of (settings_in a)) table files items written → Compiles table texts (settings_in a) written
+    its_own written same is = subst (λ t. Compiles table texts t written) same (compiles written (subst (λ t. Compiled (limits_of t) table files items written) (sym same) is))
+
+    its_refusal : (f : Fault) → s ≡ settings_in a → IsRefusedAs (limits_of (settings_in a)) table files s.data_files items f → IsRefusal table texts (settings_in a) f (file_name files s.data_files f.span.file)
+    its_refusal f same is = subst (λ t. IsRefusal table texts t f (file_name files s.data_files f.span.file)) same (refusal f (subst (λ t. IsRefusedAs (limits_of t) table files s.data_files items f) (sym same) is))
 
     -- how it ends where all files were read
-    pub ends : (old new : Held) (e : End) → s ≡ settings_in a → IsLeft a table files s.data_files items old new e → Ends table texts a old new e
-    ends old new end.Done same left = record { written = left.1.0; compiles = subst (λ t. Compiles table texts t left.1.0) same (compiles left.1.0 left.0 left.1.1 left.1.2); leaves = left.1.3 }
-    ends old new (end.Refused f n) same left = (left.0, subst (λ t. IsRefusal table texts t f (text_of table n)) same (refusal f (text_of table n) left.1))
-    ends old new end.ReadFault same left = absurd left
-    ends old new end.WriteFault same left = record { written = left.1.0; compiles = subst (λ t. Compiles table texts t left.1.0) same (compiles left.1.0 left.0 left.1.1 left.1.2); leaves = left.1.3 }
-    ends old new end.Memory same left = left
+    pub read_ends : (old new : Held) (e : End) → s ≡ settings_in a → IsLeft a table files s.data_files items old new e → Ends table texts a old new e
+    read_ends old new end.Done same left = record { written = left.0; compiles = its_own left.0 same left.1; leaves = left.2 }
+    read_ends old new (end.Refused f n) same left = (left.0, subst (IsRefusal table texts (settings_in a) f) (sym left.2) (its_refusal f same left.1))
+    read_ends old new end.ReadFault same left = absurd left
+    read_ends old new end.WriteFault same left = record { written = left.0; compiles = its_own left.0 same left.1; leaves = left.2 }
+    read_ends old new end.Memory same left = left
 
 -- with the names of the data files that were given
 pub left_by_names : (a : Asked) (table : List Name) (files : List File) (names given : List Name) (items : List Given) (old new : Held) (e : End) → names ≡ given → IsLeft a table files names items old new e → IsLeft a table files given items old new e
@@ -253,12 +247,12 @@ left_by_names a table files names given items old new e same left = subst (λ ds
 
 -- what an end says by a table whose texts are distinct: what is written, why it is refused, and which file its line names
 module _ (table : List Name) (distinct : AreDistinct table) (texts : Texts) (a : Asked) (old new : Held) where
-  pub headline : (e : End) → Ends table texts a old new e → OnDone (status_of e) (ByDistinctNames (λ t. Writes t texts a old new))
-  headline end.Done ended = record { table = table; distinct = distinct; holds = ended }
-  headline (end.Refused f n) ended = tt
-  headline end.ReadFault ended = tt
-  headline end.WriteFault ended = tt
-  headline end.Memory ended = tt
+  pub done_writes : (e : End) → Ends table texts a old new e → OnDone (status_of e) (ByDistinctNames (λ t. Writes t texts a old new))
+  done_writes end.Done ended = record { table = table; distinct = distinct; holds = ended }
+  done_writes (end.Refused f n) ended = tt
+  done_writes end.ReadFault ended = tt
+  done_writes end.WriteFault ended = tt
+  done_writes end.Memory ended = tt
 
   pub cut_short : (e : End) → Ends table texts a old new e → OnWriteFault (status_of e) (ByDistinctNames (λ t. WritesFront t texts a old new))
   cut_short end.Done ended = tt
@@ -327,7 +321,7 @@ module _ (known table : List Name) (texts : Texts) (s : Settings) (files : List 
   its_files f owner (a_file_fails h) =
       absurd (sources_or_failure table are.distinct are.told s.model s.data_files files items f owner its_sources (subst (λ t. FailsWithData table t s.model s.data_files f owner) are.is_told (failure_later known table grows texts s.model s.data_files f owner h)))
   its_files f _ (a_test_fails others more sources refused) = same_files others more sources
-  its_files f owner (not_built others more sources typed not) = same_files others more sources
+  its_files f _ (not_compiled others more p sources typed is) = same_files others more sources
 
 -- a told model isn't refused
 module _ (known : List Name) (distinct : AreDistinct known) (texts : Texts) (s : Settings) (told : IsToldModel known texts s) where
@@ -340,16 +334,18 @@ module _ (known : List Name) (distinct : AreDistinct known) (texts : Texts) (s :
   its_own : (files : List File) (items : List Given) → AreFiles files items → (files ≡ told.files) × (items ≡ told.values)
   its_own files items sources = one_sources known distinct told.told s.model s.data_files files told.files items told.values (of_told files items sources) (of_told told.files told.values told.sources)
 
-  no_place : (files : List File) (at : Where) → files ≡ told.files → formed known files ≡ Err at → ⊥
-  no_place files at same not = let model = told.model in cc
+  its_program : (files : List File) (items : List Given) (p : PlainProgram) → (files ≡ told.files) × (items ≡ told.values) → IsTypedModel known files items p → IsTypedModel known told.files told.values p
+  its_program files items p same typed = subst (λ gs. IsTypedModel known told.files gs p) same.1 (subst (λ fs. IsTypedModel known fs items p) same.0 typed)
 
-  no_value : (items : List Given) (place : Span) → items ≡ told.values → first_value items ≡ Some place → ⊥
-  no_value [] place same first = cc
-  no_value (g ∷ gs) place same first = let none = told.no_values in cc
+  not_through : {A : Type 0} (x : Answer A) (f : Fault) → GoesThrough x → x ≡ Stopped f → ⊥
+  not_through (Out v t) f through stops = cc
+  not_through (Stopped g) f through stops = through
 
-  is_built : (files : List File) (items : List Given) (f : Fault) (owner : Name) → (files ≡ told.files) × (items ≡ told.values) → IsUnbuilt known files s.data_files items f owner → ⊥
-  is_built files items _ _ same (an_item {place = place} {file = name} not) = no_place files (place, name) same.0 not
-  is_built files items _ _ same (a_value {place = place} model first) = no_value items place same.1 first
+  -- all of it is built, and it goes through
+  not_stopped : (p : PlainProgram) (f : Fault) → IsTypedModel known told.files told.values p → IsStopped (limits_of s) known p f → ⊥
+  not_stopped p _ typed (not_built first) = let none = told.built p typed in cc
+  not_stopped p f typed (by_evaluation none is) =
+      not_through (walk Positive (limits_of s) (cells.Given (λ k. absent)) no_values p start) f (told.evaluates p typed no_values (λ k. absent)) (is.stops no_values (λ k. absent))
 
   not_refused_here : (files : List File) (items : List Given) (f : Fault) → (files ≡ told.files) × (items ≡ told.values) → IsRefused known files items f → ⊥
   not_refused_here files items f same refused =
@@ -359,7 +355,7 @@ module _ (known : List Name) (distinct : AreDistinct known) (texts : Texts) (s :
   model_is_not_refused f owner (a_file_fails h) =
       sources_or_failure known distinct told.told s.model s.data_files told.files told.values f owner (of_told told.files told.values told.sources) (subst (λ t. FailsWithData known t s.model s.data_files f owner) told.is_told h)
   model_is_not_refused f _ (a_test_fails files items sources refused) = not_refused_here files items f (its_own files items sources) refused.refused
-  model_is_not_refused f owner (not_built files items sources typed not) = is_built files items f owner (its_own files items sources) not
+  model_is_not_refused f _ (not_compiled files items p sources typed is) = not_stopped p f (its_program files items p (its_own files items sources) typed) is
 
 -- where no count of faults rose, a run ends with Done, with Memory or refused
 module _ (known : List Name) (texts : Texts) (a : Asked) (P : Type 0) where

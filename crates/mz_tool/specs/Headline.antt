@@ -1,34 +1,40 @@
 -- What a compilation promises: the model's names and types, and its data, are right, and the bytes written spell a program that has the
 -- model's solutions and no others.
-use Rattle.std.specs.Prelude.{◌≡◌, ℕ, List, []}
+use Rattle.std.specs.Prelude.{◌≡◌, ℕ, List}
 use Rattle.mz_io.specs.Files.{Texts}
 use Rattle.mz_io.specs.Sink.{Held, Adds, AddsFront}
 use Rattle.mz_tree.specs.Data.{Given}
 use Rattle.mz_include.specs.Naming.{File}
 use Rattle.mz_data.specs.WithData.{IsSourcesWithData}
 use Rattle.mz_words.specs.Requests.{Settings, Asked, compile, check}
-use Rattle.mz_tool.specs.Words.{settings_in}
+use Rattle.mz_core.specs.Program.{PlainProgram}
+use Rattle.mz_meaning.specs.Walk.{Limits}
 use Rattle.fz_program.specs.Names.{Name}
 use Rattle.fz_program.specs.Flat.{Program}
 use Rattle.fz_spelling.specs.Spelling.{Spells}
-use Rattle.mz_first.specs.Promise.{IsProgram}
-use Rattle.mz_analysis.specs.Analysis.{HasTypedModel}
+use Rattle.mz_direct.specs.Headline.{KeepsSolutions}
+use Rattle.mz_analysis.specs.Analysis.{IsTypedModel}
+use Rattle.mz_tool.specs.Words.{settings_in}
 
--- these bytes are what a model's files compile to, by a table of names
-pub record Compiled (table : List Name) (files : List File) (written : List ℕ) : Type 0 where
+-- the limits of an evaluation
+abbrev pub limits_of : Settings → Limits
+limits_of s = record { budget = s.budget; int_range = s.int_range }
+
+-- The model's files with the items of its data are typed to a program, and the bytes spell a FlatZinc program that has its solutions, read
+-- off by names, with the same objective.
+pub record Compiled (l : Limits) (table : List Name) (files : List File) (items : List Given) (written : List ℕ) : Type 0 where
+  pub model : PlainProgram
+  pub typed : IsTypedModel table files items model
   pub program : Program
-  pub is_program : IsProgram table files program
+  pub keeps : KeepsSolutions l table model program
   pub spelled : Spells written program
 
--- The model of these settings, with its included files and its data, is typed and compiled to these bytes. Values from data aren't built
--- yet, so its data files, if there are any, give none.
+-- the model of these settings, with its included files and its data, is compiled to these bytes
 pub record Compiles (table : List Name) (texts : Texts) (s : Settings) (written : List ℕ) : Type 0 where
   pub files : List File
   pub items : List Given
   pub sources : IsSourcesWithData table texts s.model s.data_files files items
-  pub typed : HasTypedModel table files items
-  pub no_values : items ≡ []
-  pub compiled : Compiled table files written
+  pub compiled : Compiled (limits_of s) table files items written
 
 -- `compile` puts the bytes after those held, and `check` leaves those held
 abbrev pub Leaves : Asked → Held → Held → List ℕ → Type 0

@@ -1,5 +1,5 @@
 -- What a run answers, and the line that it writes of it.
-use Rattle.std.specs.Prelude.{◌≡◌, ◌≤◌, ◌⊎◌, ℕ, ℤ, List, [], ◌∷◌, ◌++◌, length, Option, Some, None, Ok, codes, decimal, if◌then◌else◌}
+use Rattle.std.specs.Prelude.{◌≡◌, ◌≤◌, ◌⊎◌, ℕ, ℤ, true, List, [], ◌∷◌, ◌++◌, length, Option, Some, None, codes, decimal, if◌then◌else◌}
 use Rattle.std.specs.Fmt.{signed_decimal}
 use Rattle.std.specs.Borrow.{Bor}
 use Rattle.mz_base.specs.declared.fault.Fault.{Fault}
@@ -12,21 +12,27 @@ use Rattle.mz_base.specs.Names.{AreDistinct, Grows}
 use Rattle.mz_io.specs.Counts.{Rose}
 use Rattle.mz_io.specs.Files.{Texts, FileCounts}
 use Rattle.mz_io.specs.Sink.{Held, SinkCounts, Adds}
-use Rattle.mz_tree.specs.Data.{Given}
+use Rattle.mz_tree.specs.Data as data
 use Rattle.mz_include.specs.Naming.{File}
 use Rattle.mz_data.specs.WithData.{IsSourcesWithData, FailsWithData}
 use Rattle.mz_words.specs.Requests.{Settings, Asked}
 use Rattle.mz_include.specs.Ends.{CountsRefusal}
 use Rattle.fz_program.specs.Names.{Name}
-use Rattle.mz_first.specs.Model.{Item}
-use Rattle.mz_first.specs.Reading.{formed}
-use Rattle.mz_first.specs.Promise.{IsNotBuilt}
-use Rattle.mz_analysis.specs.Analysis.{FailsTest, HasTypedModel, file_name}
+use Rattle.mz_value.specs.Contents.{Content}
+use Rattle.mz_core.specs.Program.{PlainProgram}
+use Rattle.mz_meaning.specs.Runs.{Answer, Out, Stopped, start}
+use Rattle.mz_meaning.specs.Cells.{Given}
+use Rattle.mz_meaning.specs.Contexts.{Positive}
+use Rattle.mz_meaning.specs.Walk.{Limits, Assignment, walk}
+use Rattle.mz_unbuilt.specs.Unbuilt.{first_unbuilt}
+use Rattle.mz_posting.specs.Ends.{is_walk_kind}
+use Rattle.mz_analysis.specs.Analysis.{FailsTest, IsTypedModel, HasTypedModel, file_name}
 use Rattle.mz_tool.specs.Words.{settings_in}
+use Rattle.mz_tool.specs.Headline.{limits_of}
 use Rattle.mz_tool.specs.declared.status.Status.{Status}
 use Rattle.mz_tool.specs.declared.status.Status.TheVariants.{Done, Refused, Usage, ReadFault, WriteFault, Memory}
 
--- the number behind a kind, where the line shows one
+-- the number after a kind, where the line shows one
 abbrev pub number_text : Kind → ℤ → List ℕ
 number_text kind n = if shows_number kind then codes " " ++ signed_decimal n else []
 
@@ -44,7 +50,7 @@ line_of file ReadFault = codes "mzc: read fault\n"
 line_of file WriteFault = codes "mzc: write fault\n"
 line_of file Memory = codes "mzc: out of memory\n"
 
--- a front of the line went behind the bytes held: all of it, or a put failed or wanted memory
+-- a prefix of the line was added to the bytes held: all of it, or a put failed or ran out of memory
 pub record Notes (old new : Held) (before after : SinkCounts) (line : List ℕ) : Type 0 where
   pub front : List ℕ
   pub back : List ℕ
@@ -61,23 +67,23 @@ IsLineNoted old new before after file status = Notes old new before after (line_
 abbrev pub not_built_at : Span → Fault
 not_built_at place = fault_at NotBuilt place
 
--- where the first value stands that data gives
-abbrev pub first_value : List Given → Option Span
-first_value [] = None
-first_value (g ∷ gs) = Some g.span
+-- evaluating a program stops at this fault, whatever its variables' values are
+pub record EvaluationStops (l : Limits) (p : PlainProgram) (f : Fault) : Type 0 where
+  pub kind : is_walk_kind f.kind ≡ true
+  pub stops : (a : Assignment) (choices : ℕ → Content) → walk Positive l (Given choices) a p start ≡ Stopped f
 
--- What isn't built yet, and the name of its file: the first item of the model that isn't of the form that is built; or, where all are,
--- the first value that data gives.
-pub data IsUnbuilt (table : List Name) (files : List File) (data_files : List Name) (items : List Given) : Fault → Name → Type 0 where
-  an_item : {place : Span} {file : Name} → IsNotBuilt table files (place, file) → IsUnbuilt table files data_files items (not_built_at place) file
-  a_value : {is : List Item} {place : Span} → formed table files ≡ Ok is → first_value items ≡ Some place → IsUnbuilt table files data_files items (not_built_at place) (file_name files data_files place.file)
+-- Why a typed program isn't compiled: something in it isn't built, and this is the first place; or, where all is built, evaluating it
+-- stops.
+pub data IsStopped (l : Limits) (table : List Name) (p : PlainProgram) : Fault → Type 0 where
+  not_built : {place : Span} → first_unbuilt table p ≡ Some place → IsStopped l table p (not_built_at place)
+  by_evaluation : {f : Fault} → first_unbuilt table p ≡ None → EvaluationStops l p f → IsStopped l table p f
 
 -- Why the model of these settings is refused, and the name of the file of the fault's place: a file of the model or of its data fails;
--- or a test of names, of types or of data fails; or the model is typed, and isn't of the form that is built.
+-- or a test of names, of types or of data fails; or the model is typed, and isn't compiled.
 pub data IsRefusal (table : List Name) (texts : Texts) (s : Settings) : Fault → Name → Type 0 where
   a_file_fails : {f : Fault} {file : Name} → FailsWithData table texts s.model s.data_files f file → IsRefusal table texts s f file
-  a_test_fails : {f : Fault} (files : List File) (items : List Given) → IsSourcesWithData table texts s.model s.data_files files items → FailsTest table files (length s.data_files) items f → IsRefusal table texts s f (file_name files s.data_files f.span.file)
-  not_built : (files : List File) (items : List Given) {f : Fault} {file : Name} → IsSourcesWithData table texts s.model s.data_files files items → HasTypedModel table files items → IsUnbuilt table files s.data_files items f file → IsRefusal table texts s f file
+  a_test_fails : {f : Fault} (files : List File) (items : List data.Given) → IsSourcesWithData table texts s.model s.data_files files items → FailsTest table files (length s.data_files) items f → IsRefusal table texts s f (file_name files s.data_files f.span.file)
+  not_compiled : {f : Fault} (files : List File) (items : List data.Given) (p : PlainProgram) → IsSourcesWithData table texts s.model s.data_files files items → IsTypedModel table files items p → IsStopped (limits_of s) table p f → IsRefusal table texts s f (file_name files s.data_files f.span.file)
 
 -- by some table of names, whose texts are distinct, this holds
 pub record ByDistinctNames (P : List Name → Type 0) : Type 0 where
@@ -141,20 +147,25 @@ CountsOut old new WriteFault = Rose old.faults new.faults × (new.shortages ≡ 
 CountsOut old new Memory = (new.faults ≡ old.faults) × (old.shortages ≤ new.shortages)
 CountsOut old new _ = new ≡ old
 
--- the told texts are a model with data files that give no value; it has a typed program and is of the form that is built, by this table
+-- a run goes through
+abbrev pub GoesThrough : {A : Type 0} → Answer A → Type 0
+GoesThrough (Out x t) = Unit {0}
+GoesThrough (Stopped f) = ⊥
+
+-- The told texts are a model with its data that has a typed program, by this table; and all is built of what it is typed to, and
+-- evaluating it goes through.
 pub record IsToldModel (table : List Name) (texts : Texts) (s : Settings) : Type 0 where
   pub told : List ℕ → Option (List ℕ)
   pub is_told : texts ≡ Some told
   pub files : List File
-  pub values : List Given
+  pub values : List data.Given
   pub sources : IsSourcesWithData table texts s.model s.data_files files values
   pub typed : HasTypedModel table files values
-  pub no_values : values ≡ []
-  pub items : List Item
-  pub model : formed table files ≡ Ok items
+  pub built : (p : PlainProgram) → IsTypedModel table files values p → first_unbuilt table p ≡ None
+  pub evaluates : (p : PlainProgram) → IsTypedModel table files values p → (a : Assignment) (choices : ℕ → Content) → GoesThrough (walk Positive (limits_of s) (Given choices) a p start)
 
 -- the told texts are files of a model and items of its data, by this table
-pub record AreToldFiles (table : List Name) (texts : Texts) (s : Settings) (files : List File) (values : List Given) : Type 0 where
+pub record AreToldFiles (table : List Name) (texts : Texts) (s : Settings) (files : List File) (values : List data.Given) : Type 0 where
   pub told : List ℕ → Option (List ℕ)
   pub is_told : texts ≡ Some told
   pub distinct : AreDistinct table
@@ -164,7 +175,7 @@ pub record AreToldFiles (table : List Name) (texts : Texts) (s : Settings) (file
 -- the files that are read by some table that goes on from this one are read by this one too.
 pub record Completes (known : List Name) (texts : Texts) (s : Settings) (status : Status) : Type 0 where
   pub distinct : AreDistinct known
-  pub whole : (table : List Name) (files : List File) (values : List Given) → Grows known table → AreToldFiles table texts s files values → IsSourcesWithData known texts s.model s.data_files files values ⊎ IsDoneOrMemory status
+  pub whole : (table : List Name) (files : List File) (values : List data.Given) → Grows known table → AreToldFiles table texts s files values → IsSourcesWithData known texts s.model s.data_files files values ⊎ IsDoneOrMemory status
   pub compiled : IsToldModel known texts s → IsDoneOrMemory status
 
 -- A told model is compiled, unless a count of faults rose or memory ran out.

@@ -1,22 +1,26 @@
 // A model with its included files and its data, compiled or checked.
 
-ghost use Rattle.std.specs.Prelude.{◌≡◌, ◌<◌, List, ℕ, Some, length};
-ghost use Rattle.mz_words.specs.Requests.{request_of, settings};
+ghost use Rattle.std.specs.Prelude.{◌≡◌, ◌<◌, List, ℕ, None, Some, length, All};
+ghost use Rattle.mz_words.specs.Requests.{AskedWithinLimits, request_of, settings};
+ghost use Rattle.mz_core.specs.Program.{plain_program};
+ghost use Rattle.mz_unbuilt.specs.Unbuilt.{first_unbuilt};
 ghost use Rattle.fz_program.specs.Flat.{program, WellFormed};
-ghost use Rattle.mz_analysis.specs.Analysis.{IsRead, files_read, items_read};
+ghost use Rattle.mz_analysis.specs.Analysis.{IsRead, IsTypedModel, evaluated, files_read, items_read, names_of};
 ghost use Rattle.mz_tool.specs.Words.{settings_in, OnCheck};
-ghost use Rattle.mz_tool.specs.StepsCompiling.{status_of, data_names, IsWritable, IsWritten, IsFinished, StopsAt, PutsBuilt, Builds, Stops, IsLeft, unread, Ends, IsNamedEnd};
-ghost use Rattle.mz_tool.specs.Status.{first_value, CountsFiles, CountsOut};
+ghost use Rattle.mz_tool.specs.StepsCompiling.{status_of, data_names, IsWritten, IsFinished, Stops, IsLeft, unread, Ends, IsNamedEnd};
+ghost use Rattle.mz_tool.specs.Status.{CountsFiles, CountsOut};
 
 use crate::status::Status;
 use fz_program::FzProgram;
 use fz_text::{Wrote, write};
-use mz_analysis::{file_name, test_model};
-use mz_base::{Fault, Kind, Name, Names, Span, Stop};
+use mz_analysis::{file_name, typed_model};
+use mz_base::{Fault, Kind, Name, Names, Stop};
+use mz_core::Program;
 use mz_data::{SourcesWithData, gather_with_data};
-use mz_first::{Built, build};
 use mz_include::GatherEnd;
 use mz_io::{Files, Sink};
+use mz_post::post_model;
+use mz_unbuilt::first_unbuilt;
 use mz_words::{Options, Request};
 use std::alloc::Global;
 
@@ -71,71 +75,7 @@ fn finish<S: Sink>(alloc: Global, request: &Request<'_>, flat: &FzProgram, out: 
     }
 }
 
-/// Where the first value stands that data gives.
-fn first_value(read: &SourcesWithData) -> Option<Span>
-    ensures { result ≡ first_value (items_read read.now) }
-{
-    match read.given_data.items.as_slice().first() {
-        Some(item) => Some(item.span),
-        None => None,
-    }
-}
-
-/// A refusal at a value of the data.
-fn not_built_value(read: &SourcesWithData, place: Span) -> End
-    requires { 0 < length read.now.sources.files.items }
-    ensures { StopsAt read.now place result }
-{
-    End::Refused(
-        Fault::at(Kind::NotBuilt, place),
-        file_name(read, place.file),
-    )
-}
-
-/// What is asked for, of what was built.
-fn finish_built<S: Sink>(
-    alloc: Global,
-    request: &Request<'_>,
-    read: &SourcesWithData,
-    built: &Built,
-    out: &mut S,
-) -> End
-    requires some { 0 < length read.now.sources.files.items }
-    requires writable { IsWritable built.now }
-    ensures left { PutsBuilt (request_of request.now) read.now built.now (S.held out.old) (S.held out.new) result }
-    ensures counted { CountsOut (S.counts out.old) (S.counts out.new) (status_of result) }
-    ensures silent { OnCheck (Some (request_of request.now)) (out.new ≡ out.old) }
-{
-    match built {
-        Built::Program(program) => match first_value(read) {
-            None => finish(alloc, request, program, out),
-            Some(place) => not_built_value(read, place),
-        },
-        Built::NotBuilt(span, file) => End::Refused(Fault::at(Kind::NotBuilt, *span), *file),
-    }
-}
-
-/// What is asked for, of the files of a model that is typed, by the table of their names.
-fn compile_typed<S: Sink>(
-    alloc: Global,
-    request: &Request<'_>,
-    read: &SourcesWithData,
-    names: &Names,
-    out: &mut S,
-) -> End
-    requires { IsRead names.now read.now }
-    ensures left { Builds (request_of request.now) names.now (files_read names.now read.now) (data_names names.now read.now) (items_read read.now) (S.held out.old) (S.held out.new) result }
-    ensures named { IsNamedEnd names.now result }
-    ensures counted { CountsOut (S.counts out.old) (S.counts out.new) (status_of result) }
-    ensures silent { OnCheck (Some (request_of request.now)) (out.new ≡ out.old) }
-{
-    match build(alloc, &read.sources, names) {
-        Ok(built) => finish_built(alloc, request, read, &built, out),
-        Err(_) => End::Memory,
-    }
-}
-
-/// How a compilation ended whose names, types or data are refused.
+/// How a compilation ended that was stopped.
 fn stopped(read: &SourcesWithData, stop: Stop) -> End
     requires { 0 < length read.now.sources.files.items }
     ensures stops { (table : List (List ℕ)) → Stops table (files_read table read.now) (data_names table read.now) stop result }
@@ -150,8 +90,62 @@ fn stopped(read: &SourcesWithData, stop: Stop) -> End
     }
 }
 
-/// What is asked for, of the files of a model, by the table of their names: the names are tested, then the types and the data, and then
-/// whether the model is of the form that is built.
+/// What is asked for, of a typed program of which all is built, by the table of its names: it is evaluated and written.
+fn compile_built<S: Sink>(
+    alloc: Global,
+    request: &Request<'_>,
+    read: &SourcesWithData,
+    names: &Names,
+    program: &Program,
+    out: &mut S,
+) -> End
+    requires limits { AskedWithinLimits (request_of request.now) }
+    requires read { IsRead names.now read.now }
+    requires typed { IsTypedModel names.now (files_read names.now read.now) (items_read read.now) (plain_program program.now) }
+    requires named { All (λ n. n < length names.now) (names_of (evaluated (plain_program program.now))) }
+    requires built { first_unbuilt names.now (plain_program program.now) ≡ None }
+    ensures left { IsLeft (request_of request.now) names.now (files_read names.now read.now) (data_names names.now read.now) (items_read read.now) (S.held out.old) (S.held out.new) result }
+    ensures named { IsNamedEnd names.now result }
+    ensures counted { CountsOut (S.counts out.old) (S.counts out.new) (status_of result) }
+    ensures silent { OnCheck (Some (request_of request.now)) (out.new ≡ out.old) }
+{
+    let options = options_of(request);
+    match post_model(alloc, program, names, options.budget, options.int_range) {
+        Ok(flat) => finish(alloc, request, &flat, out),
+        Err(stop) => stopped(read, stop),
+    }
+}
+
+/// What is asked for, of the typed program of a model's files, by the table of their names.
+fn compile_typed<S: Sink>(
+    alloc: Global,
+    request: &Request<'_>,
+    read: &SourcesWithData,
+    names: &Names,
+    program: &Program,
+    out: &mut S,
+) -> End
+    requires limits { AskedWithinLimits (request_of request.now) }
+    requires read { IsRead names.now read.now }
+    requires typed { IsTypedModel names.now (files_read names.now read.now) (items_read read.now) (plain_program program.now) }
+    requires named { All (λ n. n < length names.now) (names_of (evaluated (plain_program program.now))) }
+    ensures left { IsLeft (request_of request.now) names.now (files_read names.now read.now) (data_names names.now read.now) (items_read read.now) (S.held out.old) (S.held out.new) result }
+    ensures named { IsNamedEnd names.now result }
+    ensures counted { CountsOut (S.counts out.old) (S.counts out.new) (status_of result) }
+    ensures silent { OnCheck (Some (request_of request.now)) (out.new ≡ out.old) }
+{
+    match first_unbuilt(alloc, program, names) {
+        Ok(None) => compile_built(alloc, request, read, names, program, out),
+        Ok(Some(place)) => stopped(
+            read,
+            Stop::Refused(Fault::at(Kind::NotBuilt, place)),
+        ),
+        Err(_) => End::Memory,
+    }
+}
+
+/// What is asked for, of the files of a model, by the table of their names: the names are tested, then the types and the data, then
+/// whether all of the program is built; then it is evaluated and written.
 fn compile_files<S: Sink>(
     alloc: Global,
     request: &Request<'_>,
@@ -159,15 +153,26 @@ fn compile_files<S: Sink>(
     names: &Names,
     out: &mut S,
 ) -> End
-    requires { IsRead names.now read.now }
+    requires limits { AskedWithinLimits (request_of request.now) }
+    requires read { IsRead names.now read.now }
     ensures left { IsLeft (request_of request.now) names.now (files_read names.now read.now) (data_names names.now read.now) (items_read read.now) (S.held out.old) (S.held out.new) result }
     ensures named { IsNamedEnd names.now result }
     ensures counted { CountsOut (S.counts out.old) (S.counts out.new) (status_of result) }
     ensures silent { OnCheck (Some (request_of request.now)) (out.new ≡ out.old) }
 {
-    match test_model(alloc, read, names) {
-        Ok(()) => compile_typed(alloc, request, read, names, out),
+    match typed_model(alloc, read, names) {
+        Ok(program) => compile_typed(alloc, request, read, names, &program, out),
         Err(stop) => stopped(read, stop),
+    }
+}
+
+/// The files and the options of a request.
+fn options_of<'a, 'b>(request: &'a Request<'b>) -> &'a Options<'b>
+    ensures { settings result.now ≡ settings_in (request_of request.now) }
+{
+    match request {
+        Request::Compile(options) => options,
+        Request::Check(options) => options,
     }
 }
 
@@ -182,16 +187,6 @@ fn not_gathered(end: &GatherEnd) -> End
     }
 }
 
-/// The files and the options of a request.
-fn options_of<'a, 'b>(request: &'a Request<'b>) -> &'a Options<'b>
-    ensures { settings result.now ≡ settings_in (request_of request.now) }
-{
-    match request {
-        Request::Compile(options) => options,
-        Request::Check(options) => options,
-    }
-}
-
 /// Does what is asked for: reads the model with its included files and its data, and compiles it or checks it.
 pub fn compile<F: Files, S: Sink>(
     alloc: Global,
@@ -200,6 +195,7 @@ pub fn compile<F: Files, S: Sink>(
     names: &mut Names,
     out: &mut S,
 ) -> End
+    requires { AskedWithinLimits (request_of request.now) }
     ensures ended { Ends names.new (F.texts files.old) (request_of request.now) (S.held out.old) (S.held out.new) result }
     ensures named { IsNamedEnd names.new result }
     ensures files { CountsFiles (F.counts files.old) (F.counts files.new) (status_of result) }

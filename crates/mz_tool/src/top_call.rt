@@ -3,7 +3,7 @@
 ghost use Rattle.std.specs.Prelude.{◌≡◌, ◌<◌, List, ℕ, Some, IsSomeAnd};
 ghost use Rattle.mz_io.specs.Counts.{Rose};
 ghost use Rattle.mz_command.specs.Found.{text_of};
-ghost use Rattle.mz_words.specs.Requests.{asked, request_of};
+ghost use Rattle.mz_words.specs.Requests.{AskedWithinLimits, asked, request_of};
 ghost use Rattle.mz_tool.specs.Words.{settings_in, IsUsage, OnCheck};
 ghost use Rattle.mz_tool.specs.Headline.{Writes, WritesFront};
 ghost use Rattle.mz_tool.specs.StepsCompiling.{file_of, IsNamedEnd};
@@ -36,6 +36,7 @@ fn answer<F: Files, S: Sink, E: Sink>(
     out: &mut S,
     notes: &mut E,
 ) -> Status
+    requires { AskedWithinLimits (request_of request.now) }
     ensures headline { OnDone result (ByDistinctNames (λ table.
         Writes table (F.texts files.old) (request_of request.now) (S.held out.old) (S.held out.new))) }
     ensures usage { IsUsage (Some (request_of request.now)) result }

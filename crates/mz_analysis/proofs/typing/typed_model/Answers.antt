@@ -1,6 +1,8 @@
 use Rattle.std.proofs.Common.{length}
 use Rattle.mz_scoped.specs.Scoped.{scoped_tree}
-use Rattle.mz_analysis.specs.Analysis.{FailsTest, files_read, items_read}
+use Rattle.mz_core.specs.Program.{plain_program}
+use Rattle.mz_analysis.specs.Analysis.{FailsTest, files_read, items_read, count_read}
+use Rattle.mz_analysis.proofs.Declared.{declared_within, typed_within}
 use Rattle.mz_analysis.proofs.Later.{named_model}
 use Rattle.mz_analysis.proofs.Fails.{names_fail, types_fail, handed_on}
 use Rattle.mz_analysis.proofs.typing.typed_model.Goals as goal
@@ -27,3 +29,15 @@ returns-clause-typed c = record {
   is = c.in_ok-scoped.ensures.scoped;
   types = c.in_ok-program.ensures.checks;
 }
+
+pub returns-clause-named : goal.returns-clause-named
+returns-clause-named c =
+    declared_within c.args.names.now (files_read c.args.names.now c.args.read.now) (items_read c.args.read.now) (plain_program c.in_ok-program.program) (length c.args.names.now) (count_read c.args.read.now)
+    (record { scoped = scoped_tree c.in_ok-scoped.scoped; is = c.in_ok-scoped.ensures.scoped; types = c.in_ok-program.ensures.checks })
+    c.in_ok-scoped.ensures.within
+
+pub returns-clause-named_in_order : goal.returns-clause-named_in_order
+returns-clause-named_in_order c =
+    typed_within c.args.names.now (files_read c.args.names.now c.args.read.now) (items_read c.args.read.now) (plain_program c.in_ok-program.program) (length c.args.names.now) (count_read c.args.read.now)
+    (record { scoped = scoped_tree c.in_ok-scoped.scoped; is = c.in_ok-scoped.ensures.scoped; types = c.in_ok-program.ensures.checks })
+    c.in_ok-scoped.ensures.within

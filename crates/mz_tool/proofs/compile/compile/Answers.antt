@@ -7,7 +7,7 @@ use Rattle.mz_data.specs.WithData.{IsSourcesWithData, FailsWithData, words_of}
 use Rattle.mz_analysis.specs.Analysis.{files_read, items_read}
 use Rattle.mz_words.specs.Requests.{request_of, settings}
 use Rattle.mz_tool.specs.StepsCompiling.{data_names}
-use Rattle.mz_tool.proofs.Endings.{all_read, ends, left_by_names, counts_files, unread_ends}
+use Rattle.mz_tool.proofs.Endings.{all_read, read_ends, left_by_names, counts_files, unread_ends}
 use Rattle.mz_tool.proofs.compile.compile.Goals as goal
 
 pub compile_files-requires : goal.compile_files-requires
@@ -21,7 +21,7 @@ returns-in-Ok-clause-ended g c =
     let s = settings c.options_of-options.result.now in
     let files = files_read table c.in-Ok.read in
     let items = items_read c.in-Ok.read in
-    ends table texts (request_of c.args.request.now) s files items (subst (λ ws. IsSourcesWithData table texts s.model (words_of ws) files items) c.as_slice.ensures.value c.in-Ok.ensures.sources) _ _ c.compile_files.result c.options_of-options.ensures
+    read_ends table texts (request_of c.args.request.now) s files items (subst (λ ws. IsSourcesWithData table texts s.model (words_of ws) files items) c.as_slice.ensures.value c.in-Ok.ensures.sources) _ _ c.compile_files.result c.options_of-options.ensures
     (left_by_names (request_of c.args.request.now) table files (data_names table c.in-Ok.read) s.data_files items _ _ c.compile_files.result (c.in-Ok.ensures.known.data_files ∙ ap words_of c.as_slice.ensures.value) c.compile_files.ensures.left)
 
 pub returns-in-Ok-clause-files : goal.returns-in-Ok-clause-files

@@ -3,13 +3,13 @@ use Rattle.mz_base.specs.Names.{AreDistinct}
 use Rattle.mz_words.specs.Requests.{request_of}
 use Rattle.mz_tool.specs.Words.{settings_in}
 use Rattle.mz_tool.specs.Status.{Completes}
-use Rattle.mz_tool.proofs.Endings.{headline, cut_short, refused, owner, completes, is_usage, same_asked}
+use Rattle.mz_tool.proofs.Endings.{done_writes, cut_short, refused, owner, completes, is_usage, same_asked}
 use Rattle.mz_tool.proofs.top_call.answer.Goals as goal
 
 pub returns-clause-headline : goal.returns-clause-headline
 returns-clause-headline g c =
     rw c.status-status.ensures
-    (headline c.compile-end.new.names (subst AreDistinct c.names.view_is c.names.invariant) (g.F.Files.texts c.args.files.now) (request_of c.args.request.now) _ _ c.compile-end.result c.compile-end.ensures.ended)
+    (done_writes c.compile-end.new.names (subst AreDistinct c.names.view_is c.names.invariant) (g.F.Files.texts c.args.files.now) (request_of c.args.request.now) _ _ c.compile-end.result c.compile-end.ensures.ended)
 
 pub returns-clause-usage : goal.returns-clause-usage
 returns-clause-usage g c = rw c.status-status.ensures (is_usage (Some (request_of c.args.request.now)) (request_of c.args.request.now) c.compile-end.result refl)

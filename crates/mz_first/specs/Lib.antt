@@ -1,9 +1,0 @@
-pub mod Model
-pub mod Form
-pub mod Known
-pub mod Emission
-pub mod Reading
-pub mod Promise
-pub mod Views
-pub mod Proper
-pub mod Examples
