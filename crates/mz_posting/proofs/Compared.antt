@@ -1,5 +1,5 @@
 -- What a constraint is posted as has the constraint's cell, in any mode and context.
-use Rattle.std.proofs.Common.{◌≡◌, ℕ, zero, suc, ◌+◌, ◌-◌, ◌≤◌, Bool, true, false, ◌&&◌, ◌||◌, List, [], ◌∷◌, Option, Some, None, refl, sym, ap, ◌∙◌, subst, arith, nat_eq, nat_le, leb-true, is_none, if◌then◌else◌}
+use Rattle.std.proofs.Common.{◌≡◌, ℕ, zero, suc, ◌+◌, ◌-◌, ◌≤◌, Bool, true, false, ◌&&◌, ◌||◌, List, [], ◌∷◌, Option, Some, None, refl, ap, ◌∙◌, subst, arith, nat_eq, nat_le, leb-true, is_none, if◌then◌else◌}
 use Rattle.mz_base.specs.declared.fault.Span.{Span}
 use Rattle.mz_core.specs.Types.{PlainType}
 use Rattle.mz_core.specs.Coercions.{PathLink}
@@ -7,15 +7,15 @@ use Rattle.mz_core.specs.Tree.{Tree, Step, place_of}
 use Rattle.mz_core.specs.Tree as tree
 use Rattle.mz_meaning.specs.Runs.{Run, State, Answer, Out, Stopped, then_do, give}
 use Rattle.mz_meaning.specs.Cells.{Cell, Env, typed}
-use Rattle.mz_meaning.specs.Contexts.{Context, Untested, Positive, Other, within_links}
-use Rattle.mz_meaning.specs.Chains.{Front, Operator, level_table, level_of, chain_level, same_level, front_of, fronted, backed, chained, before, right_in, operand_base, a_step_of}
+use Rattle.mz_meaning.specs.Contexts.{Context, Untested, Positive, Other}
+use Rattle.mz_meaning.specs.Chains.{Operator, level_table, level_of, chain_level, same_level, front_of, fronted, backed, before, right_in, operand_base, a_step_of}
 use Rattle.mz_meaning.specs.Forms.{World, Eval, coerced_by, operated, operators, operand_place, chain, chain_by}
 use Rattle.mz_meaning.specs.Evaluation.{eval}
 use Rattle.mz_meaning.specs.Walk.{levels}
 use Rattle.mz_unbuilt.specs.Variables.{Named}
 use Rattle.mz_unbuilt.specs.Comparisons.{is_comparison, is_var_truth, is_step, are_operands, is_compared, is_par_constraint, is_constraint_built}
 use Rattle.mz_unbuilt.specs.Variables.{is_int}
-use Rattle.mz_posting.specs.Posted.{Posted, Whole, Pair, posted_cell, operand, compare, below, post_comparison, post_whole, post_by, post}
+use Rattle.mz_posting.specs.Posted.{Posted, Whole, Pair, posted_cell, operand, compare, post_comparison, post_by, post}
 use Rattle.mz_posting.proofs.Inner.{within_none, eval_operand}
 
 -- ---- tests

@@ -1,5 +1,5 @@
 -- How a posting walk ends beside others: with other values and in other contexts.
-use Rattle.std.specs.Prelude.{◌≡◌, Bool, true, List, map}
+use Rattle.std.specs.Prelude.{◌≡◌, Bool, true, map}
 use Rattle.mz_base.specs.declared.kind.Kind.{Kind}
 use Rattle.mz_base.specs.declared.kind.Kind.TheVariants as kind
 use Rattle.mz_meaning.specs.Runs.{Answer, Out, Stopped}
