@@ -13,7 +13,7 @@ use Rattle.mz_meaning.specs.Evaluation.{node, is_name, eval}
 use Rattle.mz_posting.specs.Posted.{operand}
 
 mutual
-  inner_twice : (e : Tree) → inner_tree (inner_tree e) ≡ inner_tree e
+  pub inner_twice : (e : Tree) → inner_tree (inner_tree e) ≡ inner_tree e
   inner_twice (tree.node at t form) = inner_under_twice at t form
 
   inner_under_twice : (at : Span) (t : PlainType) (form : Shape) → inner_tree (inner_under at t form) ≡ inner_under at t form
@@ -21,7 +21,7 @@ mutual
   inner_under_twice at t form = refl
 
 mutual
-  no_coercions : (e : Tree) → root_coercions (inner_tree e) ≡ []
+  pub no_coercions : (e : Tree) → root_coercions (inner_tree e) ≡ []
   no_coercions (tree.node at t form) = no_coercions_under at t form
 
   no_coercions_under : (at : Span) (t : PlainType) (form : Shape) → root_coercions (inner_under at t form) ≡ []
