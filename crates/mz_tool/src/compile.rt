@@ -136,10 +136,10 @@ fn compile_typed<S: Sink>(
 {
     match first_unbuilt(alloc, program, names) {
         Ok(None) => compile_built(alloc, request, read, names, program, out),
-        Ok(Some(place)) => stopped(
-            read,
-            Stop::Refused(Fault::at(Kind::NotBuilt, place)),
-        ),
+        Ok(Some(place)) => {
+            let stop = Stop::Refused(Fault::at(Kind::NotBuilt, place));
+            stopped(read, stop)
+        }
         Err(_) => End::Memory,
     }
 }
