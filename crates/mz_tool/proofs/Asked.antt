@@ -16,8 +16,11 @@ of_options o a same h = subst IsWithinLimits (sym same) (of_asked a h)
 pub budget_is_small : (o : Options) (a : Asked) → settings o ≡ settings_in a → AskedWithinLimits a → o.budget < 2 ^ 63
 budget_is_small o a same h = let w = (of_options o a same h).budget.1 in omega (arith, w)
 
+from_one : (n : ℤ) → pos 1 ≤ℤ n → pos 0 ≤ℤ n
+from_one n h = grind arith
+
 pub range_from_zero : (o : Options) (a : Asked) → settings o ≡ settings_in a → AskedWithinLimits a → pos 0 ≤ℤ o.int_range
-range_from_zero o a same h = let w = (of_options o a same h).least_range in omega (arith, w)
+range_from_zero o a same h = from_one o.int_range (of_options o a same h).least_range
 
 pub range_in_limit : (o : Options) (a : Asked) → settings o ≡ settings_in a → AskedWithinLimits a → o.int_range ≤ℤ greatest
 range_in_limit o a same h = (of_options o a same h).greatest_range
