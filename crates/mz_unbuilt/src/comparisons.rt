@@ -1,6 +1,6 @@
 // Which constraints are built: par ones, and comparisons of names and par integers.
 
-ghost use Rattle.std.specs.Prelude.{◌≡◌, ◌&&◌, ◌||◌, not, map};
+ghost use Rattle.std.specs.Prelude.{◌≡◌, ◌&&◌, ◌||◌, map};
 ghost use Rattle.mz_core.specs.Types.{plain_type};
 ghost use Rattle.mz_core.specs.Paths.{path_links};
 ghost use Rattle.mz_core.specs.Tree.{inner_tree};
