@@ -1,5 +1,5 @@
 -- The declarations of a typed program in the order of evaluation: they are numbered, and have the names of the scoped model.
-use Rattle.std.proofs.Common.{◌≡◌, ◌∙◌, ℕ, suc, ◌<◌, Bool, true, false, ◌||◌, List, [], ◌∷◌, ◌++◌, Option, Some, None, Ok, Err, map, length, get_or, refl, sym, ap, subst, arith}
+use Rattle.std.proofs.Common.{◌≡◌, ◌∙◌, ℕ, suc, ◌+◌, ◌<◌, Bool, true, false, ◌||◌, List, [], ◌∷◌, ◌++◌, Option, Some, None, Ok, Err, map, length, get_or, refl, sym, ap, subst, arith}
 use Rattle.std.specs.Prelude.{slice_get, All, nat_eq}
 use Rattle.std.specs.List.{enumerate_from, flat_map, list_any}
 use Rattle.std.proofs.lemmas.List.Elements.{All-weaker, All-map}
@@ -108,11 +108,11 @@ found_are es (k ∷ ks) (d ∷ ds) e =
 
 any_left : (test : ℕ → Bool) (xs ys : List ℕ) → list_any test (xs ++ ys) ≡ false → list_any test xs ≡ false
 any_left test [] ys h = refl
-any_left test (x ∷ xs) ys h = go (test x) refl
+any_left test (x ∷ xs) ys h = go (test x) (any_left test xs ys) h
   where
-    go : (b : Bool) → test x ≡ b → list_any test (x ∷ xs) ≡ false
-    go true e = absurd (cc)
-    go false e = rw (e) any_left test xs ys (rw (← e) h)
+    go : (b : Bool) → (list_any test (xs ++ ys) ≡ false → list_any test xs ≡ false) → (b || list_any test (xs ++ ys)) ≡ false → (b || list_any test xs) ≡ false
+    go true rest e = absurd (cc)
+    go false rest e = rest e
 
 distinct_left : (xs ys : List Name) → AreDistinct (xs ++ ys) → AreDistinct xs
 distinct_left [] ys h = tt
@@ -140,6 +140,7 @@ pub typed_distinct : (table : List (List ℕ)) (files : List File) (items : List
 typed_distinct table files items p h = subst AreDistinct (sym (names_are h)) (decls_distinct h.scoped h.is.scoped.distinct)
 
 name_within : (count files : ℕ) (d : Declaration) → OfDeclaration (λ n. n < count) (λ at. at.file < files) d → name_of d < count
+unfolding OfDeclaration
 name_within count files (source.declaration t n at e) h = h.1
 
 names_within : (count files : ℕ) (ds : List Declaration) → All (OfDeclaration (λ n. n < count) (λ at. at.file < files)) ds → All (λ n. n < count) (map name_of ds)
@@ -167,5 +168,5 @@ declared_within table files items p names places h within =
     let here : All (λ n. n < names) (names_of h.types.all.decls) = subst (λ (ds : List Decl). All (λ n. n < names) (names_of ds)) (sections_of h) (typed_within table files items p names places h within) in
     from_each (λ n. n < names) p.decls
     (all_hold p.decls h.types.all.decls p.order h.types.program.ordered h.types.program.counted
-        (numbered_from 0 h.types.all.decls (λ i d low. numbers i d low))
+        (numbered_from 0 h.types.all.decls (λ i d low. numbers i d low ∙ (let z : i ≡ 0 + i = omega arith in z)))
         (λ d. d.name < names) (by_each (λ n. n < names) h.types.all.decls here))
