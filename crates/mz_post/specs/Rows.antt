@@ -1,0 +1,41 @@
+-- Operands and rows of the code.
+use Rattle.std.specs.Prelude.{List, [], ◌∷◌, Option, Some, None}
+use Rattle.mz_core.specs.Tree.{Tree, Step, Layer, slot_form}
+use Rattle.mz_meaning.specs.Cells.{value_of, is_true}
+use Rattle.mz_meaning.specs.Walk.{Declared}
+use Rattle.fz_program.specs.Arguments as arguments
+use Rattle.fz_program.specs.Arguments.{Plain}
+use Rattle.fz_program.specs.Flat.{Row, row}
+use Rattle.fz_program.specs.declared.program.FzRow.{FzRow}
+use Rattle.mz_posting.specs.Posted.{Posted, Whole, Pair}
+use Rattle.mz_direct.specs.Emission as emission
+use Rattle.mz_direct.specs.Emission.{place_in, side, side_rows, truth_rows}
+use Rattle.mz_post.specs.declared.types.Side.{Side}
+use Rattle.mz_post.specs.declared.types.Side.TheVariants as sides
+use Rattle.mz_post.specs.declared.types.Operand.{Operand}
+use Rattle.mz_post.specs.declared.types.Operand.TheVariants as operands
+
+abbrev pub side_of : Side → emission.Side
+side_of sides.Nothing = emission.Nothing
+side_of sides.Absent = emission.Absent
+side_of (sides.Number n) = emission.Number n
+side_of (sides.Variable k) = emission.Place k
+
+abbrev pub plain_of : Operand → Plain
+plain_of (operands.Number n) = arguments.int n
+plain_of (operands.Variable k) = arguments.var k
+
+-- one row, or none
+abbrev pub rows_if : Option FzRow → List Row
+rows_if None = []
+rows_if (Some r) = row r ∷ []
+
+-- the side of a name, by its node's layer
+abbrev pub name_side_by : List Declared → Layer → emission.Side
+name_side_by xs (slot_form s) = emission.Place (place_in xs s)
+name_side_by xs form = emission.Nothing
+
+-- the rows of a comparison with these operands
+abbrev pub step_rows : List Declared → Tree → Step → Posted → List Row
+step_rows xs a s (Whole c) = truth_rows (is_true (value_of c))
+step_rows xs a s (Pair x y c) = side_rows s.row (side xs a x) (side xs s.operand y)

@@ -1,0 +1,223 @@
+// The rows of constraints: a par one decides by itself, and a comparison becomes a row.
+
+ghost use Rattle.std.specs.Prelude.{◌+◌, ◌≤◌, IfOk, map};
+ghost use Rattle.mz_core.specs.TreeViews.{tree, step, form_layer};
+ghost use Rattle.mz_core.specs.declared.tree.CoreForm.TheViews.{out-CoreForm};
+ghost use Rattle.mz_meaning.specs.Runs.{loop, then_do, give};
+ghost use Rattle.mz_meaning.specs.Contexts.{Untested};
+ghost use Rattle.mz_meaning.specs.Forms.{coerced_by};
+ghost use Rattle.mz_cells.specs.Views.{cell_of};
+ghost use Rattle.mz_chains.specs.Fronts.{operator_of};
+ghost use Rattle.mz_steps.specs.Operators.{operated_on};
+ghost use Rattle.mz_frames.specs.Runs.{Meets, at_work};
+ghost use Rattle.mz_frames.specs.Views.{env_cells, world_of};
+ghost use Rattle.fz_program.specs.Flat.{row};
+ghost use Rattle.mz_posting.specs.Posted.{post};
+ghost use Rattle.mz_direct.specs.Emission.{rows_of, write_next};
+ghost use Rattle.mz_post.specs.Names.{names_in};
+ghost use Rattle.mz_post.specs.Rows.{rows_if};
+ghost use Rattle.mz_post.specs.Steps.{compared, steps_by, chain_by, posted_by, par_rows};
+
+use crate::operands::{operand, side};
+use crate::rows::{side_row, truth_row, with_row};
+use crate::types::Table;
+use crate::wants::LEVELS;
+use fz_program::FzRow;
+use mz_base::{Span, Stop};
+use mz_cells::{Known, is_true};
+use mz_chains::{Operator, place_of};
+use mz_core::{Core, CoreForm, CoreStep};
+use mz_eval::evaluated;
+use mz_frames::World;
+use mz_steps::{operated_on, prepared};
+use mz_unbuilt::is_par_constraint;
+use std::alloc::Global;
+
+// a left operand under the coercions of its operator
+fn coerced(
+    alloc: Global,
+    world: &World,
+    at: Span,
+    o: &Operator,
+    left: Known,
+    work: &mut u64,
+) -> Result<Known, Stop>
+    requires { work.old ≤ world.now.budget + 1 }
+    ensures answer { Meets cell_of result work.new (coerced_by (world_of world.now) at (operator_of o.now).step.left (cell_of left) (at_work work.old)) }
+    ensures within { IfOk result (λ _. work.new ≤ world.now.budget + 1) }
+{
+    prepared(alloc, world, at, o, left, work)
+}
+
+// an operator's node over its operands
+fn operated(
+    alloc: Global,
+    world: &World,
+    o: &Operator,
+    a: Known,
+    c: Known,
+    work: &mut u64,
+) -> Result<Known, Stop>
+    requires { work.old ≤ world.now.budget + 1 }
+    ensures answer { Meets cell_of result work.new (operated_on (world_of world.now) (cell_of a) (operator_of o.now) (cell_of c) (at_work work.old)) }
+    ensures within { IfOk result (λ _. work.new ≤ world.now.budget + 1) }
+{
+    operated_on(alloc, world, o, a, c, work)
+}
+
+// a comparison: its operands, its node, and its row
+fn compared(
+    alloc: Global,
+    world: &World,
+    table: &Table,
+    at: Span,
+    a: &Core,
+    s: &CoreStep,
+    work: &mut u64,
+) -> Result<Option<FzRow>, Stop>
+    requires { work.old ≤ world.now.budget + 1 }
+    ensures answer { Meets rows_if result work.new (compared (world_of world.now) (names_in table.now.list.now) at (tree a.now) (step s.now) (env_cells world.now.env.now) (at_work work.old)) }
+    ensures within { IfOk result (λ _. work.new ≤ world.now.budget + 1) }
+{
+    let o = Operator {
+        at,
+        step: &*s,
+        before: None,
+        operand: &s.operand,
+        after: None,
+    };
+    let x = operand(alloc, world, a, work)?;
+    let left = coerced(alloc, world, place_of(a), &o, x.1, work)?;
+    let y = operand(alloc, world, &s.operand, work)?;
+    let _node = operated(alloc, world, &o, left, y.1, work)?;
+    Ok(side_row(
+        alloc,
+        s.row,
+        side(table, a, &x.0),
+        side(table, &s.operand, &y.0),
+    )?)
+}
+
+// a constraint that isn't par, by its form
+fn row_of_form(
+    alloc: Global,
+    world: &World,
+    table: &Table,
+    at: Span,
+    form: &CoreForm,
+    work: &mut u64,
+) -> Result<Option<FzRow>, Stop>
+    requires { work.old ≤ world.now.budget + 1 }
+    ensures answer { Meets rows_if result work.new (posted_by (world_of world.now) (names_in table.now.list.now) at (form_layer (out-CoreForm form.now)) (env_cells world.now.env.now) (at_work work.old)) }
+    ensures within { IfOk result (λ _. work.new ≤ world.now.budget + 1) }
+{
+    match form {
+        CoreForm::Chain(a, all) => row_of_chain(alloc, world, table, at, a, all, work),
+        _ => Ok(truth_row(alloc, false)?),
+    }
+}
+
+fn row_of_chain(
+    alloc: Global,
+    world: &World,
+    table: &Table,
+    at: Span,
+    a: &Core,
+    all: &[CoreStep],
+    work: &mut u64,
+) -> Result<Option<FzRow>, Stop>
+    requires { work.old ≤ world.now.budget + 1 }
+    ensures answer { Meets rows_if result work.new (chain_by (world_of world.now) (names_in table.now.list.now) at (tree a.now) (map step all.now) (env_cells world.now.env.now) (at_work work.old)) }
+    ensures within { IfOk result (λ _. work.new ≤ world.now.budget + 1) }
+{
+    match all {
+        [] => Ok(truth_row(alloc, false)?),
+        [s, others @ ..] => row_of_steps(alloc, world, table, at, a, s, others, work),
+    }
+}
+
+fn row_of_steps(
+    alloc: Global,
+    world: &World,
+    table: &Table,
+    at: Span,
+    a: &Core,
+    s: &CoreStep,
+    others: &[CoreStep],
+    work: &mut u64,
+) -> Result<Option<FzRow>, Stop>
+    requires { work.old ≤ world.now.budget + 1 }
+    ensures answer { Meets rows_if result work.new (steps_by (world_of world.now) (names_in table.now.list.now) at (tree a.now) (step s.now) (map step others.now) (env_cells world.now.env.now) (at_work work.old)) }
+    ensures within { IfOk result (λ _. work.new ≤ world.now.budget + 1) }
+{
+    match others {
+        [] => compared(alloc, world, table, at, a, s, work),
+        [_, ..] => Ok(truth_row(alloc, false)?),
+    }
+}
+
+// a par constraint
+fn row_of_par(alloc: Global, world: &World, e: &Core, work: &mut u64) -> Result<Option<FzRow>, Stop>
+    requires { work.old ≤ world.now.budget + 1 }
+    ensures answer { Meets rows_if result work.new (par_rows (world_of world.now) (tree e.now) (env_cells world.now.env.now) (at_work work.old)) }
+    ensures within { IfOk result (λ _. work.new ≤ world.now.budget + 1) }
+{
+    let c = evaluated(alloc, world, e, LEVELS, work)?;
+    Ok(truth_row(alloc, is_true(&c))?)
+}
+
+// a constraint's row, if it wants one
+fn row_of(
+    alloc: Global,
+    world: &World,
+    table: &Table,
+    e: &Core,
+    work: &mut u64,
+) -> Result<Option<FzRow>, Stop>
+    requires { work.old ≤ world.now.budget + 1 }
+    ensures answer { Meets rows_if result work.new (then_do (post (world_of world.now) Untested (env_cells world.now.env.now) (tree e.now) (at_work work.old)) (λ q. give (rows_of (names_in table.now.list.now) (tree e.now) q))) }
+    ensures within { IfOk result (λ _. work.new ≤ world.now.budget + 1) }
+{
+    if is_par_constraint(e) {
+        row_of_par(alloc, world, e, work)
+    } else {
+        row_of_form(alloc, world, table, place_of(e), &e.form, work)
+    }
+}
+
+// one constraint more
+fn write_next(
+    alloc: Global,
+    world: &World,
+    table: &Table,
+    rows: Vec<FzRow>,
+    e: &Core,
+    work: &mut u64,
+) -> Result<Vec<FzRow>, Stop>
+    requires { work.old ≤ world.now.budget + 1 }
+    ensures answer { Meets (λ all. map row all.items) result work.new (write_next (world_of world.now) Untested (names_in table.now.list.now) (map row rows.items) (tree e.now) (at_work work.old)) }
+    ensures within { IfOk result (λ _. work.new ≤ world.now.budget + 1) }
+{
+    let o = row_of(alloc, world, table, e, work)?;
+    Ok(with_row(rows, o)?)
+}
+
+/// The rows of constraints behind these.
+pub(crate) fn write_all(
+    alloc: Global,
+    world: &World,
+    table: &Table,
+    rows: Vec<FzRow>,
+    all: &[Core],
+    work: &mut u64,
+) -> Result<Vec<FzRow>, Stop>
+    requires { work.old ≤ world.now.budget + 1 }
+    ensures answer { Meets (λ made. map row made.items) result work.new (loop (write_next (world_of world.now) Untested (names_in table.now.list.now)) (map row rows.items) (map tree all.now) (at_work work.old)) }
+    ensures within { IfOk result (λ _. work.new ≤ world.now.budget + 1) }
+{
+    let mut rows = rows;
+    for e in all {
+        rows = write_next(alloc, world, table, rows, e, work)?;
+    }
+    Ok(rows)
+}
