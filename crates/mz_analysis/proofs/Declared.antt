@@ -1,5 +1,5 @@
 -- The declarations of a typed program in the order of evaluation: they are numbered, and have the names of the scoped model.
-use Rattle.std.proofs.Common.{◌≡◌, ◌∙◌, ℕ, suc, ◌+◌, ◌<◌, Bool, true, false, ◌||◌, List, [], ◌∷◌, ◌++◌, Option, Some, None, Ok, Err, map, length, get_or, refl, sym, ap, subst, arith}
+use Rattle.std.proofs.Common.{◌≡◌, ◌∙◌, ℕ, suc, ◌+◌, ◌<◌, Bool, true, false, ◌||◌, List, [], ◌∷◌, ◌++◌, Option, Some, Ok, Err, map, length, get_or, refl, sym, ap, subst, arith}
 use Rattle.std.specs.Prelude.{slice_get, All, nat_eq}
 use Rattle.std.specs.List.{enumerate_from, flat_map, list_any}
 use Rattle.std.proofs.lemmas.List.Elements.{All-weaker, All-map}
@@ -9,16 +9,14 @@ use Rattle.mz_tree.specs.Tree as source
 use Rattle.mz_tree.specs.Tree.{Name, Declaration}
 use Rattle.mz_tree.specs.Kinds.{OfDeclaration}
 use Rattle.mz_tree.specs.Data.{Given}
-use Rattle.mz_base.specs.declared.fault.Span.{Span}
 use Rattle.mz_meaning.specs.Walk.{ordered, with_decl}
-use Rattle.mz_occurrence.specs.Sets.{holds}
 use Rattle.mz_scoped.specs.Parts.{name_of}
 use Rattle.mz_scoped.specs.Scoped.{ScopedTree, AreDistinct, enum_names, bare_name, shared_names}
 use Rattle.mz_checks.specs.Tests.{Test, ◌>>=◌, each}
 use Rattle.mz_checks.specs.Models.{Model, type_of_decl}
 use Rattle.mz_checks.specs.Items.{value_of, decl, function, constraint, goal, output}
 use Rattle.mz_checks.specs.Headings.{Subject, with_types}
-use Rattle.mz_checks.specs.Checks.{numbered, untyped, Sections, sections, decl_in, IsProgramOf}
+use Rattle.mz_checks.specs.Checks.{numbered, untyped, Sections, sections, decl_in}
 use Rattle.mz_datum.specs.WithData.{AreNumbered, with_value, with_values, checked_given, checked_with_data}
 use Rattle.mz_datum.proofs.Parted.{parted}
 use Rattle.mz_texts.proofs.Giving.{AllBy, all_indexed, all_mapped, Gives, gives_then, gives_after}

@@ -17,7 +17,7 @@ use Rattle.mz_direct.specs.Emission.{writing_walk}
 use Rattle.mz_post.specs.Names.{no_values}
 use Rattle.mz_value.specs.Ranges.{greatest}
 use Rattle.mz_words.specs.declared.request.Options.{Options}
-use Rattle.mz_words.specs.Requests.{Settings, Asked, compile, check, settings, IsWithinLimits, AskedWithinLimits}
+use Rattle.mz_words.specs.Requests.{Asked, compile, check, settings, IsWithinLimits, AskedWithinLimits}
 use Rattle.mz_tool.specs.Words.{settings_in}
 use Rattle.mz_tool.specs.Headline.{limits_of}
 

@@ -1,6 +1,6 @@
 -- What the ends of the parts of a compilation say of its end.
 use Rattle.std.proofs.Common.{◌≡◌, ℕ, ◌<◌, List, [], ◌∷◌, length, map, refl, sym, ap, subst, inl, inr, arith}
-use Rattle.std.specs.Prelude.{◌⊎◌, Option, Some, None, Ok, Err}
+use Rattle.std.specs.Prelude.{◌⊎◌, Option, Some, None, Err}
 use Rattle.std.proofs.lemmas.List.{length-map}
 use Rattle.mz_base.specs.declared.fault.Fault.{Fault}
 use Rattle.mz_base.specs.declared.fault.Span.{Span}
@@ -30,13 +30,13 @@ use Rattle.mz_words.specs.Requests.{Settings, Asked, compile, check}
 use Rattle.fz_program.specs.Names.{Name}
 use Rattle.fz_program.specs.Flat.{Program, WellFormed}
 use Rattle.fz_spelling.specs.Spelling.{spelling}
-use Rattle.mz_value.specs.Contents.{Content, absent}
+use Rattle.mz_value.specs.Contents.{absent}
 use Rattle.mz_core.specs.Program.{PlainProgram}
 use Rattle.mz_meaning.specs.Runs.{State, Answer, Out, Stopped, start}
 use Rattle.mz_meaning.specs.Cells.{Bare}
 use Rattle.mz_meaning.specs.Cells as cells
 use Rattle.mz_meaning.specs.Contexts.{Untested, Positive}
-use Rattle.mz_meaning.specs.Walk.{Limits, Assignment, walk}
+use Rattle.mz_meaning.specs.Walk.{Limits, walk}
 use Rattle.mz_unbuilt.specs.Unbuilt.{first_unbuilt}
 use Rattle.mz_unbuilt.proofs.Laws.{nothing_unbuilt}
 use Rattle.mz_posting.specs.Ends.{is_walk_kind, EndAlike}
@@ -44,7 +44,7 @@ use Rattle.mz_direct.specs.Emission.{writing_walk}
 use Rattle.mz_direct.specs.Headline.{AreNumberedAndNamed, KeepsSolutions}
 use Rattle.mz_direct.proofs.Laws.{headline, ends, kinds}
 use Rattle.mz_post.specs.Names.{no_values}
-use Rattle.mz_analysis.specs.Analysis.{FailsTest, IsOfTests, IsRefused, IsTypedModel, HasTypedModel, IsRead, evaluated, file_name, files_read, items_read}
+use Rattle.mz_analysis.specs.Analysis.{FailsTest, IsOfTests, IsRefused, IsTypedModel, IsRead, evaluated, file_name, files_read, items_read}
 use Rattle.mz_analysis.proofs.Single.{not_refused}
 use Rattle.mz_tool.specs.declared.compile.End.{End}
 use Rattle.mz_tool.specs.declared.compile.End.TheVariants as end
@@ -53,7 +53,7 @@ use Rattle.mz_tool.specs.declared.status.Status.TheVariants as status
 use Rattle.mz_tool.specs.Words.{settings_in, IsUsage}
 use Rattle.mz_tool.specs.Headline.{limits_of, Compiled, Compiles, Writes, WritesFront}
 use Rattle.mz_tool.specs.Status.{not_built_at, GoesThrough, IsStopped, not_built, by_evaluation, IsRefusal, a_file_fails, a_test_fails, not_compiled, ByDistinctNames, IsOwner, OnDone, OnWriteFault, IfRefused, CountsFiles, CountsOut, IsToldModel, AreToldFiles, Completes, IsDoneOrMemory}
-use Rattle.mz_tool.specs.StepsCompiling.{status_of, file_of, data_names, IsWritten, IsFinished, Stops, IsRefusedAs, by_a_test, as_stopped, IsLeft, unread, Ends, IsNamedEnd}
+use Rattle.mz_tool.specs.StepsCompiling.{status_of, file_of, IsWritten, IsFinished, Stops, IsRefusedAs, by_a_test, as_stopped, IsLeft, unread, Ends, IsNamedEnd}
 
 -- what is left of a program that is written, or that could be
 module _ (table : List Name) (files : List File) (data_files : List Name) (items : List Given) where
