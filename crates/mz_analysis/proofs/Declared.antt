@@ -166,5 +166,5 @@ declared_within table files items p names places h within =
     let here : All (λ n. n < names) (names_of h.types.all.decls) = subst (λ (ds : List Decl). All (λ n. n < names) (names_of ds)) (sections_of h) (typed_within table files items p names places h within) in
     from_each (λ n. n < names) p.decls
     (all_hold p.decls h.types.all.decls p.order h.types.program.ordered h.types.program.counted
-        (numbered_from 0 h.types.all.decls (λ i d low. numbers i d low ∙ (let z : i ≡ 0 + i = omega arith in z)))
-        (λ d. d.name < names) (by_each (λ n. n < names) h.types.all.decls here))
+    (numbered_from 0 h.types.all.decls (λ i d low. numbers i d low ∙ (let z : i ≡ 0 + i = omega arith in z)))
+    (λ d. d.name < names) (by_each (λ n. n < names) h.types.all.decls here))

@@ -12,7 +12,7 @@ use Rattle.mz_base.specs.Names.{AreDistinct, Grows}
 use Rattle.mz_io.specs.Counts.{Rose}
 use Rattle.mz_io.specs.Files.{Texts, FileCounts}
 use Rattle.mz_io.specs.Sink.{Held, SinkCounts, Adds}
-use Rattle.mz_tree.specs.Data as data
+use Rattle.mz_tree.specs.Data as datum
 use Rattle.mz_include.specs.Naming.{File}
 use Rattle.mz_data.specs.WithData.{IsSourcesWithData, FailsWithData}
 use Rattle.mz_words.specs.Requests.{Settings, Asked}
@@ -82,8 +82,8 @@ pub data IsStopped (l : Limits) (table : List Name) (p : PlainProgram) : Fault �
 -- or a test of names, of types or of data fails; or the model is typed, and isn't compiled.
 pub data IsRefusal (table : List Name) (texts : Texts) (s : Settings) : Fault → Name → Type 0 where
   a_file_fails : {f : Fault} {file : Name} → FailsWithData table texts s.model s.data_files f file → IsRefusal table texts s f file
-  a_test_fails : {f : Fault} (files : List File) (items : List data.Given) → IsSourcesWithData table texts s.model s.data_files files items → FailsTest table files (length s.data_files) items f → IsRefusal table texts s f (file_name files s.data_files f.span.file)
-  not_compiled : {f : Fault} (files : List File) (items : List data.Given) (p : PlainProgram) → IsSourcesWithData table texts s.model s.data_files files items → IsTypedModel table files items p → IsStopped (limits_of s) table p f → IsRefusal table texts s f (file_name files s.data_files f.span.file)
+  a_test_fails : {f : Fault} (files : List File) (items : List datum.Given) → IsSourcesWithData table texts s.model s.data_files files items → FailsTest table files (length s.data_files) items f → IsRefusal table texts s f (file_name files s.data_files f.span.file)
+  not_compiled : {f : Fault} (files : List File) (items : List datum.Given) (p : PlainProgram) → IsSourcesWithData table texts s.model s.data_files files items → IsTypedModel table files items p → IsStopped (limits_of s) table p f → IsRefusal table texts s f (file_name files s.data_files f.span.file)
 
 -- by some table of names, whose texts are distinct, this holds
 pub record ByDistinctNames (P : List Name → Type 0) : Type 0 where
@@ -158,14 +158,14 @@ pub record IsToldModel (table : List Name) (texts : Texts) (s : Settings) : Type
   pub told : List ℕ → Option (List ℕ)
   pub is_told : texts ≡ Some told
   pub files : List File
-  pub values : List data.Given
+  pub values : List datum.Given
   pub sources : IsSourcesWithData table texts s.model s.data_files files values
   pub typed : HasTypedModel table files values
   pub built : (p : PlainProgram) → IsTypedModel table files values p → first_unbuilt table p ≡ None
   pub evaluates : (p : PlainProgram) → IsTypedModel table files values p → (a : Assignment) (choices : ℕ → Content) → GoesThrough (walk Positive (limits_of s) (Given choices) a p start)
 
 -- the told texts are files of a model and items of its data, by this table
-pub record AreToldFiles (table : List Name) (texts : Texts) (s : Settings) (files : List File) (values : List data.Given) : Type 0 where
+pub record AreToldFiles (table : List Name) (texts : Texts) (s : Settings) (files : List File) (values : List datum.Given) : Type 0 where
   pub told : List ℕ → Option (List ℕ)
   pub is_told : texts ≡ Some told
   pub distinct : AreDistinct table
@@ -175,7 +175,7 @@ pub record AreToldFiles (table : List Name) (texts : Texts) (s : Settings) (file
 -- the files that are read by some table that goes on from this one are read by this one too.
 pub record Completes (known : List Name) (texts : Texts) (s : Settings) (status : Status) : Type 0 where
   pub distinct : AreDistinct known
-  pub whole : (table : List Name) (files : List File) (values : List data.Given) → Grows known table → AreToldFiles table texts s files values → IsSourcesWithData known texts s.model s.data_files files values ⊎ IsDoneOrMemory status
+  pub whole : (table : List Name) (files : List File) (values : List datum.Given) → Grows known table → AreToldFiles table texts s files values → IsSourcesWithData known texts s.model s.data_files files values ⊎ IsDoneOrMemory status
   pub compiled : IsToldModel known texts s → IsDoneOrMemory status
 
 -- A told model is compiled, unless a count of faults rose or memory ran out.

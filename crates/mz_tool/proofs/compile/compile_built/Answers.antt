@@ -44,9 +44,9 @@ returns-in-Ok-clause-left g c =
     let p = plain_program c.args.program.now in
     writes table (files_read table c.args.read.now) (data_names table c.args.read.now) (items_read c.args.read.now) (request_of c.args.request.now) p (program c.in-Ok.flat) (at_work c.in-Ok.ensures.answer.work) _ _ c.finish.result c.requires.typed c.requires.built
     (numbered_and_named table (subst AreDistinct c.names.view_is c.names.invariant) (evaluated p)
-        (typed_numbered table (files_read table c.args.read.now) (items_read c.args.read.now) p c.requires.typed)
-        (typed_distinct table (files_read table c.args.read.now) (items_read c.args.read.now) p c.requires.typed)
-        c.requires.named_in_order)
+    (typed_numbered table (files_read table c.args.read.now) (items_read c.args.read.now) p c.requires.typed)
+    (typed_distinct table (files_read table c.args.read.now) (items_read c.args.read.now) p c.requires.typed)
+    c.requires.named_in_order)
     (in_limits table p c.options_of-options.result.now (request_of c.args.request.now) (Out (program c.in-Ok.flat) (at_work c.in-Ok.ensures.answer.work)) c.options_of-options.ensures c.in-Ok.ensures.answer.meets)
     c.in-Ok.ensures.formed c.finish.ensures.left
 
