@@ -1,5 +1,5 @@
-// What operators and built-ins give of values, and what they cost: each line of the input is a call, and is written with its
-// answer. Each line of the table is called.
+// What operators and built-ins give of values, and what they cost, where no model says it: each line of the input is a call, and is
+// written with its answer. What a model says of them stands among the cases of whole models.
 #![tactic(auto)]
 
 mod case;

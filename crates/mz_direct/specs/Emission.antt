@@ -1,5 +1,5 @@
 -- THE PROGRAM THAT IS WRITTEN: the variables in the order of evaluation; a false row for each empty domain; and then the rows of the constraints in source order.
-use Rattle.std.specs.Prelude.{◌≡◌, ℕ, suc, ℤ, pos, Bool, true, false, List, [], ◌∷◌, ◌++◌, length, Option, Some, None, nat_eq, int_lt, int_le, if◌then◌else◌}
+use Rattle.std.specs.Prelude.{ℕ, suc, ℤ, pos, Bool, true, false, not, List, [], ◌∷◌, ◌++◌, Option, Some, None, nat_eq, int_lt, int_le, if◌then◌else◌}
 use Rattle.std.specs.List.{flat_map}
 use Rattle.std.specs.Ordering.{int_eq}
 use Rattle.mz_base.specs.Names.{text_of}
@@ -17,7 +17,7 @@ use Rattle.mz_meaning.specs.Forms.{World}
 use Rattle.mz_meaning.specs.Unbounded.{first_unbounded}
 use Rattle.mz_meaning.specs.Walk.{Limits, Assignment, Declared, names_env, world_at, declare, ordered, bounded}
 use Rattle.fz_program.specs.Names.{Name}
-use Rattle.fz_program.specs.Arguments.{Argument, Plain, bool, int, var, one}
+use Rattle.fz_program.specs.Arguments.{Plain, bool, int, var, one}
 use Rattle.fz_program.specs.declared.program.Domain.TheVariants.{Ints}
 use Rattle.fz_program.specs.declared.program.FzGoal.TheVariants.{Satisfy}
 use Rattle.fz_program.specs.declared.row_name.RowName.{RowName}
@@ -76,18 +76,20 @@ abbrev pub truth_rows : Bool → List Row
 truth_rows true = []
 truth_rows false = never ∷ []
 
--- an operand of a comparison: an undefined par integer, a par integer, or the variable at a place
+-- an operand of a comparison: an undefined par integer, a par integer, or the variable at a place. An absent value, which no type of an integer has, is unequal to each integer
 pub data Side : Type 0 where
   Nothing : Side
+  Absent : Side
   Number : ℤ → Side
-  Variable : ℕ → Side
+  Place : ℕ → Side
 
 abbrev pub number_side : Option Content → Side
 number_side (Some (values.int n)) = Number n
+number_side (Some values.absent) = Absent
 number_side _ = Nothing
 
 abbrev pub name_side : List Declared → Shape → Side
-name_side xs (slot s) = Variable (place_in xs s)
+name_side xs (slot s) = Place (place_in xs s)
 name_side xs form = Nothing
 
 abbrev pub side : List Declared → Tree → Cell → Side
@@ -109,21 +111,25 @@ int_row r a b =
 abbrev pub holds : ℕ → ℤ → ℤ → Bool
 holds r m n =
     if nat_eq r 7 then int_eq m n
-    else (if nat_eq r 8 then (if int_eq m n then false else true)
+    else (if nat_eq r 8 then not (int_eq m n)
     else (if nat_eq r 9 then int_lt m n
     else (if nat_eq r 10 then int_le m n
     else (if nat_eq r 11 then int_lt n m
     else int_le n m))))
 
--- An undefined operand makes the comparison false. A number that no program may write, which evaluation doesn't give, lies on one side of all values of a variable, 0 among them.
+-- An undefined operand makes the comparison false, and an absent one every other than `!=`. A number that no program may write, which evaluation doesn't give, lies on one side of all values of a variable, 0 among them.
 abbrev pub side_rows : ℕ → Side → Side → List Row
 side_rows r Nothing b = never ∷ []
+side_rows r Absent (Place k) = truth_rows (nat_eq r 8)
+side_rows r Absent b = never ∷ []
 side_rows r (Number m) Nothing = never ∷ []
-side_rows r (Variable j) Nothing = never ∷ []
+side_rows r (Number m) Absent = never ∷ []
+side_rows r (Place j) Nothing = never ∷ []
+side_rows r (Place j) Absent = truth_rows (nat_eq r 8)
 side_rows r (Number m) (Number n) = truth_rows (holds r m n)
-side_rows r (Number m) (Variable k) = if is_literal m then int_row r (int m) (var k) ∷ [] else truth_rows (holds r m (pos 0))
-side_rows r (Variable j) (Number n) = if is_literal n then int_row r (var j) (int n) ∷ [] else truth_rows (holds r (pos 0) n)
-side_rows r (Variable j) (Variable k) = int_row r (var j) (var k) ∷ []
+side_rows r (Number m) (Place k) = if is_literal m then int_row r (int m) (var k) ∷ [] else truth_rows (holds r m (pos 0))
+side_rows r (Place j) (Number n) = if is_literal n then int_row r (var j) (int n) ∷ [] else truth_rows (holds r (pos 0) n)
+side_rows r (Place j) (Place k) = int_row r (var j) (var k) ∷ []
 
 abbrev pub pair_rows : List Declared → Tree → Cell → Cell → List Row
 pair_rows xs (node at t (chain a (a_step r u l m b no_steps))) x y = side_rows r (side xs a x) (side xs b y)

@@ -1,5 +1,5 @@
 -- WHAT A FLATZINC PROGRAM IS TO THE MODEL THAT IT WAS WRITTEN FOR: its solutions, read off by names, are the model's, with the same objective.
-use Rattle.std.specs.Prelude.{◌≡◌, ◌<◌, ℕ, ℤ, pos, Bool, true, false, List, [], ◌∷◌, length, map, Option, Some, None, slice_index_or}
+use Rattle.std.specs.Prelude.{◌≡◌, ◌<◌, ℕ, ℤ, pos, Bool, true, false, List, length, map, Option, Some, None, slice_index_or}
 use Rattle.mz_base.specs.Names.{text_of}
 use Rattle.mz_value.specs.Contents as values
 use Rattle.mz_core.specs.Program.{PlainProgram}

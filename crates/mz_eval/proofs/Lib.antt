@@ -1,4 +1,4 @@
-pub mod Evaluated
+pub mod OneLevel
 pub mod Chains
 pub mod Ends
 pub mod Arguments

@@ -162,7 +162,7 @@ fn eval_parameters(
 }
 
 #[cycle(forms)]
-#[tactic(auto, using(crate::proofs::Evaluated::parameter_is))]
+#[tactic(auto, using(crate::proofs::OneLevel::parameter_is))]
 fn eval_parameter(
     alloc: Global,
     world: &World,

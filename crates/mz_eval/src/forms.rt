@@ -33,7 +33,7 @@ use std::alloc::Global;
 
 // An expression below which so many levels of nesting are left.
 #[cycle(forms)]
-#[tactic(auto, using(crate::proofs::Evaluated::eval_end, crate::proofs::Evaluated::eval_more))]
+#[tactic(auto, using(crate::proofs::OneLevel::eval_end, crate::proofs::OneLevel::eval_more))]
 pub(crate) fn eval_expression(
     alloc: Global,
     world: &World,

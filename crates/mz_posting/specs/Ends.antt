@@ -1,6 +1,9 @@
 -- How a posting walk ends beside others: with other values and in other contexts.
-use Rattle.std.specs.Prelude.{◌≡◌, List, map}
+use Rattle.std.specs.Prelude.{◌≡◌, Bool, true, map}
+use Rattle.mz_base.specs.declared.kind.Kind.{Kind}
+use Rattle.mz_base.specs.declared.kind.Kind.TheVariants as kind
 use Rattle.mz_meaning.specs.Runs.{Answer, Out, Stopped}
+use Rattle.mz_meaning.specs.Kinds.{is_evaluation_kind}
 use Rattle.mz_independence.specs.Outlines.{outline, outline_all_declared}
 use Rattle.mz_posting.specs.Posted.{Posted, Whole, Pair, Posting}
 
@@ -18,3 +21,8 @@ EndAlike (Out x s) (Out y t) = s.work ≡ t.work
 EndAlike (Out x s) (Stopped g) = ⊥
 EndAlike (Stopped g) (Out y t) = ⊥
 EndAlike (Stopped g) (Stopped h) = g ≡ h
+
+-- the kinds at which a walk over a built model may stop, where no context is tested
+abbrev pub is_walk_kind : Kind → Bool
+is_walk_kind kind.ParUndefined = true
+is_walk_kind k = is_evaluation_kind k

@@ -1,2 +1,4 @@
 pub mod Posted
 pub mod Ends
+pub mod Built
+pub mod Examples

@@ -1,5 +1,5 @@
--- THE WALK OF A MODEL THAT IS BUILT TODAY: what each constraint is, with the cells of a comparison's operands below their coercions. A coercion to var forgets a par operand's value where no values are there, and this walk doesn't.
-use Rattle.std.specs.Prelude.{ℕ, Bool, true, false, List, [], ◌∷◌, ◌++◌, map, Option, None}
+-- THE WALK OF A MODEL OF WHICH ALL IS BUILT: what each constraint is, with the cells of a comparison's operands below their coercions. A coercion to var forgets a par operand's value where no values are there, and this walk doesn't.
+use Rattle.std.specs.Prelude.{ℕ, Bool, true, false, List, [], ◌∷◌, ◌++◌, map, None}
 use Rattle.mz_base.specs.declared.fault.Span.{Span}
 use Rattle.mz_core.specs.Types.{PlainType}
 use Rattle.mz_core.specs.Program.{PlainProgram}
@@ -7,7 +7,7 @@ use Rattle.mz_core.specs.Tree.{Tree, Step, node, chain, a_step, no_steps, place_
 use Rattle.mz_meaning.specs.Runs.{Run, ◌>>=◌, ◌>>◌, give, loop}
 use Rattle.mz_meaning.specs.Cells.{Cell, Mode, Env, undefined, typed}
 use Rattle.mz_meaning.specs.Contexts.{Context, within_links}
-use Rattle.mz_meaning.specs.Chains.{Operator, before, right_in, operand_base, a_step_of}
+use Rattle.mz_meaning.specs.Chains.{before, right_in, operand_base, a_step_of}
 use Rattle.mz_meaning.specs.Forms.{World, coerced_by, operated}
 use Rattle.mz_meaning.specs.Evaluation.{eval}
 use Rattle.mz_meaning.specs.Unbounded.{first_unbounded}

@@ -43,6 +43,7 @@ use Rattle.mz_posting.specs.Ends.{is_walk_kind, EndAlike}
 use Rattle.mz_direct.specs.Emission.{writing_walk}
 use Rattle.mz_direct.specs.Headline.{AreNumberedAndNamed, KeepsSolutions}
 use Rattle.mz_direct.proofs.Laws.{headline, ends, kinds}
+use Rattle.mz_post.specs.Names.{no_values}
 use Rattle.mz_analysis.specs.Analysis.{FailsTest, IsOfTests, IsRefused, IsTypedModel, HasTypedModel, IsRead, evaluated, file_name, files_read, items_read}
 use Rattle.mz_analysis.proofs.Single.{not_refused}
 use Rattle.mz_tool.specs.declared.compile.End.{End}
@@ -53,10 +54,6 @@ use Rattle.mz_tool.specs.Words.{settings_in, IsUsage}
 use Rattle.mz_tool.specs.Headline.{limits_of, Compiled, Compiles, Writes, WritesFront}
 use Rattle.mz_tool.specs.Status.{not_built_at, GoesThrough, IsStopped, not_built, by_evaluation, IsRefusal, a_file_fails, a_test_fails, not_compiled, ByDistinctNames, IsOwner, OnDone, OnWriteFault, IfRefused, CountsFiles, CountsOut, IsToldModel, AreToldFiles, Completes, IsDoneOrMemory}
 use Rattle.mz_tool.specs.StepsCompiling.{status_of, file_of, data_names, IsWritten, IsFinished, Stops, IsRefusedAs, by_a_test, as_stopped, IsLeft, unread, Ends, IsNamedEnd}
-
--- values of no variable
-abbrev no_values : Assignment
-no_values = λ k. None
 
 -- what is left of a program that is written, or that could be
 module _ (table : List Name) (files : List File) (data_files : List Name) (items : List Given) where
@@ -102,7 +99,7 @@ ends_stopped (Stopped g) (Stopped h) f alike is = cc
 -- evaluating a program stops where the walk that writes does
 evaluation_stops : (l : Limits) (table : List Name) (p : PlainProgram) (f : Fault) → first_unbuilt table p ≡ None → writing_walk Untested l Bare no_values table p start ≡ Stopped f → IsStopped l table p f
 evaluation_stops l table p f none stops = by_evaluation none (record {
-  kind = kinds l table p (nothing_unbuilt table p none) no_values f stops;
+  kind = kinds l table p (nothing_unbuilt table p none) Bare no_values start f stops;
   stops = λ a choices.
       ends_stopped (writing_walk Untested l Bare no_values table p start) (walk Positive l (cells.Given choices) a p start) f
       (ends l table p (nothing_unbuilt table p none) a no_values choices) stops;

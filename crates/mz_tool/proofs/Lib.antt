@@ -1,2 +1,4 @@
+pub mod Asked
+pub mod Named
 pub mod Sinks
 pub mod Endings

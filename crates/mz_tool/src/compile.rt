@@ -102,7 +102,7 @@ fn compile_built<S: Sink>(
     requires limits { AskedWithinLimits (request_of request.now) }
     requires read { IsRead names.now read.now }
     requires typed { IsTypedModel names.now (files_read names.now read.now) (items_read read.now) (plain_program program.now) }
-    requires named { All (λ n. n < length names.now) (names_of (evaluated (plain_program program.now))) }
+    requires named_in_order { All (λ n. n < length names.now) (names_of (evaluated (plain_program program.now))) }
     requires built { first_unbuilt names.now (plain_program program.now) ≡ None }
     ensures left { IsLeft (request_of request.now) names.now (files_read names.now read.now) (data_names names.now read.now) (items_read read.now) (S.held out.old) (S.held out.new) result }
     ensures named { IsNamedEnd names.now result }
@@ -128,7 +128,8 @@ fn compile_typed<S: Sink>(
     requires limits { AskedWithinLimits (request_of request.now) }
     requires read { IsRead names.now read.now }
     requires typed { IsTypedModel names.now (files_read names.now read.now) (items_read read.now) (plain_program program.now) }
-    requires named { All (λ n. n < length names.now) (names_of (evaluated (plain_program program.now))) }
+    requires named { All (λ n. n < length names.now) (names_of (plain_program program.now).decls) }
+    requires named_in_order { All (λ n. n < length names.now) (names_of (evaluated (plain_program program.now))) }
     ensures left { IsLeft (request_of request.now) names.now (files_read names.now read.now) (data_names names.now read.now) (items_read read.now) (S.held out.old) (S.held out.new) result }
     ensures named { IsNamedEnd names.now result }
     ensures counted { CountsOut (S.counts out.old) (S.counts out.new) (status_of result) }
@@ -136,10 +137,10 @@ fn compile_typed<S: Sink>(
 {
     match first_unbuilt(alloc, program, names) {
         Ok(None) => compile_built(alloc, request, read, names, program, out),
-        Ok(Some(place)) => stopped(
-            read,
-            Stop::Refused(Fault::at(Kind::NotBuilt, place)),
-        ),
+        Ok(Some(place)) => {
+            let stop = Stop::Refused(Fault::at(Kind::NotBuilt, place));
+            stopped(read, stop)
+        }
         Err(_) => End::Memory,
     }
 }

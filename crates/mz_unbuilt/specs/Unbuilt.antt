@@ -91,8 +91,11 @@ in_type v t = flat_map (in_if v) t.index ++ in_if v t.set
 abbrev pub in_declaration : List (List ℕ) → (ℕ → Bool) → Decl → List Span
 in_declaration table v d = at_if (not (is_declaration_built table d)) d.span ++ (in_type v d.ty ++ in_if v d.value)
 
+abbrev pub in_param : (ℕ → Bool) → Decl → List Span
+in_param v d = in_type v d.ty ++ in_if v d.value
+
 abbrev pub in_function : (ℕ → Bool) → Function → List Span
-in_function v f = flat_map (λ d. in_type v d.ty) f.params ++ (in_type v f.result ++ unbuilt_in v f.body)
+in_function v f = flat_map (in_param v) f.params ++ (in_type v f.result ++ unbuilt_in v f.body)
 
 -- an operand that is a name is built
 abbrev pub in_operand : (ℕ → Named) → Tree → List Span

@@ -7,7 +7,7 @@ use Rattle.mz_core.specs.declared.types.Base.TheVariants as base
 use Rattle.mz_core.specs.Types.{PlainType}
 use Rattle.mz_core.specs.Order.{no_dims}
 use Rattle.mz_core.specs.Program.{PlainProgram}
-use Rattle.mz_core.specs.Tree.{Decl}
+use Rattle.mz_core.specs.Tree.{Tree, Decl}
 use Rattle.mz_meaning.specs.Walk.{ordered}
 
 abbrev pub is_int : Base → Bool
@@ -18,9 +18,14 @@ is_int b = false
 abbrev pub is_integer : PlainType → Bool
 is_integer t = not t.opt && (is_int t.base && no_dims t.dims)
 
+-- no array
+abbrev pub no_index : List (Option Tree) → Bool
+no_index [] = true
+no_index (x ∷ xs) = false
+
 -- `var int: x` or `var S: x` without a value, under a name that FlatZinc can spell, as each identifier is
 abbrev pub is_variable : List (List ℕ) → Decl → Bool
-is_variable table d = (d.ty.ty.var && is_integer d.ty.ty) && (is_none d.value && is_identifier (text_of table d.name))
+is_variable table d = (d.ty.ty.var && (is_integer d.ty.ty && no_index d.ty.index)) && (is_none d.value && is_identifier (text_of table d.name))
 
 -- a par declaration has a value: without one it is MissingData before
 abbrev pub is_constant : Decl → Bool

@@ -14,7 +14,7 @@ use Rattle.mz_cells.specs.Views.{cell_of, cells_of, sure_of}
 use Rattle.mz_frames.specs.Runs.{at_work}
 use Rattle.mz_frames.specs.Views.{world_of, env_of}
 use Rattle.mz_chains.proofs.Runs.{meets_is, meets_err}
-use Rattle.mz_eval.proofs.Evaluated.{eval_end, eval_more, finish}
+use Rattle.mz_eval.proofs.OneLevel.{eval_end, eval_more, finish}
 use Rattle.mz_eval.proofs.Chains.{chain_is, no_front}
 use Rattle.mz_eval.specs.PlainCalls.{called_on}
 use Rattle.mz_eval.proofs.PlainCalls.{called_next, plain_call}

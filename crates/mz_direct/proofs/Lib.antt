@@ -1,0 +1,10 @@
+mod Runs
+mod Names
+mod Variables
+mod Domains
+mod Sides
+mod Cells
+mod Posts
+pub mod Written
+mod Solved
+pub mod Laws

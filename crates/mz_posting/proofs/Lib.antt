@@ -1,0 +1,9 @@
+pub mod Inner
+pub mod Compared
+pub mod Walking
+pub mod Outlined
+pub mod Parts
+pub mod Locals
+pub mod Bounded
+pub mod Faults
+pub mod Told

@@ -1,0 +1,69 @@
+use Rattle.std.proofs.Common.{subst}
+use Rattle.mz_base.specs.Names.{AreDistinct}
+use Rattle.mz_core.specs.Program.{plain_program}
+use Rattle.mz_words.specs.Requests.{request_of}
+use Rattle.fz_program.specs.Flat.{program}
+use Rattle.mz_frames.specs.Runs.{at_work}
+use Rattle.mz_unbuilt.proofs.Laws.{nothing_unbuilt}
+use Rattle.mz_analysis.specs.Analysis.{evaluated, files_read, items_read}
+use Rattle.mz_analysis.proofs.Declared.{typed_numbered, typed_distinct}
+use Rattle.mz_tool.specs.StepsCompiling.{data_names}
+use Rattle.mz_meaning.specs.Runs.{Out}
+use Rattle.mz_tool.proofs.Asked.{budget_is_small, range_from_zero, range_in_limit, in_limits, stops_in_limits}
+use Rattle.mz_tool.proofs.Named.{numbered_and_named}
+use Rattle.mz_tool.proofs.Endings.{writes, finished_named, evaluation_stopped, counts_out}
+use Rattle.mz_tool.proofs.compile.compile_built.Goals as goal
+
+pub post_model-requires-clause-small : goal.post_model-requires-clause-small
+post_model-requires-clause-small g c = budget_is_small c.options_of-options.result.now (request_of c.args.request.now) c.options_of-options.ensures c.requires.limits
+
+pub post_model-requires-clause-from_zero : goal.post_model-requires-clause-from_zero
+post_model-requires-clause-from_zero g c = range_from_zero c.options_of-options.result.now (request_of c.args.request.now) c.options_of-options.ensures c.requires.limits
+
+pub post_model-requires-clause-in_limit : goal.post_model-requires-clause-in_limit
+post_model-requires-clause-in_limit g c = range_in_limit c.options_of-options.result.now (request_of c.args.request.now) c.options_of-options.ensures c.requires.limits
+
+pub post_model-requires-clause-built : goal.post_model-requires-clause-built
+post_model-requires-clause-built g c = nothing_unbuilt c.args.names.now (plain_program c.args.program.now) c.requires.built
+
+pub post_model-requires-clause-named : goal.post_model-requires-clause-named
+post_model-requires-clause-named g c = c.requires.named_in_order
+
+pub post_model-requires-clause-numbered : goal.post_model-requires-clause-numbered
+post_model-requires-clause-numbered g c =
+    let table = c.args.names.now in
+    let p = plain_program c.args.program.now in
+    numbered_and_named table (subst AreDistinct c.names.view_is c.names.invariant) (evaluated p)
+    (typed_numbered table (files_read table c.args.read.now) (items_read c.args.read.now) p c.requires.typed)
+    (typed_distinct table (files_read table c.args.read.now) (items_read c.args.read.now) p c.requires.typed)
+    c.requires.named_in_order
+
+pub returns-in-Ok-clause-left : goal.returns-in-Ok-clause-left
+returns-in-Ok-clause-left g c =
+    let table = c.args.names.now in
+    let p = plain_program c.args.program.now in
+    writes table (files_read table c.args.read.now) (data_names table c.args.read.now) (items_read c.args.read.now) (request_of c.args.request.now) p (program c.in-Ok.flat) (at_work c.in-Ok.ensures.answer.work) _ _ c.finish.result c.requires.typed c.requires.built
+    (numbered_and_named table (subst AreDistinct c.names.view_is c.names.invariant) (evaluated p)
+        (typed_numbered table (files_read table c.args.read.now) (items_read c.args.read.now) p c.requires.typed)
+        (typed_distinct table (files_read table c.args.read.now) (items_read c.args.read.now) p c.requires.typed)
+        c.requires.named_in_order)
+    (in_limits table p c.options_of-options.result.now (request_of c.args.request.now) (Out (program c.in-Ok.flat) (at_work c.in-Ok.ensures.answer.work)) c.options_of-options.ensures c.in-Ok.ensures.answer.meets)
+    c.in-Ok.ensures.formed c.finish.ensures.left
+
+pub returns-in-Ok-clause-named : goal.returns-in-Ok-clause-named
+returns-in-Ok-clause-named g c = finished_named c.args.names.now (request_of c.args.request.now) (program c.in-Ok.flat) _ _ c.finish.result c.finish.ensures.left
+
+pub returns-in-Err-clause-left : goal.returns-in-Err-clause-left
+returns-in-Err-clause-left g c =
+    let table = c.args.names.now in
+    let p = plain_program c.args.program.now in
+    evaluation_stopped (request_of c.args.request.now) table (files_read table c.args.read.now) (data_names table c.args.read.now) (items_read c.args.read.now) _ p c.in-Err.stop c.stopped.result c.requires.typed c.requires.built
+    (stops_in_limits table p c.options_of-options.result.now (request_of c.args.request.now) c.in-Err.stop c.in-Err.ensures.answer.work c.options_of-options.ensures c.in-Err.ensures.answer.meets)
+    (c.stopped.ensures.stops table)
+
+pub returns-in-Err-clause-counted : goal.returns-in-Err-clause-counted
+returns-in-Err-clause-counted g c =
+    counts_out (request_of c.args.request.now) c.args.names.now (files_read c.args.names.now c.args.read.now) (data_names c.args.names.now c.args.read.now) (items_read c.args.read.now) _ c.in-Err.stop c.stopped.result (c.stopped.ensures.stops c.args.names.now)
+
+pub returns-in-Err-clause-named : goal.returns-in-Err-clause-named
+returns-in-Err-clause-named g c = c.stopped.ensures.named c.args.names.now c.requires.read
