@@ -18,7 +18,7 @@ is_int b = false
 abbrev pub is_integer : PlainType → Bool
 is_integer t = not t.opt && (is_int t.base && no_dims t.dims)
 
--- no array
+-- no index sets, as a scalar has none
 abbrev pub no_index : List (Option Tree) → Bool
 no_index [] = true
 no_index (x ∷ xs) = false

@@ -1,0 +1,9 @@
+pub mod Compared
+pub mod Firsts
+pub mod Items
+pub mod Laws
+pub mod Layers
+pub mod Levels
+pub mod Rows
+pub mod Tables
+pub mod Walking
