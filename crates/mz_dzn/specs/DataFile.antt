@@ -10,10 +10,15 @@ use Rattle.mz_tree.specs.Data.{Given}
 use Rattle.mz_cursor.specs.Rules.{syntax}
 use Rattle.mz_cursor.specs.Promise.{IsWithin, IsUnfit}
 use Rattle.mz_grammar.specs.Data.{rule, dimensions_of, file}
+use Rattle.mz_syntax.specs.DataSyntax.{DerivesFile}
 
 -- these are the items of a data file with these tokens
 abbrev pub IsDataFile : List (List ℕ) → List Token → List Given → Type 0
 IsDataFile names tokens items = IsWithin rule (file (dimensions_of names)) OPEN_LIMIT tokens items
+
+-- the lines of the EBNF derive no data file with these tokens, of which at most OPEN_LIMIT are open at once
+abbrev pub IsNoDataFile : List (List ℕ) → List Token → Type 0
+IsNoDataFile names tokens = (items : List Given) → DerivesFile (dimensions_of names) OPEN_LIMIT tokens items → ⊥
 
 -- no data file begins with the tokens up to this place, and one begins with those before it
 pub record IsRefusedData (names : List (List ℕ)) (end : Span) (tokens : List Token) (f : Fault) : Type 0 where

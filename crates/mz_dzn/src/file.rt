@@ -10,7 +10,8 @@ ghost use Rattle.mz_cursor.specs.Tokens.{place};
 ghost use Rattle.mz_grammar.specs.Data.{rule, reads, dimensions_of, file, item, datum, named, sized};
 ghost use Rattle.mz_lexer.specs.Views.{HasName};
 ghost use Rattle.mz_given.specs.Named.{IsGivenWithin};
-ghost use Rattle.mz_dzn.specs.DataFile.{IsGivenIn};
+ghost use Rattle.mz_syntax.specs.DataSyntax.{DerivesFile};
+ghost use Rattle.mz_dzn.specs.DataFile.{IsGivenIn, IsNoDataFile};
 ghost use Rattle.mz_dzn.specs.Steps.{array_at, table_at, brackets_at};
 
 use crate::dimensions::dimensions_of;
@@ -164,6 +165,8 @@ fn file(alloc: Global, cur: &mut Cursor<'_>, names: &Names) -> Result<Vec<DataIt
 /// nothing is given.
 pub fn data_items(alloc: Global, tokens: &[Token], end: Span, names: &Names) -> Result<Data, Stop>
     ensures answers { Answers rule (file (dimensions_of names.now)) (λ d. map given d.items.items) OPEN_LIMIT end tokens.now [] result }
+    ensures derived { IfOk result (λ d. DerivesFile (dimensions_of names.now) OPEN_LIMIT tokens.now (map given d.items.items)) }
+    ensures not_derived { IfErr result (λ s. IfRefused s (λ f. IsNoDataFile names.now tokens.now)) }
     ensures named { IfOk result (λ d. All (HasName names.now) tokens.now → All (IsGivenWithin (length names.now)) (map given d.items.items)) }
     ensures placed { IfOk result (λ d. (number : ℕ) → All (λ t. t.span.file ≡ number) tokens.now → All (IsGivenIn number) (map given d.items.items)) }
     ensures syntax { IfErr result (λ s. IfRefused s (λ f. f.kind ≡ Kind.Syntax)) }

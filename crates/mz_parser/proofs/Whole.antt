@@ -15,6 +15,8 @@ use Rattle.mz_grammar.specs.Parts
 use Rattle.mz_grammar.specs.Reading.{reads}
 use Rattle.mz_grammar.proofs.Viability.{answers}
 use Rattle.mz_grammar.proofs.ItemHeights.{items_are_bounded}
+use Rattle.mz_syntax.specs.ModelSyntax.{DerivesModel}
+use Rattle.mz_syntax.proofs.ModelMeans.{models_derived}
 use Rattle.mz_parser.specs.Model.{IsModel, IsRead}
 
 -- a front behind which nothing stands is the whole file
@@ -36,6 +38,11 @@ whole end at tokens ts new room result ea et er e g = answered end tokens new re
     (subst (λ r. Gives trees end new result (reads Parts.file r tokens)) er
     (subst (λ l. Gives trees end new result (reads Parts.file room l)) et
     (subst (λ a. Gives trees a new result (reads Parts.file room ts)) ea g)))
+
+-- the lines of the EBNF derive the items of a file
+pub derived : {Z : Type 0} (end : Span) (tokens : List Token) (result : Result (Vec Item Z) Stop) → IsRead end tokens result → IfOk result (λ items. DerivesModel OPEN_LIMIT tokens (map item items.items))
+derived end tokens (Ok items) r = models_derived OPEN_LIMIT tokens (map item items.items) r
+derived end tokens (Err s) r = tt
 
 -- the items of a file are at most so high
 pub bounded : {Z : Type 0} (end : Span) (tokens : List Token) (result : Result (Vec Item Z) Stop) → IsRead end tokens result → IfOk result (λ items. items_height items.items ≤ HEIGHT_LIMIT)

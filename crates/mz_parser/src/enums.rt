@@ -7,7 +7,7 @@ ghost use Rattle.mz_cursor.specs.Tokens.{tok_at, place_or};
 ghost use Rattle.mz_cursor.specs.Reading.{on};
 ghost use Rattle.mz_grammar.specs.Tests.{ident_of};
 ghost use Rattle.std.specs.Option.{option_map};
-ghost use Rattle.mz_cursor.specs.Promise.{Gives, fault_of};
+ghost use Rattle.mz_cursor.specs.Promise.{fault_of};
 ghost use Rattle.mz_grammar.specs.Parts as parts;
 ghost use Rattle.mz_grammar.specs.Reading.{reads};
 ghost use Rattle.mz_grammar.specs.Steps.{braced_at};

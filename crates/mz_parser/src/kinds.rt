@@ -1,9 +1,8 @@
 // One item, by its kind.
 
-ghost use Rattle.std.specs.Prelude.{◌≡◌, ◌<◌, length, Some, false};
+ghost use Rattle.std.specs.Prelude.{◌<◌, length, Some, false};
 ghost use Rattle.mz_tree.specs.Items.{item, goal};
-ghost use Rattle.mz_tree.specs.Tree as pure;
-ghost use Rattle.mz_tree.specs.Views.{written, based};
+ghost use Rattle.mz_tree.specs.Views.{written};
 ghost use Rattle.mz_cursor.specs.Reads.{Reads};
 ghost use Rattle.mz_cursor.specs.Reading.{on};
 ghost use Rattle.mz_cursor.specs.Tokens.{behind, place};

@@ -1,9 +1,11 @@
 // The items of a model's file.
 #![tactic(auto)]
 
-ghost use Rattle.std.specs.Prelude.{◌≤◌, IfOk};
+ghost use Rattle.std.specs.Prelude.{◌≤◌, map, IfOk};
+ghost use Rattle.mz_base.specs.declared.limit.TheConstants.{OPEN_LIMIT};
 ghost use Rattle.mz_tree.specs.declared.height.TheConstants.{HEIGHT_LIMIT};
-ghost use Rattle.mz_tree.specs.Items.{items_height};
+ghost use Rattle.mz_tree.specs.Items.{item, items_height};
+ghost use Rattle.mz_syntax.specs.ModelSyntax.{DerivesModel};
 ghost use Rattle.mz_parser.specs.Model.{IsRead};
 
 mod enums;
@@ -26,6 +28,7 @@ use std::alloc::Global;
 /// open at once than `OPEN_LIMIT`. Memory where memory runs out.
 pub fn items(alloc: Global, tokens: &[Token], end: Span) -> Result<Vec<Item>, Stop>
     ensures reads { IsRead end tokens.now result }
+    ensures derived { IfOk result (λ items. DerivesModel OPEN_LIMIT tokens.now (map item items.items)) }
     ensures bounded { IfOk result (λ items. items_height items.items ≤ HEIGHT_LIMIT) }
 {
     let mut cur = Cursor::new(tokens, end);

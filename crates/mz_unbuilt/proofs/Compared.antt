@@ -1,10 +1,9 @@
 -- Constraints by the layers of their trees.
-use Rattle.std.proofs.Common.{◌≡◌, ◌∙◌, ℕ, Bool, true, false, List, [], ◌∷◌, ◌++◌, Option, Some, None, Box, map, refl, sym, ap, if◌then◌else◌}
+use Rattle.std.proofs.Common.{◌≡◌, ◌∙◌, ℕ, Bool, true, false, List, [], ◌∷◌, ◌++◌, Box, refl, sym, ap}
 use Rattle.std.specs.Prelude.{not, ◌&&◌, ◌||◌, is_none}
 use Rattle.std.specs.Global.{Global}
 use Rattle.std.specs.List.{list_all}
 use Rattle.std.proofs.lemmas.List.Folds.{list_all-append}
-use Rattle.mz_base.specs.declared.fault.Span.{Span}
 use Rattle.mz_core.specs.declared.types.Coercion.{Coercion}
 use Rattle.mz_core.specs.declared.types.TypeInst.{TypeInst}
 use Rattle.mz_core.specs.declared.tree.Core.{Core}

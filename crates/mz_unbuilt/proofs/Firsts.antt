@@ -1,5 +1,5 @@
 -- The first of several places, list by list.
-use Rattle.std.proofs.Common.{◌≡◌, ◌∙◌, List, [], ◌∷◌, ◌++◌, Option, Some, None, refl, ap}
+use Rattle.std.proofs.Common.{◌≡◌, List, [], ◌∷◌, ◌++◌, Option, refl}
 use Rattle.mz_base.specs.declared.fault.Span.{Span}
 use Rattle.mz_unbuilt.specs.Places.{earlier, first_place}
 

@@ -1,5 +1,5 @@
 -- What isn't built in the items of a program, part by part.
-use Rattle.std.proofs.Common.{◌≡◌, ◌∙◌, ◌<◌, ◌≤◌, ℕ, Bool, true, false, List, [], ◌∷◌, ◌++◌, Option, Some, None, map, length, get_or, refl, sym, ap, arith, if◌then◌else◌}
+use Rattle.std.proofs.Common.{◌≡◌, ◌∙◌, ◌<◌, ◌≤◌, ℕ, Bool, true, false, List, [], ◌∷◌, ◌++◌, Option, None, map, length, get_or, refl, sym, ap, arith, if◌then◌else◌}
 use Rattle.std.specs.List.{flat_map}
 use Rattle.mz_base.specs.declared.fault.Span.{Span}
 use Rattle.mz_core.specs.declared.tree.Core.{Core}
@@ -24,7 +24,7 @@ use Rattle.mz_unbuilt.specs.StepsSlots.{is_marked, slot_names}
 use Rattle.mz_unbuilt.specs.StepsLayers.{in_all}
 use Rattle.mz_unbuilt.specs.StepsComparisons as comparisons
 use Rattle.mz_unbuilt.specs.StepsItems as steps
-use Rattle.mz_unbuilt.proofs.Firsts.{first_of_none, first_of_one, first_append}
+use Rattle.mz_unbuilt.proofs.Firsts.{first_of_none}
 use Rattle.mz_unbuilt.proofs.Compared.{par_is, name_is}
 use Rattle.mz_unbuilt.proofs.Walking.{both}
 

@@ -1,12 +1,12 @@
 -- What the first place says of all places.
-use Rattle.std.proofs.Common.{◌≡◌, ◌∙◌, ◌<◌, ℕ, zero, suc, Bool, true, false, List, [], ◌∷◌, Option, Some, None, All, length, get_or, refl, sym, ap, subst, arith, if◌then◌else◌}
+use Rattle.std.proofs.Common.{◌≡◌, ◌<◌, ℕ, zero, suc, Bool, true, false, List, [], ◌∷◌, Some, None, All, length, get_or, refl, sym, subst, arith, if◌then◌else◌}
 use Rattle.std.specs.Prelude.{nat_lt, nat_eq, ◌&&◌, ◌||◌}
 use Rattle.std.specs.List.{Contains}
 use Rattle.std.proofs.lemmas.List.Elements.{Contains-append_right, All-nil, All-cons, All-head, All-tail}
 use Rattle.std.proofs.lemmas.Bool.Decides.{nat_tests}
 use Rattle.mz_base.specs.declared.fault.Span.{Span}
 use Rattle.mz_core.specs.Program.{PlainProgram}
-use Rattle.mz_unbuilt.specs.Places.{is_before, earlier, first_place}
+use Rattle.mz_unbuilt.specs.Places.{is_before, first_place}
 use Rattle.mz_unbuilt.specs.Unbuilt.{unbuilt_places, first_unbuilt}
 
 -- one place stays found

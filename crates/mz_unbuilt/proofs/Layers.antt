@@ -1,5 +1,5 @@
 -- What isn't built by the layers of a tree.
-use Rattle.std.proofs.Common.{◌≡◌, ◌∙◌, ℕ, Bool, List, [], ◌∷◌, ◌++◌, Option, Some, None, refl, ap, sym, append_assoc, append-nil}
+use Rattle.std.proofs.Common.{◌≡◌, ◌∙◌, ℕ, Bool, List, ◌++◌, refl, ap, sym, append_assoc}
 use Rattle.std.specs.List.{flat_map}
 use Rattle.mz_base.specs.declared.fault.Span.{Span}
 use Rattle.mz_core.specs.declared.tree.Core.{Core}
@@ -8,8 +8,8 @@ use Rattle.mz_core.specs.Tree as pure
 use Rattle.mz_core.specs.Tree.{Tree, Shape, Trees, Maybe, Maybes, Rows, Branches, Steps, Gens, Items, if_tree, maybe, all_trees, all_maybes, all_rows, all_branches, all_steps, all_gens, all_items, layer, shape_of, place_of}
 use Rattle.mz_core.specs.TreeViews.{tree, form_layer}
 use Rattle.mz_core.proofs.TreeLaws.{layer_tree, place_of_tree}
-use Rattle.mz_unbuilt.specs.Unbuilt.{unbuilt_in, in_form, in_maybe, in_trees, in_maybes, in_rows, in_branches, in_steps, in_gens, in_items, in_if, in_type, at_if, is_unbuilt_local, is_global}
-use Rattle.mz_unbuilt.specs.StepsLayers.{in_all, in_sets, in_branch, in_step, in_generator, in_local, in_item, in_layer}
+use Rattle.mz_unbuilt.specs.Unbuilt.{unbuilt_in, in_form, in_maybe, in_trees, in_maybes, in_rows, in_branches, in_steps, in_gens, in_items, in_if, at_if, is_unbuilt_local, is_global}
+use Rattle.mz_unbuilt.specs.StepsLayers.{in_all, in_sets, in_branch, in_step, in_generator, in_item, in_layer}
 
 module _ (v : ℕ → Bool) where
   maybe_is : (m : Maybe) → in_maybe v m ≡ in_if v (if_tree m)

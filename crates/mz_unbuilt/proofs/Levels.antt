@@ -1,15 +1,13 @@
 -- The level of comparisons, and operands that end in a chain of it.
-use Rattle.std.proofs.Common.{◌≡◌, ◌∙◌, ◌<◌, ◌≤◌, ◌+◌, ℕ, zero, suc, Bool, true, false, List, [], ◌∷◌, ◌++◌, Option, Some, None, length, get_or, slice_get, map, refl, sym, ap, arith, if◌then◌else◌}
+use Rattle.std.proofs.Common.{◌≡◌, ◌∙◌, ◌<◌, ◌≤◌, ◌+◌, ℕ, zero, suc, Bool, true, false, List, [], ◌∷◌, Option, Some, None, length, get_or, slice_get, map, refl, sym, ap, arith, if◌then◌else◌}
 use Rattle.std.specs.Prelude.{nat_eq, nat_le, not, ◌&&◌, is_none}
 use Rattle.std.specs.Option.{option_map}
 use Rattle.std.proofs.lemmas.Bool.{eqb-true}
 use Rattle.std.proofs.lemmas.Bool.Decides.{nat_tests}
-use Rattle.mz_base.specs.declared.fault.Span.{Span}
 use Rattle.mz_core.specs.declared.tree.CoreStep.{CoreStep}
-use Rattle.mz_core.specs.Types.{PlainType}
-use Rattle.mz_core.specs.Tree.{Tree, Shape, Step, Steps, node, chain, coerce, layer, shape_of, inner_tree, all_steps}
+use Rattle.mz_core.specs.Tree.{Tree, node, chain, coerce, layer, shape_of, inner_tree, all_steps}
 use Rattle.mz_core.specs.TreeViews.{step}
-use Rattle.mz_meaning.specs.Chains.{Front, level_table, level_or, level_of, is_append, same_level, chain_level, front_of, front_in, fronted, coerced_front}
+use Rattle.mz_meaning.specs.Chains.{level_table, level_or, level_of, is_append, same_level, front_of, fronted, coerced_front}
 use Rattle.mz_unbuilt.specs.Comparisons.{is_comparison}
 use Rattle.mz_unbuilt.specs.StepsComparisons.{is_chain_in}
 

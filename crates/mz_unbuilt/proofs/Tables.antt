@@ -1,5 +1,5 @@
 -- A table of what slots name, as it grows.
-use Rattle.std.proofs.Common.{◌≡◌, ◌∙◌, ◌<◌, ◌≤◌, ◌+◌, ℕ, zero, suc, Bool, true, false, List, [], ◌∷◌, ◌++◌, Option, Some, None, All, length, map, drop, get_or, set, slice_get, nat_eq, refl, sym, ap, subst, arith, if◌then◌else◌}
+use Rattle.std.proofs.Common.{◌≡◌, ◌∙◌, ◌<◌, ◌≤◌, ℕ, zero, suc, Bool, true, false, List, [], ◌∷◌, ◌++◌, Option, Some, None, All, length, map, drop, get_or, set, slice_get, nat_eq, refl, sym, ap, subst, arith, if◌then◌else◌}
 use Rattle.std.proofs.lemmas.Bool.{eqb-true}
 use Rattle.std.proofs.Math.ListN.{get_or-map}
 use Rattle.std.proofs.lemmas.List.{length-map}
@@ -14,7 +14,7 @@ use Rattle.mz_core.specs.Tree.{Decl}
 use Rattle.mz_core.specs.TreeViews.{decl}
 use Rattle.mz_meaning.specs.Walk.{ordered, with_decl}
 use Rattle.mz_unbuilt.specs.declared.variables.Naming.{Naming}
-use Rattle.mz_unbuilt.specs.Variables.{Named, Par, named_in, named_as}
+use Rattle.mz_unbuilt.specs.Variables.{Named, Par, named_in}
 use Rattle.mz_unbuilt.specs.StepsSlots.{named, named_else, slot_names, at_slot}
 use Rattle.mz_unbuilt.proofs.Walking.{drop_all}
 

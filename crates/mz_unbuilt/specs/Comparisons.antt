@@ -1,11 +1,11 @@
 -- WHICH CONSTRAINTS ARE BUILT: par ones, and comparisons whose operands, coercions aside, are par integers or names of variables.
-use Rattle.std.specs.Prelude.{ℕ, Bool, true, false, not, ◌&&◌, ◌||◌, List, [], ◌∷◌, Option, Some, None, is_none, nat_le}
+use Rattle.std.specs.Prelude.{ℕ, Bool, true, false, not, ◌&&◌, ◌||◌, List, [], ◌∷◌, is_none, nat_le}
 use Rattle.std.specs.List.{list_all}
 use Rattle.mz_core.specs.declared.types.Coercion.{Coercion}
 use Rattle.mz_core.specs.declared.types.Coercion.TheVariants as coercion
 use Rattle.mz_core.specs.Coercions.{PathLink}
 use Rattle.mz_core.specs.Types.{PlainType}
-use Rattle.mz_core.specs.Tree.{Tree, Shape, Step, Steps, node, chain, a_step, no_steps, slot, type_of, shape_of, inner_tree, root_coercions}
+use Rattle.mz_core.specs.Tree.{Tree, Shape, Step, node, chain, a_step, no_steps, slot, type_of, shape_of, inner_tree, root_coercions}
 use Rattle.mz_meaning.specs.Cells.{is_truth}
 use Rattle.mz_meaning.specs.Chains.{front_of, chain_level, operand_base, a_step_of}
 use Rattle.mz_unbuilt.specs.Variables.{Named, is_int, is_integer, is_built_variable}

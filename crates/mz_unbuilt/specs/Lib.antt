@@ -2,6 +2,7 @@ pub mod Places
 pub mod Variables
 pub mod Comparisons
 pub mod Unbuilt
+pub mod Examples
 pub mod StepsSlots
 pub mod StepsLayers
 pub mod StepsComparisons

@@ -7,7 +7,6 @@ use Rattle.mz_core.specs.Tree.{Tree, Step, Layer, slot_form, chain_form, coerce_
 use Rattle.mz_meaning.specs.Chains as chains
 use Rattle.mz_meaning.specs.Chains.{same_level}
 use Rattle.mz_unbuilt.specs.Variables.{Named, is_int, is_integer, is_built_variable}
-use Rattle.mz_unbuilt.specs.Comparisons as comparisons
 use Rattle.mz_unbuilt.specs.Comparisons.{keeps, all_keep, stays_par, is_comparison, is_var_truth}
 
 -- ---- an expression below its coercions

@@ -1,5 +1,5 @@
 -- What isn't built by the layers of a tree. Mirror of src/walk.rt; private clauses only.
-use Rattle.std.specs.Prelude.{ℕ, Bool, List, [], ◌∷◌, ◌++◌, Option, Some, None}
+use Rattle.std.specs.Prelude.{ℕ, Bool, List, [], ◌++◌, Option}
 use Rattle.std.specs.List.{flat_map}
 use Rattle.mz_base.specs.declared.fault.Span.{Span}
 use Rattle.mz_core.specs.Tree.{Tree, Step, Gen, Decl, Item, declares, constrains, maybe, Layer, slot_form, chain_form, builtin_form, call_form, access_form, array_form, rows_form, set_form, comp_form, if_form, let_form, coerce_form}

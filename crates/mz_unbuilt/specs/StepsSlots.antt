@@ -1,5 +1,5 @@
 -- What slots name, as a table. Mirror of src/slots.rt; private clauses only.
-use Rattle.std.specs.Prelude.{ℕ, Bool, List, [], ◌∷◌, Option, Some, None, nat_eq, slice_get, if◌then◌else◌}
+use Rattle.std.specs.Prelude.{ℕ, Bool, List, Option, Some, None, nat_eq, slice_get, if◌then◌else◌}
 use Rattle.mz_core.specs.Tree.{Decl}
 use Rattle.mz_unbuilt.specs.declared.variables.Naming.{Naming}
 use Rattle.mz_unbuilt.specs.declared.variables.Naming.TheVariants as naming

@@ -1,5 +1,5 @@
 -- WHAT ISN'T BUILT YET IN A TYPED PROGRAM, by places: a declaration at its name; a constraint, and an objective, at its expression; a local variable at its name; a call of a global constraint at the call; and, outside output items, a name of a top-level variable that is no operand of a comparison.
-use Rattle.std.specs.Prelude.{ℕ, Bool, true, false, not, ◌||◌, List, [], ◌∷◌, ◌++◌, Option, Some, None, is_none, slice_get, if◌then◌else◌}
+use Rattle.std.specs.Prelude.{ℕ, Bool, true, false, not, List, [], ◌∷◌, ◌++◌, Option, Some, None, is_none, slice_get, if◌then◌else◌}
 use Rattle.std.specs.List.{flat_map}
 use Rattle.mz_base.specs.declared.fault.Span.{Span}
 use Rattle.mz_core.specs.Types.{PlainType}

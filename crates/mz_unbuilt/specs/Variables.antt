@@ -1,5 +1,5 @@
 -- WHICH DECLARATIONS ARE BUILT: par ones, and integer variables without a value.
-use Rattle.std.specs.Prelude.{ℕ, Bool, true, false, not, ◌&&◌, List, [], ◌∷◌, Option, Some, None, is_none, is_some, nat_eq, if◌then◌else◌}
+use Rattle.std.specs.Prelude.{ℕ, Bool, true, false, not, ◌&&◌, List, [], ◌∷◌, Option, is_none, is_some, nat_eq, if◌then◌else◌}
 use Rattle.mz_base.specs.Names.{text_of}
 use Rattle.mz_base.specs.Words.{is_identifier}
 use Rattle.mz_core.specs.declared.types.Base.{Base}

@@ -1,6 +1,6 @@
 // Which constraints are built: par ones, and comparisons of names and par integers.
 
-ghost use Rattle.std.specs.Prelude.{◌≡◌, ◌&&◌, ◌||◌, not, map};
+ghost use Rattle.std.specs.Prelude.{◌≡◌, ◌&&◌, ◌||◌, map};
 ghost use Rattle.mz_core.specs.Types.{plain_type};
 ghost use Rattle.mz_core.specs.Paths.{path_links};
 ghost use Rattle.mz_core.specs.Tree.{inner_tree};
@@ -16,6 +16,11 @@ ghost use Rattle.mz_unbuilt.specs.StepsComparisons.{inner_type, inner_layer, all
 use crate::slots::is_built;
 use crate::variables::{Naming, is_int, is_integer, is_var, is_var_integer};
 use mz_core::{Base, Coercion, Core, CoreForm, CoreStep, TypeInst};
+
+// the comparisons are the rows of the table from `=` to `>=`
+const EQUAL: u32 = 7;
+
+const AT_LEAST: u32 = 12;
 
 fn keeps(c: Coercion) -> bool
     ensures { result ≡ keeps c }
@@ -149,7 +154,7 @@ fn is_operand(slots: &[Option<Naming>], e: &Core) -> bool
 fn is_comparison(row: u32) -> bool
     ensures { result ≡ is_comparison row }
 {
-    7 <= row && row <= 12
+    EQUAL <= row && row <= AT_LEAST
 }
 
 fn is_bool(b: Base) -> bool

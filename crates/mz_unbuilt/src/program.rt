@@ -17,12 +17,7 @@ use mz_base::{Names, Span};
 use mz_core::{CoreDecl, CoreFunction, CoreGoal, Program};
 use std::alloc::{AllocError, Global};
 
-fn in_declaration(
-    names: &Names,
-    slots: &[Option<Naming>],
-    found: &mut Option<Span>,
-    d: &CoreDecl,
-)
+fn in_declaration(names: &Names, slots: &[Option<Naming>], found: &mut Option<Span>, d: &CoreDecl)
     requires { (decl d.now).name < length names.now }
     ensures { found.new ≡ first_place found.old (in_declaration names.now (is_marked slots.now) (decl d.now)) }
 {

@@ -1,6 +1,6 @@
 // The first place of what isn't built in typed expressions, declarations and types.
 
-ghost use Rattle.std.specs.Prelude.{◌≡◌, map, slice_get, is_none};
+ghost use Rattle.std.specs.Prelude.{◌≡◌, map};
 ghost use Rattle.std.specs.List.{flat_map};
 ghost use Rattle.std.specs.Option.{option_map};
 ghost use Rattle.mz_core.specs.Types.{plain_type};

@@ -1,9 +1,7 @@
-use Rattle.std.proofs.Common.{◌∙◌, ◌<◌, ℕ, List, All, length, map, sym, ap, subst}
+use Rattle.std.proofs.Common.{◌∙◌, length, map, ap}
 use Rattle.std.specs.List.{flat_map}
-use Rattle.mz_core.specs.declared.tree.CoreDecl.{CoreDecl}
-use Rattle.mz_core.specs.Tree.{Decl}
 use Rattle.mz_core.specs.TreeViews.{tree, decl}
-use Rattle.mz_core.specs.Program.{function, plain_program}
+use Rattle.mz_core.specs.Program.{function}
 use Rattle.mz_unbuilt.specs.Places.{first_place}
 use Rattle.mz_unbuilt.specs.Unbuilt.{in_declaration, in_function}
 use Rattle.mz_unbuilt.specs.StepsSlots.{is_marked, slot_names}

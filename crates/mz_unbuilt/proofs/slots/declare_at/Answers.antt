@@ -1,5 +1,4 @@
 use Rattle.std.proofs.Common.{◌∙◌, length, slice_get, sym, ap}
-use Rattle.mz_core.specs.TreeViews.{decl}
 use Rattle.mz_unbuilt.specs.Variables.{named_in}
 use Rattle.mz_unbuilt.specs.StepsSlots.{named_else}
 use Rattle.mz_unbuilt.proofs.Tables.{name_within, none_declared, one_declared}

@@ -1,6 +1,5 @@
-use Rattle.std.proofs.Common.{◌≡◌, ◌∙◌, List, map, ap, sym, subst}
+use Rattle.std.proofs.Common.{◌≡◌, ◌∙◌, map, ap, sym}
 use Rattle.std.specs.Option.{option_map}
-use Rattle.mz_base.specs.declared.fault.Span.{Span}
 use Rattle.mz_core.specs.declared.tree.CoreForm.TheVariants as forms
 use Rattle.mz_core.specs.TreeViews.{tree, gen, step, item, branch}
 use Rattle.mz_unbuilt.specs.Places.{first_place}
@@ -63,10 +62,10 @@ pub in_sets-loop-m-preserved : goal.in_sets-loop-m-preserved
 in_sets-loop-m-preserved t c =
     let v = is_marked c.args.slots.now in
     let gone : c.match-m.found ≡ first_place c.loop-m.found (in_if v (option_map tree c.m-item.result)) =
-        elim c.match-m.branch [
-            in_sets-in-None w ↦ found_none v c.m-item.result c.loop-m.found c.match-m.found w.in-None.is w.found-is
-          | in_sets-in-Some w ↦ found_some v c.m-item.result w.in-Some.e c.loop-m.found w.in_tree.new.found c.match-m.found w.in-Some.is w.in_tree.ensures w.found-is
-        ] in
+    elim c.match-m.branch [
+      | in_sets-in-None w ↦ found_none v c.m-item.result c.loop-m.found c.match-m.found w.in-None.is w.found-is
+      | in_sets-in-Some w ↦ found_some v c.m-item.result w.in-Some.e c.loop-m.found w.in_tree.new.found c.match-m.found w.in-Some.is w.in_tree.ensures w.found-is
+    ] in
     loop_more (option_map tree) (in_if v) c.args.ms.now c.loop-m.m-index c.m-item.result c.args.found.now c.loop-m.found c.match-m.found c.loop-m-test.true c.m-item.is gone c.loop-m.invariant
 
 pub in_sets-returns : goal.in_sets-returns
