@@ -66,7 +66,8 @@ fn answer<F: Files, S: Sink, E: Sink>(
 /// The commands are `compile` and `check`, each with a model's file, its data files in order, and the options `--budget N` and
 /// `--int-range N` anywhere (`mz_words::read_words` has the words). The model and the files that it includes are read, each once, and
 /// then the data files, each as often as it is named. `compile` writes the model's FlatZinc to `out` with one put; `check` answers what
-/// `compile` does, and writes nothing there. Nothing is taken from `input`. The options change nothing yet.
+/// `compile` does, and writes nothing there. Nothing is taken from `input`. N of `--budget` is how many units of work an evaluation may
+/// take, 10,000,000 where it isn't given; N of `--int-range` is how far a `var int` reaches from 0 on either side, else 1,000,000,000.
 ///
 /// What is refused has the place of the first fault, in the order of the files, where each is fetched, lexed whole and parsed before the
 /// next one: all files of the model, and then the data files. `MissingFile` and `TooLong` (more than `FILE_LIMIT` bytes) stand where the
@@ -74,8 +75,11 @@ fn answer<F: Files, S: Sink, E: Sink>(
 /// file itself. After all files come the tests of names, in this order, each over the whole: `ReservedName`, `DuplicateName`,
 /// `SolveItems`, `UnknownName`, `DataForm` of an enum's data, `MissingData`, `Cyclic`; then the types: `UnknownName` and `DuplicateName`
 /// of local names, `DuplicateName` of functions with parameters, `DataForm` of all other data, `TypeMismatch`, `NoOverload`,
-/// `Ambiguous`, `LeftOut`. `NotBuilt` comes after all of these, at the first item that isn't of the form that is built
-/// (`mz_first::build` has the form), or else at the first value that data gives.
+/// `Ambiguous`, `LeftOut`. `NotBuilt` comes after all of these, at the first place in the text of what isn't built
+/// (`mz_unbuilt::first_unbuilt`). Where all is built, the model is evaluated: the declarations in their order, each with its sets and its
+/// value, then the constraints in the order of the text. The first of these stops it: `ParUndefined` (a parameter's value is undefined or
+/// outside its set, or a declared set is undefined), `IndexMismatch`, `AssertFailed`, `NegativeArgument` with the exponent, `Bounds` with
+/// the end that leaves the limit, `Budget` with the budget and 1, `Depth` with 601. A place in a data file is that of a value there.
 ///
 /// After `Done` `notes` holds what it held, after any other answer besides that one line that says why; the line of a refusal names the
 /// file of its place as it was fetched. A put on `notes` that goes wrong cuts the line short and changes no answer. After `WriteFault`
@@ -105,7 +109,7 @@ pub fn run<F: Files, I: Source, S: Sink, E: Sink>(
     ensures counted { CountsFiles (F.counts files.old) (F.counts files.new) result }
     ensures counted_out { CountsOut (S.counts out.old) (S.counts out.new) result }
 
-    // A model that is there, whose data files give no value, passes the tests and is of the form is compiled.
+    // A model that is there and is typed with its data, of which all is built, and whose evaluation goes through is compiled.
     ensures complete { IsComplete (F.texts files.old) (asked (text_of words.now.items))
         (F.counts files.old) (F.counts files.new) (S.counts out.old) (S.counts out.new) result }
 
