@@ -1,6 +1,7 @@
 -- The limits of a request's options.
-use Rattle.std.proofs.Common.{◌≡◌, ℕ, ◌<◌, ◌^◌, ℤ, pos, List, Err, ap, sym, subst, arith}
+use Rattle.std.proofs.Common.{◌≡◌, ℕ, ◌<◌, ◌^◌, ℤ, pos, negsuc, FitsSigned, w64, List, Err, refl, ap, sym, subst, arith}
 use Rattle.std.specs.Prelude.{◌≤ℤ◌}
+use Rattle.std.proofs.lemmas.Int.{ints, fits_signed_from_abs}
 use Rattle.mz_base.specs.declared.stop.Stop.{Stop}
 use Rattle.mz_base.specs.declared.stop.Stop.TheVariants as stop
 use Rattle.mz_base.specs.Faults as stops
@@ -17,7 +18,7 @@ use Rattle.mz_direct.specs.Emission.{writing_walk}
 use Rattle.mz_post.specs.Names.{no_values}
 use Rattle.mz_value.specs.Ranges.{greatest}
 use Rattle.mz_words.specs.declared.request.Options.{Options}
-use Rattle.mz_words.specs.Requests.{Asked, compile, check, settings, IsWithinLimits, AskedWithinLimits}
+use Rattle.mz_words.specs.Requests.{Settings, Asked, compile, check, settings, IsWithinLimits, AskedWithinLimits}
 use Rattle.mz_tool.specs.Words.{settings_in}
 use Rattle.mz_tool.specs.Headline.{limits_of}
 
@@ -40,15 +41,25 @@ range_from_zero o a same h = from_one o.int_range (of_options o a same h).least_
 pub range_in_limit : (o : Options) (a : Asked) → settings o ≡ settings_in a → AskedWithinLimits a → o.int_range ≤ℤ greatest
 range_in_limit o a same h = (of_options o a same h).greatest_range
 
+pub range_fits : (n : ℤ) → pos 0 ≤ℤ n → n ≤ℤ greatest → FitsSigned w64 n
+range_fits (pos n) low high = fits_signed_from_abs w64 (pos n) (omega (arith, ints))
+range_fits (negsuc n) low high = absurd (omega (arith, ints))
+
+pub budget_is : (o : Options) (a : Asked) → settings o ≡ settings_in a → o.budget ≡ (settings_in a).budget
+budget_is o a same = ap (λ (s : Settings). s.budget) same
+
+pub range_is : (o : Options) (a : Asked) → settings o ≡ settings_in a → o.int_range ≡ (settings_in a).int_range
+range_is o a same = ap (λ (s : Settings). s.int_range) same
+
 -- the walk that writes goes by the limits of the settings
-limits_are : (o : Options) (a : Asked) → settings o ≡ settings_in a → record { budget = o.budget; int_range = o.int_range } ≡ limits_of (settings_in a)
-limits_are o a same = ap limits_of same
+limits_are : (budget : ℕ) (int_range : ℤ) (a : Asked) → budget ≡ (settings_in a).budget → int_range ≡ (settings_in a).int_range → record { budget = budget; int_range = int_range } ≡ limits_of (settings_in a)
+limits_are budget int_range a same is = rw (same, is) refl
 
-pub in_limits : (table : List Name) (p : PlainProgram) (o : Options) (a : Asked) (answer : Answer Program) → settings o ≡ settings_in a
-    → writing_walk Untested (record { budget = o.budget; int_range = o.int_range }) Bare no_values table p start ≡ answer → writing_walk Untested (limits_of (settings_in a)) Bare no_values table p start ≡ answer
-in_limits table p o a answer same runs = subst (λ (l : Limits). writing_walk Untested l Bare no_values table p start ≡ answer) (limits_are o a same) runs
+pub in_limits : (table : List Name) (p : PlainProgram) (budget : ℕ) (int_range : ℤ) (a : Asked) (answer : Answer Program) → budget ≡ (settings_in a).budget → int_range ≡ (settings_in a).int_range
+    → writing_walk Untested (record { budget = budget; int_range = int_range }) Bare no_values table p start ≡ answer → writing_walk Untested (limits_of (settings_in a)) Bare no_values table p start ≡ answer
+in_limits table p budget int_range a answer same is runs = subst (λ (l : Limits). writing_walk Untested l Bare no_values table p start ≡ answer) (limits_are budget int_range a same is) runs
 
-pub stops_in_limits : (table : List Name) (p : PlainProgram) (o : Options) (a : Asked) (s : Stop) (work : ℕ) → settings o ≡ settings_in a
-    → Meets {A = FzProgram} program (Err s) work (writing_walk Untested (record { budget = o.budget; int_range = o.int_range }) Bare no_values table p start) → stops.IfRefused s (λ f. writing_walk Untested (limits_of (settings_in a)) Bare no_values table p start ≡ Stopped f)
-stops_in_limits table p o a (stop.Refused f) work same runs = in_limits table p o a (Stopped f) same runs
-stops_in_limits table p o a stop.Memory work same runs = tt
+pub stops_in_limits : (table : List Name) (p : PlainProgram) (budget : ℕ) (int_range : ℤ) (a : Asked) (s : Stop) (work : ℕ) → budget ≡ (settings_in a).budget → int_range ≡ (settings_in a).int_range
+    → Meets {A = FzProgram} program (Err s) work (writing_walk Untested (record { budget = budget; int_range = int_range }) Bare no_values table p start) → stops.IfRefused s (λ f. writing_walk Untested (limits_of (settings_in a)) Bare no_values table p start ≡ Stopped f)
+stops_in_limits table p budget int_range a (stop.Refused f) work same is runs = in_limits table p budget int_range a (Stopped f) same is runs
+stops_in_limits table p budget int_range a stop.Memory work same is runs = tt

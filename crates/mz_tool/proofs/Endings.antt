@@ -1,5 +1,5 @@
 -- What the ends of the parts of a compilation say of its end.
-use Rattle.std.proofs.Common.{◌≡◌, ℕ, ◌<◌, List, [], ◌∷◌, length, map, refl, sym, ap, subst, inl, inr, arith}
+use Rattle.std.proofs.Common.{◌≡◌, ℕ, ◌<◌, true, List, [], ◌∷◌, length, map, refl, sym, ap, subst, inl, inr, arith}
 use Rattle.std.specs.Prelude.{◌⊎◌, Option, Some, None, Err}
 use Rattle.std.proofs.lemmas.List.{length-map}
 use Rattle.mz_base.specs.declared.fault.Fault.{Fault}
@@ -136,7 +136,7 @@ module _ (a : Asked) (table : List Name) (files : List File) (data_files : List 
   refused_by f g owner same is refused = rw (same) (refused, is)
 
   pub stopped : (h : Held) (s : Stop) (e : End) → stops.IfRefused s (IsRefusedAs TheLimits table files data_files items) → Stops table files data_files s e → IsLeft a table files data_files items h h e
-  stopped h (stop.Refused f) (end.Refused g n) refused made = (refl, refused_by f g (text_of table n) made.0 made.1 refused)
+  stopped h (stop.Refused f) (end.Refused g n) refused made = let r = refused_by f g (text_of table n) made.0 made.1 refused in (refl, r.0, r.1)
   stopped h (stop.Refused f) end.Done refused made = absurd made
   stopped h (stop.Refused f) end.ReadFault refused made = absurd made
   stopped h (stop.Refused f) end.WriteFault refused made = absurd made
@@ -224,18 +224,18 @@ module _ (table : List Name) (texts : Texts) (a : Asked) where
     compiles written is = record { files = files; items = items; sources = sources; compiled = is }
 
     -- the settings are those of the request
-    its_own : (written : List ℕ) → s ≡ settings_in a → Compiled (limits_of (settings_in a)) table files items written → Compiles table texts (settings_in a) written
-    its_own written same is = subst (λ t. Compiles table texts t written) same (compiles written (subst (λ t. Compiled (limits_of t) table files items written) (sym same) is))
+    its_settings : (written : List ℕ) → s ≡ settings_in a → Compiled (limits_of (settings_in a)) table files items written → Compiles table texts (settings_in a) written
+    its_settings written same is = subst (λ t. Compiles table texts t written) same (compiles written (subst (λ t. Compiled (limits_of t) table files items written) (sym same) is))
 
     its_refusal : (f : Fault) → s ≡ settings_in a → IsRefusedAs (limits_of (settings_in a)) table files s.data_files items f → IsRefusal table texts (settings_in a) f (file_name files s.data_files f.span.file)
     its_refusal f same is = subst (λ t. IsRefusal table texts t f (file_name files s.data_files f.span.file)) same (refusal f (subst (λ t. IsRefusedAs (limits_of t) table files s.data_files items f) (sym same) is))
 
     -- how it ends where all files were read
     pub read_ends : (old new : Held) (e : End) → s ≡ settings_in a → IsLeft a table files s.data_files items old new e → Ends table texts a old new e
-    read_ends old new end.Done same left = record { written = left.0; compiles = its_own left.0 same left.1; leaves = left.2 }
+    read_ends old new end.Done same left = record { written = left.0; compiles = its_settings left.0 same left.1; leaves = left.2 }
     read_ends old new (end.Refused f n) same left = (left.0, subst (IsRefusal table texts (settings_in a) f) (sym left.2) (its_refusal f same left.1))
     read_ends old new end.ReadFault same left = absurd left
-    read_ends old new end.WriteFault same left = record { written = left.0; compiles = its_own left.0 same left.1; leaves = left.2 }
+    read_ends old new end.WriteFault same left = record { written = left.0; compiles = its_settings left.0 same left.1; leaves = left.2 }
     read_ends old new end.Memory same left = left
 
 -- with the names of the data files that were given

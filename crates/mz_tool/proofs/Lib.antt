@@ -1,4 +1,5 @@
 pub mod Asked
+pub mod Endings
+pub mod Grown
 pub mod Named
 pub mod Sinks
-pub mod Endings

@@ -1,6 +1,8 @@
 // A model with its included files and its data, compiled or checked.
 
-ghost use Rattle.std.specs.Prelude.{◌≡◌, ◌<◌, List, ℕ, None, Some, length, All};
+ghost use Rattle.std.specs.Prelude.{◌≡◌, ◌<◌, ◌^◌, ◌≤ℤ◌, pos, List, ℕ, None, Some, length, All};
+ghost use Rattle.mz_value.specs.Ranges.{greatest};
+ghost use Rattle.mz_base.specs.Names.{AreDistinct};
 ghost use Rattle.mz_words.specs.Requests.{AskedWithinLimits, request_of, settings};
 ghost use Rattle.mz_core.specs.Program.{plain_program};
 ghost use Rattle.mz_unbuilt.specs.Unbuilt.{first_unbuilt};
@@ -8,15 +10,17 @@ ghost use Rattle.fz_program.specs.Flat.{program, WellFormed};
 ghost use Rattle.mz_analysis.specs.Analysis.{IsRead, IsTypedModel, evaluated, files_read, items_read, names_of};
 ghost use Rattle.mz_tool.specs.Words.{settings_in, OnCheck};
 ghost use Rattle.mz_tool.specs.StepsCompiling.{status_of, data_names, IsWritten, IsFinished, Stops, IsLeft, unread, Ends, IsNamedEnd};
-ghost use Rattle.mz_tool.specs.Status.{CountsFiles, CountsOut};
+ghost use Rattle.mz_base.specs.declared.stop.Stop.TheVariants as stop;
+ghost use Rattle.mz_tool.specs.Status.{CountsFiles, CountsOut, not_built_at};
 
+use crate::reading::read_files;
 use crate::status::Status;
 use fz_program::FzProgram;
 use fz_text::{Wrote, write};
 use mz_analysis::{file_name, typed_model};
-use mz_base::{Fault, Kind, Name, Names, Stop};
+use mz_base::{Fault, Kind, Name, Names, Span, Stop};
 use mz_core::Program;
-use mz_data::{SourcesWithData, gather_with_data};
+use mz_data::SourcesWithData;
 use mz_include::GatherEnd;
 use mz_io::{Files, Sink};
 use mz_post::post_model;
@@ -90,6 +94,27 @@ fn stopped(read: &SourcesWithData, stop: Stop) -> End
     }
 }
 
+/// The budget that is asked for.
+#[tactic(auto, using(crate::proofs::Asked::budget_is, crate::proofs::Asked::budget_is_small))]
+fn budget_of(request: &Request<'_>) -> u64
+    requires { AskedWithinLimits (request_of request.now) }
+    ensures is { result ≡ (settings_in (request_of request.now)).budget }
+    ensures small { result < 2 ^ 63 }
+{
+    options_of(request).budget
+}
+
+/// The range of a `var int` that is asked for.
+#[tactic(auto, using(crate::proofs::Asked::range_is, crate::proofs::Asked::range_from_zero, crate::proofs::Asked::range_in_limit))]
+fn int_range_of(request: &Request<'_>) -> i64
+    requires { AskedWithinLimits (request_of request.now) }
+    ensures is { result ≡ (settings_in (request_of request.now)).int_range }
+    ensures from_zero { pos 0 ≤ℤ result }
+    ensures in_limit { result ≤ℤ greatest }
+{
+    options_of(request).int_range
+}
+
 /// What is asked for, of a typed program of which all is built, by the table of its names: it is evaluated and written.
 fn compile_built<S: Sink>(
     alloc: Global,
@@ -100,6 +125,7 @@ fn compile_built<S: Sink>(
     out: &mut S,
 ) -> End
     requires limits { AskedWithinLimits (request_of request.now) }
+    requires distinct { AreDistinct names.now }
     requires read { IsRead names.now read.now }
     requires typed { IsTypedModel names.now (files_read names.now read.now) (items_read read.now) (plain_program program.now) }
     requires named_in_order { All (λ n. n < length names.now) (names_of (evaluated (plain_program program.now))) }
@@ -109,11 +135,22 @@ fn compile_built<S: Sink>(
     ensures counted { CountsOut (S.counts out.old) (S.counts out.new) (status_of result) }
     ensures silent { OnCheck (Some (request_of request.now)) (out.new ≡ out.old) }
 {
-    let options = options_of(request);
-    match post_model(alloc, program, names, options.budget, options.int_range) {
+    let budget = budget_of(request);
+    let int_range = int_range_of(request);
+    match post_model(alloc, program, names, budget, int_range) {
         Ok(flat) => finish(alloc, request, &flat, out),
         Err(stop) => stopped(read, stop),
     }
+}
+
+/// How a compilation ended that met something that isn't built, at this place.
+fn not_built(read: &SourcesWithData, place: Span) -> End
+    requires { 0 < length read.now.sources.files.items }
+    ensures stops { (table : List (List ℕ)) → Stops table (files_read table read.now) (data_names table read.now) (stop.Refused (not_built_at place)) result }
+    ensures named { (table : List (List ℕ)) → IsRead table read.now → IsNamedEnd table result }
+{
+    let fault = Fault::at(Kind::NotBuilt, place);
+    stopped(read, Stop::Refused(fault))
 }
 
 /// What is asked for, of the typed program of a model's files, by the table of their names.
@@ -126,6 +163,7 @@ fn compile_typed<S: Sink>(
     out: &mut S,
 ) -> End
     requires limits { AskedWithinLimits (request_of request.now) }
+    requires distinct { AreDistinct names.now }
     requires read { IsRead names.now read.now }
     requires typed { IsTypedModel names.now (files_read names.now read.now) (items_read read.now) (plain_program program.now) }
     requires named { All (λ n. n < length names.now) (names_of (plain_program program.now).decls) }
@@ -137,10 +175,7 @@ fn compile_typed<S: Sink>(
 {
     match first_unbuilt(alloc, program, names) {
         Ok(None) => compile_built(alloc, request, read, names, program, out),
-        Ok(Some(place)) => {
-            let stop = Stop::Refused(Fault::at(Kind::NotBuilt, place));
-            stopped(read, stop)
-        }
+        Ok(Some(place)) => not_built(read, place),
         Err(_) => End::Memory,
     }
 }
@@ -155,6 +190,7 @@ fn compile_files<S: Sink>(
     out: &mut S,
 ) -> End
     requires limits { AskedWithinLimits (request_of request.now) }
+    requires distinct { AreDistinct names.now }
     requires read { IsRead names.now read.now }
     ensures left { IsLeft (request_of request.now) names.now (files_read names.now read.now) (data_names names.now read.now) (items_read read.now) (S.held out.old) (S.held out.new) result }
     ensures named { IsNamedEnd names.now result }
@@ -204,14 +240,7 @@ pub fn compile<F: Files, S: Sink>(
     ensures silent { OnCheck (Some (request_of request.now)) (out.new ≡ out.old) }
     ensures texts { F.texts files.new ≡ F.texts files.old }
 {
-    let options = options_of(request);
-    match gather_with_data(
-        alloc,
-        options.model,
-        options.data_files.as_slice(),
-        files,
-        names,
-    ) {
+    match read_files(alloc, options_of(request), files, names) {
         Ok(read) => compile_files(alloc, request, &read, names, out),
         Err(end) => not_gathered(&end),
     }

@@ -3,6 +3,7 @@
 
 mod compile;
 mod note;
+mod reading;
 mod status;
 mod top_call;
 

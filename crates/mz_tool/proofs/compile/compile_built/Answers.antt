@@ -1,5 +1,5 @@
-use Rattle.std.proofs.Common.{subst}
-use Rattle.mz_base.specs.Names.{AreDistinct}
+use Rattle.std.proofs.Common.{◌∙◌, to_z, of_z, w64}
+use Rattle.std.proofs.lemmas.Int.{to_z-of_z}
 use Rattle.mz_core.specs.Program.{plain_program}
 use Rattle.mz_words.specs.Requests.{request_of}
 use Rattle.fz_program.specs.Flat.{program}
@@ -9,19 +9,10 @@ use Rattle.mz_analysis.specs.Analysis.{evaluated, files_read, items_read}
 use Rattle.mz_analysis.proofs.Declared.{typed_numbered, typed_distinct}
 use Rattle.mz_tool.specs.StepsCompiling.{data_names}
 use Rattle.mz_meaning.specs.Runs.{Out}
-use Rattle.mz_tool.proofs.Asked.{budget_is_small, range_from_zero, range_in_limit, in_limits, stops_in_limits}
+use Rattle.mz_tool.proofs.Asked.{range_fits, in_limits, stops_in_limits}
 use Rattle.mz_tool.proofs.Named.{numbered_and_named}
 use Rattle.mz_tool.proofs.Endings.{writes, finished_named, evaluation_stopped, counts_out}
 use Rattle.mz_tool.proofs.compile.compile_built.Goals as goal
-
-pub post_model-requires-clause-small : goal.post_model-requires-clause-small
-post_model-requires-clause-small g c = budget_is_small c.options_of-options.result.now (request_of c.args.request.now) c.options_of-options.ensures c.requires.limits
-
-pub post_model-requires-clause-from_zero : goal.post_model-requires-clause-from_zero
-post_model-requires-clause-from_zero g c = range_from_zero c.options_of-options.result.now (request_of c.args.request.now) c.options_of-options.ensures c.requires.limits
-
-pub post_model-requires-clause-in_limit : goal.post_model-requires-clause-in_limit
-post_model-requires-clause-in_limit g c = range_in_limit c.options_of-options.result.now (request_of c.args.request.now) c.options_of-options.ensures c.requires.limits
 
 pub post_model-requires-clause-built : goal.post_model-requires-clause-built
 post_model-requires-clause-built g c = nothing_unbuilt c.args.names.now (plain_program c.args.program.now) c.requires.built
@@ -33,7 +24,7 @@ pub post_model-requires-clause-numbered : goal.post_model-requires-clause-number
 post_model-requires-clause-numbered g c =
     let table = c.args.names.now in
     let p = plain_program c.args.program.now in
-    numbered_and_named table (subst AreDistinct c.names.view_is c.names.invariant) (evaluated p)
+    numbered_and_named table c.requires.distinct (evaluated p)
     (typed_numbered table (files_read table c.args.read.now) (items_read c.args.read.now) p c.requires.typed)
     (typed_distinct table (files_read table c.args.read.now) (items_read c.args.read.now) p c.requires.typed)
     c.requires.named_in_order
@@ -43,11 +34,11 @@ returns-in-Ok-clause-left g c =
     let table = c.args.names.now in
     let p = plain_program c.args.program.now in
     writes table (files_read table c.args.read.now) (data_names table c.args.read.now) (items_read c.args.read.now) (request_of c.args.request.now) p (program c.in-Ok.flat) (at_work c.in-Ok.ensures.answer.work) _ _ c.finish.result c.requires.typed c.requires.built
-    (numbered_and_named table (subst AreDistinct c.names.view_is c.names.invariant) (evaluated p)
+    (numbered_and_named table c.requires.distinct (evaluated p)
     (typed_numbered table (files_read table c.args.read.now) (items_read c.args.read.now) p c.requires.typed)
     (typed_distinct table (files_read table c.args.read.now) (items_read c.args.read.now) p c.requires.typed)
     c.requires.named_in_order)
-    (in_limits table p c.options_of-options.result.now (request_of c.args.request.now) (Out (program c.in-Ok.flat) (at_work c.in-Ok.ensures.answer.work)) c.options_of-options.ensures c.in-Ok.ensures.answer.meets)
+    (in_limits table p c.budget_of-budget.result (to_z w64 (of_z w64 c.int_range_of-int_range.result)) (request_of c.args.request.now) (Out (program c.in-Ok.flat) (at_work c.in-Ok.ensures.answer.work)) c.budget_of-budget.ensures.is (to_z-of_z w64 c.int_range_of-int_range.result (range_fits c.int_range_of-int_range.result c.int_range_of-int_range.ensures.from_zero c.int_range_of-int_range.ensures.in_limit) ∙ c.int_range_of-int_range.ensures.is) c.in-Ok.ensures.answer.meets)
     c.in-Ok.ensures.formed c.finish.ensures.left
 
 pub returns-in-Ok-clause-named : goal.returns-in-Ok-clause-named
@@ -58,7 +49,7 @@ returns-in-Err-clause-left g c =
     let table = c.args.names.now in
     let p = plain_program c.args.program.now in
     evaluation_stopped (request_of c.args.request.now) table (files_read table c.args.read.now) (data_names table c.args.read.now) (items_read c.args.read.now) _ p c.in-Err.stop c.stopped.result c.requires.typed c.requires.built
-    (stops_in_limits table p c.options_of-options.result.now (request_of c.args.request.now) c.in-Err.stop c.in-Err.ensures.answer.work c.options_of-options.ensures c.in-Err.ensures.answer.meets)
+    (stops_in_limits table p c.budget_of-budget.result (to_z w64 (of_z w64 c.int_range_of-int_range.result)) (request_of c.args.request.now) c.in-Err.stop c.in-Err.ensures.answer.work c.budget_of-budget.ensures.is (to_z-of_z w64 c.int_range_of-int_range.result (range_fits c.int_range_of-int_range.result c.int_range_of-int_range.ensures.from_zero c.int_range_of-int_range.ensures.in_limit) ∙ c.int_range_of-int_range.ensures.is) c.in-Err.ensures.answer.meets)
     (c.stopped.ensures.stops table)
 
 pub returns-in-Err-clause-counted : goal.returns-in-Err-clause-counted
