@@ -4,6 +4,7 @@ mod Variables
 mod Domains
 mod Sides
 mod Cells
+mod Roots
 mod Posts
 pub mod Written
 mod Solved

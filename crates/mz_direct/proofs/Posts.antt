@@ -23,7 +23,7 @@ use Rattle.mz_meaning.specs.Promises.{OnOut}
 use Rattle.mz_meaning.specs.Solutions.{Each, IsMet}
 use Rattle.mz_meaning.specs.Walk.{Assignment, Declared, levels}
 use Rattle.mz_independence.specs.Independence.{keeps_par, AllKeepPar, IsParTree}
-use Rattle.mz_independence.specs.Outlines.{outline, outline_state, blank_world, HasOutlines}
+use Rattle.mz_independence.specs.Outlines.{outline, outlines, outline_state, blank_world, HasOutlines}
 use Rattle.mz_independence.specs.Ties.{outline_answer}
 use Rattle.mz_independence.proofs.Consequences.{expressions_have_outlines}
 use Rattle.mz_independence.proofs.Values.{value_is_given}
@@ -34,12 +34,13 @@ use Rattle.mz_unbuilt.specs.Variables.{Named, is_integer, is_built_variable}
 use Rattle.mz_unbuilt.specs.Comparisons.{stays_par, is_par_constraint, is_par_integer, is_name_of, is_name, is_operand, all_keep, is_compared, is_constraint_built}
 use Rattle.mz_posting.specs.Posted.{Posted, Whole, Pair, posted_cell, post_comparison, post_by, post_next}
 use Rattle.mz_posting.specs.Ends.{outline_posted}
-use Rattle.mz_direct.specs.Emission.{has_variable, place_in, number_side, name_side, side, side_rows, rows_of, all_rows}
+use Rattle.mz_direct.specs.Emission.{has_variable, place_in, number_side, name_side, side, side_rows, root_rows, rows_of, all_rows}
 use Rattle.mz_direct.proofs.Runs.{Gives, from, given, weaker}
 use Rattle.mz_direct.proofs.Names.{is_slot}
 use Rattle.mz_direct.proofs.Variables.{slot_in, slots, int_in, IsInt, numbers, AreRead, place_is}
 use Rattle.mz_direct.proofs.Domains.{all_left, all_right, all_both}
-use Rattle.mz_direct.proofs.Sides.{number_of, AreSame, truth_same, Shows, number_shows, is_place, sides_same}
+use Rattle.mz_direct.proofs.Sides.{number_of, AreSame, Shows, number_shows, is_place, sides_same}
+use Rattle.mz_direct.proofs.Roots.{AreRoots, roots_give, roots_same}
 use Rattle.mz_direct.proofs.Cells.{OperandBy, IsOperand, HasCells, name_is_no_par, IsPair, compared_is, compare_gives}
 
 -- ---- a par constraint
@@ -87,7 +88,7 @@ par_gives w k ctx e env p = record { by = λ s. go s (eval w k ctx e env s) refl
 -- ---- what is posted
 
 abbrev pub IsWhole : Posted → Type 0
-IsWhole (Whole c) = is_par c ≡ true
+IsWhole (Whole rs c) = AreRoots rs c
 IsWhole (Pair x y c) = ⊥
 
 abbrev pub PairOf : Mode → Assignment → Names → Posted → Tree → Type 0
@@ -105,7 +106,7 @@ comparison_posted w g a names ctx env (tree.node at t (tree.chain d (tree.a_step
 comparison_posted w g a names ctx env e m z h = absurd (cc)
 
 constraint_posted : (w : World) (g : ℕ → Content) (a : Assignment) (names : ℕ → Named) (ctx : Context) (env : Env) (e : Tree) → w.mode ≡ Given g → HasCells names w.mode a env → (b : Bool) → is_par_constraint e ≡ b → (b || is_compared names e) ≡ true → Gives (λ q. PostedBy b w.mode a w.cases q e) (post_by b w ctx env e)
-constraint_posted w g a names ctx env e m z true p h = from (par_gives w levels ctx e env (par_tree e p)) (λ c i. given i)
+constraint_posted w g a names ctx env e m z true p h = from {P = λ r. AreRoots r.roots r.cell} (roots_give w levels ctx e env (par_gives w levels ctx e env (par_tree e p))) (λ r i. given i)
 constraint_posted w g a names ctx env e m z false p h = comparison_posted w g a names ctx env e m z h
 
 abbrev pub ArePosted : Mode → Assignment → Names → List Tree → List Posted → Type 0
@@ -180,9 +181,7 @@ pair_same names xs a f g cases z (Pair x y c) (tree.node at t (tree.chain d (tre
 pair_same names xs a f g cases z q e h p = absurd p
 
 whole_same : (xs : List Declared) (f : Values) (q : Posted) (e : Tree) → IsWhole q → AreSame f (rows_of xs e (outline_posted q)) (is_true (value_of (posted_cell q)))
-whole_same xs f (Whole (Par v)) e h = truth_same f (is_true v)
-whole_same xs f (Whole (Var b v)) e h = absurd (cc)
-whole_same xs f (Whole (Unshaped d)) e h = absurd (cc)
+whole_same xs f (Whole rs c) e h = subst (AreSame f (root_rows (outlines rs))) (sym h.told) (roots_same f rs h.each)
 whole_same xs f (Pair x y c) e h = absurd h
 
 constraint_same : (names : ℕ → Named) (xs : List Declared) (a : Assignment) (f : Values) (g : ℕ → Content) (cases : Names) → IsScene names xs a f → (q : Posted) (e : Tree) (b : Bool) → (b || is_compared names e) ≡ true → PostedBy b (Given g) a cases q e → AreSame f (rows_of xs e (outline_posted q)) (is_true (value_of (posted_cell q)))

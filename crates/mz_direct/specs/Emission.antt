@@ -135,8 +135,12 @@ abbrev pub pair_rows : List Declared → Tree → Cell → Cell → List Row
 pair_rows xs (node at t (chain a (a_step r u l m b no_steps))) x y = side_rows r (side xs a x) (side xs b y)
 pair_rows xs e x y = never ∷ []
 
+-- a false row for each root that isn't true
+abbrev pub root_rows : List Cell → List Row
+root_rows rs = flat_map (λ r. truth_rows (is_true (value_of r))) rs
+
 abbrev pub rows_of : List Declared → Tree → Posted → List Row
-rows_of xs e (Whole c) = truth_rows (is_true (value_of c))
+rows_of xs e (Whole rs c) = root_rows rs
 rows_of xs e (Pair x y c) = pair_rows xs e x y
 
 abbrev pub all_rows : List Declared → List Tree → List Posted → List Row

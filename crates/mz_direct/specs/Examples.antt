@@ -4,9 +4,9 @@ use Rattle.mz_value.specs.Ranges.{Range}
 use Rattle.mz_core.specs.Program.{PlainProgram, satisfy}
 use Rattle.mz_core.specs.Tree.{Tree, Decl, trees}
 use Rattle.mz_core.specs.Tree as tree
-use Rattle.mz_operations.specs.Views.{as_int, as_set, as_ordinal, as_element, as_pair}
-use Rattle.mz_operations.specs.Arguments.{at, int_at, ordinal_at, element_at, enum_at, pair}
-use Rattle.mz_operations.specs.Numbers.{ordered, computed}
+use Rattle.mz_operations.specs.Views.{as_bool, as_int, as_set, as_ordinal, as_element, as_pair}
+use Rattle.mz_operations.specs.Arguments.{at, bool_at, int_at, ordinal_at, element_at, enum_at, pair}
+use Rattle.mz_operations.specs.Numbers.{connected, ordered, computed}
 use Rattle.mz_operations.specs.Sets.{union, intersection, complement, missing_from, end_of, up_to}
 use Rattle.mz_operations.specs.Values.{equality, scalar_value, made_value, bounding_value, is_bounded, is_fixable}
 use Rattle.mz_operations.specs.Answers.{is_mismatched, negative, is_failed, limited}
@@ -21,7 +21,7 @@ use Rattle.mz_meaning.specs.Chains.{level_table, front_in}
 use Rattle.mz_meaning.specs.Evaluation.{eval}
 use Rattle.mz_meaning.specs.Unbounded.{unbounded_in, in_form, in_maybe, in_trees, in_maybes, in_steps, in_items, first_unbounded}
 use Rattle.mz_meaning.specs.Walk.{Limits}
-use Rattle.mz_meaning.specs.Written.{col, int, ints, var_int, bool, var_bool, num, slot, bin, to_var, range, plain, within, decl, by_zero, absent}
+use Rattle.mz_meaning.specs.Written.{col, int, ints, var_int, bool, var_bool, num, lit, slot, bin, to_var, range, plain, within, decl, by_zero, absent}
 use Rattle.mz_meaning.specs.RowNumbers as op
 use Rattle.fz_program.specs.Names.{Name}
 use Rattle.fz_program.specs.Arguments.{Plain, bool as truth, int as number, var, one}
@@ -30,6 +30,7 @@ use Rattle.fz_program.specs.declared.program.FzGoal.TheVariants.{Satisfy}
 use Rattle.fz_program.specs.declared.row_name.RowName.{RowName}
 use Rattle.fz_program.specs.declared.row_name.RowName.TheVariants.{IntEq, IntNe, IntLe, IntLt, BoolEq}
 use Rattle.fz_program.specs.Flat.{Variable, Row, Program}
+use Rattle.mz_posting.specs.Roots.{roots}
 use Rattle.mz_direct.specs.Emission.{writing_walk, label_in, place_in}
 
 -- ---- models: slots 0, 1 and 2 are x, n and y
@@ -89,6 +90,9 @@ record Writes : Type 0 where
   -- a par constraint that is true, and one that is false
   true_constraint : over_x (bin 25 bool (num 25 (pos 2)) op.less (num 29 (pos 3))) ≡ is_over_x 8 []
   false_constraint : over_x (bin 25 bool (num 25 (pos 3)) op.less (num 29 (pos 2))) ≡ is_over_x 8 (a_false_row ∷ [])
+  -- false /\ false has two rows, and (true /\ false) /\ true one
+  false_operands : over_x (bin 25 bool (lit 25 false) op.both (lit 34 false)) ≡ is_over_x 8 (a_false_row ∷ a_false_row ∷ [])
+  false_operand : over_x (bin 26 bool (bin 26 bool (lit 26 true) op.both (lit 34 false)) op.both (lit 44 true)) ≡ is_over_x 11 (a_false_row ∷ [])
   -- x = 1 div 0
   undefined_operand : over_x (bin 25 var_bool (x 25) op.equal (to_var (by_zero 29))) ≡ is_over_x 11 (a_false_row ∷ [])
   -- x > 2, 2 > x, x >= 2 and x <= 2
@@ -110,10 +114,12 @@ record Writes : Type 0 where
       ≡ is 8 (output (codes "x") ((pos 0, pos 0) ∷ []) ∷ output (codes "y") ((negsuc 999, pos 1000) ∷ []) ∷ []) (a_false_row ∷ row IntLt (var 0) (var 1) ∷ [])
 
 writes : Writes
-unfolding eval row_table level_table front_in scalar_value made_value bounding_value equality is_bounded is_fixable as_int as_set as_ordinal as_element as_pair at int_at ordinal_at element_at enum_at pair ordered computed union intersection complement missing_from end_of up_to is_mismatched negative is_failed limited scalar_counts made_counts counts_from cost bound_of bounds_of is_settled bounds_at ends_at scalar_bounds first_unbounded unbounded_in in_form in_maybe in_trees in_maybes in_steps in_items label_in place_in
+unfolding eval roots row_table level_table front_in scalar_value bool_at as_bool connected made_value bounding_value equality is_bounded is_fixable as_int as_set as_ordinal as_element as_pair at int_at ordinal_at element_at enum_at pair ordered computed union intersection complement missing_from end_of up_to is_mismatched negative is_failed limited scalar_counts made_counts counts_from cost bound_of bounds_of is_settled bounds_at ends_at scalar_bounds first_unbounded unbounded_in in_form in_maybe in_trees in_maybes in_steps in_items label_in place_in
 writes = record {
   true_constraint = refl;
   false_constraint = refl;
+  false_operands = refl;
+  false_operand = refl;
   undefined_operand = refl;
   greater = refl;
   greater_number = refl;

@@ -15,7 +15,6 @@ use Rattle.mz_core.specs.Coercions.{PathLink}
 use Rattle.mz_meaning.specs.Chains.{operand_base, a_step_of}
 use Rattle.mz_meaning.specs.Domains.{Domains, Fixed, Scalar, Places}
 use Rattle.mz_meaning.specs.Forms.{World, coerced_by, operated}
-use Rattle.mz_meaning.specs.Evaluation.{eval}
 use Rattle.mz_meaning.specs.Solutions.{Each}
 use Rattle.mz_meaning.specs.Walk.{Declared, levels}
 use Rattle.fz_program.specs.declared.row_name.RowName.{RowName}
@@ -27,8 +26,9 @@ use Rattle.fz_program.specs.Table.{line}
 use Rattle.mz_unbuilt.specs.Variables.{Named, is_integer}
 use Rattle.mz_unbuilt.specs.Variables as unbuilt
 use Rattle.mz_unbuilt.specs.Comparisons.{is_par_constraint, is_par_integer, is_name, is_name_of, is_operand, is_compared, is_constraint_built, are_operands, is_step, all_keep, is_var_truth}
+use Rattle.mz_posting.specs.Roots.{roots}
 use Rattle.mz_posting.specs.Posted.{Posted, Whole, Pair, operand, post, post_by, post_comparison, compare, below}
-use Rattle.mz_direct.specs.Emission.{Side, Nothing, Absent, Number, Place, never, two, int_row, truth_rows, side_rows, side, name_side, number_side, rows_of, write_next, place_in, empties, empty_in}
+use Rattle.mz_direct.specs.Emission.{Side, Nothing, Absent, Number, Place, never, two, int_row, truth_rows, root_rows, side_rows, side, name_side, number_side, rows_of, write_next, place_in, empties, empty_in}
 
 abbrev pub AreRows : List Variable → List Row → Type 0
 AreRows vs rs = AllByRecursion (IsWellFormedRow vs) rs
@@ -77,6 +77,10 @@ row_formed vs r a b h k =
 truth_formed : (vs : List Variable) (t : Bool) → AreRows vs (truth_rows t)
 truth_formed vs true = tt
 truth_formed vs false = (never_formed vs, tt)
+
+roots_formed : (vs : List Variable) (rs : List Cell) → AreRows vs (root_rows rs)
+roots_formed vs [] = tt
+roots_formed vs (r ∷ rs) = both vs (truth_rows (is_true (value_of r))) (root_rows rs) (truth_formed vs (is_true (value_of r))) (roots_formed vs rs)
 
 -- ---- sides whose variables are integers
 
@@ -197,7 +201,7 @@ module _ (vs : List Variable) (xs : List Declared) (names : ℕ → Named) (know
   comparison_formed w env e st h = absurd (cc)
 
   post_by_formed : (w : World) (env : Env) (e : Tree) (st : State) (t : Bool) → is_par_constraint e ≡ t → is_constraint_built names e ≡ true → Gives (post_by t w Untested env e st) (posted e)
-  post_by_formed w env e st true p h = gives_then (eval w levels Untested e env st) (λ c. give (Whole c)) (posted e) (λ c s. truth_formed vs (is_true (value_of c)))
+  post_by_formed w env e st true p h = gives_then (roots w levels Untested e env st) (λ r. give (Whole r.roots r.cell)) (posted e) (λ r s. roots_formed vs r.roots)
   post_by_formed w env e st false p h =
       elim (or_cases (is_par_constraint e) (is_compared names e) h) [ inl q ↦ absurd (cc) | inr q ↦ comparison_formed w env e st q ]
 

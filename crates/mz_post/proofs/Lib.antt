@@ -1,4 +1,3 @@
-mod Budgets
 mod Names
 mod Ordered
 mod Declaring

@@ -2,22 +2,22 @@
 use Rattle.std.proofs.Common.{◌≡◌, ◌∙◌, true, false, List, [], ◌∷◌, ◌++◌, refl, sym, ap}
 use Rattle.mz_base.specs.declared.fault.Span.{Span}
 use Rattle.mz_core.specs.Types.{PlainType}
-use Rattle.mz_core.specs.Tree.{Tree, Shape, Steps, Step, node, chain, no_steps, a_step, layer, shape_of, place_of}
+use Rattle.mz_core.specs.Tree.{Tree, Shape, Step, node, chain, no_steps, a_step, layer, shape_of, place_of}
 use Rattle.mz_core.specs.Tree as tree
 use Rattle.mz_meaning.specs.Runs.{Run, State, Answer, Out, Stopped, then_do, give}
 use Rattle.mz_meaning.specs.Cells.{Env, typed}
 use Rattle.mz_meaning.specs.Contexts.{Untested}
 use Rattle.mz_meaning.specs.Chains.{operand_base, a_step_of}
 use Rattle.mz_meaning.specs.Forms.{World, coerced_by, operated}
-use Rattle.mz_meaning.specs.Evaluation.{eval}
 use Rattle.mz_meaning.specs.Walk.{Declared, levels}
 use Rattle.mz_chains.proofs.Runs.{then_again}
 use Rattle.mz_unbuilt.specs.Comparisons.{is_par_constraint}
+use Rattle.mz_posting.specs.Roots.{roots}
 use Rattle.mz_posting.specs.Posted.{Whole, Pair, operand, compare, below, post, post_by, post_comparison}
 use Rattle.fz_program.specs.Flat.{Row}
 use Rattle.mz_direct.specs.Emission.{rows_of, write_next, name_side}
 use Rattle.mz_post.specs.Rows.{name_side_by}
-use Rattle.mz_post.specs.Steps.{compared, posted_by, par_rows}
+use Rattle.mz_post.specs.Steps.{compared, posted_by, form_rows, par_rows}
 
 pub name_side_is : (xs : List Declared) (f : Shape) → name_side xs f ≡ name_side_by xs (layer f)
 name_side_is xs (tree.slot s) = refl
@@ -62,14 +62,17 @@ comparison_is w xs env (node at t (chain a (a_step r u l m b (a_step r2 u2 l2 m2
 comparison_is w xs env (node at t (chain a no_steps)) st = refl
 comparison_is w xs env (node at t f) st = refl
 
-pub post_form : (w : World) (xs : List Declared) (env : Env) (e : Tree) (st : State) → is_par_constraint e ≡ false → then_do (post w Untested env e st) (λ q. give (rows_of xs e q)) ≡ posted_by w xs (place_of e) (layer (shape_of e)) env st
-post_form w xs env e st h = ap (λ b. then_do (post_by b w Untested env e st) (λ q. give (rows_of xs e q))) h ∙ comparison_is w xs env e st
+-- the rows before go on with those of a constraint: of one that isn't par, by the layer of its node; and of a par one
+write_is : (w : World) (xs : List Declared) (rows : List Row) (e : Tree) (st : State) → write_next w Untested xs rows e st ≡ then_do (then_do (post w Untested w.top e st) (λ q. give (rows_of xs e q))) (λ more. give (rows ++ more))
+write_is w xs rows e st = sym (then_again (post w Untested w.top e st) (λ q. give (rows_of xs e q)) (λ more. give (rows ++ more)))
 
-pub post_par : (w : World) (xs : List Declared) (env : Env) (e : Tree) (st : State) → is_par_constraint e ≡ true → then_do (post w Untested env e st) (λ q. give (rows_of xs e q)) ≡ par_rows w e env st
-post_par w xs env e st h =
-    ap (λ b. then_do (post_by b w Untested env e st) (λ q. give (rows_of xs e q))) h
-    ∙ then_again (eval w levels Untested e env st) (λ c. give (Whole c)) (λ q. give (rows_of xs e q))
+pub write_form_is : (w : World) (xs : List Declared) (rows : List Row) (e : Tree) (st : State) → is_par_constraint e ≡ false → write_next w Untested xs rows e st ≡ form_rows w xs rows (place_of e) (layer (shape_of e)) w.top st
+write_form_is w xs rows e st h =
+    write_is w xs rows e st
+    ∙ ap (λ b. then_do (then_do (post_by b w Untested w.top e st) (λ q. give (rows_of xs e q))) (λ more. give (rows ++ more))) h
+    ∙ ap (λ a. then_do a (λ more. give (rows ++ more))) (comparison_is w xs w.top e st)
 
--- the rows before go on with those of a constraint
-pub write_is : (w : World) (xs : List Declared) (rows : List Row) (e : Tree) (st : State) → write_next w Untested xs rows e st ≡ then_do (then_do (post w Untested w.top e st) (λ q. give (rows_of xs e q))) (λ rs. give (rows ++ rs))
-write_is w xs rows e st = sym (then_again (post w Untested w.top e st) (λ q. give (rows_of xs e q)) (λ rs. give (rows ++ rs)))
+pub write_par_is : (w : World) (xs : List Declared) (rows : List Row) (e : Tree) (st : State) → is_par_constraint e ≡ true → write_next w Untested xs rows e st ≡ par_rows w rows e w.top st
+write_par_is w xs rows e st h =
+    ap (λ b. then_do (post_by b w Untested w.top e st) (λ q. give (rows ++ rows_of xs e q))) h
+    ∙ then_again (roots w levels Untested e w.top st) (λ r. give (Whole r.roots r.cell)) (λ q. give (rows ++ rows_of xs e q))

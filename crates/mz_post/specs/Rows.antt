@@ -1,15 +1,13 @@
 -- Operands and rows of the code.
 use Rattle.std.specs.Prelude.{List, [], ◌∷◌, Option, Some, None}
-use Rattle.mz_core.specs.Tree.{Tree, Step, Layer, slot_form}
-use Rattle.mz_meaning.specs.Cells.{value_of, is_true}
+use Rattle.mz_core.specs.Tree.{Layer, slot_form}
 use Rattle.mz_meaning.specs.Walk.{Declared}
 use Rattle.fz_program.specs.Arguments as arguments
 use Rattle.fz_program.specs.Arguments.{Plain}
 use Rattle.fz_program.specs.Flat.{Row, row}
 use Rattle.fz_program.specs.declared.program.FzRow.{FzRow}
-use Rattle.mz_posting.specs.Posted.{Posted, Whole, Pair}
 use Rattle.mz_direct.specs.Emission as emission
-use Rattle.mz_direct.specs.Emission.{place_in, side, side_rows, truth_rows}
+use Rattle.mz_direct.specs.Emission.{place_in}
 use Rattle.mz_post.specs.declared.types.Side.{Side}
 use Rattle.mz_post.specs.declared.types.Side.TheVariants as sides
 use Rattle.mz_post.specs.declared.types.Operand.{Operand}
@@ -34,8 +32,3 @@ rows_if (Some r) = row r ∷ []
 abbrev pub name_side_by : List Declared → Layer → emission.Side
 name_side_by xs (slot_form s) = emission.Place (place_in xs s)
 name_side_by xs form = emission.Nothing
-
--- the rows of a comparison with these operands
-abbrev pub step_rows : List Declared → Tree → Step → Posted → List Row
-step_rows xs a s (Whole c) = truth_rows (is_true (value_of c))
-step_rows xs a s (Pair x y c) = side_rows s.row (side xs a x) (side xs s.operand y)

@@ -1,17 +1,18 @@
 -- Mirror of src/; private clauses only.
-use Rattle.std.specs.Prelude.{ℕ, ◌≡◌, suc, true, ◌<◌, length, false, List, [], ◌∷◌, map, Option, Some, None, slice_get}
+use Rattle.std.specs.Prelude.{ℕ, ◌≡◌, suc, true, ◌<◌, length, false, List, [], ◌∷◌, ◌++◌, map, Option, Some, None, slice_get}
 use Rattle.mz_base.specs.declared.fault.Span.{Span}
 use Rattle.mz_core.specs.Program.{PlainProgram, plain_program}
 use Rattle.mz_core.specs.Tree.{Tree, Step, Decl, Layer, chain_form, place_of}
 use Rattle.mz_core.specs.TreeViews.{tree, decl}
 use Rattle.mz_meaning.specs.Runs.{Run, ◌>>=◌, ◌>>◌, give, spend, loop}
-use Rattle.mz_meaning.specs.Cells.{Env, Bare, value_of, is_true}
+use Rattle.mz_meaning.specs.Cells.{Env, Bare}
 use Rattle.mz_meaning.specs.Contexts.{Untested}
 use Rattle.mz_meaning.specs.Arrays.{Want, declared_count, fitted, suits}
 use Rattle.mz_meaning.specs.Forms.{World, Eval, coerced_by}
 use Rattle.mz_meaning.specs.Evaluation.{eval}
 use Rattle.mz_meaning.specs.Walk.{Limits, Declared, declare, declare_in, names_env, world_at, levels, par_name, surely, ordered}
 use Rattle.mz_meaning.specs.Solutions.{Each}
+use Rattle.mz_posting.specs.Roots.{roots}
 use Rattle.mz_posting.specs.Posted.{operand, below}
 use Rattle.mz_unbuilt.specs.Variables.{is_declaration_built, named_in}
 use Rattle.mz_unbuilt.specs.Comparisons.{is_constraint_built}
@@ -19,7 +20,7 @@ use Rattle.mz_base.specs.Names.{text_of}
 use Rattle.fz_program.specs.declared.program.FzGoal.TheVariants.{Satisfy}
 use Rattle.fz_program.specs.Names.{Name}
 use Rattle.fz_program.specs.Flat.{Row, Program, AreDistinct}
-use Rattle.mz_direct.specs.Emission.{side, side_rows, truth_rows, empties, label_in, variables, write_next}
+use Rattle.mz_direct.specs.Emission.{side, side_rows, truth_rows, root_rows, empties, label_in, variables, write_next}
 use Rattle.mz_steps.specs.Operators.{operated_on}
 use Rattle.mz_post.specs.declared.types.Task.{Task}
 use Rattle.mz_post.specs.Names.{no_values}
@@ -98,11 +99,17 @@ abbrev pub posted_by : World → List Declared → Span → Layer → Env → Ru
 posted_by w xs at (chain_form a ss) env = chain_by w xs at a ss env
 posted_by w xs at form env = unbuilt_rows
 
--- a par constraint
-abbrev pub par_rows : World → Tree → Env → Run (List Row)
-par_rows w e env = do
-  c ← eval w levels Untested e env
-  give (truth_rows (is_true (value_of c)))
+-- behind these rows, those of a constraint that isn't par
+abbrev pub form_rows : World → List Declared → List Row → Span → Layer → Env → Run (List Row)
+form_rows w xs rows at f env = do
+  more ← posted_by w xs at f env
+  give (rows ++ more)
+
+-- and those of a par one
+abbrev pub par_rows : World → List Row → Tree → Env → Run (List Row)
+par_rows w rows e env = do
+  r ← roots w levels Untested e env
+  give (rows ++ root_rows r.roots)
 
 -- ---- the whole
 

@@ -1,69 +1,30 @@
-// The rows of constraints: a par one decides by itself, and a comparison becomes a row.
+// The rows of constraints: each root of a par one decides by itself, and a comparison becomes a row.
 
 ghost use Rattle.std.specs.Prelude.{◌+◌, ◌≤◌, IfOk, map};
 ghost use Rattle.mz_core.specs.TreeViews.{tree, step, form_layer};
 ghost use Rattle.mz_core.specs.declared.tree.CoreForm.TheViews.{out-CoreForm};
-ghost use Rattle.mz_meaning.specs.Runs.{loop, then_do, give};
+ghost use Rattle.mz_meaning.specs.Runs.{loop};
 ghost use Rattle.mz_meaning.specs.Contexts.{Untested};
-ghost use Rattle.mz_meaning.specs.Forms.{coerced_by};
-ghost use Rattle.mz_cells.specs.Views.{cell_of};
-ghost use Rattle.mz_chains.specs.Fronts.{operator_of};
-ghost use Rattle.mz_steps.specs.Operators.{operated_on};
 ghost use Rattle.mz_frames.specs.Runs.{Meets, at_work};
 ghost use Rattle.mz_frames.specs.Views.{env_cells, world_of};
 ghost use Rattle.fz_program.specs.Flat.{row};
-ghost use Rattle.mz_posting.specs.Posted.{post};
-ghost use Rattle.mz_direct.specs.Emission.{rows_of, write_next};
+ghost use Rattle.mz_direct.specs.Emission.{write_next};
 ghost use Rattle.mz_post.specs.Names.{names_in};
 ghost use Rattle.mz_post.specs.Rows.{rows_if};
-ghost use Rattle.mz_post.specs.Steps.{compared, steps_by, chain_by, posted_by, par_rows};
+ghost use Rattle.mz_post.specs.Steps.{compared, steps_by, chain_by, posted_by, par_rows, form_rows};
 
 use crate::operands::{operand, side};
-use crate::rows::{side_row, truth_row, with_row};
+use crate::rows::{side_row, truth_row, with_roots, with_row};
 use crate::types::Table;
 use crate::wants::LEVELS;
 use fz_program::FzRow;
 use mz_base::{Span, Stop};
-use mz_cells::{Known, is_true};
 use mz_chains::{Operator, place_of};
 use mz_core::{Core, CoreForm, CoreStep};
-use mz_eval::evaluated;
 use mz_frames::World;
-use mz_steps::{operated_on, prepared};
+use mz_roots::{coerced, operated, roots};
 use mz_unbuilt::is_par_constraint;
 use std::alloc::Global;
-
-// a left operand under the coercions of its operator
-fn coerced(
-    alloc: Global,
-    world: &World,
-    at: Span,
-    o: &Operator,
-    left: Known,
-    work: &mut u64,
-) -> Result<Known, Stop>
-    requires { work.old ≤ world.now.budget + 1 }
-    ensures answer { Meets cell_of result work.new (coerced_by (world_of world.now) at (operator_of o.now).step.left (cell_of left) (at_work work.old)) }
-    ensures within { IfOk result (λ _. work.new ≤ world.now.budget + 1) }
-{
-    prepared(alloc, world, at, o, left, work)
-}
-
-// an operator's node over its operands
-fn operated(
-    alloc: Global,
-    world: &World,
-    o: &Operator,
-    a: Known,
-    c: Known,
-    work: &mut u64,
-) -> Result<Known, Stop>
-    requires { work.old ≤ world.now.budget + 1 }
-    ensures answer { Meets cell_of result work.new (operated_on (world_of world.now) (cell_of a) (operator_of o.now) (cell_of c) (at_work work.old)) }
-    ensures within { IfOk result (λ _. work.new ≤ world.now.budget + 1) }
-{
-    operated_on(alloc, world, o, a, c, work)
-}
 
 // a comparison: its operands, its node, and its row
 fn compared(
@@ -156,33 +117,38 @@ fn row_of_steps(
     }
 }
 
-// a par constraint
-fn row_of_par(alloc: Global, world: &World, e: &Core, work: &mut u64) -> Result<Option<FzRow>, Stop>
+// the rows of a par constraint behind these: a false one for each root that isn't true
+fn write_par(
+    alloc: Global,
+    world: &World,
+    rows: Vec<FzRow>,
+    e: &Core,
+    work: &mut u64,
+) -> Result<Vec<FzRow>, Stop>
     requires { work.old ≤ world.now.budget + 1 }
-    ensures answer { Meets rows_if result work.new (par_rows (world_of world.now) (tree e.now) (env_cells world.now.env.now) (at_work work.old)) }
+    ensures answer { Meets (λ all. map row all.items) result work.new (par_rows (world_of world.now) (map row rows.items) (tree e.now) (env_cells world.now.env.now) (at_work work.old)) }
     ensures within { IfOk result (λ _. work.new ≤ world.now.budget + 1) }
 {
-    let c = evaluated(alloc, world, e, LEVELS, work)?;
-    Ok(truth_row(alloc, is_true(&c))?)
+    let kept = roots(alloc, world, e, LEVELS, work)?;
+    Ok(with_roots(alloc, rows, &kept.roots)?)
 }
 
-// a constraint's row, if it wants one
-fn row_of(
+// the row of one that isn't par behind these, if it wants one
+fn write_form(
     alloc: Global,
     world: &World,
     table: &Table,
-    e: &Core,
+    rows: Vec<FzRow>,
+    at: Span,
+    form: &CoreForm,
     work: &mut u64,
-) -> Result<Option<FzRow>, Stop>
+) -> Result<Vec<FzRow>, Stop>
     requires { work.old ≤ world.now.budget + 1 }
-    ensures answer { Meets rows_if result work.new (then_do (post (world_of world.now) Untested (env_cells world.now.env.now) (tree e.now) (at_work work.old)) (λ q. give (rows_of (names_in table.now.list.now) (tree e.now) q))) }
+    ensures answer { Meets (λ all. map row all.items) result work.new (form_rows (world_of world.now) (names_in table.now.list.now) (map row rows.items) at (form_layer (out-CoreForm form.now)) (env_cells world.now.env.now) (at_work work.old)) }
     ensures within { IfOk result (λ _. work.new ≤ world.now.budget + 1) }
 {
-    if is_par_constraint(e) {
-        row_of_par(alloc, world, e, work)
-    } else {
-        row_of_form(alloc, world, table, place_of(e), &e.form, work)
-    }
+    let o = row_of_form(alloc, world, table, at, form, work)?;
+    Ok(with_row(rows, o)?)
 }
 
 // one constraint more
@@ -198,8 +164,11 @@ fn write_next(
     ensures answer { Meets (λ all. map row all.items) result work.new (write_next (world_of world.now) Untested (names_in table.now.list.now) (map row rows.items) (tree e.now) (at_work work.old)) }
     ensures within { IfOk result (λ _. work.new ≤ world.now.budget + 1) }
 {
-    let o = row_of(alloc, world, table, e, work)?;
-    Ok(with_row(rows, o)?)
+    if is_par_constraint(e) {
+        write_par(alloc, world, rows, e, work)
+    } else {
+        write_form(alloc, world, table, rows, place_of(e), &e.form, work)
+    }
 }
 
 /// The rows of constraints behind these.

@@ -2,15 +2,18 @@
 
 ghost use Rattle.std.specs.Prelude.{◌≡◌, ◌∷◌, ◌++◌, [], IfOk, None, map};
 ghost use Rattle.mz_operations.specs.Sets.{is_empty_set};
+ghost use Rattle.mz_meaning.specs.Cells.{is_true, value_of};
+ghost use Rattle.mz_cells.specs.Views.{cell_of, cells_of};
 ghost use Rattle.fz_program.specs.Arguments.{argument, one};
 ghost use Rattle.fz_program.specs.Flat.{row, is_literal};
 ghost use Rattle.mz_direct.specs.Emission as emission;
-ghost use Rattle.mz_direct.specs.Emission.{never, truth_rows, two, int_row, holds, side_rows, empties, empty_in};
+ghost use Rattle.mz_direct.specs.Emission.{never, truth_rows, root_rows, two, int_row, holds, side_rows, empties, empty_in};
 ghost use Rattle.mz_post.specs.Names.{declared, names_in};
 ghost use Rattle.mz_post.specs.Rows.{plain_of, side_of, rows_if};
 
 use crate::types::{Declared, Operand, Side};
 use fz_program::{Arg, FzRow, RowName};
+use mz_cells::{Known, is_true};
 use mz_value::{GREATEST, LEAST, RangeSet};
 use std::alloc::{AllocError, Global};
 
@@ -188,6 +191,28 @@ pub(crate) fn with_row(rows: Vec<FzRow>, o: Option<FzRow>) -> Result<Vec<FzRow>,
     match o {
         None => {}
         Some(r) => rows.push(r)?,
+    }
+    Ok(rows)
+}
+
+fn with_root(alloc: Global, rows: Vec<FzRow>, root: &Known) -> Result<Vec<FzRow>, AllocError>
+    ensures { IfOk result (λ all. map row all.items ≡ map row rows.items ++ truth_rows (is_true (value_of (cell_of root.now)))) }
+{
+    let o = truth_row(alloc, is_true(root))?;
+    with_row(rows, o)
+}
+
+/// Puts a row that no value solves last for each root that isn't true.
+pub(crate) fn with_roots(
+    alloc: Global,
+    rows: Vec<FzRow>,
+    roots: &[Known],
+) -> Result<Vec<FzRow>, AllocError>
+    ensures { IfOk result (λ all. map row all.items ≡ map row rows.items ++ root_rows (cells_of roots.now)) }
+{
+    let mut rows = rows;
+    for root in roots {
+        rows = with_root(alloc, rows, root)?;
     }
     Ok(rows)
 }

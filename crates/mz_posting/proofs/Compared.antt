@@ -16,7 +16,9 @@ use Rattle.mz_unbuilt.specs.Variables.{Named}
 use Rattle.mz_unbuilt.specs.Comparisons.{is_comparison, is_var_truth, is_step, are_operands, is_compared, is_par_constraint, is_constraint_built}
 use Rattle.mz_unbuilt.specs.Variables.{is_int}
 use Rattle.mz_posting.specs.Posted.{Posted, Whole, Pair, posted_cell, operand, compare, post_comparison, post_by, post}
+use Rattle.mz_posting.specs.Roots.{Rooted, roots}
 use Rattle.mz_posting.proofs.Inner.{within_none, eval_operand}
+use Rattle.mz_posting.proofs.Rooted.{eval_rooted}
 
 -- ---- tests
 
@@ -129,12 +131,12 @@ compared_is names w c env e s h = absurd (cc)
 
 -- ---- a constraint
 
-whole_is : (a : Answer Cell) → a ≡ then_do (then_do a (λ c. give (Whole c))) (λ p. give (posted_cell p))
-whole_is (Out c s) = refl
+whole_is : (a : Answer Rooted) → then_do a (λ r. give r.cell) ≡ then_do (then_do a (λ r. give (Whole r.roots r.cell))) (λ p. give (posted_cell p))
+whole_is (Out r s) = refl
 whole_is (Stopped f) = refl
 
 posted_by : (names : ℕ → Named) (w : World) (c : Context) (env : Env) (e : Tree) (s : State) (b : Bool) → (b || is_compared names e) ≡ true → eval w levels c e env s ≡ then_do (post_by b w c env e s) (λ p. give (posted_cell p))
-posted_by names w c env e s true h = whole_is (eval w levels c e env s)
+posted_by names w c env e s true h = eval_rooted w levels c e env s ∙ whole_is (roots w levels c e env s)
 posted_by names w c env e s false h = compared_is names w c env e s h
 
 pub constraint_posted : (names : ℕ → Named) (w : World) (c : Context) (env : Env) (e : Tree) (s : State) → is_constraint_built names e ≡ true → eval w levels c e env s ≡ then_do (post w c env e s) (λ p. give (posted_cell p))

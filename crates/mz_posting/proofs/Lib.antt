@@ -1,4 +1,5 @@
 pub mod Inner
+pub mod Rooted
 pub mod Compared
 pub mod Walking
 pub mod Outlined

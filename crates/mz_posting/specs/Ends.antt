@@ -4,12 +4,12 @@ use Rattle.mz_base.specs.declared.kind.Kind.{Kind}
 use Rattle.mz_base.specs.declared.kind.Kind.TheVariants as kind
 use Rattle.mz_meaning.specs.Runs.{Answer, Out, Stopped}
 use Rattle.mz_meaning.specs.Kinds.{is_evaluation_kind}
-use Rattle.mz_independence.specs.Outlines.{outline, outline_all_declared}
+use Rattle.mz_independence.specs.Outlines.{outline, outlines, outline_all_declared}
 use Rattle.mz_posting.specs.Posted.{Posted, Whole, Pair, Posting}
 
 -- what is left where the values of var cells are erased
 abbrev pub outline_posted : Posted → Posted
-outline_posted (Whole c) = Whole (outline c)
+outline_posted (Whole rs c) = Whole (outlines rs) (outline c)
 outline_posted (Pair x y c) = Pair (outline x) (outline y) (outline c)
 
 abbrev pub outline_posting : Posting → Posting

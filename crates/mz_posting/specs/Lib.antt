@@ -1,3 +1,4 @@
+pub mod Roots
 pub mod Posted
 pub mod Ends
 pub mod Built

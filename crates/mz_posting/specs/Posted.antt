@@ -13,14 +13,15 @@ use Rattle.mz_meaning.specs.Evaluation.{eval}
 use Rattle.mz_meaning.specs.Unbounded.{first_unbounded}
 use Rattle.mz_meaning.specs.Walk.{Limits, Assignment, Declared, Walked, names_env, world_at, declare, ordered, bounded, levels}
 use Rattle.mz_unbuilt.specs.Comparisons.{is_par_constraint}
+use Rattle.mz_posting.specs.Roots.{roots}
 
--- a par constraint's cell; or the cells of a comparison's operands, below their coercions, and the comparison's own
+-- the cells of a par constraint's roots, and its own; or the cells of a comparison's operands, below their coercions, and the comparison's own
 pub data Posted : Type 0 where
-  Whole : Cell → Posted
+  Whole : List Cell → Cell → Posted
   Pair : Cell → Cell → Cell → Posted
 
 abbrev pub posted_cell : Posted → Cell
-posted_cell (Whole c) = c
+posted_cell (Whole rs c) = c
 posted_cell (Pair x y c) = c
 
 -- an operand's cell below the coercions round it, and with them
@@ -46,12 +47,12 @@ below = 599
 
 abbrev pub post_comparison : World → Context → Env → Tree → Run Posted
 post_comparison w ctx env (node at t (chain a (a_step r u l m b no_steps))) = compare w below ctx at t a (a_step_of r u l m b) env
-post_comparison w ctx env e = give (Whole undefined)
+post_comparison w ctx env e = give (Whole (undefined ∷ []) undefined)
 
 abbrev pub post_whole : World → Context → Env → Tree → Run Posted
 post_whole w ctx env e = do
-  c ← eval w levels ctx e env
-  give (Whole c)
+  r ← roots w levels ctx e env
+  give (Whole r.roots r.cell)
 
 abbrev pub post_by : Bool → World → Context → Env → Tree → Run Posted
 post_by true w ctx env e = post_whole w ctx env e

@@ -7,7 +7,7 @@ use Rattle.mz_cells.specs.Views.{cell_of}
 use Rattle.mz_chains.proofs.Runs.{meets_is}
 use Rattle.mz_frames.specs.Runs.{at_work}
 use Rattle.mz_frames.specs.Views.{world_of}
-use Rattle.mz_post.proofs.Budgets.{coerced_within}
+use Rattle.mz_roots.proofs.Budgets.{coerced_within}
 use Rattle.mz_post.proofs.operands.coerced_round.Goals as goal
 
 pub returns-clause-answer : goal.returns-clause-answer

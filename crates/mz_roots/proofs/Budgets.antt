@@ -115,9 +115,6 @@ meets_within : {A B : Type 0} (see : A → B) (r : Result A Stop) (n b : ℕ) (a
 meets_within see (Ok x) n b a w h = subst (EndsWithin b) h w
 meets_within see (Err e) n b a w h = tt
 
-pub spent_within : {A : Type 0} (see : A → Unit {0}) (r : Result A Stop) (n b : ℕ) (at : Span) (k : ℕ) (s : State) → Meets see r n (spend b at k s) → IfOk r (λ _. n ≤ b + 1)
-spent_within see r n b at k s h = meets_within see r n b (spend b at k s) (spend_ends b at k s) h
-
 pub coerced_within : {A : Type 0} (see : A → Cell) (r : Result A Stop) (n : ℕ) (w : World) (at : Span) (ls : List PathLink) (c : Cell) (k : ℕ) → k ≤ w.budget + 1 → Meets see r n (forms.coerced_by w at ls c (at_work k)) → IfOk r (λ _. n ≤ w.budget + 1)
 coerced_within see r n w at ls c k h m = meets_within see r n w.budget _ ((coerced_keeps w at ls c).by (at_work k) h) m
 
