@@ -49,7 +49,7 @@ looser l k ks next climbs room ts =
     ∙ same_then (reads parts.unit room ts) _ _ (λ x. sym (climbing_more ks l x.0 room x.1))
 
 abbrev pub all_levels : Level → List Level
-all_levels l = levels 12 (level_number l)
+all_levels l = levels 13 (level_number l)
 
 power : Climbs level.Power (all_levels level.Power)
 unfolding levels
@@ -110,7 +110,7 @@ climbs level.Product = product
 climbs level.Power = power
 climbs level.Concat = tightest
 
-number_bound : (l : Level) → level_number l < 12
+number_bound : (l : Level) → level_number l < 13
 number_bound level.Iff = omega arith
 number_bound level.Imp = omega arith
 number_bound level.Or = omega arith
@@ -123,6 +123,10 @@ number_bound level.Sum = omega arith
 number_bound level.Product = omega arith
 number_bound level.Power = omega arith
 number_bound level.Concat = omega arith
+
+number_positive : (l : Level) → 0 < level_number l
+number_positive level.Iff = omega arith
+number_positive _ = omega arith
 
 numbered_number : (l : Level) → numbered (level_number l) ≡ l
 numbered_number level.Iff = refl
@@ -138,8 +142,9 @@ numbered_number level.Product = refl
 numbered_number level.Power = refl
 numbered_number level.Concat = refl
 
-number_numbered : (n : ℕ) → n < 12 → level_number (numbered n) ≡ n
-number_numbered n h = eqb-true (level_number (numbered n)) n (agree_below_at (λ j. nat_eq (level_number (numbered j)) j) (λ j. true) 12 n refl h)
+number_numbered : (n : ℕ) → 0 < n → n < 13 → level_number (numbered n) ≡ n
+number_numbered zero a h = absurd (omega (arith, a))
+number_numbered (suc n) a h = eqb-true (level_number (numbered (suc n))) (suc n) (agree_below_at (λ j. nat_eq (level_number (numbered (suc j))) (suc j)) (λ j. true) 12 n refl (omega (arith, h)))
 
 -- a token that is no operator of a level
 not_here : (k : Level) (ks : List Level) (x : Reading) (room : ℕ) (ts : List Token) → binary_of k (tok_at ts) ≡ None → climbing (k ∷ ks) x room ts ≡ climbing ks x room ts
@@ -171,15 +176,15 @@ jump (suc n) last k x room ts below above none =
     go (inr (inr h)) further = absurd (omega (arith, h, below))
 
 -- the operator is of its level alone
-other_level : (o : Level × BinOp) (j : ℕ) → j < 12 → (level_number o.0 ≡ j → ⊥) → if_level (numbered j) (Some o) ≡ None
-other_level o j bound other = rw (number_numbered j bound, ne_eqb (level_number o.0) j other) refl
+other_level : (o : Level × BinOp) (j : ℕ) → 0 < j → j < 13 → (level_number o.0 ≡ j → ⊥) → if_level (numbered j) (Some o) ≡ None
+other_level o j some bound other = rw (number_numbered j some bound, ne_eqb (level_number o.0) j other) refl
 
 within : (l : Level) (done : ℕ) (o : Level × BinOp) → level_number l ≤ level_number o.0 → level_number o.0 < done → if_within l done (Some o) ≡ Some o.0
 within l done o above below = rw (le-leb (level_number l) (level_number o.0) above, lt-ltb (level_number o.0) done below) refl
 
-none_within : (l : Level) (done : ℕ) (o : Option (Level × BinOp)) → done ≤ 12 → if_within l done o ≡ None → (j : ℕ) → level_number l ≤ j → j < done → if_level (numbered j) o ≡ None
+none_within : (l : Level) (done : ℕ) (o : Option (Level × BinOp)) → done ≤ 13 → if_within l done o ≡ None → (j : ℕ) → level_number l ≤ j → j < done → if_level (numbered j) o ≡ None
 none_within l done None bound none j above below = refl
-none_within l done (Some o) bound none j above below = other_level o j (omega (arith, below, bound)) (λ e. go e)
+none_within l done (Some o) bound none j above below = let some = number_positive l in other_level o j (omega (arith, some, above)) (omega (arith, below, bound)) (λ e. go e)
   where
     go : level_number o.0 ≡ j → ⊥
     go e = let some = within l done o (omega (arith, above, e)) (omega (arith, below, e)) in absurd (cc (some, none))
@@ -188,7 +193,7 @@ none_within l done (Some o) bound none j above below = other_level o j (omega (a
 record Found (l : Level) (done : ℕ) (o : Option (Level × BinOp)) (k : Level) : Type 0 where
   above : level_number l ≤ level_number k
   below : level_number k < done
-  alone : (j : ℕ) → level_number k < j → j < 12 → if_level (numbered j) o ≡ None
+  alone : (j : ℕ) → level_number k < j → j < 13 → if_level (numbered j) o ≡ None
 
 found : (l : Level) (done : ℕ) (o : Option (Level × BinOp)) (k : Level) → if_within l done o ≡ Some k → Found l done o k
 found l done None k is = absurd (cc is)
@@ -198,12 +203,12 @@ found l done (Some o) k is = go (nat_le (level_number l) (level_number o.0)) (na
     go true true a b e = let same : o.0 ≡ k = cc e in record {
       above = subst (λ m. level_number l ≤ level_number m) same (leb-true _ _ a);
       below = subst (λ m. level_number m < done) same (ltb-true _ _ b);
-      alone = λ j past bound. other_level o j bound (λ e. absurd (omega (arith, past, e, ap level_number same)));
+      alone = λ j past bound. other_level o j (omega (arith, past)) bound (λ e. absurd (omega (arith, past, e, ap level_number same)));
     }
     go true false a b e = absurd (cc e)
     go false c a b e = absurd (cc e)
 
-taken : (l : Level) (done : ℕ) (k : Level) (x : Reading) (room : ℕ) (ts : List Token) → done ≤ 12 → next_level l done (tok_at ts) ≡ Some k →
+taken : (l : Level) (done : ℕ) (k : Level) (x : Reading) (room : ℕ) (ts : List Token) → done ≤ 13 → next_level l done (tok_at ts) ≡ Some k →
     climbing (levels done (level_number l)) x room ts ≡ (finished k x room ts >>= λ y. climbing (levels (level_number k) (level_number l)) y.0 room y.1)
 unfolding climbing
 taken l done k x room ts bound is =
@@ -214,26 +219,26 @@ taken l done k x room ts bound is =
 pub climb_starts : (l : Level) (x : Reading) (room after : ℕ) (ts next : List Token) → reads parts.unit room ts ≡ Ok (x, next) → after ≡ room → reads (parts.level l) room ts ≡ climbing (all_levels l) x after next
 climb_starts l x room after ts next sub same_room = rw same_room (climbs l room ts ∙ ap (λ o. o >>= λ y. climbing (all_levels l) y.0 room y.1) sub)
 
-pub climb_step : (l : Level) (done : ℕ) (k : Level) (x y : Reading) (room after : ℕ) (rest next : List Token) (all : Read Reading) → done ≤ 12 →
+pub climb_step : (l : Level) (done : ℕ) (k : Level) (x y : Reading) (room after : ℕ) (rest next : List Token) (all : Read Reading) → done ≤ 13 →
     climbing (levels done (level_number l)) x room rest ≡ all → next_level l done (tok_at rest) ≡ Some k → finished k x room rest ≡ Ok (y, next) → after ≡ room →
     climbing (levels (level_number k) (level_number l)) y after next ≡ all
 unfolding climbing
 climb_step l done k x y room after rest next all bound so_far is sub same_room =
     rw same_room (sym (ap (λ o. o >>= λ z. climbing (levels (level_number k) (level_number l)) z.0 room z.1) sub) ∙ sym (taken l done k x room rest bound is) ∙ so_far)
 
-pub climb_stops : (l : Level) (done : ℕ) (k : Level) (x : Reading) (room : ℕ) (rest : List Token) (all : Read Reading) → done ≤ 12 →
+pub climb_stops : (l : Level) (done : ℕ) (k : Level) (x : Reading) (room : ℕ) (rest : List Token) (all : Read Reading) → done ≤ 13 →
     climbing (levels done (level_number l)) x room rest ≡ all → next_level l done (tok_at rest) ≡ Some k → (end : Span) (next : List Token) (stop : Stop) → Stops end next stop (finished k x room rest) → Stops end next stop all
 unfolding climbing
 climb_stops l done k x room rest all bound so_far is end next Memory sub = tt
 climb_stops l done k x room rest all bound so_far is end next (Refused f) sub =
     (sym so_far ∙ taken l done k x room rest bound is ∙ ap (λ o. o >>= λ z. climbing (levels (level_number k) (level_number l)) z.0 room z.1) sub.0, sub.1)
 
-pub climb_end : (l : Level) (done : ℕ) (x : Reading) (room : ℕ) (rest : List Token) (all : Read Reading) → done ≤ 12 →
+pub climb_end : (l : Level) (done : ℕ) (x : Reading) (room : ℕ) (rest : List Token) (all : Read Reading) → done ≤ 13 →
     climbing (levels done (level_number l)) x room rest ≡ all → next_level l done (tok_at rest) ≡ None → all ≡ Ok (x, rest)
 climb_end l done x room rest all bound so_far none = sym so_far ∙ quiet done (level_number l) x room rest (none_within l done (operator_of (tok_at rest)) bound none)
 
 -- the levels that were read go below the first
-rank_number : (l : Level) → operand_rank l + 2 * level_number l ≡ 25
+rank_number : (l : Level) → operand_rank l + 2 * level_number l ≡ 27
 unfolding operand_rank
 rank_number level.Iff = refl
 rank_number level.Imp = refl

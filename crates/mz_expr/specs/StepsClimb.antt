@@ -8,9 +8,10 @@ use Rattle.mz_grammar.specs.Parts as parts
 use Rattle.mz_grammar.specs.Parts.{Reading, chained}
 use Rattle.mz_grammar.specs.Reading.{reads}
 
--- the level with this number
+-- the level with this number, from 1
 abbrev pub numbered : ℕ → Level
-numbered n = slice_index_or (level.Iff ∷ level.Imp ∷ level.Or ∷ level.And ∷ level.Compare ∷ level.Member ∷ level.Union ∷ level.Range ∷ level.Sum ∷ level.Product ∷ level.Power ∷ []) n level.Concat
+numbered zero = level.Concat
+numbered (suc n) = slice_index_or (level.Iff ∷ level.Imp ∷ level.Or ∷ level.And ∷ level.Compare ∷ level.Member ∷ level.Union ∷ level.Range ∷ level.Sum ∷ level.Product ∷ level.Power ∷ []) n level.Concat
 
 -- the levels with numbers below done, tightest first, down to the one numbered last
 unfoldable pub levels : ℕ → ℕ → List Level

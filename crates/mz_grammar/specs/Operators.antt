@@ -50,20 +50,20 @@ operator_of (Some (Sym SCaret)) = Some (level.Power, op.Pow)
 operator_of (Some (Sym SConcat)) = Some (level.Concat, op.Concat)
 operator_of _ = None
 
--- the number of a level, the loosest is 0
+-- the number of a level, from 1, the loosest
 abbrev pub level_number : Level → ℕ
-level_number level.Iff = 0
-level_number level.Imp = 1
-level_number level.Or = 2
-level_number level.And = 3
-level_number level.Compare = 4
-level_number level.Member = 5
-level_number level.Union = 6
-level_number level.Range = 7
-level_number level.Sum = 8
-level_number level.Product = 9
-level_number level.Power = 10
-level_number level.Concat = 11
+level_number level.Iff = 1
+level_number level.Imp = 2
+level_number level.Or = 3
+level_number level.And = 4
+level_number level.Compare = 5
+level_number level.Member = 6
+level_number level.Union = 7
+level_number level.Range = 8
+level_number level.Sum = 9
+level_number level.Product = 10
+level_number level.Power = 11
+level_number level.Concat = 12
 
 abbrev pub if_level : Level → Option (Level × BinOp) → Option BinOp
 if_level l None = None

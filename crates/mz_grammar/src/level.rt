@@ -1,10 +1,10 @@
 // The levels of binary operators.
 
-/// A level of binary operators, the loosest first.
+/// A level of binary operators. They are numbered from 1, the loosest, to 12.
 #[derive(Clone, Copy, Debug, PartialEq, Eq)]
 pub enum Level {
     /// `<->`, to the left
-    Iff,
+    Iff = 1,
     /// `->` and `<-`, to the left
     Imp,
     /// `\/` and `xor`, to the left

@@ -75,7 +75,7 @@ fn operator_of_word(k: Keyword) -> Option<(Level, BinOp)>
     }
 }
 
-/// The number of a level: 0 is the loosest, 11 the tightest.
+/// The number of a level: 1 is the loosest, 12 the tightest.
 pub fn level_number(l: Level) -> u8
     ensures { result ≡ level_number l }
 {

@@ -45,7 +45,7 @@ Sealed us = (is_sym SLBrack (tok_at us) ≡ false) × (is_sym SColons (tok_at us
 
 -- nothing that the body of a let takes
 abbrev pub Ended : List Token → Type 0
-Ended us = Looser 0 us × Sealed us
+Ended us = Looser 1 us × Sealed us
 
 abbrev pub IfBody : Ending → List Token → Type 0
 IfBody closed us = Unit {0}
@@ -149,12 +149,16 @@ true_false e = absurd (cc)
 
 -- What follows a term
 
-pub number_low : (l : Level) → level_number l < 12
+pub number_low : (l : Level) → level_number l < 13
 number_low level_is.Iff = omega arith
 number_low _ = omega arith
 
+number_positive : (l : Level) → 0 < level_number l
+number_positive level_is.Iff = omega arith
+number_positive _ = omega arith
+
 abbrev single_at : ℕ → Bool
-single_at n = nat_eq n 4 || (nat_eq n 5 || nat_eq n 7)
+single_at n = nat_eq n 5 || (nat_eq n 6 || nat_eq n 8)
 
 single_number : (l : Level) → single_at (level_number l) ≡ is_single l
 single_number level_is.Iff = refl
@@ -199,10 +203,10 @@ by_level l (Some p) o e = (p, refl, go (nat_eq (level_number p.0) (level_number 
 pub no_operator_after : (l : Level) (o : BinOp) (us : List Token) → Ended us → binary_of l (tok_at us) ≡ Some o → is_single l ≡ false → ⊥
 no_operator_after l o us h e s =
     let p = by_level l (operator_of (tok_at us)) o e in
-    none_below (h.0 p.0 p.1 (sym (single_number p.0.0) ∙ ap single_at p.2 ∙ single_number l ∙ s))
+    none_below (number_positive p.0.0) (h.0 p.0 p.1 (sym (single_number p.0.0) ∙ ap single_at p.2 ∙ single_number l ∙ s))
   where
-    none_below : {n : ℕ} → n < 0 → ⊥
-    none_below h = omega (arith, h)
+    none_below : {n : ℕ} → 0 < n → n < 1 → ⊥
+    none_below a h = omega (arith, a, h)
 
 pub is_closed : (l : Level) (o : BinOp) (f : Ending) (us : List Token) → IfBody f us → binary_of l (tok_at us) ≡ Some o → is_single l ≡ false → f ≡ closed
 is_closed l o closed us h e s = refl
@@ -339,7 +343,7 @@ tighter_number level_is.Iff m e = sym (ap number e)
 tighter_number level_is.Concat m e = absurd (no_some e)
 tighter_number _ m e = sym (ap number e)
 
-concat_number : (l : Level) → tighter_level l ≡ None → suc (level_number l) ≡ 12
+concat_number : (l : Level) → tighter_level l ≡ None → suc (level_number l) ≡ 13
 concat_number level_is.Concat e = refl
 concat_number level_is.Iff e = absurd (cc)
 concat_number _ e = absurd (cc)

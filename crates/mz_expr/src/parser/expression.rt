@@ -39,7 +39,7 @@ impl<F: Fn(Global, &mut Cursor<'_>, Entry) -> Result<Reading, Stop>> Descent<F> 
         ensures { Reads reading (reads (parts.level l)) cur.old cur.new result }
     {
         let mut x = self.unit(cur)?;
-        let mut done: u8 = 12;
+        let mut done: u8 = 13;
         while let Some(k) = next_level(l, done, cur.tok()) {
             x = self.finished(cur, k, x)?;
             done = level_number(k);

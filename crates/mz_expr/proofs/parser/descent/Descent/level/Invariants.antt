@@ -7,7 +7,7 @@ use Rattle.mz_expr.proofs.parser.descent.Descent.level.Given as goal
 abbrev pub invariant-loop-k : goal.invariant-loop-k
 invariant-loop-k g l = record {
   reads : climbing (levels l.done (level_number l.l)) (reading l.x) l.cur.room l.cur.rest.now ≡ climbing (levels l.initial.done (level_number l.l)) (reading l.initial.x) l.initial.cur.room l.initial.cur.rest.now;
-  bound : l.done ≤ 12;
+  bound : l.done ≤ 13;
   room : l.cur.room ≡ l.initial.cur.room;
   end : l.cur.end ≡ l.initial.cur.end;
   shorter : length l.cur.rest.now ≤ length l.initial.cur.rest.now;
