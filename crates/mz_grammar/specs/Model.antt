@@ -164,12 +164,20 @@ named_rule n s = look (λ o. if is_sym SLParen o
 abbrev pub guarded_rest : {t : Turn} → Argument → Ruled (Parts.arguments t)
 guarded_rest x = behind Paren (part (Parts.generators Paren) λ gs. give (x ∷ map strict gs)) (give (x ∷ []))
 
+-- a set with its `in`, where the names before it wait for one
+abbrev pub set_argument : {t : Turn} → Ruled (Parts.arguments t)
+set_argument = pass (λ s. part (Parts.level level_is.Union) λ x. part Parts.filter λ w. guarded_rest (strict (a_generator [] (tree_of x) w)))
+
+-- an expression, with its `where` if it has one
+abbrev pub expr_argument : (t : Turn) → Ruled (Parts.arguments t)
+expr_argument t = part (Parts.level level_is.Iff) λ x. look (λ o. if takes_where t x && is_word KWhere o
+    then pass (λ s. part Parts.expr λ w. guarded_rest (guarded x w))
+    else behind Paren (part (Parts.arguments (turn_by t x)) λ xs. give (given x ∷ xs)) (give (given x ∷ [])))
+
 abbrev pub arguments_rule : (t : Turn) → Ruled (Parts.arguments t)
 arguments_rule t = look (λ o. if is_sym SRParen o then pass (λ s. give [])
-    else (if waits t && is_word KIn o then pass (λ s. part (Parts.level level_is.Union) λ x. part Parts.filter λ w. guarded_rest (strict (a_generator [] (tree_of x) w)))
-    else (part (Parts.level level_is.Iff) λ x. look (λ o. if takes_where t x && is_word KWhere o
-    then pass (λ s. part Parts.expr λ w. guarded_rest (guarded x w))
-    else behind Paren (part (Parts.arguments (turn_by t x)) λ xs. give (given x ∷ xs)) (give (given x ∷ []))))))
+    else (if waits t && is_word KIn o then set_argument
+    else expr_argument t))
 
 -- what stands behind a text's first piece
 abbrev pub text_rest_rule : Ruled Parts.text_rest
