@@ -22,7 +22,7 @@ use Rattle.mz_grammar.specs.Tests.{middle_of, tail_of}
 use Rattle.mz_grammar.proofs.Equations.{operators_reads}
 use Rattle.mz_grammar.proofs.ListEquations.{branches_reads, text_rest_reads}
 use Rattle.mz_grammar.specs.declared.level.Level.{Level}
-use Rattle.mz_grammar.specs.Operators.{binary_of, is_single}
+use Rattle.mz_grammar.specs.Operators.{binary_of, is_nonassociative}
 use Rattle.mz_grammar.specs.Reading.{reads}
 use Rattle.mz_grammar.specs.Steps.{with_branches}
 use Rattle.mz_expr.specs.Descent.{annotated}
@@ -51,7 +51,7 @@ branches_more done x room behind_skip after rest mid next all so_far is skipped 
 -- an operator more
 pub operators_more : (l : Level) (done : List (BinOp × Tree)) (op : BinOp) (x : Reading) (e : Tree) (room behind_skip after : ℕ) (rest mid next : List Token) (all : Read (List (BinOp × Tree))) →
     with_front done (reads (parts.operators l) room rest) ≡ all → binary_of l (tok_at rest) ≡ Some op → mid ≡ behind rest → behind_skip ≡ room → after ≡ behind_skip →
-    reads (parts.operand l) behind_skip mid ≡ Ok (x, next) → e ≡ tree_of x → is_single l ≡ false → with_front (done ++ ((op, e) ∷ [])) (reads (parts.operators l) after next) ≡ all
+    reads (parts.operand l) behind_skip mid ≡ Ok (x, next) → e ≡ tree_of x → is_nonassociative l ≡ false → with_front (done ++ ((op, e) ∷ [])) (reads (parts.operators l) after next) ≡ all
 operators_more l done op x e room behind_skip after rest mid next all so_far is skipped same_room same_after sub same_tree many =
     rw (same_after, same_room, same_tree) (front_more done (op, tree_of x) (reads (parts.operators l) room next)
     ∙ ap (λ o. with_front done o) (sym (operators_reads l room rest ∙ rw (is, rw (skipped, same_room) at sub, many) refl)) ∙ so_far)

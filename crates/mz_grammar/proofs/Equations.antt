@@ -22,7 +22,7 @@ use Rattle.mz_grammar.specs.declared.list.Closing.{Closing}
 use Rattle.mz_grammar.specs.declared.list.Closing.TheVariants.{Paren, Bracket}
 use Rattle.mz_grammar.specs.declared.list.Turn.{Turn}
 use Rattle.mz_grammar.specs.declared.list.Turn.TheVariants.{Clear}
-use Rattle.mz_grammar.specs.Operators.{prefix_of, binary_of, is_single, tighter_level}
+use Rattle.mz_grammar.specs.Operators.{prefix_of, binary_of, is_nonassociative, tighter_level}
 use Rattle.mz_grammar.specs.Parts
 use Rattle.mz_grammar.specs.Parts.{Place, Reading, tree_of, chained, Argument, given, guarded, strict}
 use Rattle.mz_grammar.specs.Arguments.{turn_by, waits, takes_where, trees_of, generators_of}
@@ -96,11 +96,11 @@ operand_reads l room ts = by_rule (Parts.operand l) room ts ∙ step_on reads {n
     ∙ same_on (tighter_level l) _ _ (itself (reads Parts.unit room ts)) (λ k. itself (reads (Parts.level k) room ts))
 
 pub operators_reads : (l : Level) (room : ℕ) (ts : List Token) → reads (Parts.operators l) room ts ≡ on (binary_of l (tok_at ts)) (Ok ([], ts)) (λ op. reads (Parts.operand l) room (behind ts) >>= λ x.
-    if is_single l then Ok ((op, tree_of x.0) ∷ [], x.1) else with_front ((op, tree_of x.0) ∷ []) (reads (Parts.operators l) room x.1))
+    if is_nonassociative l then Ok ((op, tree_of x.0) ∷ [], x.1) else with_front ((op, tree_of x.0) ∷ []) (reads (Parts.operators l) room x.1))
 unfolding step rule
 operators_reads l room ts = by_rule (Parts.operators l) room ts
     ∙ pass_on reads {n = Parts.operators l} (binary_of l) refl (give []) _ room ts
-    ∙ same_on (binary_of l (tok_at ts)) _ _ refl (λ op. same_then (reads (Parts.operand l) room (behind ts)) _ _ (λ x. step_if reads {n = Parts.operators l} (is_single l) _ _ room x.1))
+    ∙ same_on (binary_of l (tok_at ts)) _ _ refl (λ op. same_then (reads (Parts.operand l) room (behind ts)) _ _ (λ x. step_if reads {n = Parts.operators l} (is_nonassociative l) _ _ room x.1))
 
 pub unit_reads : (room : ℕ) (ts : List Token) → reads Parts.unit room ts ≡ on (prefix_of (tok_at ts)) (reads Parts.atom room ts) (λ op. open_at room ts (λ r. reads Parts.unit r (behind ts) >>= λ x. Ok (Parts.other (place ts) (node (place ts) (unary op (tree_of x.0))), x.1)))
 unfolding step rule

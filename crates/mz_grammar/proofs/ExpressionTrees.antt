@@ -18,7 +18,7 @@ use Rattle.mz_grammar.specs.declared.level.Level.TheVariants as level_is
 use Rattle.mz_grammar.specs.declared.list.Closing.{Closing}
 use Rattle.mz_grammar.specs.declared.list.Closing.TheVariants.{Paren, Bracket, Elements, Brace}
 use Rattle.mz_grammar.specs.declared.list.Turn.{Turn}
-use Rattle.mz_grammar.specs.Operators.{prefix_of, binary_of, is_single}
+use Rattle.mz_grammar.specs.Operators.{prefix_of, binary_of, is_nonassociative}
 use Rattle.mz_grammar.specs.Parts.{Place, Reading, Argument}
 use Rattle.mz_grammar.specs.Arguments.{waits, takes_where, trees_of, generators_of}
 use Rattle.mz_grammar.specs.Tests.{closes, ident_of, middle_of, tail_of, ends_row}
@@ -48,7 +48,7 @@ module _ (Named : Name → Type 0) (Placed : Span → Type 0) where
 
   pub operators_kept : (l : Level) → Kept (operators_rule l)
   unfolding OfTree
-  operators_kept l = λ o fine. found (binary_of l o) _ _ tt (λ op. λ s at. λ x h. tested (is_single l) _ _ (Of.of_tree Named Placed x h, tt) (λ ls g. (Of.of_tree Named Placed x h, g)))
+  operators_kept l = λ o fine. found (binary_of l o) _ _ tt (λ op. λ s at. λ x h. tested (is_nonassociative l) _ _ (Of.of_tree Named Placed x h, tt) (λ ls g. (Of.of_tree Named Placed x h, g)))
 
   pub unit_kept : Kept unit_rule
   unfolding OfTree

@@ -16,7 +16,7 @@ use Rattle.mz_tree.specs.declared.expr.BinOp.{BinOp}
 use Rattle.mz_grammar.specs.declared.level.Level.{Level}
 use Rattle.mz_grammar.specs.declared.level.Level.TheVariants as level_is
 use Rattle.mz_grammar.specs.declared.list.Closing.TheVariants.{Paren, Bracket}
-use Rattle.mz_grammar.specs.Operators.{prefix_of, binary_of, is_single, tighter_level}
+use Rattle.mz_grammar.specs.Operators.{prefix_of, binary_of, is_nonassociative, tighter_level}
 use Rattle.mz_grammar.specs.Parts
 use Rattle.mz_grammar.specs.Parts.{Reading, tree_of}
 use Rattle.mz_grammar.specs.Tests.{middle_of, tail_of}
@@ -72,18 +72,18 @@ fine_expr = λ x a. (last (λ o h. h), tt)
 
 -- behind an operator
 abbrev more_operators : (l : Level) → BinOp → Bool → Tree → Ruled (Parts.operators l)
-more_operators l op single e = if single then give ((op, e) ∷ []) else part (Parts.operators l) λ ls. give ((op, e) ∷ ls)
+more_operators l op nonassociative e = if nonassociative then give ((op, e) ∷ []) else part (Parts.operators l) λ ls. give ((op, e) ∷ ls)
 
-after_operand : (l : Level) (f : Reading → Ruled (Parts.operators l)) (op : BinOp) (single : Bool) (e : Tree) → After (Parts.operators l) (Parts.operand l) f (more_operators l op single e)
+after_operand : (l : Level) (f : Reading → Ruled (Parts.operators l)) (op : BinOp) (nonassociative : Bool) (e : Tree) → After (Parts.operators l) (Parts.operand l) f (more_operators l op nonassociative e)
 unfolding step read_by rule symbol_number keyword_number
 after_operand l f op true e = last (λ o h. h)
 after_operand l f op false e = maybe [] tt quiet_end (λ o h. h)
 
-fine_more : (l : Level) (op : BinOp) (single : Bool) (e : Tree) → Fine (more_operators l op single e)
+fine_more : (l : Level) (op : BinOp) (nonassociative : Bool) (e : Tree) → Fine (more_operators l op nonassociative e)
 fine_more l op true e = tt
 fine_more l op false e = λ ls a. (last (λ o h. h), tt)
 
-done_operator : (l : Level) (op : BinOp) → Done {n = Parts.operators l} (part (Parts.operand l) λ x. more_operators l op (is_single l) (tree_of x)) (a_number ∷ [])
+done_operator : (l : Level) (op : BinOp) → Done {n = Parts.operators l} (part (Parts.operand l) λ x. more_operators l op (is_nonassociative l) (tree_of x)) (a_number ∷ [])
 unfolding step read_by rule symbol_number keyword_number
 done_operator level_is.Iff op = tt
 done_operator level_is.Imp op = tt
@@ -101,7 +101,7 @@ done_operator level_is.Concat op = tt
 pub fine_operators : (l : Level) → Fine (operators_rule l)
 fine_operators l = (
   steady_found (binary_of l) _ _ (λ op. tt) (λ o h. no_operator l o h.1),
-  λ o. found (binary_of l o) _ _ tt (λ op s. ((a_number ∷ [], done_operator l op), λ x a. (after_operand l _ op (is_single l) (tree_of x), fine_more l op (is_single l) (tree_of x)))),
+  λ o. found (binary_of l o) _ _ tt (λ op s. ((a_number ∷ [], done_operator l op), λ x a. (after_operand l _ op (is_nonassociative l) (tree_of x), fine_more l op (is_nonassociative l) (tree_of x)))),
 )
 
 -- Units and atoms

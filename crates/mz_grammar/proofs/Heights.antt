@@ -18,7 +18,7 @@ use Rattle.mz_grammar.specs.declared.level.Level.TheVariants as level_is
 use Rattle.mz_grammar.specs.declared.list.Closing.{Closing}
 use Rattle.mz_grammar.specs.declared.list.Closing.TheVariants.{Paren, Bracket, Elements, Brace}
 use Rattle.mz_grammar.specs.declared.list.Turn.{Turn}
-use Rattle.mz_grammar.specs.Operators.{prefix_of, binary_of, is_single}
+use Rattle.mz_grammar.specs.Operators.{prefix_of, binary_of, is_nonassociative}
 use Rattle.mz_grammar.specs.Parts.{Reading, Argument}
 use Rattle.mz_grammar.specs.Arguments.{waits, takes_where, trees_of, generators_of}
 use Rattle.mz_grammar.specs.Tests.{closes, ident_of, middle_of, tail_of, ends_row}
@@ -42,7 +42,7 @@ operand_kept level_is.Concat room = λ x h. omega arith
 
 pub operators_kept : (l : Level) (room : ℕ) → Kept room room (operators_rule l)
 unfolding links_height
-operators_kept l room = λ o. found room room (binary_of l o) _ _ (omega arith) (λ op. λ s. λ x h. tested room room (is_single l) _ _ (max-le h (omega arith)) (λ ls g. max-le h g))
+operators_kept l room = λ o. found room room (binary_of l o) _ _ (omega arith) (λ op. λ s. λ x h. tested room room (is_nonassociative l) _ _ (max-le h (omega arith)) (λ ls g. max-le h g))
 
 pub unit_kept : (room : ℕ) → Kept room room unit_rule
 unfolding height shape_height unit_most

@@ -21,7 +21,7 @@ use Rattle.std.specs.Prelude.{Result}
 use Rattle.mz_tree.specs.declared.expr.BinOp.{BinOp}
 use Rattle.mz_grammar.specs.declared.level.Level.{Level}
 use Rattle.mz_grammar.specs.declared.level.Level.TheVariants as level_is
-use Rattle.mz_grammar.specs.Operators.{prefix_of, binary_of, is_single, tighter_level}
+use Rattle.mz_grammar.specs.Operators.{prefix_of, binary_of, is_nonassociative, tighter_level}
 use Rattle.mz_grammar.specs.Parts
 use Rattle.mz_grammar.specs.Parts.{Place, Value, Reading, tree_of, chained}
 use Rattle.mz_grammar.specs.Model.{Ruled, rule, operand_rule, operators_rule, unit_rule, atom_rule, annotations_rule, head_symbol, head_word, head_token}
@@ -236,9 +236,9 @@ long_level l = λ x. (reach_operators l x, λ ls. (farther [] refl (λ m. tt) re
 
 -- and behind an operator and its operand, more of them
 abbrev chain_behind : (l : Level) → BinOp → Bool → Reading → Ruled (Parts.operators l)
-chain_behind l op single x = if single then give ((op, tree_of x) ∷ []) else part (Parts.operators l) λ ls. give ((op, tree_of x) ∷ ls)
+chain_behind l op nonassociative x = if nonassociative then give ((op, tree_of x) ∷ []) else part (Parts.operators l) λ ls. give ((op, tree_of x) ∷ ls)
 
-reach_chain : (l : Level) (op : BinOp) (x : Reading) → Reach (Parts.operand l) (chain_behind l op (is_single l)) (chain_behind l op (is_single l) x)
+reach_chain : (l : Level) (op : BinOp) (x : Reading) → Reach (Parts.operand l) (chain_behind l op (is_nonassociative l)) (chain_behind l op (is_nonassociative l) x)
 unfolding step read_by rule symbol_number keyword_number
 reach_chain level_is.Iff op x = farther [] refl (λ y. tt) refl
 reach_chain level_is.Imp op x = farther [] refl (λ y. tt) refl
@@ -253,13 +253,13 @@ reach_chain level_is.Product op x = farther [] refl (λ y. tt) refl
 reach_chain level_is.Power op x = farther [] refl (λ y. tt) refl
 reach_chain level_is.Concat op x = farther [] refl (λ y. tt) refl
 
-long_chain : (l : Level) (op : BinOp) (single : Bool) (x : Reading) → Long (chain_behind l op single x)
+long_chain : (l : Level) (op : BinOp) (nonassociative : Bool) (x : Reading) → Long (chain_behind l op nonassociative x)
 unfolding step read_by rule symbol_number keyword_number
 long_chain l op true x = tt
 long_chain l op false x = λ ls. (farther [] refl (λ m. tt) refl, tt)
 
 abbrev operators_from : (l : Level) → Option Tok → Ruled (Parts.operators l)
-operators_from l o = on (binary_of l o) (give []) (λ op. pass (λ s. part (Parts.operand l) λ x. chain_behind l op (is_single l) x))
+operators_from l o = on (binary_of l o) (give []) (λ op. pass (λ s. part (Parts.operand l) λ x. chain_behind l op (is_nonassociative l) x))
 
 seen_operators : (l : Level) → longer.Seen rule aim Calm taking Apt far takes complete fine (operators_from l)
 unfolding step read_by rule symbol_number keyword_number
@@ -278,7 +278,7 @@ seen_operators level_is.Concat = by [] tt
 
 long_operators : (l : Level) → Long (operators_rule l)
 unfolding step read_by rule symbol_number keyword_number
-long_operators l = (seen_operators l, λ o. long_found (binary_of l o) _ _ tt (λ op s x. (reach_chain l op x, long_chain l op (is_single l) x)))
+long_operators l = (seen_operators l, λ o. long_found (binary_of l o) _ _ tt (λ op s x. (reach_chain l op x, long_chain l op (is_nonassociative l) x)))
 
 long_unit : Long unit_rule
 unfolding step read_by rule symbol_number keyword_number

@@ -19,7 +19,7 @@ use Rattle.mz_grammar.specs.declared.list.Closing.{Closing}
 use Rattle.mz_grammar.specs.declared.list.Closing.TheVariants.{Paren, Bracket, Elements, Brace}
 use Rattle.mz_grammar.specs.declared.list.Turn.{Turn}
 use Rattle.mz_grammar.specs.declared.list.Turn.TheVariants.{Clear}
-use Rattle.mz_grammar.specs.Operators.{prefix_of, binary_of, is_single, tighter_level}
+use Rattle.mz_grammar.specs.Operators.{prefix_of, binary_of, is_nonassociative, tighter_level}
 use Rattle.mz_grammar.specs.Parts
 use Rattle.mz_grammar.specs.Parts.{Reading, name, other, at_of, tree_of, chained, Argument, given, guarded, strict, Place, Value}
 use Rattle.mz_grammar.specs.Arguments.{turn_by, waits, takes_where, trees_of, generators_of}
@@ -56,7 +56,7 @@ operand_rule l = on (tighter_level l) (part Parts.unit λ x. give x) (λ k. part
 
 abbrev pub operators_rule : (l : Level) → Ruled (Parts.operators l)
 operators_rule l = look (λ o. on (binary_of l o) (give []) (λ op. pass (λ s. part (Parts.operand l) λ x.
-    if is_single l then give ((op, tree_of x) ∷ []) else part (Parts.operators l) λ ls. give ((op, tree_of x) ∷ ls))))
+    if is_nonassociative l then give ((op, tree_of x) ∷ []) else part (Parts.operators l) λ ls. give ((op, tree_of x) ∷ ls))))
 
 -- a unit = atom | ( "not" | "+" | "-" ) unit
 abbrev pub unit_rule : Ruled Parts.unit

@@ -74,11 +74,11 @@ abbrev pub binary_of : Level → Option Tok → Option BinOp
 binary_of l tok = if_level l (operator_of tok)
 
 -- the levels whose operators don't associate
-abbrev pub is_single : Level → Bool
-is_single level.Compare = true
-is_single level.Member = true
-is_single level.Range = true
-is_single _ = false
+abbrev pub is_nonassociative : Level → Bool
+is_nonassociative level.Compare = true
+is_nonassociative level.Member = true
+is_nonassociative level.Range = true
+is_nonassociative _ = false
 
 -- the next tighter level, if there is one
 abbrev pub tighter_level : Level → Option Level

@@ -1,7 +1,7 @@
 // The operators.
 
 ghost use Rattle.std.specs.Prelude.{◌≡◌, Some};
-ghost use Rattle.mz_grammar.specs.Operators.{prefix_of, operator_of, level_number, binary_of, is_single, tighter_level};
+ghost use Rattle.mz_grammar.specs.Operators.{prefix_of, operator_of, level_number, binary_of, is_nonassociative, tighter_level};
 ghost use Rattle.mz_operand.specs.Levels.{next_level};
 
 use mz_grammar::Level;
@@ -115,8 +115,8 @@ pub fn binary_of(l: Level, tok: Option<Tok>) -> Option<BinOp>
 }
 
 /// Whether operators of this level don't associate.
-pub fn is_single(l: Level) -> bool
-    ensures { result ≡ is_single l }
+pub fn is_nonassociative(l: Level) -> bool
+    ensures { result ≡ is_nonassociative l }
 {
     matches!(l, Level::Compare | Level::Member | Level::Range)
 }

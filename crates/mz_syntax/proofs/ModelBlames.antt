@@ -19,7 +19,7 @@ use Rattle.mz_cursor.specs.Promise.{IsFault}
 use Rattle.mz_grammar.specs.declared.list.Closing.{Closing}
 use Rattle.mz_grammar.specs.declared.list.Closing.TheVariants.{Paren, Bracket, Elements, Brace}
 use Rattle.mz_grammar.specs.declared.list.Turn.{Turn}
-use Rattle.mz_grammar.specs.Operators.{prefix_of, binary_of, is_single, tighter_level}
+use Rattle.mz_grammar.specs.Operators.{prefix_of, binary_of, is_nonassociative, tighter_level}
 use Rattle.mz_grammar.specs.Tests.{closes, is_left_out, ident_of, text_of, middle_of, tail_of, ends_row, begins_base, begins_type, ItemKind, an_include, a_constraint, a_solve, an_output, a_predicate, a_test, a_function, an_annotation, an_enum, item_of}
 use Rattle.mz_grammar.specs.Arguments.{waits, takes_where, trees_of, generators_of}
 use Rattle.mz_grammar.specs.Parts
@@ -255,7 +255,7 @@ all_blame Parts.expr k whole ts w b = (tt, λ x us v h. tt)
 all_blame (Parts.level l) k whole ts w b = (tt, λ x us v h. (tt, λ ls vs v g. tt))
 all_blame (Parts.operand l) k whole ts w b = found whole k ts (tighter_level l) _ _ (λ e. (tt, λ x us v h. tt)) (λ m e. (tt, λ x us v h. tt))
 all_blame (Parts.operators l) k whole ts w b = found whole k ts (binary_of l (tok_at ts)) (give []) _ (λ e. tt)
-    (λ o e us p v. (tt, λ x vs v h. tested whole k vs (is_single l) _ _ (λ s. tt) (λ s. (tt, λ ls ws v g. tt))))
+    (λ o e us p v. (tt, λ x vs v h. tested whole k vs (is_nonassociative l) _ _ (λ s. tt) (λ s. (tt, λ ls ws v g. tt))))
 all_blame Parts.unit k whole ts w b = found whole k ts (prefix_of (tok_at ts)) _ _ (λ e. (tt, λ x us v h. tt)) (λ o e r g us p v. (tt, λ x vs v h. tt))
 all_blame Parts.atom k whole ts w b = (tt, λ h us v c. (after_head w c.derived at_once, λ x vs v a. (tt, λ t ws v n. tt)))
 all_blame (Parts.accesses x) k whole ts w b = by_opening whole k ts SLBrack _ _ (λ r e us c v. (first_index b c, λ es vs v i. (next_access b c i.1 i.2, λ y ws v a. tt))) (λ e. tt)

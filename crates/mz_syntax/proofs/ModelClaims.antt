@@ -23,7 +23,7 @@ use Rattle.mz_grammar.specs.declared.level.Level.{Level}
 use Rattle.mz_grammar.specs.declared.level.Level.TheVariants as level_is
 use Rattle.mz_grammar.specs.declared.list.Closing.{Closing}
 use Rattle.mz_grammar.specs.declared.list.Closing.TheVariants.{Paren, Bracket, Elements, Brace}
-use Rattle.mz_grammar.specs.Operators.{operator_of, prefix_of, binary_of, if_level, level_number, is_single, tighter_level}
+use Rattle.mz_grammar.specs.Operators.{operator_of, prefix_of, binary_of, if_level, level_number, is_nonassociative, tighter_level}
 use Rattle.mz_grammar.specs.Arguments.{waits}
 use Rattle.mz_grammar.specs.Parts
 use Rattle.mz_grammar.specs.Parts.{Reading, name, member, other, at_of, tree_of, related, chained, Place, Value}
@@ -37,7 +37,7 @@ use Rattle.mz_syntax.proofs.Turned.{Kind, Args}
 
 -- no operator of a level so tight, but one that doesn't associate
 abbrev pub Looser : ℕ → List Token → Type 0
-Looser n us = (o : Level × BinOp) → operator_of (tok_at us) ≡ Some o → is_single o.0 ≡ false → level_number o.0 < n
+Looser n us = (o : Level × BinOp) → operator_of (tok_at us) ≡ Some o → is_nonassociative o.0 ≡ false → level_number o.0 < n
 
 -- no access, and no annotation
 abbrev pub Sealed : List Token → Type 0
@@ -61,8 +61,8 @@ pub record Term (g : Grade) (k : ℕ) (ts : List Token) (x : Reading) (us : List
 -- an operand with operators after it
 pub data Follow (l : Level) (k : ℕ) : List Token → List (BinOp × Tree) → List Token → Type 0 where
   no_operator : {ts : List Token} → binary_of l (tok_at ts) ≡ None → Follow l k ts [] ts
-  one_operator : {f : Ending} {ts us vs : List Token} {y : Tree} (t : Tok) (o : BinOp) → is_single l ≡ true → binary_of l (Some t) ≡ Some o → Next t ts us → Derives k (term (ebnf.operand l) f) us y vs → IfBody f vs → Sealed vs → Looser (level_number l) vs → Follow l k ts ((o, y) ∷ []) vs
-  some_operators : {f : Ending} {ts us : List Token} {p : BinOp × Tree} {ls : List (BinOp × Tree)} → is_single l ≡ false → binary_of l (tok_at ts) ≡ Some p.0 → Derives k (operators l f) ts (p ∷ ls) us → IfBody f us → Sealed us → Looser (level_number l) us → Follow l k ts (p ∷ ls) us
+  one_operator : {f : Ending} {ts us vs : List Token} {y : Tree} (t : Tok) (o : BinOp) → is_nonassociative l ≡ true → binary_of l (Some t) ≡ Some o → Next t ts us → Derives k (term (ebnf.operand l) f) us y vs → IfBody f vs → Sealed vs → Looser (level_number l) vs → Follow l k ts ((o, y) ∷ []) vs
+  some_operators : {f : Ending} {ts us : List Token} {p : BinOp × Tree} {ls : List (BinOp × Tree)} → is_nonassociative l ≡ false → binary_of l (tok_at ts) ≡ Some p.0 → Derives k (operators l f) ts (p ∷ ls) us → IfBody f us → Sealed us → Looser (level_number l) us → Follow l k ts (p ∷ ls) us
 
 -- an access after what was read
 abbrev pub Accessed : Reading → ℕ → List Token → Reading → List Token → Type 0
@@ -157,12 +157,12 @@ number_positive : (l : Level) → 0 < level_number l
 number_positive level_is.Iff = omega arith
 number_positive _ = omega arith
 
-abbrev single_at : ℕ → Bool
-single_at n = nat_eq n 5 || (nat_eq n 6 || nat_eq n 8)
+abbrev nonassociative_at : ℕ → Bool
+nonassociative_at n = nat_eq n 5 || (nat_eq n 6 || nat_eq n 8)
 
-single_number : (l : Level) → single_at (level_number l) ≡ is_single l
-single_number level_is.Iff = refl
-single_number _ = refl
+nonassociative_number : (l : Level) → nonassociative_at (level_number l) ≡ is_nonassociative l
+nonassociative_number level_is.Iff = refl
+nonassociative_number _ = refl
 
 -- the operator that follows is of another level
 other_level : (l : Level) (o : Level × BinOp) → if_level l (Some o) ≡ None → level_number o.0 ≡ level_number l → ⊥
@@ -183,8 +183,8 @@ pub looser : (l : Level) (us : List Token) → Looser (suc (level_number l)) us 
 looser l us h e = λ o g s. below (level_number o.0) (level_number l) (h o g s) (other_level l o (subst (λ q. if_level l q ≡ None) g e))
 
 -- operators of this level don't associate
-pub looser_single : (l : Level) (us : List Token) → Looser (suc (level_number l)) us → is_single l ≡ true → Looser (level_number l) us
-looser_single l us h e = λ o g s. below (level_number o.0) (level_number l) (h o g s) (λ q. true_false (sym e ∙ sym (single_number l) ∙ ap single_at (sym q) ∙ single_number o.0 ∙ s))
+pub looser_nonassociative : (l : Level) (us : List Token) → Looser (suc (level_number l)) us → is_nonassociative l ≡ true → Looser (level_number l) us
+looser_nonassociative l us h e = λ o g s. below (level_number o.0) (level_number l) (h o g s) (λ q. true_false (sym e ∙ sym (nonassociative_number l) ∙ ap nonassociative_at (sym q) ∙ nonassociative_number o.0 ∙ s))
 
 -- the operator of a level
 by_level : (l : Level) (q : Option (Level × BinOp)) (o : BinOp) → if_level l q ≡ Some o → (p : Level × BinOp) × (q ≡ Some p) × (level_number p.0 ≡ level_number l) × (p.1 ≡ o)
@@ -200,15 +200,15 @@ by_level l (Some p) o e = (p, refl, go (nat_eq (level_number p.0) (level_number 
     told false e = absurd (no_some e)
 
 -- an operator that associates doesn't follow the body of a let
-pub no_operator_after : (l : Level) (o : BinOp) (us : List Token) → Ended us → binary_of l (tok_at us) ≡ Some o → is_single l ≡ false → ⊥
+pub no_operator_after : (l : Level) (o : BinOp) (us : List Token) → Ended us → binary_of l (tok_at us) ≡ Some o → is_nonassociative l ≡ false → ⊥
 no_operator_after l o us h e s =
     let p = by_level l (operator_of (tok_at us)) o e in
-    none_below (number_positive p.0.0) (h.0 p.0 p.1 (sym (single_number p.0.0) ∙ ap single_at p.2 ∙ single_number l ∙ s))
+    none_below (number_positive p.0.0) (h.0 p.0 p.1 (sym (nonassociative_number p.0.0) ∙ ap nonassociative_at p.2 ∙ nonassociative_number l ∙ s))
   where
     none_below : {n : ℕ} → 0 < n → n < 1 → ⊥
     none_below a h = omega (arith, a, h)
 
-pub is_closed : (l : Level) (o : BinOp) (f : Ending) (us : List Token) → IfBody f us → binary_of l (tok_at us) ≡ Some o → is_single l ≡ false → f ≡ closed
+pub is_closed : (l : Level) (o : BinOp) (f : Ending) (us : List Token) → IfBody f us → binary_of l (tok_at us) ≡ Some o → is_nonassociative l ≡ false → f ≡ closed
 is_closed l o closed us h e s = refl
 is_closed l o with_body us h e s = absurd (no_operator_after l o us h e s)
 
@@ -217,16 +217,16 @@ is_closed l o with_body us h e s = absurd (no_operator_after l o us h e s)
 pub told : (t : Tok) {ts us : List Token} → Next t ts us → tok_at ts ≡ Some t
 told t (begins e) = ap Some e
 
-some_more : {l : Level} {k : ℕ} {f : Ending} {ts us vs : List Token} {y : Tree} (t : Tok) (o : BinOp) (ls : List (BinOp × Tree)) → is_single l ≡ false → binary_of l (Some t) ≡ Some o → Next t ts us → Derives k (term (ebnf.operand l) f) us y vs → IfBody f vs → Sealed vs → Looser (suc (level_number l)) vs → (ws : List Token) → Follow l k vs ls ws → Follow l k ts ((o, y) ∷ ls) ws
+some_more : {l : Level} {k : ℕ} {f : Ending} {ts us vs : List Token} {y : Tree} (t : Tok) (o : BinOp) (ls : List (BinOp × Tree)) → is_nonassociative l ≡ false → binary_of l (Some t) ≡ Some o → Next t ts us → Derives k (term (ebnf.operand l) f) us y vs → IfBody f vs → Sealed vs → Looser (suc (level_number l)) vs → (ws : List Token) → Follow l k vs ls ws → Follow l k ts ((o, y) ∷ ls) ws
 some_more {l = l} {y = y} t o _ s b n d i c w _ (no_operator e) = some_operators {p = (o, y)} s (ap (binary_of l) (told t n) ∙ b) (ebnf.last_operator l t o b n d) i c (looser l _ w e)
 some_more t o _ s b n d i c w ws (one_operator u q r e m g j z x) = absurd (true_false (sym r ∙ s))
 some_more {l = l} {k = k} {f = f} {us = us} {vs = vs} {y = y} t o _ s b n d i c w ws (some_operators {p = p} r e g j z x) =
     some_operators {p = (o, y)} s (ap (binary_of l) (told t n) ∙ b) (ebnf.more_operators l t o b n (subst (λ f. Derives k (term (ebnf.operand l) f) us y vs) (is_closed l p.0 f _ i e s) d) g) j z x
 
-pub follow_one : (l : Level) (t : Tok) (o : BinOp) {k : ℕ} {ts us vs : List Token} (x : Reading) → is_single l ≡ true → binary_of l (Some t) ≡ Some o → Next t ts us → Claim (Parts.operand l) k us x vs → Follow l k ts ((o, tree_of x) ∷ []) vs
-follow_one l t o x s b n h = one_operator t o s b n h.0.derived h.0.longest h.1 (looser_single l _ h.2 s)
+pub follow_one : (l : Level) (t : Tok) (o : BinOp) {k : ℕ} {ts us vs : List Token} (x : Reading) → is_nonassociative l ≡ true → binary_of l (Some t) ≡ Some o → Next t ts us → Claim (Parts.operand l) k us x vs → Follow l k ts ((o, tree_of x) ∷ []) vs
+follow_one l t o x s b n h = one_operator t o s b n h.0.derived h.0.longest h.1 (looser_nonassociative l _ h.2 s)
 
-pub follow_more : (l : Level) (t : Tok) (o : BinOp) {k : ℕ} {ts us vs ws : List Token} (x : Reading) (ls : List (BinOp × Tree)) → is_single l ≡ false → binary_of l (Some t) ≡ Some o → Next t ts us → Claim (Parts.operand l) k us x vs → Follow l k vs ls ws → Follow l k ts ((o, tree_of x) ∷ ls) ws
+pub follow_more : (l : Level) (t : Tok) (o : BinOp) {k : ℕ} {ts us vs ws : List Token} (x : Reading) (ls : List (BinOp × Tree)) → is_nonassociative l ≡ false → binary_of l (Some t) ≡ Some o → Next t ts us → Claim (Parts.operand l) k us x vs → Follow l k vs ls ws → Follow l k ts ((o, tree_of x) ∷ ls) ws
 follow_more l t o {ws = ws} x ls s b n h g = some_more t o ls s b n h.0.derived h.0.longest h.1 h.2 ws g
 
 -- Chains

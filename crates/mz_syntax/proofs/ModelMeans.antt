@@ -22,7 +22,7 @@ use Rattle.mz_grammar.specs.declared.list.Closing.{Closing}
 use Rattle.mz_grammar.specs.declared.list.Closing.TheVariants.{Paren, Bracket, Elements, Brace}
 use Rattle.mz_grammar.specs.declared.list.Turn.{Turn}
 use Rattle.mz_grammar.specs.declared.list.Turn.TheVariants.{Clear}
-use Rattle.mz_grammar.specs.Operators.{prefix_of, binary_of, is_single, tighter_level}
+use Rattle.mz_grammar.specs.Operators.{prefix_of, binary_of, is_nonassociative, tighter_level}
 use Rattle.mz_grammar.specs.Tests.{closes, is_left_out, ident_of, text_of, middle_of, tail_of, ends_row, begins_base, begins_type, ItemKind, an_include, a_constraint, a_solve, an_output, a_predicate, a_test, a_function, an_annotation, an_enum, item_of}
 use Rattle.mz_grammar.specs.Arguments.{waits, takes_where, trees_of, generators_of}
 use Rattle.mz_grammar.specs.Parts
@@ -352,7 +352,7 @@ all_mean (Parts.level l) k ts = λ x us h ls vs g. (refl, level_claim l k ts us 
 all_mean (Parts.operand l) k ts = found k ts k ts (tighter_level l) _ _ (λ e x us h. (refl, by_unit_claim l k ts us x e h)) (λ m e x us h. (refl, by_tighter_claim l m k ts us x e h))
 all_mean (Parts.operators l) k ts = found k ts k ts (binary_of l (tok_at ts)) (give []) _
     (λ e. (refl, no_operator e))
-    (λ o e us p x vs h. tested k ts k vs (is_single l) _ _
+    (λ o e us p x vs h. tested k ts k vs (is_nonassociative l) _ _
     (λ s. let t = operator_token (binary_of l) o ts us e p in (refl, follow_one l t.0 o x s t.1 t.2 h))
     (λ s ls ws g. let t = operator_token (binary_of l) o ts us e p in (refl, follow_more l t.0 o x ls s t.1 t.2 h g)))
 all_mean Parts.unit k ts = found k ts k ts (prefix_of (tok_at ts)) _ _

@@ -24,7 +24,7 @@ use Rattle.mz_tree.specs.Items.{GoalTree, ItemTree}
 use Rattle.mz_cursor.specs.Tokens.{place}
 use Rattle.mz_grammar.specs.declared.level.Level.{Level}
 use Rattle.mz_grammar.specs.declared.level.Level.TheVariants as level_is
-use Rattle.mz_grammar.specs.Operators.{prefix_of, binary_of, is_single, tighter_level}
+use Rattle.mz_grammar.specs.Operators.{prefix_of, binary_of, is_nonassociative, tighter_level}
 use Rattle.mz_syntax.specs.Next.{Next}
 
 -- the parts of an expression, from loose to tight: the terms of a level of operators, what stands between them, a term of
@@ -177,8 +177,8 @@ pub data Derives : ℕ → (p : Phrase) → List Token → Meaning p → List To
   by_union : {k : ℕ} {f : Ending} {ts us : List Token} {e : Tree} → Derives k (term (level level_is.Union) f) ts e us → Derives k tight ts e us
   -- a level: operand { operator operand }, or operand [ operator operand ] where it doesn't associate
   alone : {k : ℕ} {f : Ending} {ts us : List Token} {e : Tree} (l : Level) → Derives k (term (operand l) f) ts e us → Derives k (term (level l) f) ts e us
-  chained : {k : ℕ} {f : Ending} {ts us vs : List Token} {e : Tree} {ls : List (BinOp × Tree)} (l : Level) → is_single l ≡ false → Derives k (term (operand l) closed) ts e us → Derives k (operators l f) us ls vs → Derives k (term (level l) f) ts (node (place ts) (pure.chain e (links ls))) vs
-  compared : {k : ℕ} {f g : Ending} {ts us vs ws : List Token} {x y : Tree} (l : Level) (t : Tok) (o : BinOp) → is_single l ≡ true → Derives k (term (operand l) g) ts x us → binary_of l (Some t) ≡ Some o → Next t us vs → Derives k (term (operand l) f) vs y ws → Derives k (term (level l) f) ts (node (place ts) (pure.chain x (links ((o, y) ∷ [])))) ws
+  chained : {k : ℕ} {f : Ending} {ts us vs : List Token} {e : Tree} {ls : List (BinOp × Tree)} (l : Level) → is_nonassociative l ≡ false → Derives k (term (operand l) closed) ts e us → Derives k (operators l f) us ls vs → Derives k (term (level l) f) ts (node (place ts) (pure.chain e (links ls))) vs
+  compared : {k : ℕ} {f g : Ending} {ts us vs ws : List Token} {x y : Tree} (l : Level) (t : Tok) (o : BinOp) → is_nonassociative l ≡ true → Derives k (term (operand l) g) ts x us → binary_of l (Some t) ≡ Some o → Next t us vs → Derives k (term (operand l) f) vs y ws → Derives k (term (level l) f) ts (node (place ts) (pure.chain x (links ((o, y) ∷ [])))) ws
   last_operator : {k : ℕ} {f : Ending} {ts us vs : List Token} {e : Tree} (l : Level) (t : Tok) (o : BinOp) → binary_of l (Some t) ≡ Some o → Next t ts us → Derives k (term (operand l) f) us e vs → Derives k (operators l f) ts ((o, e) ∷ []) vs
   more_operators : {k : ℕ} {f : Ending} {ts us vs ws : List Token} {e : Tree} {ls : List (BinOp × Tree)} (l : Level) (t : Tok) (o : BinOp) → binary_of l (Some t) ≡ Some o → Next t ts us → Derives k (term (operand l) closed) us e vs → Derives k (operators l f) vs ls ws → Derives k (operators l f) ts ((o, e) ∷ ls) ws
   -- the operands of a level are the terms of the next tighter one, and at last those of level 13

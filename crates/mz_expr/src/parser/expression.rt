@@ -14,7 +14,7 @@ use mz_base::Stop;
 use mz_cursor::{Cursor, is_sym};
 use mz_grammar::{Closing, Level};
 use mz_lexer::Symbol;
-use mz_operand::operator::{binary_of, is_single, level_number, next_level, prefix_of};
+use mz_operand::operator::{binary_of, is_nonassociative, level_number, next_level, prefix_of};
 use mz_operand::reading::{Reading, accessed, chained, other, unless_annotated};
 use mz_operand::step::separator;
 use mz_tree::{BinOp, Expr, make_unary};
@@ -67,7 +67,7 @@ impl<F: Fn(Global, &mut Cursor<'_>, Entry) -> Result<Reading, Stop>> Descent<F> 
             cur.skip();
             let x = self.operand(cur, l)?;
             all.push((op, x.into_expr(self.alloc)?))?;
-            if is_single(l) {
+            if is_nonassociative(l) {
                 return Ok(all);
             }
         }
