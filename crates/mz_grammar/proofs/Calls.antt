@@ -10,14 +10,14 @@ use Rattle.mz_cursor.specs.Look.{is_sym, is_word, symbol_number, keyword_number}
 use Rattle.mz_cursor.specs.Reading.{on, step, read_by}
 use Rattle.mz_cursor.proofs.Viable.{never, last, tokens, maybe}
 use Rattle.mz_tree.specs.Tree.{Name, Tree}
-use Rattle.mz_grammar.specs.declared.list.Turn.{Turn}
-use Rattle.mz_grammar.specs.declared.list.Turn.TheVariants.{Clear, Waiting, Never}
+use Rattle.mz_grammar.specs.declared.list.Generators.{Generators}
+use Rattle.mz_grammar.specs.declared.list.Generators.TheVariants.{Possible, AwaitingIn, Impossible}
 use Rattle.mz_grammar.specs.declared.list.Closing.TheVariants.{Paren}
 use Rattle.mz_grammar.specs.Parts
 use Rattle.mz_grammar.specs.Parts.{Place, Reading, tree_of}
 use Rattle.mz_tree.specs.Tree.{Generator, generator, Maybe, node, call, trees as tree_list}
 use Rattle.mz_grammar.specs.Parts.{Argument, name, member, other, given, guarded, strict}
-use Rattle.mz_grammar.specs.Arguments.{turn_by, waits, takes_where, trees_of, generators_of, generators_behind}
+use Rattle.mz_grammar.specs.Arguments.{possible_after, awaits_in, takes_where, trees_of, generators_of, generators_behind}
 use Rattle.std.specs.Option.{option_map}
 use Rattle.std.specs.Prelude.{map}
 use Rattle.mz_grammar.specs.Model.{Ruled, rule, behind, generator_call, called, named_rule, guarded_rest, arguments_rule}
@@ -51,42 +51,42 @@ name_behind [] n x s xs h = h
 name_behind (m ∷ ns) n x s xs h = h
 
 -- one argument more
-fit_given : (t : Turn) (x : Reading) (xs : List Argument) → Fit (turn_by t x) xs → Fit t (given x ∷ xs)
-fit_given Never x xs h = found_map _ (trees_of xs) h
-fit_given Clear (name n s) xs (inl h) = inl (found_map _ (trees_of xs) h)
-fit_given Clear (name n s) xs (inr h) = inr (h [] (n, s))
-fit_given Clear (member n s e) xs (inl h) = inl (found_map _ (trees_of xs) h)
-fit_given Clear (member n s e) xs (inr h) = inr (found_map _ (generators_behind [] xs) h)
-fit_given Clear (other s e) xs h = inl (found_map _ (trees_of xs) h)
-fit_given Waiting (name n s) xs (inl h) = inl (found_map _ (trees_of xs) h)
-fit_given Waiting (name n s) xs (inr h) = inr (λ ns m. name_behind ns m n s xs (h (ns ++ (m ∷ [])) (n, s)))
-fit_given Waiting (member n s e) xs (inl h) = inl (found_map _ (trees_of xs) h)
-fit_given Waiting (member n s e) xs (inr h) = inr (λ ns m. member_behind ns m n s e xs h)
-fit_given Waiting (other s e) xs h = inl (found_map _ (trees_of xs) h)
+fit_given : (t : Generators) (x : Reading) (xs : List Argument) → Fit (possible_after t x) xs → Fit t (given x ∷ xs)
+fit_given Impossible x xs h = found_map _ (trees_of xs) h
+fit_given Possible (name n s) xs (inl h) = inl (found_map _ (trees_of xs) h)
+fit_given Possible (name n s) xs (inr h) = inr (h [] (n, s))
+fit_given Possible (member n s e) xs (inl h) = inl (found_map _ (trees_of xs) h)
+fit_given Possible (member n s e) xs (inr h) = inr (found_map _ (generators_behind [] xs) h)
+fit_given Possible (other s e) xs h = inl (found_map _ (trees_of xs) h)
+fit_given AwaitingIn (name n s) xs (inl h) = inl (found_map _ (trees_of xs) h)
+fit_given AwaitingIn (name n s) xs (inr h) = inr (λ ns m. name_behind ns m n s xs (h (ns ++ (m ∷ [])) (n, s)))
+fit_given AwaitingIn (member n s e) xs (inl h) = inl (found_map _ (trees_of xs) h)
+fit_given AwaitingIn (member n s e) xs (inr h) = inr (λ ns m. member_behind ns m n s e xs h)
+fit_given AwaitingIn (other s e) xs h = inl (found_map _ (trees_of xs) h)
 
-fit_one : (t : Turn) (x : Reading) → Fit t (given x ∷ [])
-fit_one Never x = tt
-fit_one Clear x = inl tt
-fit_one Waiting x = inl tt
+fit_one : (t : Generators) (x : Reading) → Fit t (given x ∷ [])
+fit_one Impossible x = tt
+fit_one Possible x = inl tt
+fit_one AwaitingIn x = inl tt
 
-fit_guarded : (t : Turn) (x : Reading) (w : Tree) (gs : List Generator) → takes_where t x ≡ true → Fit t (guarded x w ∷ map strict gs)
-fit_guarded Never x w gs e = absurd (cc)
-fit_guarded Clear (name n s) w gs e = absurd (cc)
-fit_guarded Clear (member n s v) w gs e = inr (found_map _ (generators_behind [] (map strict gs)) (strict_found gs))
-fit_guarded Clear (other s v) w gs e = absurd (cc)
-fit_guarded Waiting (name n s) w gs e = absurd (cc)
-fit_guarded Waiting (member n s v) w gs e = inr (λ ns m. guarded_behind ns m n s v w (map strict gs) (strict_found gs))
-fit_guarded Waiting (other s v) w gs e = absurd (cc)
+fit_guarded : (t : Generators) (x : Reading) (w : Tree) (gs : List Generator) → takes_where t x ≡ true → Fit t (guarded x w ∷ map strict gs)
+fit_guarded Impossible x w gs e = absurd (cc)
+fit_guarded Possible (name n s) w gs e = absurd (cc)
+fit_guarded Possible (member n s v) w gs e = inr (found_map _ (generators_behind [] (map strict gs)) (strict_found gs))
+fit_guarded Possible (other s v) w gs e = absurd (cc)
+fit_guarded AwaitingIn (name n s) w gs e = absurd (cc)
+fit_guarded AwaitingIn (member n s v) w gs e = inr (λ ns m. guarded_behind ns m n s v w (map strict gs) (strict_found gs))
+fit_guarded AwaitingIn (other s v) w gs e = absurd (cc)
 
-fit_strict : (t : Turn) (ms : List (Name × Span)) (e : Tree) (w : Maybe) (gs : List Generator) → waits t ≡ true → Fit t (strict (generator ms e w) ∷ map strict gs)
-fit_strict Never ms e w gs h = absurd (cc)
-fit_strict Clear ms e w gs h = absurd (cc)
-fit_strict Waiting ms e w gs h = inr (λ ns m. strict_behind ns m ms e w (map strict gs) (strict_found gs))
+fit_strict : (t : Generators) (ms : List (Name × Span)) (e : Tree) (w : Maybe) (gs : List Generator) → awaits_in t ≡ true → Fit t (strict (generator ms e w) ∷ map strict gs)
+fit_strict Impossible ms e w gs h = absurd (cc)
+fit_strict Possible ms e w gs h = absurd (cc)
+fit_strict AwaitingIn ms e w gs h = inr (λ ns m. strict_behind ns m ms e w (map strict gs) (strict_found gs))
 
 -- Arguments
 
-pub takes_arguments : (t : Turn) → Takes (arguments_rule t)
-takes_arguments t = λ o. takes_tested (is_sym SRParen o) _ _ tt (takes_tested (waits t && is_word KIn o) _ _ tt tt)
+pub takes_arguments : (t : Generators) → Takes (arguments_rule t)
+takes_arguments t = λ o. takes_tested (is_sym SRParen o) _ _ tt (takes_tested (awaits_in t && is_word KIn o) _ _ tt tt)
 
 -- a test that may not hold
 tested_so : {n : Place} (b c : Bool) (p q : Ruled n) → (b ≡ true → Fine p) → Fine q → Fine (if b && c then p else q)
@@ -94,30 +94,30 @@ tested_so true true p q h g = h refl
 tested_so true false p q h g = g
 tested_so false c p q h g = g
 
-fine_guarded_rest : (t : Turn) (x : Argument) → ((gs : List Generator) → Fit t (x ∷ map strict gs)) → Fine (guarded_rest {t = t} x)
+fine_guarded_rest : (t : Generators) (x : Argument) → ((gs : List Generator) → Fit t (x ∷ map strict gs)) → Fine (guarded_rest {t = t} x)
 unfolding step read_by rule symbol_number keyword_number
 fine_guarded_rest t x h = fine_behind Paren _ _ (sign SRParen ∷ [], tt) (λ gs a. (last (λ o h. h), h gs)) (h [])
 
 -- a `where`, or what else stands behind an argument
-abbrev rest_of_arguments : (t : Turn) (x : Reading) → Bool → Option Tok → Ruled (Parts.arguments t)
+abbrev rest_of_arguments : (t : Generators) (x : Reading) → Bool → Option Tok → Ruled (Parts.arguments t)
 rest_of_arguments t x may o = if may && is_word KWhere o
     then pass (λ s. part Parts.expr λ w. guarded_rest (guarded x w))
-    else behind Paren (part (Parts.arguments (turn_by t x)) λ xs. give (given x ∷ xs)) (give (given x ∷ []))
+    else behind Paren (part (Parts.arguments (possible_after t x)) λ xs. give (given x ∷ xs)) (give (given x ∷ []))
 
-done_rest : (t : Turn) (x : Reading) (may : Bool) → Done {n = Parts.arguments t} (look (rest_of_arguments t x may)) (sign SRParen ∷ [])
+done_rest : (t : Generators) (x : Reading) (may : Bool) → Done {n = Parts.arguments t} (look (rest_of_arguments t x may)) (sign SRParen ∷ [])
 unfolding step read_by rule symbol_number keyword_number
 done_rest t x true = tt
 done_rest t x false = tt
 
-takes_rest : (t : Turn) (x : Reading) (may : Bool) → Takes {n = Parts.arguments t} (look (rest_of_arguments t x may))
+takes_rest : (t : Generators) (x : Reading) (may : Bool) → Takes {n = Parts.arguments t} (look (rest_of_arguments t x may))
 takes_rest t x may = λ o. takes_tested (may && is_word KWhere o) _ _ tt (takes_behind Paren _ _)
 
-pub fine_arguments : (t : Turn) → Fine (arguments_rule t)
+pub fine_arguments : (t : Generators) → Fine (arguments_rule t)
 unfolding step read_by rule symbol_number keyword_number
 fine_arguments t = (
   never (takes_arguments t),
   λ o. tested (is_sym SRParen o) _ _ (λ s. (([], tt), fit_none t))
-      (tested_so (waits t) (is_word KIn o) _ _
+      (tested_so (awaits_in t) (is_word KIn o) _ _
       (λ e s. (
         (a_number ∷ sign SRParen ∷ [], tt),
         λ x a. (
@@ -141,10 +141,10 @@ fine_arguments t = (
       ))),
 )
   where
-    fit_none : (t : Turn) → Fit t []
-    fit_none Never = tt
-    fit_none Clear = inl tt
-    fit_none Waiting = inl tt
+    fit_none : (t : Generators) → Fit t []
+    fit_none Impossible = tt
+    fit_none Possible = inl tt
+    fit_none AwaitingIn = inl tt
 
 -- Calls
 
@@ -175,7 +175,7 @@ call_completion n s None (Some gs) h = (sign SLParen ∷ a_number ∷ sign SRPar
 call_completion n s None None (inl h) = absurd h
 call_completion n s None None (inr h) = absurd h
 
-found_either : (xs : List Argument) → Fit Clear xs → Found (trees_of xs) ⊎ Found (generators_of xs)
+found_either : (xs : List Argument) → Fit Possible xs → Found (trees_of xs) ⊎ Found (generators_of xs)
 found_either [] h = inl tt
 found_either (a ∷ xs) h = h
 

@@ -16,8 +16,8 @@ use Rattle.mz_cursor.proofs.Viable as ways
 use Rattle.mz_cursor.proofs.Viable.{never, before_calm, tokens}
 use Rattle.mz_tree.specs.Tree.{Name}
 use Rattle.mz_grammar.specs.declared.level.Level.{Level}
-use Rattle.mz_grammar.specs.declared.list.Turn.{Turn}
-use Rattle.mz_grammar.specs.declared.list.Turn.TheVariants.{Clear, Waiting, Never}
+use Rattle.mz_grammar.specs.declared.list.Generators.{Generators}
+use Rattle.mz_grammar.specs.declared.list.Generators.TheVariants.{Possible, AwaitingIn, Impossible}
 use Rattle.mz_grammar.specs.declared.list.Closing.{Closing}
 use Rattle.mz_grammar.specs.declared.list.Closing.TheVariants.{Paren, Bracket, Elements, Brace}
 use Rattle.mz_grammar.specs.Operators.{operator_of, binary_of, if_level}
@@ -101,10 +101,10 @@ Found None = ⊥
 Found (Some a) = Unit {0}
 
 -- the arguments that are read are expressions, or generators, by what stands before them
-abbrev pub Fit : Turn → List Argument → Type 0
-Fit Never xs = Found (trees_of xs)
-Fit Clear xs = Found (trees_of xs) ⊎ Found (generators_behind [] xs)
-Fit Waiting xs = Found (trees_of xs) ⊎ ((ns : List (Name × Span)) (n : Name × Span) → Found (generators_behind (ns ++ (n ∷ [])) xs))
+abbrev pub Fit : Generators → List Argument → Type 0
+Fit Impossible xs = Found (trees_of xs)
+Fit Possible xs = Found (trees_of xs) ⊎ Found (generators_behind [] xs)
+Fit AwaitingIn xs = Found (trees_of xs) ⊎ ((ns : List (Name × Span)) (n : Name × Span) → Found (generators_behind (ns ++ (n ∷ [])) xs))
 
 abbrev pub Apt : (n : Place) → Value n → Type 0
 Apt (Parts.arguments t) xs = Fit t xs

@@ -20,12 +20,12 @@ use Rattle.mz_grammar.specs.declared.level.Level.{Level}
 use Rattle.mz_grammar.specs.declared.level.Level.TheVariants as level_is
 use Rattle.mz_grammar.specs.declared.list.Closing.{Closing}
 use Rattle.mz_grammar.specs.declared.list.Closing.TheVariants.{Paren, Bracket}
-use Rattle.mz_grammar.specs.declared.list.Turn.{Turn}
-use Rattle.mz_grammar.specs.declared.list.Turn.TheVariants.{Clear}
+use Rattle.mz_grammar.specs.declared.list.Generators.{Generators}
+use Rattle.mz_grammar.specs.declared.list.Generators.TheVariants.{Possible}
 use Rattle.mz_grammar.specs.Operators.{prefix_of, binary_of, is_nonassociative, tighter_level}
 use Rattle.mz_grammar.specs.Parts
 use Rattle.mz_grammar.specs.Parts.{Place, Reading, tree_of, chained, Argument, given, guarded, strict}
-use Rattle.mz_grammar.specs.Arguments.{turn_by, waits, takes_where, trees_of, generators_of}
+use Rattle.mz_grammar.specs.Arguments.{possible_after, awaits_in, takes_where, trees_of, generators_of}
 use Rattle.mz_grammar.specs.Tests.{closes, is_left_out, ident_of}
 use Rattle.mz_grammar.specs.Model.{Ruled, rule, behind as behind_element, symbol, word, identifier, accessed, unless_annotated, called, generator_call, guarded_rest, head_token, head_symbol, head_word}
 use Rattle.mz_grammar.specs.Reading.{rank, width, reads}
@@ -234,18 +234,18 @@ called_reads n s xs (suc r) (t ∷ us) =
 
 -- The room behind a closed one is that before it.
 closed_called : (n : Name) (s : Span) (room : ℕ) (ts : List Token) →
-    open_at room ts (λ r. reads (Parts.arguments Clear) r (behind ts) >>= λ xs. step reads (called n s xs.0) (suc r) xs.1)
-    ≡ open_at room ts (λ r. reads (Parts.arguments Clear) r (behind ts) >>= λ xs. called_at n s xs.0 (suc r) xs.1)
-closed_called n s room ts = same_open room ts _ _ (λ r. same_then (reads (Parts.arguments Clear) r (behind ts)) _ _ (λ xs. called_reads n s xs.0 (suc r) xs.1))
+    open_at room ts (λ r. reads (Parts.arguments Possible) r (behind ts) >>= λ xs. step reads (called n s xs.0) (suc r) xs.1)
+    ≡ open_at room ts (λ r. reads (Parts.arguments Possible) r (behind ts) >>= λ xs. called_at n s xs.0 (suc r) xs.1)
+closed_called n s room ts = same_open room ts _ _ (λ r. same_then (reads (Parts.arguments Possible) r (behind ts)) _ _ (λ xs. called_reads n s xs.0 (suc r) xs.1))
 
 pub named_reads : (n : Name) (s : Span) (room : ℕ) (ts : List Token) → reads (Parts.named n s) room ts ≡ (if is_sym SLParen (tok_at ts)
-    then open_at room ts (λ r. reads (Parts.arguments Clear) r (behind ts) >>= λ xs. called_at n s xs.0 (suc r) xs.1)
+    then open_at room ts (λ r. reads (Parts.arguments Possible) r (behind ts) >>= λ xs. called_at n s xs.0 (suc r) xs.1)
     else Ok (Parts.name n s, ts))
 unfolding step rule
 named_reads n s room ts = by_rule (Parts.named n s) room ts ∙ enter_if reads {n = Parts.named n s} (is_sym SLParen) refl _ (give (Parts.name n s)) room ts
     ∙ same_if (is_sym SLParen (tok_at ts)) (closed_called n s room ts) refl
 
-guarded_reads : (t : Turn) (x : Argument) (room : ℕ) (ts : List Token) → step reads (guarded_rest {t = t} x) room ts ≡ guarded_at x room ts
+guarded_reads : (t : Generators) (x : Argument) (room : ℕ) (ts : List Token) → step reads (guarded_rest {t = t} x) room ts ≡ guarded_at x room ts
 unfolding step
 guarded_reads t x room ts = behind_reads (Parts.arguments t) Paren (part (Parts.generators Paren) λ gs. give (x ∷ map strict gs)) (give (x ∷ [])) room ts
 
@@ -262,19 +262,19 @@ regrouped : (room : ℕ) (ts : List Token) → (reads (Parts.level level_is.Unio
 regrouped room ts = same_then (reads (Parts.level level_is.Union) room (behind ts)) _ _ (λ x. grouped (reads Parts.filter room x.1) (λ w. Ok (strict (generator [] (tree_of x.0) w.0), w.1)) (λ g. guarded_at g.0 room g.1))
     ∙ grouped (reads (Parts.level level_is.Union) room (behind ts)) (λ x. reads Parts.filter room x.1 >>= λ w. Ok (strict (generator [] (tree_of x.0) w.0), w.1)) (λ g. guarded_at g.0 room g.1)
 
-pub arguments_reads : (t : Turn) (room : ℕ) (ts : List Token) → reads (Parts.arguments t) room ts ≡ (if is_sym SRParen (tok_at ts)
+pub arguments_reads : (t : Generators) (room : ℕ) (ts : List Token) → reads (Parts.arguments t) room ts ≡ (if is_sym SRParen (tok_at ts)
     then Ok ([], behind ts)
-    else (if waits t && is_word KIn (tok_at ts)
+    else (if awaits_in t && is_word KIn (tok_at ts)
     then (waited_at room ts >>= λ g. guarded_at g.0 room g.1)
     else (reads (Parts.level level_is.Iff) room ts >>= λ x. if takes_where t x.0 && is_word KWhere (tok_at x.1)
     then (reads Parts.expr room (behind x.1) >>= λ w. guarded_at (guarded x.0 w.0) room w.1)
-    else listed (separator_at Paren) (reads (Parts.arguments (turn_by t x.0)) room) (given x.0) x.1)))
+    else listed (separator_at Paren) (reads (Parts.arguments (possible_after t x.0)) room) (given x.0) x.1)))
 unfolding step rule
 arguments_reads t room ts = by_rule (Parts.arguments t) room ts
     ∙ pass_if reads {n = Parts.arguments t} (is_sym SRParen) refl _ _ room ts
     ∙ same_if (is_sym SRParen (tok_at ts)) refl
-    (pass_if reads {n = Parts.arguments t} (λ o. waits t && is_word KIn o) (none_in (waits t)) _ _ room ts
-    ∙ same_if (waits t && is_word KIn (tok_at ts))
+    (pass_if reads {n = Parts.arguments t} (λ o. awaits_in t && is_word KIn o) (none_in (awaits_in t)) _ _ room ts
+    ∙ same_if (awaits_in t && is_word KIn (tok_at ts))
     (same_then (reads (Parts.level level_is.Union) room (behind ts)) _ _ (λ x. same_then (reads Parts.filter room x.1) _ _ (λ w. guarded_reads t (strict (generator [] (tree_of x.0) w.0)) room w.1)) ∙ regrouped room ts)
     (same_then (reads (Parts.level level_is.Iff) room ts) _ _ (λ x.
     pass_if reads {n = Parts.arguments t} (λ o. takes_where t x.0 && is_word KWhere o) (none_where (takes_where t x.0)) _ _ room x.1

@@ -17,10 +17,10 @@ use Rattle.mz_grammar.specs.declared.level.Level.{Level}
 use Rattle.mz_grammar.specs.declared.level.Level.TheVariants as level_is
 use Rattle.mz_grammar.specs.declared.list.Closing.{Closing}
 use Rattle.mz_grammar.specs.declared.list.Closing.TheVariants.{Paren, Bracket, Elements, Brace}
-use Rattle.mz_grammar.specs.declared.list.Turn.{Turn}
+use Rattle.mz_grammar.specs.declared.list.Generators.{Generators}
 use Rattle.mz_grammar.specs.Operators.{prefix_of, binary_of, is_nonassociative}
 use Rattle.mz_grammar.specs.Parts.{Place, Reading, Argument}
-use Rattle.mz_grammar.specs.Arguments.{waits, takes_where, trees_of, generators_of}
+use Rattle.mz_grammar.specs.Arguments.{awaits_in, takes_where, trees_of, generators_of}
 use Rattle.mz_grammar.specs.Tests.{closes, ident_of, middle_of, tail_of, ends_row}
 use Rattle.mz_grammar.specs.Model.{Ruled, behind, operand_rule, operators_rule, unit_rule, atom_rule, unless_annotated, accesses_rule, indices_rule, more_indices_rule, annotations_rule, marks_rule, head_symbol, head_word, head_token, called, named_rule, guarded_rest, arguments_rule, text_rest_rule, elements_rule, array_body_rule, set_body_rule, rows_body_rule, more_rows_rule, row_rule, cells_rule, generator_rule, more_names_rule, filter_rule, generators_rule, branch_rule, branches_rule, let_items_rule, let_item_rule}
 use Rattle.mz_tree.specs.Kinds.{IsSpot, OfTree, OfTrees, OfGens}
@@ -121,13 +121,13 @@ module _ (Named : Name → Type 0) (Placed : Span → Type 0) where
   pub named_kept : (n : Name) (s : Span) → Kept (named_rule n s)
   named_kept n s = λ o fine. tested (is_sym SLParen o) _ _ (λ p u. λ xs h. called_kept n s xs h) (λ named at. (named, at))
 
-  guarded_kept : (t : Turn) (x : Argument) → Of.OfArgument Named Placed x → Kept (guarded_rest {t = t} x)
+  guarded_kept : (t : Generators) (x : Argument) → Of.OfArgument Named Placed x → Kept (guarded_rest {t = t} x)
   guarded_kept t x h = behind_kept Paren _ _ (λ gs g. (h, Of.strict_kept Named Placed gs g)) (h, tt)
 
-  pub arguments_kept : (t : Turn) → Kept (arguments_rule t)
+  pub arguments_kept : (t : Generators) → Kept (arguments_rule t)
   unfolding OfTree
   arguments_kept t = λ o fine. tested (is_sym SRParen o) _ _ (λ s at. tt)
-      (tested (waits t && is_word keyword.KIn o) _ _ (λ s at. λ x h. λ w g. guarded_kept t _ (All-nil (IsSpot Named Placed), Of.of_tree Named Placed x h, g))
+      (tested (awaits_in t && is_word keyword.KIn o) _ _ (λ s at. λ x h. λ w g. guarded_kept t _ (All-nil (IsSpot Named Placed), Of.of_tree Named Placed x h, g))
       (λ x h. λ p fine'. tested (takes_where t x && is_word keyword.KWhere p) _ _ (λ s at. λ w g. guarded_kept t _ (h, g))
       (behind_kept Paren _ _ (λ xs g. (h, g)) (h, tt))))
 

@@ -20,7 +20,7 @@ use Rattle.mz_grammar.specs.declared.list.Closing.TheVariants.{Paren, Bracket, E
 use Rattle.mz_grammar.specs.Operators.{prefix_of, binary_of}
 use Rattle.mz_grammar.specs.Parts
 use Rattle.mz_grammar.specs.Parts.{Place, Reading}
-use Rattle.mz_grammar.specs.Arguments.{waits, takes_where}
+use Rattle.mz_grammar.specs.Arguments.{awaits_in, takes_where}
 use Rattle.mz_grammar.specs.Tests.{ItemKind, an_include, item_of, closes, is_left_out, ident_of, middle_of, tail_of, begins_base, begins_type}
 use Rattle.mz_grammar.specs.Model.{Ruled, rule, behind, head_token, head_symbol, head_word, item_by, by_expression}
 use Rattle.mz_grammar.specs.Reading.{rank, operand_rank, width}
@@ -166,7 +166,7 @@ falls Parts.annotations = λ o. passed 0 (is_sym SColons o) _ _ tt
 falls Parts.marks = λ o. passed 0 (is_sym SColons o) _ _ tt
 falls Parts.head = head_falls
 falls (Parts.named n s) = λ o. entered 0 (is_sym SLParen o) _ _ tt
-falls (Parts.arguments t) = λ o. passed 28 (is_sym SRParen o) _ _ (passed 28 (waits t && is_word keyword.KIn o) _ _ (omega arith, λ x. λ p. passed 28 (takes_where t x && is_word keyword.KWhere p) _ _ (behind_falls 28 Paren _ _)))
+falls (Parts.arguments t) = λ o. passed 28 (is_sym SRParen o) _ _ (passed 28 (awaits_in t && is_word keyword.KIn o) _ _ (omega arith, λ x. λ p. passed 28 (takes_where t x && is_word keyword.KWhere p) _ _ (behind_falls 28 Paren _ _)))
 falls Parts.text_rest = (omega arith, λ e. λ o. found 28 (middle_of o) _ _ (found 28 (tail_of o) _ _ tt (λ n. tt)) (λ n. tt))
 falls (Parts.elements c) = λ o. passed 28 (closes c o) _ _ (omega arith, λ e. behind_falls 28 c _ _)
 falls Parts.array_body = λ o. passed 28 (is_sym SRBrack o) _ _ (omega arith, λ e. λ p. passed 28 (is_sym SBar p) _ _ (behind_falls 28 Elements _ _))

@@ -17,10 +17,10 @@ use Rattle.mz_grammar.specs.declared.level.Level.{Level}
 use Rattle.mz_grammar.specs.declared.level.Level.TheVariants as level_is
 use Rattle.mz_grammar.specs.declared.list.Closing.{Closing}
 use Rattle.mz_grammar.specs.declared.list.Closing.TheVariants.{Paren, Bracket, Elements, Brace}
-use Rattle.mz_grammar.specs.declared.list.Turn.{Turn}
+use Rattle.mz_grammar.specs.declared.list.Generators.{Generators}
 use Rattle.mz_grammar.specs.Operators.{prefix_of, binary_of, is_nonassociative}
 use Rattle.mz_grammar.specs.Parts.{Reading, Argument}
-use Rattle.mz_grammar.specs.Arguments.{waits, takes_where, trees_of, generators_of}
+use Rattle.mz_grammar.specs.Arguments.{awaits_in, takes_where, trees_of, generators_of}
 use Rattle.mz_grammar.specs.Tests.{closes, ident_of, middle_of, tail_of, ends_row}
 use Rattle.mz_grammar.specs.Model.{operand_rule, operators_rule, unit_rule, atom_rule, unless_annotated, accesses_rule, indices_rule, more_indices_rule, annotations_rule, marks_rule, head_symbol, head_word, head_token, called, named_rule, guarded_rest, arguments_rule, text_rest_rule, elements_rule, array_body_rule, set_body_rule, rows_body_rule, more_rows_rule, row_rule, cells_rule, generator_rule, more_names_rule, filter_rule, generators_rule, branch_rule, branches_rule, let_items_rule, let_item_rule}
 use Rattle.mz_grammar.proofs.Bounds.{Kept, reading_height, argument_height, arguments_height, unit_most, head_most, tighter, one_higher, one_branch, most_is, level_fits, more_room, one_form, tested, found, found_with, behind_kept, trees_of_height, generators_of_height, strict_height}
@@ -151,13 +151,13 @@ unfolding height shape_height
 named_kept n s zero = λ o. tested 0 0 (is_sym SLParen o) _ _ tt (one_form 0)
 named_kept n s (suc room) = λ o. tested (suc room) (suc room) (is_sym SLParen o) _ _ (λ p. λ xs h. called_kept n s room xs h) (one_form (suc room))
 
-guarded_kept : (t : Turn) (room : ℕ) (x : Argument) → argument_height x ≤ most room → Kept room room (guarded_rest {t = t} x)
+guarded_kept : (t : Generators) (room : ℕ) (x : Argument) → argument_height x ≤ most room → Kept room room (guarded_rest {t = t} x)
 guarded_kept t room x h = behind_kept room room Paren _ _ (λ gs g. max-le h (strict_height (most room) gs g)) (max-le h (omega arith))
 
-pub arguments_kept : (t : Turn) (room : ℕ) → Kept room room (arguments_rule t)
+pub arguments_kept : (t : Generators) (room : ℕ) → Kept room room (arguments_rule t)
 unfolding generator_height
 arguments_kept t room = λ o. tested room room (is_sym SRParen o) _ _ (λ s. omega arith)
-    (tested room room (waits t && is_word keyword.KIn o) _ _ (λ s. λ x h. λ w g. guarded_kept t room _ (max-le (level_fits level_is.Union room _ h) g))
+    (tested room room (awaits_in t && is_word keyword.KIn o) _ _ (λ s. λ x h. λ w g. guarded_kept t room _ (max-le (level_fits level_is.Union room _ h) g))
     (λ x h. let k = level_fits level_is.Iff room _ h in λ p. tested room room (takes_where t x && is_word keyword.KWhere p) _ _ (λ s. λ w g. guarded_kept t room _ (max-le k g))
     (behind_kept room room Paren _ _ (λ xs g. max-le k g) (max-le k (omega arith)))))
 

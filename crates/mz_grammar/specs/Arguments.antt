@@ -4,25 +4,25 @@ use Rattle.std.specs.Option.{option_map}
 use Rattle.mz_base.specs.declared.fault.Span.{Span}
 use Rattle.mz_tree.specs.Tree.{Name, Tree, Maybe, Generator, generator, just, nothing}
 use Rattle.mz_cursor.specs.Reading.{on}
-use Rattle.mz_grammar.specs.declared.list.Turn.{Turn}
-use Rattle.mz_grammar.specs.declared.list.Turn.TheVariants.{Clear, Waiting, Never}
+use Rattle.mz_grammar.specs.declared.list.Generators.{Generators}
+use Rattle.mz_grammar.specs.declared.list.Generators.TheVariants.{Possible, AwaitingIn, Impossible}
 use Rattle.mz_grammar.specs.Parts.{Reading, name, member, other, tree_of, Argument, given, guarded, strict}
 
--- how it stands behind one more argument
-abbrev pub turn_by : Turn → Reading → Turn
-turn_by Never x = Never
-turn_by t (name n s) = Waiting
-turn_by t (member n s e) = Clear
-turn_by t (other s e) = Never
+-- whether they may still be generators after one more argument
+abbrev pub possible_after : Generators → Reading → Generators
+possible_after Impossible x = Impossible
+possible_after t (name n s) = AwaitingIn
+possible_after t (member n s e) = Possible
+possible_after t (other s e) = Impossible
 
 -- an `in` may follow a comma: `f(i, in S)(e)`
-abbrev pub waits : Turn → Bool
-waits Waiting = true
-waits _ = false
+abbrev pub awaits_in : Generators → Bool
+awaits_in AwaitingIn = true
+awaits_in _ = false
 
 -- a `where` may follow this argument
-abbrev pub takes_where : Turn → Reading → Bool
-takes_where Never x = false
+abbrev pub takes_where : Generators → Reading → Bool
+takes_where Impossible x = false
 takes_where t (member n s e) = true
 takes_where t x = false
 

@@ -17,12 +17,12 @@ use Rattle.mz_grammar.specs.declared.level.Level.{Level}
 use Rattle.mz_grammar.specs.declared.level.Level.TheVariants as level_is
 use Rattle.mz_grammar.specs.declared.list.Closing.{Closing}
 use Rattle.mz_grammar.specs.declared.list.Closing.TheVariants.{Paren, Bracket, Elements, Brace}
-use Rattle.mz_grammar.specs.declared.list.Turn.{Turn}
-use Rattle.mz_grammar.specs.declared.list.Turn.TheVariants.{Clear}
+use Rattle.mz_grammar.specs.declared.list.Generators.{Generators}
+use Rattle.mz_grammar.specs.declared.list.Generators.TheVariants.{Possible}
 use Rattle.mz_grammar.specs.Operators.{prefix_of, binary_of, is_nonassociative, tighter_level}
 use Rattle.mz_grammar.specs.Parts
 use Rattle.mz_grammar.specs.Parts.{Reading, name, other, at_of, tree_of, chained, Argument, given, guarded, strict, Place, Value}
-use Rattle.mz_grammar.specs.Arguments.{turn_by, waits, takes_where, trees_of, generators_of}
+use Rattle.mz_grammar.specs.Arguments.{possible_after, awaits_in, takes_where, trees_of, generators_of}
 use Rattle.mz_grammar.specs.Tests.{closes, is_left_out, ident_of, ItemKind, an_include, a_constraint, a_solve, an_output, a_predicate, a_test, a_function, an_annotation, an_enum, item_of, text_of, middle_of, tail_of, ends_row, begins_base, begins_type}
 
 abbrev pub Ruled : Place → Type 0
@@ -157,26 +157,26 @@ called n s xs = look (λ o. if is_sym SLParen o
 
 abbrev pub named_rule : (n : Name) (s : Span) → Ruled (Parts.named n s)
 named_rule n s = look (λ o. if is_sym SLParen o
-    then enter (λ p. part (Parts.arguments Clear) λ xs. leave (called n s xs))
+    then enter (λ p. part (Parts.arguments Possible) λ xs. leave (called n s xs))
     else give (name n s))
 
 -- what stands between the parentheses of a call, and the closing one
-abbrev pub guarded_rest : {t : Turn} → Argument → Ruled (Parts.arguments t)
+abbrev pub guarded_rest : {t : Generators} → Argument → Ruled (Parts.arguments t)
 guarded_rest x = behind Paren (part (Parts.generators Paren) λ gs. give (x ∷ map strict gs)) (give (x ∷ []))
 
 -- a set with its `in`, where the names before it wait for one
-abbrev pub set_argument : {t : Turn} → Ruled (Parts.arguments t)
+abbrev pub set_argument : {t : Generators} → Ruled (Parts.arguments t)
 set_argument = pass (λ s. part (Parts.level level_is.Union) λ x. part Parts.filter λ w. guarded_rest (strict (a_generator [] (tree_of x) w)))
 
 -- an expression, with its `where` if it has one
-abbrev pub expr_argument : (t : Turn) → Ruled (Parts.arguments t)
+abbrev pub expr_argument : (t : Generators) → Ruled (Parts.arguments t)
 expr_argument t = part (Parts.level level_is.Iff) λ x. look (λ o. if takes_where t x && is_word KWhere o
     then pass (λ s. part Parts.expr λ w. guarded_rest (guarded x w))
-    else behind Paren (part (Parts.arguments (turn_by t x)) λ xs. give (given x ∷ xs)) (give (given x ∷ [])))
+    else behind Paren (part (Parts.arguments (possible_after t x)) λ xs. give (given x ∷ xs)) (give (given x ∷ [])))
 
-abbrev pub arguments_rule : (t : Turn) → Ruled (Parts.arguments t)
+abbrev pub arguments_rule : (t : Generators) → Ruled (Parts.arguments t)
 arguments_rule t = look (λ o. if is_sym SRParen o then pass (λ s. give [])
-    else (if waits t && is_word KIn o then set_argument
+    else (if awaits_in t && is_word KIn o then set_argument
     else expr_argument t))
 
 -- what stands behind a text's first piece

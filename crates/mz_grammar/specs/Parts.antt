@@ -7,7 +7,7 @@ use Rattle.mz_tree.specs.Tree.{Name, Tree, Maybe, Generator, Let, Declaration, W
 use Rattle.mz_tree.specs.Items.{GoalTree, ItemTree}
 use Rattle.mz_grammar.specs.declared.level.Level.{Level}
 use Rattle.mz_grammar.specs.declared.list.Closing.{Closing}
-use Rattle.mz_grammar.specs.declared.list.Turn.{Turn}
+use Rattle.mz_grammar.specs.declared.list.Generators.{Generators}
 
 -- What an expression was read as. A name alone and a name in a set may become generators of a call.
 -- The place is that of the first token, a parenthesis too.
@@ -75,7 +75,7 @@ pub data Place : Type 0 where
   marks : Place
   head : Place
   named : Name → Span → Place
-  arguments : Turn → Place
+  arguments : Generators → Place
   text_rest : Place
   elements : Closing → Place
   array_body : Place

@@ -7,4 +7,4 @@ mod list;
 
 pub use law::{one_data_reading, one_reading};
 pub use level::Level;
-pub use list::{Closing, Turn};
+pub use list::{Closing, Generators};

@@ -15,11 +15,11 @@ pub enum Closing {
 
 /// Whether the arguments read so far may be generators.
 #[derive(Clone, Copy, Debug, PartialEq, Eq)]
-pub enum Turn {
+pub enum Generators {
     /// They may, and none or a whole generator was read last.
-    Clear,
+    Possible,
     /// They may, and the names read last wait for their `in`.
-    Waiting,
+    AwaitingIn,
     /// They may not.
-    Never,
+    Impossible,
 }

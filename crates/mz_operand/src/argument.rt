@@ -5,12 +5,12 @@ ghost use Rattle.std.specs.Option.{option_map};
 ghost use Rattle.mz_tree.specs.Tree.{maybe};
 ghost use Rattle.mz_tree.specs.Views.{tree, generator};
 ghost use Rattle.mz_grammar.specs.Parts.{given, guarded, strict};
-ghost use Rattle.mz_grammar.specs.Arguments.{turn_by, waits, takes_where, given_of, trees_of, role_of, bound, generators_of};
+ghost use Rattle.mz_grammar.specs.Arguments.{possible_after, awaits_in, takes_where, given_of, trees_of, role_of, bound, generators_of};
 ghost use Rattle.mz_operand.specs.Views.{reading, argument, role, condition};
 
 use crate::reading::Reading;
 use mz_base::{Held, Name, Span};
-use mz_grammar::Turn;
+use mz_grammar::Generators;
 use mz_tree::{Expr, Gen, make_generator};
 use std::alloc::{AllocError, Global};
 
@@ -36,47 +36,47 @@ pub fn strict_argument(g: Gen) -> Argument
     Argument::Strict(Held::new(g))
 }
 
-/// How it stands behind one more argument.
-pub fn turn_by(turn: Turn, x: &Reading) -> Turn
-    ensures { result ≡ turn_by turn (reading x.now) }
+/// Whether they may still be generators after one more argument.
+pub fn possible_after(generators: Generators, x: &Reading) -> Generators
+    ensures { result ≡ possible_after generators (reading x.now) }
 {
-    match turn {
-        Turn::Never => Turn::Never,
-        Turn::Clear => turn_to(x),
-        Turn::Waiting => turn_to(x),
+    match generators {
+        Generators::Impossible => Generators::Impossible,
+        Generators::Possible => possible_with(x),
+        Generators::AwaitingIn => possible_with(x),
     }
 }
 
-fn turn_to(x: &Reading) -> Turn
-    ensures { result ≡ turn_by Turn.Clear (reading x.now) }
+fn possible_with(x: &Reading) -> Generators
+    ensures { result ≡ possible_after Generators.Possible (reading x.now) }
 {
     match x {
-        Reading::Name(_, _) => Turn::Waiting,
-        Reading::Member(_, _, _) => Turn::Clear,
-        Reading::Other(_, _) => Turn::Never,
+        Reading::Name(_, _) => Generators::AwaitingIn,
+        Reading::Member(_, _, _) => Generators::Possible,
+        Reading::Other(_, _) => Generators::Impossible,
     }
 }
 
 /// Whether an `in` may follow a comma.
-pub fn waits(turn: Turn) -> bool
-    ensures { result ≡ waits turn }
+pub fn awaits_in(generators: Generators) -> bool
+    ensures { result ≡ awaits_in generators }
 {
-    matches!(turn, Turn::Waiting)
+    matches!(generators, Generators::AwaitingIn)
 }
 
 /// Whether a `where` may follow this argument.
-pub fn takes_where(turn: Turn, x: &Reading) -> bool
-    ensures { result ≡ takes_where turn (reading x.now) }
+pub fn takes_where(generators: Generators, x: &Reading) -> bool
+    ensures { result ≡ takes_where generators (reading x.now) }
 {
-    match turn {
-        Turn::Never => false,
-        Turn::Clear => is_member(x),
-        Turn::Waiting => is_member(x),
+    match generators {
+        Generators::Impossible => false,
+        Generators::Possible => is_member(x),
+        Generators::AwaitingIn => is_member(x),
     }
 }
 
 fn is_member(x: &Reading) -> bool
-    ensures { result ≡ takes_where Turn.Clear (reading x.now) }
+    ensures { result ≡ takes_where Generators.Possible (reading x.now) }
 {
     match x {
         Reading::Name(_, _) => false,

@@ -18,10 +18,10 @@ use Rattle.mz_cursor.specs.Reading.{on}
 use Rattle.mz_cursor.specs.Promise.{IsFault}
 use Rattle.mz_grammar.specs.declared.list.Closing.{Closing}
 use Rattle.mz_grammar.specs.declared.list.Closing.TheVariants.{Paren, Bracket, Elements, Brace}
-use Rattle.mz_grammar.specs.declared.list.Turn.{Turn}
+use Rattle.mz_grammar.specs.declared.list.Generators.{Generators}
 use Rattle.mz_grammar.specs.Operators.{prefix_of, binary_of, is_nonassociative, tighter_level}
 use Rattle.mz_grammar.specs.Tests.{closes, is_left_out, ident_of, text_of, middle_of, tail_of, ends_row, begins_base, begins_type, ItemKind, an_include, a_constraint, a_solve, an_output, a_predicate, a_test, a_function, an_annotation, an_enum, item_of}
-use Rattle.mz_grammar.specs.Arguments.{waits, takes_where, trees_of, generators_of}
+use Rattle.mz_grammar.specs.Arguments.{awaits_in, takes_where, trees_of, generators_of}
 use Rattle.mz_grammar.specs.Parts
 use Rattle.mz_grammar.specs.Parts.{Reading, name, member, other, at_of, tree_of, Argument, given, guarded, strict, Place, Value}
 use Rattle.mz_grammar.specs.Model.{Ruled, rule, symbol, opening, word, identifier, behind, head_token, head_word, head_symbol, called, guarded_rest, function_rule, by_expression, item_by}
@@ -190,7 +190,7 @@ called_blames n s k whole ts xs = tested whole k ts (is_sym SLParen (tok_at ts))
     (λ p. found whole k ts (generators_of xs) refuse _ (λ g. tt) (λ gs g q d ws o v. (tt, λ x ys v h. only whole q ys SRParen _ (λ zs j v. tt))))
     (λ p. found whole k ts (trees_of xs) refuse _ (λ g. tt) (λ es g. tt))
 
-guarded_blames : (t : Turn) (k : ℕ) (whole ts : List Token) (x : Argument) → Blames {n = Parts.arguments t} whole k ts (guarded_rest x)
+guarded_blames : (t : Generators) (k : ℕ) (whole ts : List Token) (x : Argument) → Blames {n = Parts.arguments t} whole k ts (guarded_rest x)
 guarded_blames t k whole ts x = element whole k ts Paren _ _ (λ vs c v. (tt, λ gs ws v g. tt)) (λ vs v. tt) never
 
 -- Items
@@ -267,7 +267,7 @@ all_blame Parts.marks k whole ts w b = by_symbol whole k ts SColons _ _ (λ us s
 all_blame Parts.head k whole ts w b = head_blames (tok_at ts) k whole ts w refl
 all_blame (Parts.named n s) k whole ts w b = tested whole k ts (is_sym SLParen (tok_at ts)) _ _ (λ e r g us o v. (tt, λ xs vs v a. called_blames n s (suc r) whole vs xs)) (λ e. tt)
 all_blame (Parts.arguments t) k whole ts w b = by_symbol whole k ts SRParen _ _ (λ us c v. tt)
-    (λ e. tested whole k ts (waits t && is_word KIn (tok_at ts)) _ _
+    (λ e. tested whole k ts (awaits_in t && is_word KIn (tok_at ts)) _ _
     (λ d us o v. (tt, λ x vs v h. (tt, λ c ws v i. guarded_blames t k whole ws (strict (generator [] (tree_of x) c)))))
     (λ d. (
       tt,

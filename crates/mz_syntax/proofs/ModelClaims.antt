@@ -24,7 +24,7 @@ use Rattle.mz_grammar.specs.declared.level.Level.TheVariants as level_is
 use Rattle.mz_grammar.specs.declared.list.Closing.{Closing}
 use Rattle.mz_grammar.specs.declared.list.Closing.TheVariants.{Paren, Bracket, Elements, Brace}
 use Rattle.mz_grammar.specs.Operators.{operator_of, prefix_of, binary_of, if_level, level_number, is_nonassociative, tighter_level}
-use Rattle.mz_grammar.specs.Arguments.{waits}
+use Rattle.mz_grammar.specs.Arguments.{awaits_in}
 use Rattle.mz_grammar.specs.Parts
 use Rattle.mz_grammar.specs.Parts.{Reading, name, member, other, at_of, tree_of, related, chained, Place, Value}
 use Rattle.mz_grammar.specs.Model.{unless_annotated}
@@ -116,7 +116,7 @@ Claim Parts.annotations k ts x us = (f : Ending) × Derives k (anns f) ts tt us 
 Claim Parts.marks k ts x us = Derives k ebnf.marks ts tt us
 Claim Parts.head k ts x us = Term ebnf.head k ts x us
 Claim (Parts.named n s) k ts x us = (hs : List Token) → s ≡ place hs → Next (Ident n) hs ts → Term ebnf.head k hs x us
-Claim (Parts.arguments t) k ts x us = (vs : List Token) × Args k (waits t) ts x vs × Next (Sym SRParen) vs us
+Claim (Parts.arguments t) k ts x us = (vs : List Token) × Args k (awaits_in t) ts x vs × Next (Sym SRParen) vs us
 Claim Parts.text_rest k ts x us = Derives k ebnf.text_rest ts x us
 Claim (Parts.elements c) k ts x us = UpTo (closing c) SComma ebnf.expr k ts x us
 Claim Parts.array_body k ts x us = (hs : List Token) → Next (Sym SLBrack) hs ts → Derives (suc k) (term ebnf.head closed) hs (node (place hs) x) us

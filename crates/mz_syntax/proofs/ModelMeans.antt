@@ -20,11 +20,11 @@ use Rattle.mz_cursor.specs.Promise.{IsWithin}
 use Rattle.mz_grammar.specs.declared.level.Level.TheVariants as level_is
 use Rattle.mz_grammar.specs.declared.list.Closing.{Closing}
 use Rattle.mz_grammar.specs.declared.list.Closing.TheVariants.{Paren, Bracket, Elements, Brace}
-use Rattle.mz_grammar.specs.declared.list.Turn.{Turn}
-use Rattle.mz_grammar.specs.declared.list.Turn.TheVariants.{Clear}
+use Rattle.mz_grammar.specs.declared.list.Generators.{Generators}
+use Rattle.mz_grammar.specs.declared.list.Generators.TheVariants.{Possible}
 use Rattle.mz_grammar.specs.Operators.{prefix_of, binary_of, is_nonassociative, tighter_level}
 use Rattle.mz_grammar.specs.Tests.{closes, is_left_out, ident_of, text_of, middle_of, tail_of, ends_row, begins_base, begins_type, ItemKind, an_include, a_constraint, a_solve, an_output, a_predicate, a_test, a_function, an_annotation, an_enum, item_of}
-use Rattle.mz_grammar.specs.Arguments.{waits, takes_where, trees_of, generators_of}
+use Rattle.mz_grammar.specs.Arguments.{awaits_in, takes_where, trees_of, generators_of}
 use Rattle.mz_grammar.specs.Parts
 use Rattle.mz_grammar.specs.Parts.{Reading, name, member, other, at_of, tree_of, Argument, given, guarded, strict, Place, Value}
 use Rattle.mz_grammar.specs.Model as model
@@ -34,7 +34,7 @@ use Rattle.mz_syntax.specs.ModelSyntax as ebnf
 use Rattle.mz_syntax.specs.ModelSyntax.{Ending, closed, with_body, Phrase, Meaning, Derives, DerivesModel, list, optional, term}
 use Rattle.mz_syntax.proofs.Means as meant
 use Rattle.mz_syntax.proofs.Means.{Over, over}
-use Rattle.mz_syntax.proofs.Turned.{Arg, given_arg, guarded_arg, in_arg, no_args, last_arg, more_args, waits_after, weaker, by_turn, all_strict, all_turned, exprs, after}
+use Rattle.mz_syntax.proofs.Turned.{Arg, given_arg, guarded_arg, in_arg, no_args, last_arg, more_args, waits_after, weaker, args_after, all_strict, all_turned, exprs, after}
 use Rattle.mz_syntax.proofs.ModelClaims.{Claim, closing, Term, as_deep, no_operator, follow_one, follow_more, level_claim, by_tighter_claim, by_unit_claim, atom_unit, prefix_unit, expr_claim, tight_claim, atom_claim, ann_claim, sees}
 
 abbrev Means : {n : Place} → ℕ → List Token → ℕ → List Token → Ruled n → Type 0
@@ -170,7 +170,7 @@ name_term {k = k} {hs = hs} {us = us} n s e c = subst (λ s. Term ebnf.head k hs
 same_room : {r q : ℕ} → suc r ≡ suc q → q ≡ r
 same_room d = omega (arith, d)
 
-called_means : (n : Name) (s : Span) (k r : ℕ) (ts us vs : List Token) (xs : List Argument) → k ≡ suc r → Next (Sym SLParen) ts us → Claim (Parts.arguments Clear) r us xs vs → Means k ts (suc r) vs (called n s xs)
+called_means : (n : Name) (s : Span) (k r : ℕ) (ts us vs : List Token) (xs : List Argument) → k ≡ suc r → Next (Sym SLParen) ts us → Claim (Parts.arguments Possible) r us xs vs → Means k ts (suc r) vs (called n s xs)
 called_means n s k r ts us vs xs e c a = tested k ts (suc r) vs (is_sym SLParen (tok_at vs)) _ _
     (λ p. found k ts (suc r) vs (generators_of xs) refuse _ (λ g. tt)
     (λ gs g q d ws o x ys h. only k ts q ys SRParen _ (λ zs j. (
@@ -184,24 +184,24 @@ called_means n s k r ts us vs xs e c a = tested k ts (suc r) vs (is_sym SLParen 
 -- Arguments
 
 -- a generator, and what comes after it
-guarded_means : (t : Turn) (k : ℕ) (ts us : List Token) (x : Argument) → Arg k (waits t) ts x us → Means {n = Parts.arguments t} k ts k us (guarded_rest x)
+guarded_means : (t : Generators) (k : ℕ) (ts us : List Token) (x : Argument) → Arg k (awaits_in t) ts x us → Means {n = Parts.arguments t} k ts k us (guarded_rest x)
 guarded_means t k ts us x h = element k ts k us Paren _ _ (λ vs c gs ws g. (refl, (g.0, more_args h c (weaker (waits_after x) (all_strict g.1)), g.2))) (λ vs c. (refl, (us, last_arg h, c)))
 
-arguments_mean : (t : Turn) (k : ℕ) (ts : List Token) → Means k ts k ts (rule (Parts.arguments t))
+arguments_mean : (t : Generators) (k : ℕ) (ts : List Token) → Means k ts k ts (rule (Parts.arguments t))
 unfolding rule symbol_number
 arguments_mean t k ts = by_symbol k ts k ts SRParen _ _
     (λ us c. (refl, (ts, no_args, c)))
-    (λ e. tested k ts k ts (waits t && is_word KIn (tok_at ts)) _ _
+    (λ e. tested k ts k ts (awaits_in t && is_word KIn (tok_at ts)) _ _
     (λ b us o x vs h w ws i. guarded_means t k ts ws (strict (generator [] (tree_of x) w)) (in_first t k ts us vs ws x w b o h i))
     (λ b x us h. tested k ts k us (takes_where t x && is_word KWhere (tok_at us)) _ _
     (λ d vs o c ws i. guarded_means t k ts ws (guarded x c) (guarded_arg x c h.0.kind (meant.next_word KWhere (both (takes_where t x) _ d).1 o) i.0))
     (λ d. element k ts k us Paren _ _
-    (λ vs c xs ws g. (refl, (g.0, more_args (given_arg x (expr_claim k ts us x h).0 h.0.kind) c (by_turn t x g.1), g.2)))
+    (λ vs c xs ws g. (refl, (g.0, more_args (given_arg x (expr_claim k ts us x h).0 h.0.kind) c (args_after t x g.1), g.2)))
     (λ vs c. (refl, (us, last_arg (given_arg x (expr_claim k ts us x h).0 h.0.kind), c))))))
   where
-    in_first : (t : Turn) (k : ℕ) (ts us vs ws : List Token) (x : Reading) (w : pure.Maybe) → (waits t && is_word KIn (tok_at ts)) ≡ true → Over ts us → Claim (Parts.level level_is.Union) k us x vs → Claim Parts.filter k vs w ws → Arg k (waits t) ts (strict (generator [] (tree_of x) w)) ws
+    in_first : (t : Generators) (k : ℕ) (ts us vs ws : List Token) (x : Reading) (w : pure.Maybe) → (awaits_in t && is_word KIn (tok_at ts)) ≡ true → Over ts us → Claim (Parts.level level_is.Union) k us x vs → Claim Parts.filter k vs w ws → Arg k (awaits_in t) ts (strict (generator [] (tree_of x) w)) ws
     in_first t k ts us vs ws x w b o h i =
-        let p = both (waits t) (is_word KIn (tok_at ts)) b in
+        let p = both (awaits_in t) (is_word KIn (tok_at ts)) b in
         subst (λ b. Arg k b ts (strict (generator [] (tree_of x) w)) ws) (sym p.0) (in_arg (meant.next_word KIn p.1 o) (tight_claim k us vs x h) i)
 
 -- Items

@@ -10,10 +10,10 @@ use Rattle.mz_lexer.specs.declared.token.Symbol.{Symbol}
 use Rattle.mz_lexer.specs.declared.token.Symbol.TheVariants.{SComma}
 use Rattle.mz_tree.specs.Tree.{Name, Tree, Maybe, Generator, generator, nothing, just}
 use Rattle.mz_cursor.specs.Tokens.{place}
-use Rattle.mz_grammar.specs.declared.list.Turn.{Turn}
-use Rattle.mz_grammar.specs.declared.list.Turn.TheVariants.{Clear, Waiting, Never}
+use Rattle.mz_grammar.specs.declared.list.Generators.{Generators}
+use Rattle.mz_grammar.specs.declared.list.Generators.TheVariants.{Possible, AwaitingIn, Impossible}
 use Rattle.mz_grammar.specs.Parts.{Reading, name, member, other, tree_of, Argument, given, guarded, strict}
-use Rattle.mz_grammar.specs.Arguments.{turn_by, waits, trees_of, Role, waiting, bound, unfit, role_of, by_role, generators_behind, generators_of}
+use Rattle.mz_grammar.specs.Arguments.{possible_after, awaits_in, trees_of, Role, waiting, bound, unfit, role_of, by_role, generators_behind, generators_of}
 use Rattle.mz_syntax.specs.Next.{Next}
 use Rattle.mz_syntax.specs.ModelSyntax as ebnf
 use Rattle.mz_syntax.specs.ModelSyntax.{Derives, list, optional, perhaps, expr, tight, gen}
@@ -54,16 +54,16 @@ weaker b (last_arg h) = last_arg (weaker_arg b h)
 weaker b (more_args h c g) = more_args (weaker_arg b h) c g
 
 -- as the rules keep account of it
-pub by_turn : {k : ℕ} {ts us : List Token} {all : List Argument} (t : Turn) (x : Reading) → Args k (waits (turn_by t x)) ts all us → Args k (waits_after (given x)) ts all us
-by_turn Never (name n s) h = weaker true h
-by_turn Never (member n s e) h = h
-by_turn Never (other s e) h = h
-by_turn Clear (name n s) h = h
-by_turn Clear (member n s e) h = h
-by_turn Clear (other s e) h = h
-by_turn Waiting (name n s) h = h
-by_turn Waiting (member n s e) h = h
-by_turn Waiting (other s e) h = h
+pub args_after : {k : ℕ} {ts us : List Token} {all : List Argument} (t : Generators) (x : Reading) → Args k (awaits_in (possible_after t x)) ts all us → Args k (waits_after (given x)) ts all us
+args_after Impossible (name n s) h = weaker true h
+args_after Impossible (member n s e) h = h
+args_after Impossible (other s e) h = h
+args_after Possible (name n s) h = h
+args_after Possible (member n s e) h = h
+args_after Possible (other s e) h = h
+args_after AwaitingIn (name n s) h = h
+args_after AwaitingIn (member n s e) h = h
+args_after AwaitingIn (other s e) h = h
 
 -- generators alone
 list_strict : {k : ℕ} {ts us : List Token} {gs : List Generator} → Derives k (list SComma gen) ts gs us → Args k false ts (map strict gs) us

@@ -14,11 +14,11 @@ ghost use Rattle.mz_expr.specs.Descent.{MayOpen, MayRead};
 use crate::parser::descent::{Descent, Entry};
 use mz_base::{Held, Name, Span, Stop};
 use mz_cursor::{Cursor, is_sym, is_word};
-use mz_grammar::{Closing, Level, Turn};
+use mz_grammar::{Closing, Generators, Level};
 use mz_lexer::{Keyword, Symbol};
 use mz_operand::argument::{
-    Argument, exprs_of, generators_of, guarded_argument, strict_argument, takes_where, turn_by,
-    waits,
+    Argument, awaits_in, exprs_of, generators_of, guarded_argument, possible_after,
+    strict_argument, takes_where,
 };
 use mz_operand::reading::{Reading, other};
 use mz_operand::step::separator;
@@ -92,22 +92,22 @@ impl<F: Fn(Global, &mut Cursor<'_>, Entry) -> Result<Reading, Stop>> Descent<F> 
     #[tactic(auto, using(mz_grammar::proofs::Equations::arguments_reads, mz_cursor::proofs::Steps::front_push, std::proofs::lemmas::List::map_push, mz_cursor::proofs::Steps::nothing_behind, mz_cursor::proofs::Steps::no_front))]
     fn arguments(&self, cur: &mut Cursor<'_>) -> Result<Vec<Argument>, Stop>
         requires { MayRead self.now.room self.now.entry (F.pre self.now.reader) (F.post self.now.reader) cur.old }
-        ensures { Reads (λ v. map argument v.items) (reads (parts.arguments Turn.Clear)) cur.old cur.new result }
+        ensures { Reads (λ v. map argument v.items) (reads (parts.arguments Generators.Possible)) cur.old cur.new result }
     {
         let mut all = Vec::new(self.alloc);
-        let mut turn = Turn::Clear;
+        let mut generators = Generators::Possible;
         while !is_sym(Symbol::SRParen, cur.tok()) {
-            if waits(turn) && is_word(Keyword::KIn, cur.tok()) {
+            if awaits_in(generators) && is_word(Keyword::KIn, cur.tok()) {
                 let set = self.waited(cur)?;
                 return self.guarded(cur, all, set);
             }
             let x = self.inside(cur, Entry::Level(Level::Iff))?;
-            if takes_where(turn, &x) && is_word(Keyword::KWhere, cur.tok()) {
+            if takes_where(generators, &x) && is_word(Keyword::KWhere, cur.tok()) {
                 cur.skip();
                 let condition = self.expr(cur)?;
                 return self.guarded(cur, all, guarded_argument(x, condition));
             }
-            turn = turn_by(turn, &x);
+            generators = possible_after(generators, &x);
             all.push(Argument::Given(x))?;
             if !separator(cur, Closing::Paren)? {
                 return Ok(all);
