@@ -15,7 +15,7 @@ use Rattle.mz_grammar.specs.declared.level.Level.{Level}
 use Rattle.mz_grammar.specs.declared.level.Level.TheVariants as level
 use Rattle.mz_grammar.specs.Operators.{operator_of, if_level, binary_of, level_number, tighter_level}
 use Rattle.mz_grammar.specs.Parts as parts
-use Rattle.mz_grammar.specs.Parts.{Reading, chained}
+use Rattle.mz_grammar.specs.Parts.{Operand, chained}
 use Rattle.mz_grammar.specs.Reading.{reads, operand_rank}
 use Rattle.mz_grammar.proofs.Equations.{level_reads, operand_reads, operators_reads}
 use Rattle.mz_expr.specs.declared.parser.descent.Entry.{Entry}
@@ -25,7 +25,7 @@ use Rattle.mz_expr.specs.StepsClimb.{numbered, levels, finished, climbing}
 use Rattle.mz_expr.specs.Descent.{extent}
 
 -- a level more
-climbing_more : (ks : List Level) (l : Level) (x : Reading) (room : ℕ) (ts : List Token) → climbing (ks ++ (l ∷ [])) x room ts ≡ (climbing ks x room ts >>= λ y. finished l y.0 room y.1)
+climbing_more : (ks : List Level) (l : Level) (x : Operand) (room : ℕ) (ts : List Token) → climbing (ks ++ (l ∷ [])) x room ts ≡ (climbing ks x room ts >>= λ y. finished l y.0 room y.1)
 unfolding climbing
 climbing_more [] l x room ts = itself (finished l x room ts)
 climbing_more (k ∷ ks) l x room ts =
@@ -147,12 +147,12 @@ number_numbered zero a h = absurd (omega (arith, a))
 number_numbered (suc n) a h = eqb-true (level_number (numbered (suc n))) (suc n) (agree_below_at (λ j. nat_eq (level_number (numbered (suc j))) (suc j)) (λ j. true) 12 n refl (omega (arith, h)))
 
 -- a token that is no operator of a level
-not_here : (k : Level) (ks : List Level) (x : Reading) (room : ℕ) (ts : List Token) → binary_of k (tok_at ts) ≡ None → climbing (k ∷ ks) x room ts ≡ climbing ks x room ts
+not_here : (k : Level) (ks : List Level) (x : Operand) (room : ℕ) (ts : List Token) → binary_of k (tok_at ts) ≡ None → climbing (k ∷ ks) x room ts ≡ climbing ks x room ts
 unfolding climbing
 not_here k ks x room ts none = ap (λ o. mapped (λ ls. chained x ls) o >>= λ y. climbing ks y.0 room y.1) (let e = operators_reads k room ts in rw none at e)
 
 -- a token that is an operator of none of these levels
-quiet : (n last : ℕ) (x : Reading) (room : ℕ) (ts : List Token) → ((j : ℕ) → last ≤ j → j < n → binary_of (numbered j) (tok_at ts) ≡ None) → climbing (levels n last) x room ts ≡ Ok (x, ts)
+quiet : (n last : ℕ) (x : Operand) (room : ℕ) (ts : List Token) → ((j : ℕ) → last ≤ j → j < n → binary_of (numbered j) (tok_at ts) ≡ None) → climbing (levels n last) x room ts ≡ Ok (x, ts)
 unfolding levels climbing
 quiet zero last x room ts none = refl
 quiet (suc n) last x room ts none = go (nat_le last n) refl (λ h. none n (leb-true last n h) (omega arith)) (quiet n last x room ts (λ j a b. none j a (omega (arith, b))))
@@ -162,7 +162,7 @@ quiet (suc n) last x room ts none = go (nat_le last n) refl (λ h. none n (leb-t
     go true e here rest = not_here (numbered n) (levels n last) x room ts (here e) ∙ rest
 
 -- a token that is an operator of one of these levels, and so of none that is tighter
-jump : (n last : ℕ) (k : Level) (x : Reading) (room : ℕ) (ts : List Token) → level_number k < n → last ≤ level_number k → ((j : ℕ) → level_number k < j → j < n → binary_of (numbered j) (tok_at ts) ≡ None) →
+jump : (n last : ℕ) (k : Level) (x : Operand) (room : ℕ) (ts : List Token) → level_number k < n → last ≤ level_number k → ((j : ℕ) → level_number k < j → j < n → binary_of (numbered j) (tok_at ts) ≡ None) →
     climbing (levels n last) x room ts ≡ climbing (k ∷ levels (level_number k) last) x room ts
 unfolding levels
 jump zero last k x room ts below above none = absurd (omega (arith, below))
@@ -208,7 +208,7 @@ found l done (Some o) k is = go (nat_le (level_number l) (level_number o.0)) (na
     go true false a b e = absurd (cc e)
     go false c a b e = absurd (cc e)
 
-taken : (l : Level) (done : ℕ) (k : Level) (x : Reading) (room : ℕ) (ts : List Token) → done ≤ 13 → next_level l done (tok_at ts) ≡ Some k →
+taken : (l : Level) (done : ℕ) (k : Level) (x : Operand) (room : ℕ) (ts : List Token) → done ≤ 13 → next_level l done (tok_at ts) ≡ Some k →
     climbing (levels done (level_number l)) x room ts ≡ (finished k x room ts >>= λ y. climbing (levels (level_number k) (level_number l)) y.0 room y.1)
 unfolding climbing
 taken l done k x room ts bound is =
@@ -216,24 +216,24 @@ taken l done k x room ts bound is =
     jump done (level_number l) k x room ts f.below f.above (λ j a b. f.alone j a (omega (arith, b, bound)))
 
 -- the loop's start, its step and its ends
-pub climb_starts : (l : Level) (x : Reading) (room after : ℕ) (ts next : List Token) → reads parts.unit room ts ≡ Ok (x, next) → after ≡ room → reads (parts.level l) room ts ≡ climbing (all_levels l) x after next
+pub climb_starts : (l : Level) (x : Operand) (room after : ℕ) (ts next : List Token) → reads parts.unit room ts ≡ Ok (x, next) → after ≡ room → reads (parts.level l) room ts ≡ climbing (all_levels l) x after next
 climb_starts l x room after ts next sub same_room = rw same_room (climbs l room ts ∙ ap (λ o. o >>= λ y. climbing (all_levels l) y.0 room y.1) sub)
 
-pub climb_step : (l : Level) (done : ℕ) (k : Level) (x y : Reading) (room after : ℕ) (rest next : List Token) (all : Read Reading) → done ≤ 13 →
+pub climb_step : (l : Level) (done : ℕ) (k : Level) (x y : Operand) (room after : ℕ) (rest next : List Token) (all : Read Operand) → done ≤ 13 →
     climbing (levels done (level_number l)) x room rest ≡ all → next_level l done (tok_at rest) ≡ Some k → finished k x room rest ≡ Ok (y, next) → after ≡ room →
     climbing (levels (level_number k) (level_number l)) y after next ≡ all
 unfolding climbing
 climb_step l done k x y room after rest next all bound so_far is sub same_room =
     rw same_room (sym (ap (λ o. o >>= λ z. climbing (levels (level_number k) (level_number l)) z.0 room z.1) sub) ∙ sym (taken l done k x room rest bound is) ∙ so_far)
 
-pub climb_stops : (l : Level) (done : ℕ) (k : Level) (x : Reading) (room : ℕ) (rest : List Token) (all : Read Reading) → done ≤ 13 →
+pub climb_stops : (l : Level) (done : ℕ) (k : Level) (x : Operand) (room : ℕ) (rest : List Token) (all : Read Operand) → done ≤ 13 →
     climbing (levels done (level_number l)) x room rest ≡ all → next_level l done (tok_at rest) ≡ Some k → (end : Span) (next : List Token) (stop : Stop) → Stops end next stop (finished k x room rest) → Stops end next stop all
 unfolding climbing
 climb_stops l done k x room rest all bound so_far is end next Memory sub = tt
 climb_stops l done k x room rest all bound so_far is end next (Refused f) sub =
     (sym so_far ∙ taken l done k x room rest bound is ∙ ap (λ o. o >>= λ z. climbing (levels (level_number k) (level_number l)) z.0 room z.1) sub.0, sub.1)
 
-pub climb_end : (l : Level) (done : ℕ) (x : Reading) (room : ℕ) (rest : List Token) (all : Read Reading) → done ≤ 13 →
+pub climb_end : (l : Level) (done : ℕ) (x : Operand) (room : ℕ) (rest : List Token) (all : Read Operand) → done ≤ 13 →
     climbing (levels done (level_number l)) x room rest ≡ all → next_level l done (tok_at rest) ≡ None → all ≡ Ok (x, rest)
 climb_end l done x room rest all bound so_far none = sym so_far ∙ quiet done (level_number l) x room rest (none_within l done (operator_of (tok_at rest)) bound none)
 

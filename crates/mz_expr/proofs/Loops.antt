@@ -17,7 +17,7 @@ use Rattle.mz_cursor.specs.Rules.{syntax}
 use Rattle.mz_cursor.specs.Reading.{Read, mapped, with_front, on, stuck}
 use Rattle.mz_cursor.proofs.Steps.{front_front, front_more}
 use Rattle.mz_grammar.specs.Parts as parts
-use Rattle.mz_grammar.specs.Parts.{Reading, tree_of}
+use Rattle.mz_grammar.specs.Parts.{Operand, tree_of}
 use Rattle.mz_grammar.specs.Tests.{middle_of, tail_of}
 use Rattle.mz_grammar.proofs.Equations.{operators_reads}
 use Rattle.mz_grammar.proofs.ListEquations.{branches_reads, text_rest_reads}
@@ -49,7 +49,7 @@ branches_more done x room behind_skip after rest mid next all so_far is skipped 
     ∙ ap (λ o. with_branches done o) (sym (branches_reads room rest ∙ rw (is, rw (skipped, same_room) at sub) refl)) ∙ so_far)
 
 -- an operator more
-pub operators_more : (l : Level) (done : List (BinOp × Tree)) (op : BinOp) (x : Reading) (e : Tree) (room behind_skip after : ℕ) (rest mid next : List Token) (all : Read (List (BinOp × Tree))) →
+pub operators_more : (l : Level) (done : List (BinOp × Tree)) (op : BinOp) (x : Operand) (e : Tree) (room behind_skip after : ℕ) (rest mid next : List Token) (all : Read (List (BinOp × Tree))) →
     with_front done (reads (parts.operators l) room rest) ≡ all → binary_of l (tok_at rest) ≡ Some op → mid ≡ behind rest → behind_skip ≡ room → after ≡ behind_skip →
     reads (parts.operand l) behind_skip mid ≡ Ok (x, next) → e ≡ tree_of x → is_nonassociative l ≡ false → with_front (done ++ ((op, e) ∷ [])) (reads (parts.operators l) after next) ≡ all
 operators_more l done op x e room behind_skip after rest mid next all so_far is skipped same_room same_after sub same_tree many =

@@ -12,11 +12,11 @@ use Rattle.mz_grammar.specs.Parts as parts
 use Rattle.mz_grammar.specs.Reading.{reads, operand_rank}
 use Rattle.mz_expr.specs.declared.parser.descent.Entry.{Entry}
 use Rattle.mz_expr.specs.declared.parser.descent.Entry.TheVariants as entry_is
-use Rattle.mz_operand.specs.declared.reading.Reading.{Reading}
-use Rattle.mz_operand.specs.Views.{reading}
+use Rattle.mz_operand.specs.declared.operand.Operand.{Operand}
+use Rattle.mz_operand.specs.Views.{operand}
 
 -- what is read from an entry on
-abbrev pub entry_at : Entry → ℕ → Reader parts.Reading
+abbrev pub entry_at : Entry → ℕ → Reader parts.Operand
 entry_at (entry_is.Level l) room ts = reads (parts.level l) room ts
 entry_at entry_is.Unit room ts = reads parts.unit room ts
 entry_at entry_is.Head room ts = reads parts.head room ts
@@ -37,25 +37,25 @@ extent room e = 32 * room + height e
 
 -- A call that goes further down than this room and entry may be made, and reads what stands there.
 pub record Descends (room : ℕ) (entry : Entry) (pre : Global → MutBor Cursor → Entry → Type 0)
-    (post : Global → MutBor Cursor → Entry → Result Reading Stop → MutBor Cursor → Type 0) : Type 0 where
+    (post : Global → MutBor Cursor → Entry → Result Operand Stop → MutBor Cursor → Type 0) : Type 0 where
   pub callable : (alloc : Global) (old : MutBor Cursor) (e : Entry) → extent old.now.room e < extent room entry → pre alloc old e
-  pub reads : (alloc : Global) (old new : MutBor Cursor) (e : Entry) (result : Result Reading Stop) → post alloc old e result new → Reads reading (entry_at e) old.now new.now result
+  pub reads : (alloc : Global) (old new : MutBor Cursor) (e : Entry) (result : Result Operand Stop) → post alloc old e result new → Reads operand (entry_at e) old.now new.now result
 
 -- A method may be called that goes further down than this room: fewer tokens may be opened at its place.
 pub record MayRead (room : ℕ) (entry : Entry) (pre : Global → MutBor Cursor → Entry → Type 0)
-    (post : Global → MutBor Cursor → Entry → Result Reading Stop → MutBor Cursor → Type 0) (old : Cursor) : Type 0 where
+    (post : Global → MutBor Cursor → Entry → Result Operand Stop → MutBor Cursor → Type 0) (old : Cursor) : Type 0 where
   pub calls : Descends room entry pre post
   pub below : old.room < room
 
 -- A method may be called that opens a token before it goes further down.
 pub record MayOpen (room : ℕ) (entry : Entry) (pre : Global → MutBor Cursor → Entry → Type 0)
-    (post : Global → MutBor Cursor → Entry → Result Reading Stop → MutBor Cursor → Type 0) (old : Cursor) : Type 0 where
+    (post : Global → MutBor Cursor → Entry → Result Operand Stop → MutBor Cursor → Type 0) (old : Cursor) : Type 0 where
   pub calls : Descends room entry pre post
   pub below : old.room ≤ room
 
 -- A method may be called that begins with what is read from an entry on, and then goes further down.
 pub record MayBegin (e : Entry) (room : ℕ) (entry : Entry) (pre : Global → MutBor Cursor → Entry → Type 0)
-    (post : Global → MutBor Cursor → Entry → Result Reading Stop → MutBor Cursor → Type 0) (old : Cursor) : Type 0 where
+    (post : Global → MutBor Cursor → Entry → Result Operand Stop → MutBor Cursor → Type 0) (old : Cursor) : Type 0 where
   pub calls : Descends room entry pre post
   pub below : extent old.room e ≤ extent room entry
 

@@ -20,13 +20,13 @@ use Rattle.mz_grammar.specs.declared.level.Level.{Level}
 use Rattle.mz_grammar.specs.declared.level.Level.TheVariants as level_is
 use Rattle.mz_grammar.specs.declared.list.Closing.{Closing}
 use Rattle.mz_grammar.specs.Parts
-use Rattle.mz_grammar.specs.Parts.{Place, Value, Reading, name, member, other, tree_of, related, chained, Argument, given, guarded, strict}
+use Rattle.mz_grammar.specs.Parts.{Place, Value, Operand, name, member, other, tree_of, related, chained, Argument, given, guarded, strict}
 use Rattle.mz_grammar.specs.Arguments.{trees_of, generators_behind, generators_of}
 use Rattle.mz_grammar.specs.Tests.{closes, is_left_out}
 use Rattle.mz_grammar.specs.Model.{Ruled, behind}
 
 -- the height of what an expression was read as, of arguments, and of the items of a file
-abbrev pub reading_height : Reading → ℕ
+abbrev pub reading_height : Operand → ℕ
 reading_height x = height (tree_of x)
 
 abbrev pub argument_height : Argument → ℕ
@@ -187,7 +187,7 @@ unfolding height shape_height links_height
 related_height n s op.Member e = refl
 related_height n s _ e = refl
 
-pub chained_height : (x : Reading) (ls : List (BinOp × Tree)) (b : ℕ) → reading_height x ≤ b → links_height (links ls) ≤ b → reading_height (chained x ls) ≤ suc b
+pub chained_height : (x : Operand) (ls : List (BinOp × Tree)) (b : ℕ) → reading_height x ≤ b → links_height (links ls) ≤ b → reading_height (chained x ls) ≤ suc b
 unfolding height shape_height links_height
 chained_height x [] b h g = omega arith
 chained_height (name n s) (l ∷ []) b h g = rw (related_height n s l.0 l.1) (one_higher _ _ h g)

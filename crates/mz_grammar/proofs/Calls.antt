@@ -14,7 +14,7 @@ use Rattle.mz_grammar.specs.declared.list.Generators.{Generators}
 use Rattle.mz_grammar.specs.declared.list.Generators.TheVariants.{Possible, AwaitingIn, Impossible}
 use Rattle.mz_grammar.specs.declared.list.Closing.TheVariants.{Paren}
 use Rattle.mz_grammar.specs.Parts
-use Rattle.mz_grammar.specs.Parts.{Place, Reading, tree_of}
+use Rattle.mz_grammar.specs.Parts.{Place, Operand, tree_of}
 use Rattle.mz_tree.specs.Tree.{Generator, generator, Maybe, node, call, trees as tree_list}
 use Rattle.mz_grammar.specs.Parts.{Argument, name, member, other, given, guarded, strict}
 use Rattle.mz_grammar.specs.Arguments.{possible_after, awaits_in, takes_where, trees_of, generators_of, generators_behind}
@@ -51,7 +51,7 @@ name_behind [] n x s xs h = h
 name_behind (m ∷ ns) n x s xs h = h
 
 -- one argument more
-fit_given : (t : Generators) (x : Reading) (xs : List Argument) → Fit (possible_after t x) xs → Fit t (given x ∷ xs)
+fit_given : (t : Generators) (x : Operand) (xs : List Argument) → Fit (possible_after t x) xs → Fit t (given x ∷ xs)
 fit_given Impossible x xs h = found_map _ (trees_of xs) h
 fit_given Possible (name n s) xs (inl h) = inl (found_map _ (trees_of xs) h)
 fit_given Possible (name n s) xs (inr h) = inr (h [] (n, s))
@@ -64,12 +64,12 @@ fit_given AwaitingIn (member n s e) xs (inl h) = inl (found_map _ (trees_of xs) 
 fit_given AwaitingIn (member n s e) xs (inr h) = inr (λ ns m. member_behind ns m n s e xs h)
 fit_given AwaitingIn (other s e) xs h = inl (found_map _ (trees_of xs) h)
 
-fit_one : (t : Generators) (x : Reading) → Fit t (given x ∷ [])
+fit_one : (t : Generators) (x : Operand) → Fit t (given x ∷ [])
 fit_one Impossible x = tt
 fit_one Possible x = inl tt
 fit_one AwaitingIn x = inl tt
 
-fit_guarded : (t : Generators) (x : Reading) (w : Tree) (gs : List Generator) → takes_where t x ≡ true → Fit t (guarded x w ∷ map strict gs)
+fit_guarded : (t : Generators) (x : Operand) (w : Tree) (gs : List Generator) → takes_where t x ≡ true → Fit t (guarded x w ∷ map strict gs)
 fit_guarded Impossible x w gs e = absurd (cc)
 fit_guarded Possible (name n s) w gs e = absurd (cc)
 fit_guarded Possible (member n s v) w gs e = inr (found_map _ (generators_behind [] (map strict gs)) (strict_found gs))
@@ -99,17 +99,17 @@ unfolding step read_by rule symbol_number keyword_number
 fine_guarded_rest t x h = fine_behind Paren _ _ (sign SRParen ∷ [], tt) (λ gs a. (last (λ o h. h), h gs)) (h [])
 
 -- a `where`, or what else stands behind an argument
-abbrev rest_of_arguments : (t : Generators) (x : Reading) → Bool → Option Tok → Ruled (Parts.arguments t)
+abbrev rest_of_arguments : (t : Generators) (x : Operand) → Bool → Option Tok → Ruled (Parts.arguments t)
 rest_of_arguments t x may o = if may && is_word KWhere o
     then pass (λ s. part Parts.expr λ w. guarded_rest (guarded x w))
     else behind Paren (part (Parts.arguments (possible_after t x)) λ xs. give (given x ∷ xs)) (give (given x ∷ []))
 
-done_rest : (t : Generators) (x : Reading) (may : Bool) → Done {n = Parts.arguments t} (look (rest_of_arguments t x may)) (sign SRParen ∷ [])
+done_rest : (t : Generators) (x : Operand) (may : Bool) → Done {n = Parts.arguments t} (look (rest_of_arguments t x may)) (sign SRParen ∷ [])
 unfolding step read_by rule symbol_number keyword_number
 done_rest t x true = tt
 done_rest t x false = tt
 
-takes_rest : (t : Generators) (x : Reading) (may : Bool) → Takes {n = Parts.arguments t} (look (rest_of_arguments t x may))
+takes_rest : (t : Generators) (x : Operand) (may : Bool) → Takes {n = Parts.arguments t} (look (rest_of_arguments t x may))
 takes_rest t x may = λ o. takes_tested (may && is_word KWhere o) _ _ tt (takes_behind Paren _ _)
 
 pub fine_arguments : (t : Generators) → Fine (arguments_rule t)

@@ -24,7 +24,7 @@ use Rattle.mz_grammar.specs.declared.list.Generators.{Generators}
 use Rattle.mz_grammar.specs.declared.list.Generators.TheVariants.{Possible}
 use Rattle.mz_grammar.specs.Operators.{prefix_of, binary_of, is_nonassociative, tighter_level}
 use Rattle.mz_grammar.specs.Parts
-use Rattle.mz_grammar.specs.Parts.{Place, Reading, tree_of, chained, Argument, given, guarded, strict}
+use Rattle.mz_grammar.specs.Parts.{Place, Operand, tree_of, chained, Argument, given, guarded, strict}
 use Rattle.mz_grammar.specs.Arguments.{possible_after, awaits_in, takes_where, trees_of, generators_of}
 use Rattle.mz_grammar.specs.Tests.{closes, is_left_out, ident_of}
 use Rattle.mz_grammar.specs.Model.{Ruled, rule, behind as behind_element, symbol, word, identifier, accessed, unless_annotated, called, generator_call, guarded_rest, head_token, head_symbol, head_word}
@@ -112,7 +112,7 @@ pub atom_reads : (room : ℕ) (ts : List Token) → reads Parts.atom room ts ≡
 unfolding step rule
 atom_reads room ts = by_rule Parts.atom room ts
 
-pub accesses_reads : (x : Reading) (room : ℕ) (ts : List Token) → reads (Parts.accesses x) room ts ≡ (if is_sym SLBrack (tok_at ts)
+pub accesses_reads : (x : Operand) (room : ℕ) (ts : List Token) → reads (Parts.accesses x) room ts ≡ (if is_sym SLBrack (tok_at ts)
     then open_at room ts (λ r. reads Parts.indices r (behind ts) >>= λ es. reads (Parts.accesses (accessed x es.0)) r es.1)
     else Ok (x, ts))
 unfolding step rule

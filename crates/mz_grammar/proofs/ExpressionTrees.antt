@@ -19,7 +19,7 @@ use Rattle.mz_grammar.specs.declared.list.Closing.{Closing}
 use Rattle.mz_grammar.specs.declared.list.Closing.TheVariants.{Paren, Bracket, Elements, Brace}
 use Rattle.mz_grammar.specs.declared.list.Generators.{Generators}
 use Rattle.mz_grammar.specs.Operators.{prefix_of, binary_of, is_nonassociative}
-use Rattle.mz_grammar.specs.Parts.{Place, Reading, Argument}
+use Rattle.mz_grammar.specs.Parts.{Place, Operand, Argument}
 use Rattle.mz_grammar.specs.Arguments.{awaits_in, takes_where, trees_of, generators_of}
 use Rattle.mz_grammar.specs.Tests.{closes, ident_of, middle_of, tail_of, ends_row}
 use Rattle.mz_grammar.specs.Model.{Ruled, behind, operand_rule, operators_rule, unit_rule, atom_rule, unless_annotated, accesses_rule, indices_rule, more_indices_rule, annotations_rule, marks_rule, head_symbol, head_word, head_token, called, named_rule, guarded_rest, arguments_rule, text_rest_rule, elements_rule, array_body_rule, set_body_rule, rows_body_rule, more_rows_rule, row_rule, cells_rule, generator_rule, more_names_rule, filter_rule, generators_rule, branch_rule, branches_rule, let_items_rule, let_item_rule}
@@ -54,14 +54,14 @@ module _ (Named : Name → Type 0) (Placed : Span → Type 0) where
   unfolding OfTree
   unit_kept = λ o fine. found (prefix_of o) _ _ (λ x h. h) (λ op. λ s at. λ x h. (at, (at, Of.of_tree Named Placed x h)))
 
-  unless_annotated_kept : (annotated : Bool) (x : Reading) → Of.OfReading Named Placed x → Of.OfReading Named Placed (unless_annotated annotated x)
+  unless_annotated_kept : (annotated : Bool) (x : Operand) → Of.OfReading Named Placed x → Of.OfReading Named Placed (unless_annotated annotated x)
   unless_annotated_kept true x h = (Of.placed Named Placed x h, Of.of_tree Named Placed x h)
   unless_annotated_kept false x h = h
 
   pub atom_kept : Kept atom_rule
   atom_kept = λ h hh. λ x hx. λ annotated u. unless_annotated_kept annotated x (hx hh)
 
-  pub accesses_kept : (x : Reading) → Kept (accesses_rule x)
+  pub accesses_kept : (x : Operand) → Kept (accesses_rule x)
   unfolding OfTree
   accesses_kept x = λ o fine. tested (is_sym SLBrack o) _ _
       (λ s at. λ es hes. λ y hy. λ h. hy (Of.placed Named Placed x h, (Of.placed Named Placed x h, (Of.of_tree Named Placed x h, hes))))

@@ -18,7 +18,7 @@ use Rattle.mz_grammar.specs.declared.level.Level.TheVariants as level_is
 use Rattle.mz_grammar.specs.declared.list.Closing.TheVariants.{Paren, Bracket}
 use Rattle.mz_grammar.specs.Operators.{prefix_of, binary_of, is_nonassociative, tighter_level}
 use Rattle.mz_grammar.specs.Parts
-use Rattle.mz_grammar.specs.Parts.{Reading, tree_of}
+use Rattle.mz_grammar.specs.Parts.{Operand, tree_of}
 use Rattle.mz_grammar.specs.Tests.{middle_of, tail_of}
 use Rattle.mz_grammar.specs.Model.{Ruled, rule, operand_rule, operators_rule, unit_rule, atom_rule, accesses_rule, indices_rule, more_indices_rule, annotations_rule, marks_rule, head_symbol, head_word, head_token, head_rule, text_rest_rule}
 use Rattle.mz_grammar.proofs.Calm.{Takes, Fine, After, Done, made, sign, keyword, a_number, tested, found, takes_tested, takes_found, steady_tested, steady_found, fine_opening, fine_word, fine_behind, after_element, quiet_end, plain_end, quiet_closing, quiet_endif, quiet_tail, no_operator}
@@ -74,7 +74,7 @@ fine_expr = λ x a. (last (λ o h. h), tt)
 abbrev more_operators : (l : Level) → BinOp → Bool → Tree → Ruled (Parts.operators l)
 more_operators l op nonassociative e = if nonassociative then give ((op, e) ∷ []) else part (Parts.operators l) λ ls. give ((op, e) ∷ ls)
 
-after_operand : (l : Level) (f : Reading → Ruled (Parts.operators l)) (op : BinOp) (nonassociative : Bool) (e : Tree) → After (Parts.operators l) (Parts.operand l) f (more_operators l op nonassociative e)
+after_operand : (l : Level) (f : Operand → Ruled (Parts.operators l)) (op : BinOp) (nonassociative : Bool) (e : Tree) → After (Parts.operators l) (Parts.operand l) f (more_operators l op nonassociative e)
 unfolding step read_by rule symbol_number keyword_number
 after_operand l f op true e = last (λ o h. h)
 after_operand l f op false e = maybe [] tt quiet_end (λ o h. h)
@@ -117,7 +117,7 @@ pub fine_atom : Fine atom_rule
 unfolding step read_by rule symbol_number keyword_number
 fine_atom = λ h a. (maybe [] tt quiet_end (λ o h. h), λ x b. (maybe [] tt plain_end (λ o h. h.0), λ m c. (last (λ o h. h), tt)))
 
-pub fine_accesses : (x : Reading) → Fine (accesses_rule x)
+pub fine_accesses : (x : Operand) → Fine (accesses_rule x)
 unfolding step read_by rule symbol_number keyword_number
 fine_accesses x = (
   steady_tested (is_sym SLBrack) _ _ tt (λ o h. h.1),

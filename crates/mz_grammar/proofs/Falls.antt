@@ -19,7 +19,7 @@ use Rattle.mz_grammar.specs.declared.list.Closing.{Closing}
 use Rattle.mz_grammar.specs.declared.list.Closing.TheVariants.{Paren, Bracket, Elements, Brace}
 use Rattle.mz_grammar.specs.Operators.{prefix_of, binary_of}
 use Rattle.mz_grammar.specs.Parts
-use Rattle.mz_grammar.specs.Parts.{Place, Reading}
+use Rattle.mz_grammar.specs.Parts.{Place, Operand}
 use Rattle.mz_grammar.specs.Arguments.{awaits_in, takes_where}
 use Rattle.mz_grammar.specs.Tests.{ItemKind, an_include, item_of, closes, is_left_out, ident_of, middle_of, tail_of, begins_base, begins_type}
 use Rattle.mz_grammar.specs.Model.{Ruled, rule, behind, head_token, head_symbol, head_word, item_by, by_expression}
@@ -123,7 +123,7 @@ by_operator : (l : Level) (o : Option BinOp) (f : BinOp → Span → Ruled (Part
 by_operator l None f = tt
 by_operator l (Some op) f = tt
 
-by_expression_falls : (x : Reading) (o : Option Tok) → Down 32 (by_expression x o)
+by_expression_falls : (x : Operand) (o : Option Tok) → Down 32 (by_expression x o)
 unfolding rank
 by_expression_falls (Parts.name n s) o = passed 32 (is_sym SEq o) _ _ (omega arith, λ d. tt)
 by_expression_falls (Parts.member n s e) o = (omega arith, λ d. tt)

@@ -15,7 +15,7 @@ use Rattle.mz_cursor.proofs.Steps.{itself, same_then, same_if, same_on, same_ope
 use Rattle.mz_grammar.specs.declared.level.Level.TheVariants as level_is
 use Rattle.mz_grammar.specs.declared.list.Closing.TheVariants.{Paren, Bracket, Brace}
 use Rattle.mz_grammar.specs.Parts
-use Rattle.mz_grammar.specs.Parts.{Reading, at_of, tree_of}
+use Rattle.mz_grammar.specs.Parts.{Operand, at_of, tree_of}
 use Rattle.mz_grammar.specs.Tests.{ident_of, text_of, begins_base, begins_type, ItemKind, an_include, a_constraint, a_solve, an_output, a_predicate, a_test, a_function, an_annotation, an_enum, item_of}
 use Rattle.mz_grammar.specs.Model.{rule, word, opening, function_rule, by_expression, other_item, item_by}
 use Rattle.mz_tree.specs.Tree.{array_type, marked}
@@ -157,7 +157,7 @@ unfolding step
 function_reads t room ts = identifier_reads Parts.item _ room ts
     ∙ same_then (ident_at ts) _ _ (λ i. same_then (reads Parts.params room i.1) _ _ (λ ds. same_then (reads Parts.annotations room ds.1) _ _ (λ m. symbol_reads Parts.item SEq _ room m.1)))
 
-by_expression_reads : (x : Reading) (room : ℕ) (ts : List Token) → step reads (by_expression x (tok_at ts)) room ts ≡ by_expression_at x room ts
+by_expression_reads : (x : Operand) (room : ℕ) (ts : List Token) → step reads (by_expression x (tok_at ts)) room ts ≡ by_expression_at x room ts
 unfolding step
 by_expression_reads (Parts.name n s) room ts = pass_if reads {n = Parts.item} (is_sym SEq) refl _ _ room ts
 by_expression_reads (Parts.member n s e) room ts = refl

@@ -19,7 +19,7 @@ use Rattle.mz_cursor.proofs.Keeps as Generic
 use Rattle.mz_grammar.specs.declared.level.Level.TheVariants as level_is
 use Rattle.mz_grammar.specs.declared.list.Closing.TheVariants.{Paren, Bracket, Brace}
 use Rattle.mz_grammar.specs.Parts
-use Rattle.mz_grammar.specs.Parts.{Place, Value, Reading}
+use Rattle.mz_grammar.specs.Parts.{Place, Value, Operand}
 use Rattle.mz_grammar.specs.Tests.{ItemKind, an_include, a_constraint, a_solve, an_output, a_predicate, a_test, a_function, an_annotation, an_enum, item_of, ident_of, text_of, begins_base, begins_type}
 use Rattle.mz_grammar.specs.Model.{rule, declaration_rule, declared_rule, value_rule, type_rule, index_types_rule, element_rule, unmarked_rule, base_rule, params_rule, param_list_rule, param_rule, function_rule, by_expression, item_by, item_rule, goal_rule, cases_rule, case_names_rule, file_rule, more_items_rule}
 use Rattle.mz_tree.specs.Tree.{array_type, marked}
@@ -102,7 +102,7 @@ base_of_height : (s : Span) (e : Tree) (b : ℕ) → height e ≤ b → written_
 unfolding written_height dims_height based_height
 base_of_height s e b h = max-le (omega arith) h
 
-by_expression_kept : (x : Reading) (room : ℕ) → reading_height x ≤ most room → (o : Option Tok) → Kept room room (by_expression x o)
+by_expression_kept : (x : Operand) (room : ℕ) → reading_height x ≤ most room → (o : Option Tok) → Kept room room (by_expression x o)
 by_expression_kept (Parts.name n s) room h o = tested room room (is_sym SEq o) _ _ (λ q. λ e g. g) (λ d g. g (base_of_height s _ _ h))
 by_expression_kept (Parts.member n s e) room h o = λ d g. g (base_of_height s _ _ h)
 by_expression_kept (Parts.other s e) room h o = λ d g. g (base_of_height s _ _ h)

@@ -15,7 +15,7 @@ use Rattle.mz_cursor.specs.Look.{is_sym, is_word}
 use Rattle.mz_grammar.specs.declared.list.Closing.{Closing}
 use Rattle.mz_grammar.specs.declared.list.Closing.TheVariants.{Paren, Bracket, Brace}
 use Rattle.mz_grammar.specs.Parts
-use Rattle.mz_grammar.specs.Parts.{Place, Value, Reading}
+use Rattle.mz_grammar.specs.Parts.{Place, Value, Operand}
 use Rattle.mz_grammar.specs.Tests.{ItemKind, an_include, a_constraint, a_solve, an_output, a_predicate, a_test, a_function, an_annotation, an_enum, item_of, ident_of, text_of, begins_base, begins_type}
 use Rattle.mz_grammar.specs.Model.{Ruled, behind, rule, declaration_rule, declared_rule, value_rule, type_rule, index_types_rule, element_rule, unmarked_rule, base_rule, params_rule, param_list_rule, param_rule, function_rule, by_expression, item_by, item_rule, goal_rule, cases_rule, case_names_rule, file_rule, more_items_rule}
 use Rattle.mz_tree.specs.Tree.{array_type, marked}
@@ -114,7 +114,7 @@ module _ (Named : Name → Type 0) (Placed : Span → Type 0) where
   unfolding OfTree
   of_base s e at h = (at, tt, h)
 
-  by_expression_kept : (x : Reading) → Of.OfReading Named Placed x → (o : Option Tok) → Kept (by_expression x o)
+  by_expression_kept : (x : Operand) → Of.OfReading Named Placed x → (o : Option Tok) → Kept (by_expression x o)
   by_expression_kept (Parts.name n s) h o = tested (is_sym SEq o) _ _ (λ q u. λ e g. (h.0, h.1, g)) (λ d g. g (of_base s _ h.1 (Of.of_tree Named Placed (Parts.name n s) h)))
   by_expression_kept (Parts.member n s e) h o = λ d g. g (of_base s _ h.1 (Of.of_tree Named Placed (Parts.member n s e) h))
   by_expression_kept (Parts.other s e) h o = λ d g. g (of_base s _ h.0 h.1)

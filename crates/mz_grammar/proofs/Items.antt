@@ -11,7 +11,7 @@ use Rattle.mz_cursor.specs.Reading.{on, step, read_by}
 use Rattle.mz_cursor.proofs.Viable.{never, before_calm, last, tokens, maybe, brought}
 use Rattle.mz_grammar.specs.declared.list.Closing.TheVariants.{Brace}
 use Rattle.mz_grammar.specs.Parts
-use Rattle.mz_grammar.specs.Parts.{Reading}
+use Rattle.mz_grammar.specs.Parts.{Operand}
 use Rattle.mz_tree.specs.Tree.{Written}
 use Rattle.mz_grammar.specs.Parts.{name, member, other}
 use Rattle.mz_grammar.specs.Tests.{ItemKind, an_include, a_constraint, a_solve, an_output, a_predicate, a_test, a_function, an_annotation, an_enum, item_of, ident_of, text_of, begins_type}
@@ -57,18 +57,18 @@ fine_kind an_enum = λ w. ((an_identifier ∷ [], tt), fine_identifier _ (λ n s
 
 -- Declarations and assignments
 
-takes_by_expression : (x : Reading) (o : Option Tok) → Takes (by_expression x o)
+takes_by_expression : (x : Operand) (o : Option Tok) → Takes (by_expression x o)
 takes_by_expression (name n s) o = takes_tested (is_sym SEq o) _ _ tt tt
 takes_by_expression (member n s e) o = tt
 takes_by_expression (other s e) o = tt
 
-done_by_expression : (x : Reading) → Done {n = Parts.item} (look (by_expression x)) (sign SColon ∷ an_identifier ∷ [])
+done_by_expression : (x : Operand) → Done {n = Parts.item} (look (by_expression x)) (sign SColon ∷ an_identifier ∷ [])
 unfolding step read_by rule symbol_number keyword_number
 done_by_expression (name n s) = tt
 done_by_expression (member n s e) = tt
 done_by_expression (other s e) = tt
 
-fine_by_expression : (x : Reading) (o : Option Tok) → Fine (by_expression x o)
+fine_by_expression : (x : Operand) (o : Option Tok) → Fine (by_expression x o)
 unfolding step read_by rule symbol_number keyword_number
 fine_by_expression (name n s) o = tested (is_sym SEq o) _ _ (λ q. ((a_number ∷ [], tt), λ e a. (last (λ o h. h), tt))) (λ d a. (last (λ o h. h), tt))
 fine_by_expression (member n s e) o = λ d a. (last (λ o h. h), tt)

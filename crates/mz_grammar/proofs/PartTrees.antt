@@ -16,7 +16,7 @@ use Rattle.mz_cursor.specs.Reading.{on}
 use Rattle.mz_cursor.specs.Look.{is_sym}
 use Rattle.mz_grammar.specs.declared.list.Closing.{Closing}
 use Rattle.mz_grammar.specs.Parts
-use Rattle.mz_grammar.specs.Parts.{Place, Value, Reading, name, member, other, at_of, tree_of, related, chained, Argument, given, guarded, strict}
+use Rattle.mz_grammar.specs.Parts.{Place, Value, Operand, name, member, other, at_of, tree_of, related, chained, Argument, given, guarded, strict}
 use Rattle.mz_grammar.specs.Arguments.{trees_of, generators_behind, generators_of}
 use Rattle.mz_grammar.specs.Tests.{closes, is_left_out, ident_of, text_of, middle_of, tail_of}
 use Rattle.mz_grammar.specs.Model.{Ruled, behind}
@@ -35,7 +35,7 @@ module _ (Named : Name → Type 0) (Placed : Span → Type 0) where
   abbrev pub Spots : List (Name × Span) → Type 0
   Spots ns = All (IsSpot Named Placed) ns
 
-  abbrev pub OfReading : Reading → Type 0
+  abbrev pub OfReading : Operand → Type 0
   OfReading (name n s) = Named n × Placed s
   OfReading (member n s e) = Named n × Placed s × OfTree Named Placed e
   OfReading (other s e) = Placed s × OfTree Named Placed e
@@ -149,12 +149,12 @@ module _ (Named : Name → Type 0) (Placed : Span → Type 0) where
   pub behind_kept : {n : Place} (c : Closing) (more done : Ruled n) → Kept more → Kept done → Kept (behind c more done)
   behind_kept c more done h g = λ o fine. tested (is_sym SComma o) _ _ (λ s at. h) (tested (closes c o) _ _ (λ s at. g) (tested (is_left_out c o) leave_out refuse tt tt))
 
-  pub placed : (x : Reading) → OfReading x → Placed (at_of x)
+  pub placed : (x : Operand) → OfReading x → Placed (at_of x)
   placed (name n s) h = h.1
   placed (member n s e) h = h.1
   placed (other s e) h = h.0
 
-  pub of_tree : (x : Reading) → OfReading x → OfTree Named Placed (tree_of x)
+  pub of_tree : (x : Operand) → OfReading x → OfTree Named Placed (tree_of x)
   unfolding OfTree
   of_tree (name n s) h = (h.1, h.0)
   of_tree (member n s e) h = (h.1, ((h.1, h.0), (h.2, tt)))
@@ -165,7 +165,7 @@ module _ (Named : Name → Type 0) (Placed : Span → Type 0) where
   related_of n s op.Member e h at g = (h, at, g)
   related_of n s _ e h at g = (at, (at, ((at, h), (g, tt))))
 
-  pub chained_of : (x : Reading) (ls : List (BinOp × Tree)) → OfReading x → OfLinks Named Placed (links ls) → OfReading (chained x ls)
+  pub chained_of : (x : Operand) (ls : List (BinOp × Tree)) → OfReading x → OfLinks Named Placed (links ls) → OfReading (chained x ls)
   unfolding OfTree
   chained_of x [] h g = h
   chained_of (name n s) (l ∷ []) h g = related_of n s l.0 l.1 h.0 h.1 g.0

@@ -23,7 +23,7 @@ use Rattle.mz_grammar.specs.declared.level.Level.{Level}
 use Rattle.mz_grammar.specs.declared.level.Level.TheVariants as level_is
 use Rattle.mz_grammar.specs.Operators.{prefix_of, binary_of, is_nonassociative, tighter_level}
 use Rattle.mz_grammar.specs.Parts
-use Rattle.mz_grammar.specs.Parts.{Place, Value, Reading, tree_of, chained}
+use Rattle.mz_grammar.specs.Parts.{Place, Value, Operand, tree_of, chained}
 use Rattle.mz_grammar.specs.Model.{Ruled, rule, operand_rule, operators_rule, unit_rule, atom_rule, annotations_rule, head_symbol, head_word, head_token}
 use Rattle.mz_grammar.specs.Reading.{rank, width, reads}
 use Rattle.mz_grammar.proofs.Falls.{low, falls}
@@ -212,10 +212,10 @@ unfolding step read_by rule symbol_number keyword_number
 long_operand l = long_found (tighter_level l) _ _ (λ x. (farther [] refl (λ y. tt) refl, tt)) (λ k x. (farther [] refl (λ y. tt) refl, tt))
 
 -- behind an operand come the operators of its level
-abbrev operators_behind : (l : Level) → Reading → Ruled (Parts.level l)
+abbrev operators_behind : (l : Level) → Operand → Ruled (Parts.level l)
 operators_behind l x = part (Parts.operators l) λ ls. give (chained x ls)
 
-reach_operators : (l : Level) (x : Reading) → Reach (Parts.operand l) (operators_behind l) (operators_behind l x)
+reach_operators : (l : Level) (x : Operand) → Reach (Parts.operand l) (operators_behind l) (operators_behind l x)
 unfolding step read_by rule symbol_number keyword_number
 reach_operators level_is.Iff x = farther [] refl (λ y. tt) refl
 reach_operators level_is.Imp x = farther [] refl (λ y. tt) refl
@@ -235,10 +235,10 @@ unfolding step read_by rule symbol_number keyword_number
 long_level l = λ x. (reach_operators l x, λ ls. (farther [] refl (λ m. tt) refl, tt))
 
 -- and behind an operator and its operand, more of them
-abbrev chain_behind : (l : Level) → BinOp → Bool → Reading → Ruled (Parts.operators l)
+abbrev chain_behind : (l : Level) → BinOp → Bool → Operand → Ruled (Parts.operators l)
 chain_behind l op nonassociative x = if nonassociative then give ((op, tree_of x) ∷ []) else part (Parts.operators l) λ ls. give ((op, tree_of x) ∷ ls)
 
-reach_chain : (l : Level) (op : BinOp) (x : Reading) → Reach (Parts.operand l) (chain_behind l op (is_nonassociative l)) (chain_behind l op (is_nonassociative l) x)
+reach_chain : (l : Level) (op : BinOp) (x : Operand) → Reach (Parts.operand l) (chain_behind l op (is_nonassociative l)) (chain_behind l op (is_nonassociative l) x)
 unfolding step read_by rule symbol_number keyword_number
 reach_chain level_is.Iff op x = farther [] refl (λ y. tt) refl
 reach_chain level_is.Imp op x = farther [] refl (λ y. tt) refl
@@ -253,7 +253,7 @@ reach_chain level_is.Product op x = farther [] refl (λ y. tt) refl
 reach_chain level_is.Power op x = farther [] refl (λ y. tt) refl
 reach_chain level_is.Concat op x = farther [] refl (λ y. tt) refl
 
-long_chain : (l : Level) (op : BinOp) (nonassociative : Bool) (x : Reading) → Long (chain_behind l op nonassociative x)
+long_chain : (l : Level) (op : BinOp) (nonassociative : Bool) (x : Operand) → Long (chain_behind l op nonassociative x)
 unfolding step read_by rule symbol_number keyword_number
 long_chain l op true x = tt
 long_chain l op false x = λ ls. (farther [] refl (λ m. tt) refl, tt)

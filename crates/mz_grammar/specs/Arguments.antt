@@ -6,10 +6,10 @@ use Rattle.mz_tree.specs.Tree.{Name, Tree, Maybe, Generator, generator, just, no
 use Rattle.mz_cursor.specs.Reading.{on}
 use Rattle.mz_grammar.specs.declared.list.Generators.{Generators}
 use Rattle.mz_grammar.specs.declared.list.Generators.TheVariants.{Possible, AwaitingIn, Impossible}
-use Rattle.mz_grammar.specs.Parts.{Reading, name, member, other, tree_of, Argument, given, guarded, strict}
+use Rattle.mz_grammar.specs.Parts.{Operand, name, member, other, tree_of, Argument, given, guarded, strict}
 
 -- whether they may still be generators after one more argument
-abbrev pub possible_after : Generators → Reading → Generators
+abbrev pub possible_after : Generators → Operand → Generators
 possible_after Impossible x = Impossible
 possible_after t (name n s) = AwaitingIn
 possible_after t (member n s e) = Possible
@@ -21,13 +21,13 @@ awaits_in AwaitingIn = true
 awaits_in _ = false
 
 -- a `where` may follow this argument
-abbrev pub takes_where : Generators → Reading → Bool
+abbrev pub takes_where : Generators → Operand → Bool
 takes_where Impossible x = false
 takes_where t (member n s e) = true
 takes_where t x = false
 
 -- an argument that is an expression
-abbrev pub given_of : Argument → Option Reading
+abbrev pub given_of : Argument → Option Operand
 given_of (given x) = Some x
 given_of (guarded x c) = None
 given_of (strict g) = None

@@ -21,7 +21,7 @@ use Rattle.mz_grammar.specs.declared.list.Generators.{Generators}
 use Rattle.mz_grammar.specs.declared.list.Generators.TheVariants.{Possible}
 use Rattle.mz_grammar.specs.Operators.{prefix_of, binary_of, is_nonassociative, tighter_level}
 use Rattle.mz_grammar.specs.Parts
-use Rattle.mz_grammar.specs.Parts.{Reading, name, other, at_of, tree_of, chained, Argument, given, guarded, strict, Place, Value}
+use Rattle.mz_grammar.specs.Parts.{Operand, name, other, at_of, tree_of, chained, Argument, given, guarded, strict, Place, Value}
 use Rattle.mz_grammar.specs.Arguments.{possible_after, awaits_in, takes_where, trees_of, generators_of}
 use Rattle.mz_grammar.specs.Tests.{closes, is_left_out, ident_of, ItemKind, an_include, a_constraint, a_solve, an_output, a_predicate, a_test, a_function, an_annotation, an_enum, item_of, text_of, middle_of, tail_of, ends_row, begins_base, begins_type}
 
@@ -66,17 +66,17 @@ unit_rule = look (λ o. on (prefix_of o)
 
 -- atom = head { "[" expr { "," expr } "]" } anns
 -- An annotation keeps a name from being a generator's.
-abbrev pub unless_annotated : Bool → Reading → Reading
+abbrev pub unless_annotated : Bool → Operand → Operand
 unless_annotated annotated x = if annotated then other (at_of x) (tree_of x) else x
 
 abbrev pub atom_rule : Ruled Parts.atom
 atom_rule = part Parts.head λ h. part (Parts.accesses h) λ x. part Parts.annotations λ annotated. give (unless_annotated annotated x)
 
 -- The `[` of an access stays open up to the last `]` of its atom.
-abbrev pub accessed : Reading → List Tree → Reading
+abbrev pub accessed : Operand → List Tree → Operand
 accessed x es = other (at_of x) (node (at_of x) (access (tree_of x) (trees es)))
 
-abbrev pub accesses_rule : (x : Reading) → Ruled (Parts.accesses x)
+abbrev pub accesses_rule : (x : Operand) → Ruled (Parts.accesses x)
 accesses_rule x = look (λ o. if is_sym SLBrack o
     then enter (λ s. part Parts.indices λ es. part (Parts.accesses (accessed x es)) λ y. leave (give y))
     else give x)
@@ -341,7 +341,7 @@ abbrev pub function_rule : Written → Ruled Parts.item
 function_rule t = identifier λ n s. part Parts.params λ ds. part Parts.annotations λ m. symbol SEq λ q. part Parts.expr λ e. give (function (record { name = n; span = s; result = t; params = ds; body = e }))
 
 -- decl, and IDENT "=" expr
-abbrev pub by_expression : Reading → Option Tok → Ruled Parts.item
+abbrev pub by_expression : Operand → Option Tok → Ruled Parts.item
 by_expression (name n s) o = if is_sym SEq o
     then pass (λ q. part Parts.expr λ e. give (assign n s e))
     else part (Parts.declared (written s no_array false false false (base_of (tree_of (name n s))))) λ d. give (declare d)

@@ -11,36 +11,36 @@ use Rattle.mz_grammar.specs.declared.list.Generators.{Generators}
 
 -- What an expression was read as. A name alone and a name in a set may become generators of a call.
 -- The place is that of the first token, a parenthesis too.
-pub data Reading : Type 0 where
-  name : Name → Span → Reading
-  member : Name → Span → Tree → Reading
-  other : Span → Tree → Reading
+pub data Operand : Type 0 where
+  name : Name → Span → Operand
+  member : Name → Span → Tree → Operand
+  other : Span → Tree → Operand
 
-abbrev pub at_of : Reading → Span
+abbrev pub at_of : Operand → Span
 at_of (name n s) = s
 at_of (member n s e) = s
 at_of (other s e) = s
 
-abbrev pub tree_of : Reading → Tree
+abbrev pub tree_of : Operand → Tree
 tree_of (name n s) = node s (ident n)
 tree_of (member n s e) = node s (chain (node s (ident n)) (links ((op.Member, e) ∷ [])))
 tree_of (other s e) = e
 
 -- a name with one operator behind it
-abbrev pub related : Name → Span → BinOp → Tree → Reading
+abbrev pub related : Name → Span → BinOp → Tree → Operand
 related n s op.Member e = member n s e
 related n s o e = other s (node s (chain (node s (ident n)) (links ((o, e) ∷ []))))
 
 -- an operand with the operators of one level behind it
-abbrev pub chained : Reading → List (BinOp × Tree) → Reading
+abbrev pub chained : Operand → List (BinOp × Tree) → Operand
 chained x [] = x
 chained (name n s) (l ∷ []) = related n s l.0 l.1
 chained x (l ∷ ls) = other (at_of x) (node (at_of x) (chain (tree_of x) (links (l ∷ ls))))
 
 -- an argument of a call: an expression, one that a `where` makes a generator, or a generator behind such a one
 pub data Argument : Type 0 where
-  given : Reading → Argument
-  guarded : Reading → Tree → Argument
+  given : Operand → Argument
+  guarded : Operand → Tree → Argument
   strict : Generator → Argument
 
 -- the parts of a file
@@ -68,7 +68,7 @@ pub data Place : Type 0 where
   operators : Level → Place
   unit : Place
   atom : Place
-  accesses : Reading → Place
+  accesses : Operand → Place
   indices : Place
   more_indices : Place
   annotations : Place
@@ -112,18 +112,18 @@ Value unmarked = Written
 Value base = Span × Based
 Value (index_types n) = List Based
 Value expr = Tree
-Value (level l) = Reading
-Value (operand l) = Reading
+Value (level l) = Operand
+Value (operand l) = Operand
 Value (operators l) = List (BinOp × Tree)
-Value unit = Reading
-Value atom = Reading
-Value (accesses x) = Reading
+Value unit = Operand
+Value atom = Operand
+Value (accesses x) = Operand
 Value indices = List Tree
 Value more_indices = List Tree
 Value annotations = Bool
 Value marks = Unit {0}
-Value head = Reading
-Value (named n s) = Reading
+Value head = Operand
+Value (named n s) = Operand
 Value (arguments t) = List Argument
 Value text_rest = List Part
 Value (elements c) = List Tree

@@ -18,7 +18,7 @@ use Rattle.mz_grammar.specs.declared.level.Level.TheVariants as level_is
 use Rattle.mz_grammar.specs.declared.list.Closing.{Closing}
 use Rattle.mz_grammar.specs.declared.list.Closing.TheVariants.{Paren}
 use Rattle.mz_grammar.specs.Parts
-use Rattle.mz_grammar.specs.Parts.{Reading, other, at_of, tree_of, Argument, strict, Place, Value}
+use Rattle.mz_grammar.specs.Parts.{Operand, other, at_of, tree_of, Argument, strict, Place, Value}
 use Rattle.mz_grammar.specs.Arguments.{trees_of, generators_of}
 use Rattle.mz_grammar.specs.Tests.{closes, is_left_out, ident_of, text_of, begins_type, ItemKind, an_include, a_constraint, a_solve, an_output, a_predicate, a_test, a_function, an_annotation, an_enum}
 use Rattle.mz_grammar.specs.Model.{rule}
@@ -57,22 +57,22 @@ abbrev pub waited_at : ℕ → Reader Argument
 waited_at room ts = reads (Parts.level level_is.Union) room (behind ts) >>= λ x. reads Parts.filter room x.1 >>= λ w. Ok (strict (generator [] (tree_of x.0) w.0), w.1)
 
 -- a call, behind its arguments
-abbrev pub called_at : Name → Span → List Argument → ℕ → Reader Reading
+abbrev pub called_at : Name → Span → List Argument → ℕ → Reader Operand
 called_at n s xs room ts = if is_sym SLParen (tok_at ts)
     then on (generators_of xs) (stuck syntax ts) (λ gs. open_at room ts (λ r. reads Parts.expr r (behind ts) >>= λ e. symbol_at SRParen e.1 >>= λ c. Ok (other s (node s (gen_call n (gens gs) e.0)), c.1)))
     else on (trees_of xs) (stuck syntax ts) (λ es. Ok (other s (node s (call n (trees es))), ts))
 
 -- heads
-abbrev pub parenthesised_at : ℕ → Reader Reading
+abbrev pub parenthesised_at : ℕ → Reader Operand
 parenthesised_at room ts = open_at room ts (λ r. reads Parts.expr r (behind ts) >>= λ e.
     if is_sym SRParen (tok_at e.1) then Ok (other (place ts) e.0, behind e.1) else (if is_sym SComma (tok_at e.1) then stuck left_out e.1 else stuck syntax e.1))
 
-abbrev pub let_at : ℕ → Reader Reading
+abbrev pub let_at : ℕ → Reader Operand
 let_at room ts = open_at room ts (λ r. if is_sym SLBrace (tok_at (behind ts))
     then open_at r (behind ts) (λ q. reads Parts.let_items q (behind (behind ts)) >>= λ ls. word_at KIn ls.1 >>= λ i. reads Parts.expr (suc q) i.1 >>= λ e. Ok (other (place ts) (node (place ts) (let_in (lets ls.0) e.0)), e.1))
     else stuck syntax (behind ts))
 
-abbrev pub head_symbol_at : Symbol → ℕ → Reader Reading
+abbrev pub head_symbol_at : Symbol → ℕ → Reader Operand
 head_symbol_at SAbsent room ts = Ok (other (place ts) (node (place ts) absent), behind ts)
 head_symbol_at SLParen room ts = parenthesised_at room ts
 head_symbol_at SLBrack room ts = open_at room ts (λ r. reads Parts.array_body r (behind ts) >>= λ f. Ok (other (place ts) (node (place ts) f.0), f.1))
@@ -80,14 +80,14 @@ head_symbol_at SLRows room ts = open_at room ts (λ r. reads Parts.rows_body r (
 head_symbol_at SLBrace room ts = open_at room ts (λ r. reads Parts.set_body r (behind ts) >>= λ f. Ok (other (place ts) (node (place ts) f.0), f.1))
 head_symbol_at _ room ts = stuck syntax ts
 
-abbrev pub head_word_at : Keyword → ℕ → Reader Reading
+abbrev pub head_word_at : Keyword → ℕ → Reader Operand
 head_word_at KTrue room ts = Ok (other (place ts) (node (place ts) (bool true)), behind ts)
 head_word_at KFalse room ts = Ok (other (place ts) (node (place ts) (bool false)), behind ts)
 head_word_at KIf room ts = open_at room ts (λ r. reads Parts.branch r (behind ts) >>= λ b. mapped (λ bs. other (place ts) (node (place ts) (choice (branches bs.0) bs.1))) (with_branches (b.0 ∷ []) (reads Parts.branches r b.1)))
 head_word_at KLet room ts = let_at room ts
 head_word_at _ room ts = stuck syntax ts
 
-abbrev pub head_at : Option Tok → ℕ → Reader Reading
+abbrev pub head_at : Option Tok → ℕ → Reader Operand
 head_at (Some (Int z)) room ts = Ok (other (place ts) (node (place ts) (int z)), behind ts)
 head_at (Some (Text n)) room ts = Ok (other (place ts) (node (place ts) (text n)), behind ts)
 head_at (Some (TextHead n)) room ts = open_at room ts (λ r. mapped (λ ps. other (place ts) (node (place ts) (interp (parts ps)))) (with_front (plain n ∷ []) (reads Parts.text_rest r (behind ts))))
@@ -114,10 +114,10 @@ function_at t room ts = ident_at ts >>= λ i. reads Parts.params room i.1 >>= λ
     Ok (function (record { name = i.0.0; span = i.0.1; result = t; params = ds.0; body = e.0 }), e.1)
 
 -- an item that begins with an expression
-abbrev pub declared_by : Reading → ℕ → Reader ItemTree
+abbrev pub declared_by : Operand → ℕ → Reader ItemTree
 declared_by x room ts = reads (Parts.declared (written (at_of x) no_array false false false (base_of (tree_of x)))) room ts >>= λ d. Ok (declare d.0, d.1)
 
-abbrev pub by_expression_at : Reading → ℕ → Reader ItemTree
+abbrev pub by_expression_at : Operand → ℕ → Reader ItemTree
 by_expression_at (Parts.name n s) room ts = if is_sym SEq (tok_at ts)
     then (reads Parts.expr room (behind ts) >>= λ e. Ok (assign n s e.0, e.1))
     else declared_by (Parts.name n s) room ts

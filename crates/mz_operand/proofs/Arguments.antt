@@ -6,15 +6,15 @@ use Rattle.std.proofs.lemmas.List.{append-nil}
 use Rattle.mz_base.specs.declared.fault.Span.{Span}
 use Rattle.mz_tree.specs.Tree.{Name, Tree, Maybe, Generator, generator}
 use Rattle.mz_cursor.specs.Reading.{on}
-use Rattle.mz_grammar.specs.Parts.{Reading, tree_of, Argument, given, guarded, strict}
+use Rattle.mz_grammar.specs.Parts.{Operand, tree_of, Argument, given, guarded, strict}
 use Rattle.mz_grammar.specs.Arguments.{given_of, trees_of, Role, role_of, waiting, bound, unfit, by_role, generators_behind, generators_of}
 
 -- one more argument behind trees that were taken, if it is an expression
-abbrev with_last : Option (List Tree) → Option Reading → Option (List Tree)
+abbrev with_last : Option (List Tree) → Option Operand → Option (List Tree)
 with_last o g = on o None (λ es. on g None (λ x. Some (es ++ (tree_of x ∷ []))))
 
 -- a first tree stands before both
-with_last-cons : (y : Reading) (o : Option (List Tree)) (g : Option Reading) → option_map (λ es. tree_of y ∷ es) (with_last o g) ≡ with_last (option_map (λ es. tree_of y ∷ es) o) g
+with_last-cons : (y : Operand) (o : Option (List Tree)) (g : Option Operand) → option_map (λ es. tree_of y ∷ es) (with_last o g) ≡ with_last (option_map (λ es. tree_of y ∷ es) o) g
 with_last-cons y None g = refl
 with_last-cons y (Some es) None = refl
 with_last-cons y (Some es) (Some x) = refl

@@ -14,13 +14,13 @@ use Rattle.mz_grammar.specs.Arguments.{given_of, trees_of, role_of, bound, gener
 use Rattle.mz_operand.specs.declared.argument.Argument.{Argument}
 use Rattle.mz_operand.specs.declared.argument.Role.{Role}
 use Rattle.mz_operand.specs.declared.argument.Role.TheVariants as role_is
-use Rattle.mz_operand.specs.declared.reading.Reading.{Reading}
+use Rattle.mz_operand.specs.declared.operand.Operand.{Operand}
 use Rattle.mz_base.specs.declared.held.Held.{Held}
-use Rattle.mz_operand.specs.Views.{reading, argument, role, condition}
+use Rattle.mz_operand.specs.Views.{operand, argument, role, condition}
 use Rattle.mz_operand.proofs.Arguments.{trees_of-behind, Taken, taken-waiting, taken-bound, taken-unfit, taken-done, taken-waits, taken-fails}
 
 -- one more that is an expression
-pub exprs_of-given : (args : List Argument) (arg : Argument) (x : Reading) (fit : Bool) (all more : List Expr) (e : Expr) → Some (reading x) ≡ given_of (argument arg) → tree e ≡ tree_of (reading x) → more ≡ all ++ (e ∷ []) → trees_of (map argument args) ≡ (if fit then Some (map tree all) else None) → trees_of (map argument (args ++ (arg ∷ []))) ≡ (if fit then Some (map tree more) else None)
+pub exprs_of-given : (args : List Argument) (arg : Argument) (x : Operand) (fit : Bool) (all more : List Expr) (e : Expr) → Some (operand x) ≡ given_of (argument arg) → tree e ≡ tree_of (operand x) → more ≡ all ++ (e ∷ []) → trees_of (map argument args) ≡ (if fit then Some (map tree all) else None) → trees_of (map argument (args ++ (arg ∷ []))) ≡ (if fit then Some (map tree more) else None)
 exprs_of-given args arg x true all more e g t m h = rw (map-append, trees_of-behind (map argument args) (argument arg), h, ← g, m, map-append, t)
 exprs_of-given args arg x false all more e g t m h = rw (map-append, trees_of-behind (map argument args) (argument arg), h)
 

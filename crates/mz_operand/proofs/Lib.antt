@@ -1,3 +1,3 @@
 pub mod Arguments
 pub mod ArgumentsOfCode
-pub mod Readings
+pub mod Operands

@@ -1,4 +1,4 @@
--- What the code's readings and arguments stand for.
+-- What the code's operands and arguments stand for.
 use Rattle.std.specs.Prelude.{List, [], ◌∷◌, Bool, true, false, Option}
 use Rattle.std.specs.Option.{option_map}
 use Rattle.mz_tree.specs.Tree.{Tree, Maybe, maybe}
@@ -11,19 +11,19 @@ use Rattle.mz_operand.specs.declared.argument.Role.{Role}
 use Rattle.mz_operand.specs.declared.argument.Role.TheVariants as role_of
 use Rattle.mz_tree.specs.Views.{tree, generator}
 use Rattle.mz_grammar.specs.Parts as pure
-use Rattle.mz_operand.specs.declared.reading.Reading.{Reading}
-use Rattle.mz_operand.specs.declared.reading.Reading.TheVariants as of_code
+use Rattle.mz_operand.specs.declared.operand.Operand.{Operand}
+use Rattle.mz_operand.specs.declared.operand.Operand.TheVariants as of_code
 use Rattle.mz_operand.specs.declared.argument.Argument.{Argument}
 use Rattle.mz_operand.specs.declared.argument.Argument.TheVariants as argument_of
 
-abbrev pub reading : Reading → pure.Reading
-reading (of_code.Name n s) = pure.name n s
-reading (of_code.Member n s e) = pure.member n s (tree e.value)
-reading (of_code.Other s e) = pure.other s (tree e.value)
+abbrev pub operand : Operand → pure.Operand
+operand (of_code.Name n s) = pure.name n s
+operand (of_code.Member n s e) = pure.member n s (tree e.value)
+operand (of_code.Other s e) = pure.other s (tree e.value)
 
 abbrev pub argument : Argument → pure.Argument
-argument (argument_of.Given x) = pure.given (reading x)
-argument (argument_of.Guarded x c) = pure.guarded (reading x) (tree c.value)
+argument (argument_of.Given x) = pure.given (operand x)
+argument (argument_of.Guarded x c) = pure.guarded (operand x) (tree c.value)
 argument (argument_of.Strict g) = pure.strict (generator g.value)
 
 -- a condition, if there is one

@@ -6,9 +6,9 @@ ghost use Rattle.mz_tree.specs.Tree.{maybe};
 ghost use Rattle.mz_tree.specs.Views.{tree, generator};
 ghost use Rattle.mz_grammar.specs.Parts.{given, guarded, strict};
 ghost use Rattle.mz_grammar.specs.Arguments.{possible_after, awaits_in, takes_where, given_of, trees_of, role_of, bound, generators_of};
-ghost use Rattle.mz_operand.specs.Views.{reading, argument, role, condition};
+ghost use Rattle.mz_operand.specs.Views.{operand, argument, role, condition};
 
-use crate::reading::Reading;
+use crate::operand::Operand;
 use mz_base::{Held, Name, Span};
 use mz_grammar::Generators;
 use mz_tree::{Expr, Gen, make_generator};
@@ -17,14 +17,14 @@ use std::alloc::{AllocError, Global};
 /// An argument: an expression, one that a `where` makes a generator, or a generator behind such a one.
 #[derive(Drop)]
 pub enum Argument {
-    Given(Reading),
-    Guarded(Reading, Held<Expr>),
+    Given(Operand),
+    Guarded(Operand, Held<Expr>),
     Strict(Held<Gen>),
 }
 
 /// An expression that a `where` makes a generator.
-pub fn guarded_argument(x: Reading, cond: Expr) -> Argument
-    ensures { argument result ≡ guarded (reading x) (tree cond) }
+pub fn guarded_argument(x: Operand, cond: Expr) -> Argument
+    ensures { argument result ≡ guarded (operand x) (tree cond) }
 {
     Argument::Guarded(x, Held::new(cond))
 }
@@ -37,8 +37,8 @@ pub fn strict_argument(g: Gen) -> Argument
 }
 
 /// Whether they may still be generators after one more argument.
-pub fn possible_after(generators: Generators, x: &Reading) -> Generators
-    ensures { result ≡ possible_after generators (reading x.now) }
+pub fn possible_after(generators: Generators, x: &Operand) -> Generators
+    ensures { result ≡ possible_after generators (operand x.now) }
 {
     match generators {
         Generators::Impossible => Generators::Impossible,
@@ -47,13 +47,13 @@ pub fn possible_after(generators: Generators, x: &Reading) -> Generators
     }
 }
 
-fn possible_with(x: &Reading) -> Generators
-    ensures { result ≡ possible_after Generators.Possible (reading x.now) }
+fn possible_with(x: &Operand) -> Generators
+    ensures { result ≡ possible_after Generators.Possible (operand x.now) }
 {
     match x {
-        Reading::Name(_, _) => Generators::AwaitingIn,
-        Reading::Member(_, _, _) => Generators::Possible,
-        Reading::Other(_, _) => Generators::Impossible,
+        Operand::Name(_, _) => Generators::AwaitingIn,
+        Operand::Member(_, _, _) => Generators::Possible,
+        Operand::Other(_, _) => Generators::Impossible,
     }
 }
 
@@ -65,8 +65,8 @@ pub fn awaits_in(generators: Generators) -> bool
 }
 
 /// Whether a `where` may follow this argument.
-pub fn takes_where(generators: Generators, x: &Reading) -> bool
-    ensures { result ≡ takes_where generators (reading x.now) }
+pub fn takes_where(generators: Generators, x: &Operand) -> bool
+    ensures { result ≡ takes_where generators (operand x.now) }
 {
     match generators {
         Generators::Impossible => false,
@@ -75,18 +75,18 @@ pub fn takes_where(generators: Generators, x: &Reading) -> bool
     }
 }
 
-fn is_member(x: &Reading) -> bool
-    ensures { result ≡ takes_where Generators.Possible (reading x.now) }
+fn is_member(x: &Operand) -> bool
+    ensures { result ≡ takes_where Generators.Possible (operand x.now) }
 {
     match x {
-        Reading::Name(_, _) => false,
-        Reading::Member(_, _, _) => true,
-        Reading::Other(_, _) => false,
+        Operand::Name(_, _) => false,
+        Operand::Member(_, _, _) => true,
+        Operand::Other(_, _) => false,
     }
 }
 
-fn given_of(arg: Argument) -> Option<Reading>
-    ensures { option_map reading result ≡ given_of (argument arg) }
+fn given_of(arg: Argument) -> Option<Operand>
+    ensures { option_map operand result ≡ given_of (argument arg) }
 {
     match arg {
         Argument::Given(x) => Some(x),
@@ -130,23 +130,23 @@ fn role_of(alloc: Global, arg: Argument) -> Result<Role, AllocError>
     }
 }
 
-fn given_role(alloc: Global, x: Reading) -> Result<Role, AllocError>
-    ensures { IfOk result (λ r. role r ≡ role_of (given (reading x))) }
+fn given_role(alloc: Global, x: Operand) -> Result<Role, AllocError>
+    ensures { IfOk result (λ r. role r ≡ role_of (given (operand x))) }
 {
     match x {
-        Reading::Name(n, at) => Ok(Role::Waiting(n, at)),
-        Reading::Member(n, at, set) => bound(alloc, n, at, set, None),
-        Reading::Other(_, _) => Ok(Role::Unfit),
+        Operand::Name(n, at) => Ok(Role::Waiting(n, at)),
+        Operand::Member(n, at, set) => bound(alloc, n, at, set, None),
+        Operand::Other(_, _) => Ok(Role::Unfit),
     }
 }
 
-fn guarded_role(alloc: Global, x: Reading, cond: Held<Expr>) -> Result<Role, AllocError>
-    ensures { IfOk result (λ r. role r ≡ role_of (guarded (reading x) (tree cond.value))) }
+fn guarded_role(alloc: Global, x: Operand, cond: Held<Expr>) -> Result<Role, AllocError>
+    ensures { IfOk result (λ r. role r ≡ role_of (guarded (operand x) (tree cond.value))) }
 {
     match x {
-        Reading::Name(_, _) => Ok(Role::Unfit),
-        Reading::Member(n, at, set) => bound(alloc, n, at, set, Some(cond)),
-        Reading::Other(_, _) => Ok(Role::Unfit),
+        Operand::Name(_, _) => Ok(Role::Unfit),
+        Operand::Member(n, at, set) => bound(alloc, n, at, set, Some(cond)),
+        Operand::Other(_, _) => Ok(Role::Unfit),
     }
 }
 

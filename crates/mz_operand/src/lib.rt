@@ -3,8 +3,8 @@
 #![tactic(auto)]
 
 pub mod argument;
+pub mod operand;
 pub mod operator;
-pub mod reading;
 pub mod step;
 
-pub use reading::Reading;
+pub use operand::Operand;

@@ -6,7 +6,7 @@ ghost use Rattle.mz_tree.specs.Views.{written};
 ghost use Rattle.mz_cursor.specs.Reads.{Reads};
 ghost use Rattle.mz_cursor.specs.Reading.{on};
 ghost use Rattle.mz_cursor.specs.Tokens.{behind, place};
-ghost use Rattle.mz_operand.specs.Views.{reading};
+ghost use Rattle.mz_operand.specs.Views.{operand};
 ghost use Rattle.mz_grammar.specs.Parts as parts;
 ghost use Rattle.mz_grammar.specs.Tests.{item_of, an_include, a_constraint, a_solve, an_output, a_predicate, a_test, a_function, an_annotation, an_enum};
 ghost use Rattle.mz_grammar.specs.Reading.{reads};
@@ -20,7 +20,7 @@ use mz_cursor::{Cursor, is_sym, is_word};
 use mz_expr::parser::{annotations, declaration, declared, expr, level, marks, type_text};
 use mz_grammar::Level;
 use mz_lexer::{Keyword, Symbol, Tok};
-use mz_operand::Reading;
+use mz_operand::Operand;
 use mz_operand::step::ident;
 use mz_tree::{Function, Goal, Item, TypeText, make_bool_base, make_scalar, make_set_base};
 use std::alloc::Global;
@@ -224,11 +224,11 @@ fn other_item(alloc: Global, cur: &mut Cursor<'_>) -> Result<Item, Stop>
 }
 
 /// An item, behind the expression with which it begins.
-fn by_expression(alloc: Global, cur: &mut Cursor<'_>, x: Reading) -> Result<Item, Stop>
-    ensures { Reads item (by_expression_at (reading x)) cur.old cur.new result }
+fn by_expression(alloc: Global, cur: &mut Cursor<'_>, x: Operand) -> Result<Item, Stop>
+    ensures { Reads item (by_expression_at (operand x)) cur.old cur.new result }
 {
     match x {
-        Reading::Name(name, at) => by_name(alloc, cur, name, at),
+        Operand::Name(name, at) => by_name(alloc, cur, name, at),
         other => of_type(alloc, cur, other),
     }
 }
@@ -242,12 +242,12 @@ fn by_name(alloc: Global, cur: &mut Cursor<'_>, name: Name, at: Span) -> Result<
         let e = expr(alloc, cur)?;
         return Ok(Item::Assign(name, at, e));
     }
-    of_type(alloc, cur, Reading::Name(name, at))
+    of_type(alloc, cur, Operand::Name(name, at))
 }
 
 /// A declaration, behind the expression that is its type.
-fn of_type(alloc: Global, cur: &mut Cursor<'_>, x: Reading) -> Result<Item, Stop>
-    ensures { Reads item (declared_by (reading x)) cur.old cur.new result }
+fn of_type(alloc: Global, cur: &mut Cursor<'_>, x: Operand) -> Result<Item, Stop>
+    ensures { Reads item (declared_by (operand x)) cur.old cur.new result }
 {
     let at = x.at();
     let e = x.into_expr(alloc)?;

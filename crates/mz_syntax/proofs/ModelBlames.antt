@@ -23,7 +23,7 @@ use Rattle.mz_grammar.specs.Operators.{prefix_of, binary_of, is_nonassociative, 
 use Rattle.mz_grammar.specs.Tests.{closes, is_left_out, ident_of, text_of, middle_of, tail_of, ends_row, begins_base, begins_type, ItemKind, an_include, a_constraint, a_solve, an_output, a_predicate, a_test, a_function, an_annotation, an_enum, item_of}
 use Rattle.mz_grammar.specs.Arguments.{awaits_in, takes_where, trees_of, generators_of}
 use Rattle.mz_grammar.specs.Parts
-use Rattle.mz_grammar.specs.Parts.{Reading, name, member, other, at_of, tree_of, Argument, given, guarded, strict, Place, Value}
+use Rattle.mz_grammar.specs.Parts.{Operand, name, member, other, at_of, tree_of, Argument, given, guarded, strict, Place, Value}
 use Rattle.mz_grammar.specs.Model.{Ruled, rule, symbol, opening, word, identifier, behind, head_token, head_word, head_symbol, called, guarded_rest, function_rule, by_expression, item_by}
 use Rattle.mz_syntax.specs.Next.{Next}
 use Rattle.mz_syntax.specs.ModelSyntax as ebnf
@@ -198,7 +198,7 @@ guarded_blames t k whole ts x = element whole k ts Paren _ _ (λ vs c v. (tt, λ
 function_blames : (k : ℕ) (whole ts : List Token) (t : Written) → Blames whole k ts (function_rule t)
 function_blames k whole ts t = ident whole k ts _ (λ n us c v. (tt, λ ds vs v p. (tt, λ m ws v a. only whole k ws SEq _ (λ xs q v. (tt, λ b ys v y. tt)))))
 
-by_expression_blames : (x : Reading) (k : ℕ) (whole us : List Token) → Blames whole k us (by_expression x (tok_at us))
+by_expression_blames : (x : Operand) (k : ℕ) (whole us : List Token) → Blames whole k us (by_expression x (tok_at us))
 by_expression_blames (name n s) k whole us = by_symbol whole k us SEq _ _ (λ vs q v. (tt, λ e ws v y. tt)) (λ e. (tt, λ d vs v g. tt))
 by_expression_blames (member n s e) k whole us = (tt, λ d vs v g. tt)
 by_expression_blames (other s e) k whole us = (tt, λ d vs v g. tt)

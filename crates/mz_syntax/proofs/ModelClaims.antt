@@ -26,7 +26,7 @@ use Rattle.mz_grammar.specs.declared.list.Closing.TheVariants.{Paren, Bracket, E
 use Rattle.mz_grammar.specs.Operators.{operator_of, prefix_of, binary_of, if_level, level_number, is_nonassociative, tighter_level}
 use Rattle.mz_grammar.specs.Arguments.{awaits_in}
 use Rattle.mz_grammar.specs.Parts
-use Rattle.mz_grammar.specs.Parts.{Reading, name, member, other, at_of, tree_of, related, chained, Place, Value}
+use Rattle.mz_grammar.specs.Parts.{Operand, name, member, other, at_of, tree_of, related, chained, Place, Value}
 use Rattle.mz_grammar.specs.Model.{unless_annotated}
 use Rattle.mz_syntax.specs.Next.{Next, begins}
 use Rattle.mz_syntax.specs.ModelSyntax as ebnf
@@ -51,7 +51,7 @@ abbrev pub IfBody : Ending → List Token → Type 0
 IfBody closed us = Unit {0}
 IfBody with_body us = Ended us
 
-pub record Term (g : Grade) (k : ℕ) (ts : List Token) (x : Reading) (us : List Token) : Type 0 where
+pub record Term (g : Grade) (k : ℕ) (ts : List Token) (x : Operand) (us : List Token) : Type 0 where
   pub at : at_of x ≡ place ts
   pub ending : Ending
   pub derived : Derives k (term g ending) ts (tree_of x) us
@@ -65,7 +65,7 @@ pub data Follow (l : Level) (k : ℕ) : List Token → List (BinOp × Tree) → 
   some_operators : {f : Ending} {ts us : List Token} {p : BinOp × Tree} {ls : List (BinOp × Tree)} → is_nonassociative l ≡ false → binary_of l (tok_at ts) ≡ Some p.0 → Derives k (operators l f) ts (p ∷ ls) us → IfBody f us → Sealed us → Looser (level_number l) us → Follow l k ts (p ∷ ls) us
 
 -- an access after what was read
-abbrev pub Accessed : Reading → ℕ → List Token → Reading → List Token → Type 0
+abbrev pub Accessed : Operand → ℕ → List Token → Operand → List Token → Type 0
 Accessed x k ts y us = (ess : List (List Tree)) × (is_sym SLBrack (tok_at ts) ≡ true) × Derives k accesses ts ess us × (y ≡ other (at_of x) (with_accesses (at_of x) (tree_of x) ess))
 
 -- whether there are annotations
@@ -223,10 +223,10 @@ some_more t o _ s b n d i c w ws (one_operator u q r e m g j z x) = absurd (true
 some_more {l = l} {k = k} {f = f} {us = us} {vs = vs} {y = y} t o _ s b n d i c w ws (some_operators {p = p} r e g j z x) =
     some_operators {p = (o, y)} s (ap (binary_of l) (told t n) ∙ b) (ebnf.more_operators l t o b n (subst (λ f. Derives k (term (ebnf.operand l) f) us y vs) (is_closed l p.0 f _ i e s) d) g) j z x
 
-pub follow_one : (l : Level) (t : Tok) (o : BinOp) {k : ℕ} {ts us vs : List Token} (x : Reading) → is_nonassociative l ≡ true → binary_of l (Some t) ≡ Some o → Next t ts us → Claim (Parts.operand l) k us x vs → Follow l k ts ((o, tree_of x) ∷ []) vs
+pub follow_one : (l : Level) (t : Tok) (o : BinOp) {k : ℕ} {ts us vs : List Token} (x : Operand) → is_nonassociative l ≡ true → binary_of l (Some t) ≡ Some o → Next t ts us → Claim (Parts.operand l) k us x vs → Follow l k ts ((o, tree_of x) ∷ []) vs
 follow_one l t o x s b n h = one_operator t o s b n h.0.derived h.0.longest h.1 (looser_nonassociative l _ h.2 s)
 
-pub follow_more : (l : Level) (t : Tok) (o : BinOp) {k : ℕ} {ts us vs ws : List Token} (x : Reading) (ls : List (BinOp × Tree)) → is_nonassociative l ≡ false → binary_of l (Some t) ≡ Some o → Next t ts us → Claim (Parts.operand l) k us x vs → Follow l k vs ls ws → Follow l k ts ((o, tree_of x) ∷ ls) ws
+pub follow_more : (l : Level) (t : Tok) (o : BinOp) {k : ℕ} {ts us vs ws : List Token} (x : Operand) (ls : List (BinOp × Tree)) → is_nonassociative l ≡ false → binary_of l (Some t) ≡ Some o → Next t ts us → Claim (Parts.operand l) k us x vs → Follow l k vs ls ws → Follow l k ts ((o, tree_of x) ∷ ls) ws
 follow_more l t o {ws = ws} x ls s b n h g = some_more t o ls s b n h.0.derived h.0.longest h.1 h.2 ws g
 
 -- Chains
@@ -239,7 +239,7 @@ related_at : (n : Name) (s : Span) (o : BinOp) (e : Tree) → at_of (related n s
 related_at n s op.Member e = refl
 related_at n s _ e = refl
 
-chained_tree : (x : Reading) (p : BinOp × Tree) (ls : List (BinOp × Tree)) → tree_of (chained x (p ∷ ls)) ≡ node (at_of x) (pure.chain (tree_of x) (links (p ∷ ls)))
+chained_tree : (x : Operand) (p : BinOp × Tree) (ls : List (BinOp × Tree)) → tree_of (chained x (p ∷ ls)) ≡ node (at_of x) (pure.chain (tree_of x) (links (p ∷ ls)))
 chained_tree (name n s) p [] = related_tree n s p.0 p.1
 chained_tree (name n s) p (q ∷ ls) = refl
 chained_tree (member n s e) p [] = refl
@@ -247,7 +247,7 @@ chained_tree (member n s e) p (q ∷ ls) = refl
 chained_tree (other s e) p [] = refl
 chained_tree (other s e) p (q ∷ ls) = refl
 
-chained_at : (x : Reading) (p : BinOp × Tree) (ls : List (BinOp × Tree)) → at_of (chained x (p ∷ ls)) ≡ at_of x
+chained_at : (x : Operand) (p : BinOp × Tree) (ls : List (BinOp × Tree)) → at_of (chained x (p ∷ ls)) ≡ at_of x
 chained_at (name n s) p [] = related_at n s p.0 p.1
 chained_at (name n s) p (q ∷ ls) = refl
 chained_at (member n s e) p [] = refl
@@ -302,7 +302,7 @@ related_kind : {k : ℕ} {f : Ending} {ts us vs ws : List Token} (l : Level) (t 
 related_kind l t n s op.Member y h b c d = member_kind l t n s y h b c d
 related_kind l t n s _ y h b c d = tt
 
-kind_one : {k : ℕ} {f : Ending} (ts : List Token) {us vs ws : List Token} (l : Level) (t : Tok) (x : Reading) (o : BinOp) (y : Tree) → Kind k x ts us → binary_of l (Some t) ≡ Some o → Next t us vs → Derives k (term (ebnf.operand l) f) vs y ws → Kind k (chained x ((o, y) ∷ [])) ts ws
+kind_one : {k : ℕ} {f : Ending} (ts : List Token) {us vs ws : List Token} (l : Level) (t : Tok) (x : Operand) (o : BinOp) (y : Tree) → Kind k x ts us → binary_of l (Some t) ≡ Some o → Next t us vs → Derives k (term (ebnf.operand l) f) vs y ws → Kind k (chained x ((o, y) ∷ [])) ts ws
 kind_one ts l t (name n s) o y h b c d = related_kind l t n s o y h b c d
 kind_one ts l t (member n s e) o y h b c d = tt
 kind_one ts l t (other s e) o y h b c d = tt
@@ -312,7 +312,7 @@ some_there : {k : ℕ} {l : Level} {f : Ending} {ts us : List Token} {ls : List 
 some_there (ebnf.last_operator _ t o b c d) e = absurd (cc)
 some_there (ebnf.more_operators _ t o b c d g) e = absurd (cc)
 
-kind_some : {k : ℕ} {f : Ending} (ts : List Token) {us ws : List Token} (l : Level) (x : Reading) (p : BinOp × Tree) (ls : List (BinOp × Tree)) → Kind k x ts us → Derives k (operators l f) us (p ∷ ls) ws → Kind k (chained x (p ∷ ls)) ts ws
+kind_some : {k : ℕ} {f : Ending} (ts : List Token) {us ws : List Token} (l : Level) (x : Operand) (p : BinOp × Tree) (ls : List (BinOp × Tree)) → Kind k x ts us → Derives k (operators l f) us (p ∷ ls) ws → Kind k (chained x (p ∷ ls)) ts ws
 kind_some ts l (name n s) _ [] h (ebnf.last_operator _ t o b c d) = related_kind l t n s o _ h b c d
 kind_some ts l (name n s) _ [] h (ebnf.more_operators _ t o b c d g) = absurd (some_there g refl)
 kind_some ts l (name n s) p (q ∷ ls) h g = tt
@@ -323,10 +323,10 @@ kind_some ts l (other s e) p (q ∷ ls) h g = tt
 
 -- Levels
 
-chain_derived : {l : Level} {k : ℕ} {f : Ending} {ts vs : List Token} (x : Reading) (p : BinOp × Tree) (ls : List (BinOp × Tree)) → at_of x ≡ place ts → Derives k (term (ebnf.level l) f) ts (node (place ts) (pure.chain (tree_of x) (links (p ∷ ls)))) vs → Derives k (term (ebnf.level l) f) ts (tree_of (chained x (p ∷ ls))) vs
+chain_derived : {l : Level} {k : ℕ} {f : Ending} {ts vs : List Token} (x : Operand) (p : BinOp × Tree) (ls : List (BinOp × Tree)) → at_of x ≡ place ts → Derives k (term (ebnf.level l) f) ts (node (place ts) (pure.chain (tree_of x) (links (p ∷ ls)))) vs → Derives k (term (ebnf.level l) f) ts (tree_of (chained x (p ∷ ls))) vs
 chain_derived {l = l} {k = k} {f = f} {ts = ts} {vs = vs} x p ls e h = subst (λ e. Derives k (term (ebnf.level l) f) ts e vs) (sym (chained_tree x p ls ∙ ap (λ s. node s (pure.chain (tree_of x) (links (p ∷ ls)))) e)) h
 
-pub level_claim : (l : Level) (k : ℕ) (ts us vs : List Token) (x : Reading) (ls : List (BinOp × Tree)) → Claim (Parts.operand l) k ts x us → Follow l k us ls vs → Claim (Parts.level l) k ts (chained x ls) vs
+pub level_claim : (l : Level) (k : ℕ) (ts us vs : List Token) (x : Operand) (ls : List (BinOp × Tree)) → Claim (Parts.operand l) k ts x us → Follow l k us ls vs → Claim (Parts.level l) k ts (chained x ls) vs
 level_claim l k ts us _ x _ h (no_operator e) = (record { at = h.0.at; ending = h.0.ending; derived = ebnf.alone l h.0.derived; longest = h.0.longest; kind = h.0.kind }, h.1, looser l _ h.2 e)
 level_claim l k ts us vs x _ h (one_operator {f = f} {y = y} t o s b n d i c w) =
     (record { at = chained_at x (o, y) [] ∙ h.0.at; ending = f; derived = chain_derived x (o, y) [] h.0.at (ebnf.compared l t o s h.0.derived b n d); longest = i; kind = kind_one ts l t x o y h.0.kind b n d }, c, w)
@@ -348,31 +348,31 @@ concat_number level_is.Concat e = refl
 concat_number level_is.Iff e = absurd (cc)
 concat_number _ e = absurd (cc)
 
-pub by_tighter_claim : (l m : Level) (k : ℕ) (ts us : List Token) (x : Reading) → tighter_level l ≡ Some m → Claim (Parts.level m) k ts x us → Claim (Parts.operand l) k ts x us
+pub by_tighter_claim : (l m : Level) (k : ℕ) (ts us : List Token) (x : Operand) → tighter_level l ≡ Some m → Claim (Parts.level m) k ts x us → Claim (Parts.operand l) k ts x us
 by_tighter_claim l m k ts us x e h = (record { at = h.0.at; ending = h.0.ending; derived = ebnf.by_tighter l m e h.0.derived; longest = h.0.longest; kind = h.0.kind }, h.1, subst (λ n. Looser n us) (tighter_number l m e) h.2)
 
-pub by_unit_claim : (l : Level) (k : ℕ) (ts us : List Token) (x : Reading) → tighter_level l ≡ None → Claim Parts.unit k ts x us → Claim (Parts.operand l) k ts x us
+pub by_unit_claim : (l : Level) (k : ℕ) (ts us : List Token) (x : Operand) → tighter_level l ≡ None → Claim Parts.unit k ts x us → Claim (Parts.operand l) k ts x us
 by_unit_claim l k ts us x e h = (record { at = h.0.at; ending = h.0.ending; derived = ebnf.by_unit l e h.0.derived; longest = h.0.longest; kind = h.0.kind }, h.1, subst (λ n. Looser n us) (sym (concat_number l e)) (λ o g s. number_low o.0))
 
-pub atom_unit : (k : ℕ) (ts us : List Token) (x : Reading) → Claim Parts.atom k ts x us → Claim Parts.unit k ts x us
+pub atom_unit : (k : ℕ) (ts us : List Token) (x : Operand) → Claim Parts.atom k ts x us → Claim Parts.unit k ts x us
 atom_unit k ts us x h = (record { at = h.0.at; ending = h.0.ending; derived = ebnf.by_atom h.0.derived; longest = h.0.longest; kind = h.0.kind }, h.1)
 
-pub prefix_unit : (k r : ℕ) (ts us vs : List Token) (t : Tok) (o : UnOp) (x : Reading) → k ≡ suc r → prefix_of (Some t) ≡ Some o → Next t ts us → Claim Parts.unit r us x vs → Claim Parts.unit k ts (other (place ts) (node (place ts) (pure.unary o (tree_of x)))) vs
+pub prefix_unit : (k r : ℕ) (ts us vs : List Token) (t : Tok) (o : UnOp) (x : Operand) → k ≡ suc r → prefix_of (Some t) ≡ Some o → Next t ts us → Claim Parts.unit r us x vs → Claim Parts.unit k ts (other (place ts) (node (place ts) (pure.unary o (tree_of x)))) vs
 prefix_unit k r ts us vs t o x e b n h = (record { at = refl; ending = h.0.ending; derived = as_deep e (ebnf.prefixed t o b n h.0.derived); longest = h.0.longest; kind = tt }, h.1)
 
-pub expr_claim : (k : ℕ) (ts us : List Token) (x : Reading) → Claim (Parts.level level_is.Iff) k ts x us → Claim Parts.expr k ts (tree_of x) us
+pub expr_claim : (k : ℕ) (ts us : List Token) (x : Operand) → Claim (Parts.level level_is.Iff) k ts x us → Claim Parts.expr k ts (tree_of x) us
 expr_claim k ts us x h = (ebnf.by_level h.0.derived, (h.2, h.1))
 
-pub tight_claim : (k : ℕ) (ts us : List Token) (x : Reading) → Claim (Parts.level level_is.Union) k ts x us → Derives k ebnf.tight ts (tree_of x) us
+pub tight_claim : (k : ℕ) (ts us : List Token) (x : Operand) → Claim (Parts.level level_is.Union) k ts x us → Derives k ebnf.tight ts (tree_of x) us
 tight_claim k ts us x h = ebnf.by_union h.0.derived
 
 -- Atoms
 
-unless_tree : (b : Bool) (x : Reading) → tree_of (unless_annotated b x) ≡ tree_of x
+unless_tree : (b : Bool) (x : Operand) → tree_of (unless_annotated b x) ≡ tree_of x
 unless_tree true x = refl
 unless_tree false x = refl
 
-unless_at : (b : Bool) (x : Reading) → at_of (unless_annotated b x) ≡ at_of x
+unless_at : (b : Bool) (x : Operand) → at_of (unless_annotated b x) ≡ at_of x
 unless_at true x = refl
 unless_at false x = refl
 
@@ -380,11 +380,11 @@ differ : {b : Bool} → b ≡ false → b ≡ true → ⊥
 differ e g = absurd (cc)
 
 -- nothing but the body's own follows a let
-let_atom : {k : ℕ} {ts us ws : List Token} (h : Reading) (b : Bool) → at_of h ≡ place ts → Derives k (term ebnf.head with_body) ts (tree_of h) us → Ended us → Kind k h ts us → Told b us ws → Claim Parts.atom k ts (unless_annotated b h) ws
+let_atom : {k : ℕ} {ts us ws : List Token} (h : Operand) (b : Bool) → at_of h ≡ place ts → Derives k (term ebnf.head with_body) ts (tree_of h) us → Ended us → Kind k h ts us → Told b us ws → Claim Parts.atom k ts (unless_annotated b h) ws
 let_atom {k = k} {ts = ts} {us = us} {ws = ws} h true e d l q t = absurd (differ l.1.1 t.1)
 let_atom {k = k} {ts = ts} {us = us} {ws = ws} h false e d l q t = subst (λ ws. Claim Parts.atom k ts h ws) (sym t) (record { at = e; ending = with_body; derived = ebnf.a_let_atom d; longest = l; kind = q }, l.1)
 
-plain_kind : (k : ℕ) (ts us ws : List Token) (h : Reading) (b : Bool) → Kind k h ts us → Told b us ws → Kind k (unless_annotated b h) ts ws
+plain_kind : (k : ℕ) (ts us ws : List Token) (h : Operand) (b : Bool) → Kind k h ts us → Told b us ws → Kind k (unless_annotated b h) ts ws
 plain_kind k ts us ws h true q t = tt
 plain_kind k ts us ws h false q t = subst (λ ws. Kind k h ts ws) (sym t) q
 
@@ -396,17 +396,17 @@ told_bracket : (b : Bool) (vs ws : List Token) → is_sym SLBrack (tok_at vs) �
 told_bracket true vs ws e t = t.0
 told_bracket false vs ws e t = subst (λ ws. is_sym SLBrack (tok_at ws) ≡ false) (sym t) e
 
-plain_atom : {k : ℕ} {ts us ws : List Token} {g : Ending} (h : Reading) (b : Bool) → at_of h ≡ place ts → Derives k (term ebnf.head closed) ts (tree_of h) us → Kind k h ts us → is_sym SLBrack (tok_at us) ≡ false → Derives k (anns g) us tt ws → IfBody g ws → is_sym SColons (tok_at ws) ≡ false → Told b us ws → Claim Parts.atom k ts (unless_annotated b h) ws
+plain_atom : {k : ℕ} {ts us ws : List Token} {g : Ending} (h : Operand) (b : Bool) → at_of h ≡ place ts → Derives k (term ebnf.head closed) ts (tree_of h) us → Kind k h ts us → is_sym SLBrack (tok_at us) ≡ false → Derives k (anns g) us tt ws → IfBody g ws → is_sym SColons (tok_at ws) ≡ false → Told b us ws → Claim Parts.atom k ts (unless_annotated b h) ws
 plain_atom {k = k} {ts = ts} {us = us} {ws = ws} {g = g} h b e d q c a i m t =
     (record { at = unless_at b h ∙ e; ending = g; derived = subst (λ x. Derives k (term ebnf.atom g) ts x ws) (sym (unless_tree b h)) (ebnf.an_atom d ebnf.no_access a); longest = i; kind = plain_kind k ts us ws h b q t }, (told_bracket b _ _ c t, m))
 
-accessed_atom : {k : ℕ} {ts us vs ws : List Token} {g : Ending} (h : Reading) (ess : List (List Tree)) (b : Bool) → at_of h ≡ place ts → Derives k (term ebnf.head closed) ts (tree_of h) us → Derives k accesses us ess vs → is_sym SLBrack (tok_at vs) ≡ false → Derives k (anns g) vs tt ws → IfBody g ws → is_sym SColons (tok_at ws) ≡ false → Told b vs ws
+accessed_atom : {k : ℕ} {ts us vs ws : List Token} {g : Ending} (h : Operand) (ess : List (List Tree)) (b : Bool) → at_of h ≡ place ts → Derives k (term ebnf.head closed) ts (tree_of h) us → Derives k accesses us ess vs → is_sym SLBrack (tok_at vs) ≡ false → Derives k (anns g) vs tt ws → IfBody g ws → is_sym SColons (tok_at ws) ≡ false → Told b vs ws
     → Claim Parts.atom k ts (unless_annotated b (other (at_of h) (with_accesses (at_of h) (tree_of h) ess))) ws
 accessed_atom {k = k} {ts = ts} {us = us} {ws = ws} {g = g} h ess b e d x c a i m t =
     let y = other (at_of h) (with_accesses (at_of h) (tree_of h) ess) in
     (record { at = unless_at b y ∙ e; ending = g; derived = subst (λ x. Derives k (term ebnf.atom g) ts x ws) (sym (unless_tree b y ∙ ap (λ s. with_accesses s (tree_of h) ess) e)) (ebnf.an_atom d x a); longest = i; kind = other_kind k ts ws _ _ b }, (told_bracket b _ _ c t, m))
 
-atom_by : (k : ℕ) (ts us vs ws : List Token) (h x : Reading) (b : Bool) (f : Ending) → at_of h ≡ place ts → Derives k (term ebnf.head f) ts (tree_of h) us → IfBody f us → Kind k h ts us → Claim (Parts.accesses h) k us x vs → Claim Parts.annotations k vs b ws → Claim Parts.atom k ts (unless_annotated b x) ws
+atom_by : (k : ℕ) (ts us vs ws : List Token) (h x : Operand) (b : Bool) (f : Ending) → at_of h ≡ place ts → Derives k (term ebnf.head f) ts (tree_of h) us → IfBody f us → Kind k h ts us → Claim (Parts.accesses h) k us x vs → Claim Parts.annotations k vs b ws → Claim Parts.atom k ts (unless_annotated b x) ws
 atom_by k ts us vs ws h x b closed e d l q a n = elim (a.1) [
   | inl c ↦ subst (λ x. Claim Parts.atom k ts (unless_annotated b x) ws) (sym c.0) (plain_atom h b e d q (subst (λ l. is_sym SLBrack (tok_at l) ≡ false) c.1 a.0) (subst (λ l. Derives k (anns n.0) l tt ws) c.1 n.1) n.2 n.3 (subst (λ l. Told b l ws) c.1 n.4))
   | inr c ↦ subst (λ x. Claim Parts.atom k ts (unless_annotated b x) ws) (sym c.3) (accessed_atom h c.0 b e d c.2 a.0 n.1 n.2 n.3 n.4)
@@ -416,7 +416,7 @@ atom_by k ts us vs ws h x b with_body e d l q a n = elim (a.1) [
   | inr c ↦ absurd (differ l.1.0 c.1)
 ]
 
-pub atom_claim : (k : ℕ) (ts us vs ws : List Token) (h x : Reading) (b : Bool) → Claim Parts.head k ts h us → Claim (Parts.accesses h) k us x vs → Claim Parts.annotations k vs b ws → Claim Parts.atom k ts (unless_annotated b x) ws
+pub atom_claim : (k : ℕ) (ts us vs ws : List Token) (h x : Operand) (b : Bool) → Claim Parts.head k ts h us → Claim (Parts.accesses h) k us x vs → Claim Parts.annotations k vs b ws → Claim Parts.atom k ts (unless_annotated b x) ws
 atom_claim k ts us vs ws h x b c a n = atom_by k ts us vs ws h x b c.ending c.at c.derived c.longest c.kind a n
 
 -- Annotations
@@ -424,7 +424,7 @@ atom_claim k ts us vs ws h x b c a n = atom_by k ts us vs ws h x b c.ending c.at
 pub sees : (s : Symbol) {ts us : List Token} → is_sym s (Some (Sym s)) ≡ true → Next (Sym s) ts us → is_sym s (tok_at ts) ≡ true
 sees s e (begins g) = rw (g) e
 
-ann_by : (k : ℕ) (ts us vs ws xs : List Token) (h x : Reading) (b : Bool) (f : Ending) → Next (Sym SColons) ts us → at_of h ≡ place us → Derives k (term ebnf.head f) us (tree_of h) vs → IfBody f vs → Claim (Parts.accesses h) k vs x ws → Claim Parts.annotations k ws b xs → Claim Parts.annotations k ts true xs
+ann_by : (k : ℕ) (ts us vs ws xs : List Token) (h x : Operand) (b : Bool) (f : Ending) → Next (Sym SColons) ts us → at_of h ≡ place us → Derives k (term ebnf.head f) us (tree_of h) vs → IfBody f vs → Claim (Parts.accesses h) k vs x ws → Claim Parts.annotations k ws b xs → Claim Parts.annotations k ts true xs
 unfolding symbol_number
 ann_by k ts us vs ws xs h x b closed s e d l a n = elim (a.1) [
   | inl c ↦ (n.0, ebnf.more_anns s (ebnf.an_atom d ebnf.no_access ebnf.no_anns) (subst (λ l. Derives k (anns n.0) l tt xs) c.1 n.1), n.2, n.3, (told_bracket b _ _ a.0 n.4, sees SColons refl s))
@@ -439,5 +439,5 @@ ann_by k ts us vs ws xs h x b with_body s e d l a n = elim (a.1) [
     last_by true t = absurd (differ l.1.1 t.1)
     last_by false t = subst (λ xs. Claim Parts.annotations k ts true xs) (sym t) (with_body, ebnf.last_ann s (ebnf.a_let_atom d), l, l.1.1, (l.1.0, sees SColons refl s))
 
-pub ann_claim : (k : ℕ) (ts us vs ws xs : List Token) (h x : Reading) (b : Bool) → Next (Sym SColons) ts us → Claim Parts.head k us h vs → Claim (Parts.accesses h) k vs x ws → Claim Parts.annotations k ws b xs → Claim Parts.annotations k ts true xs
+pub ann_claim : (k : ℕ) (ts us vs ws xs : List Token) (h x : Operand) (b : Bool) → Next (Sym SColons) ts us → Claim Parts.head k us h vs → Claim (Parts.accesses h) k vs x ws → Claim Parts.annotations k ws b xs → Claim Parts.annotations k ts true xs
 ann_claim k ts us vs ws xs h x b s c a n = ann_by k ts us vs ws xs h x b c.ending s c.at c.derived c.longest a n

@@ -26,7 +26,7 @@ use Rattle.mz_grammar.specs.Operators.{prefix_of, binary_of, is_nonassociative, 
 use Rattle.mz_grammar.specs.Tests.{closes, is_left_out, ident_of, text_of, middle_of, tail_of, ends_row, begins_base, begins_type, ItemKind, an_include, a_constraint, a_solve, an_output, a_predicate, a_test, a_function, an_annotation, an_enum, item_of}
 use Rattle.mz_grammar.specs.Arguments.{awaits_in, takes_where, trees_of, generators_of}
 use Rattle.mz_grammar.specs.Parts
-use Rattle.mz_grammar.specs.Parts.{Reading, name, member, other, at_of, tree_of, Argument, given, guarded, strict, Place, Value}
+use Rattle.mz_grammar.specs.Parts.{Operand, name, member, other, at_of, tree_of, Argument, given, guarded, strict, Place, Value}
 use Rattle.mz_grammar.specs.Model as model
 use Rattle.mz_grammar.specs.Model.{Ruled, rule, symbol, opening, word, identifier, behind, head_token, head_word, head_symbol, called, guarded_rest, function_rule, by_expression, other_item, item_by}
 use Rattle.mz_syntax.specs.Next.{Next, begins}
@@ -199,7 +199,7 @@ arguments_mean t k ts = by_symbol k ts k ts SRParen _ _
     (λ vs c xs ws g. (refl, (g.0, more_args (given_arg x (expr_claim k ts us x h).0 h.0.kind) c (args_after t x g.1), g.2)))
     (λ vs c. (refl, (us, last_arg (given_arg x (expr_claim k ts us x h).0 h.0.kind), c))))))
   where
-    in_first : (t : Generators) (k : ℕ) (ts us vs ws : List Token) (x : Reading) (w : pure.Maybe) → (awaits_in t && is_word KIn (tok_at ts)) ≡ true → Over ts us → Claim (Parts.level level_is.Union) k us x vs → Claim Parts.filter k vs w ws → Arg k (awaits_in t) ts (strict (generator [] (tree_of x) w)) ws
+    in_first : (t : Generators) (k : ℕ) (ts us vs ws : List Token) (x : Operand) (w : pure.Maybe) → (awaits_in t && is_word KIn (tok_at ts)) ≡ true → Over ts us → Claim (Parts.level level_is.Union) k us x vs → Claim Parts.filter k vs w ws → Arg k (awaits_in t) ts (strict (generator [] (tree_of x) w)) ws
     in_first t k ts us vs ws x w b o h i =
         let p = both (awaits_in t) (is_word KIn (tok_at ts)) b in
         subst (λ b. Arg k b ts (strict (generator [] (tree_of x) w)) ws) (sym p.0) (in_arg (meant.next_word KIn p.1 o) (tight_claim k us vs x h) i)
@@ -212,10 +212,10 @@ function_means : (k : ℕ) (from ts : List Token) (t : Written) → ((n : Name) 
 function_means k from ts t h = ident k from k ts _ (λ n us c ds vs p m ws a. only k from k ws SEq _ (λ xs q b ys y. (refl, h n a.0 ds b us vs ws xs ys c p a.1 q y.0)))
 
 -- a type that is an expression
-expression_type : {k : ℕ} {ts us : List Token} (x : Reading) → Claim (Parts.level level_is.Union) k ts x us → Derives k ebnf.type ts (written (at_of x) no_array false false false (base_of (tree_of x))) us
+expression_type : {k : ℕ} {ts us : List Token} (x : Operand) → Claim (Parts.level level_is.Union) k ts x us → Derives k ebnf.type ts (written (at_of x) no_array false false false (base_of (tree_of x))) us
 expression_type {k = k} {ts = ts} {us = us} x h = subst (λ s. Derives k ebnf.type ts (written s no_array false false false (base_of (tree_of x))) us) (sym h.0.at) (ebnf.by_elem (ebnf.by_unmarked (ebnf.by_base (ebnf.tight_base (tight_claim k ts us x h)))))
 
-by_expression_means : (x : Reading) (k : ℕ) (ts us : List Token) → Claim (Parts.level level_is.Union) k ts x us → Means k ts k us (by_expression x (tok_at us))
+by_expression_means : (x : Operand) (k : ℕ) (ts us : List Token) → Claim (Parts.level level_is.Union) k ts x us → Means k ts k us (by_expression x (tok_at us))
 unfolding symbol_number
 by_expression_means (name n s) k ts us h = by_symbol k ts k us SEq _ _
     (λ vs q e ws y. (refl, subst (λ s. Derives k ebnf.item ts (assign n s e) ws) (sym h.0.kind.0) (ebnf.assign_item n h.0.kind.1 q y.0)))
@@ -278,7 +278,7 @@ some_bases ebnf.none c e = absurd (neither (sees SRBrack refl c) e)
 some_bases (ebnf.some h) c e = h
 
 -- accesses
-accesses_claim : (x : Reading) (k r : ℕ) (ts us vs ws : List Token) (es : List Tree) (y : Reading) → k ≡ suc r → Next (Sym SLBrack) ts us → Claim Parts.indices r us es vs → Claim (Parts.accesses (model.accessed x es)) r vs y ws → Claim (Parts.accesses x) k ts y ws
+accesses_claim : (x : Operand) (k r : ℕ) (ts us vs ws : List Token) (es : List Tree) (y : Operand) → k ≡ suc r → Next (Sym SLBrack) ts us → Claim Parts.indices r us es vs → Claim (Parts.accesses (model.accessed x es)) r vs y ws → Claim (Parts.accesses x) k ts y ws
 unfolding symbol_number
 accesses_claim x k r ts us vs ws es y e c i a = elim (a.1) [
   | inl d ↦ (a.0, inr (es ∷ [], sees SLBrack refl c, as_deep e (ebnf.more_accesses c i.1 i.2 (subst (λ l. Derives r ebnf.accesses vs [] l) (sym d.1) ebnf.no_access)), d.0))

@@ -12,22 +12,22 @@ use Rattle.mz_tree.specs.Tree.{Name, Tree, Maybe, Generator, generator, nothing,
 use Rattle.mz_cursor.specs.Tokens.{place}
 use Rattle.mz_grammar.specs.declared.list.Generators.{Generators}
 use Rattle.mz_grammar.specs.declared.list.Generators.TheVariants.{Possible, AwaitingIn, Impossible}
-use Rattle.mz_grammar.specs.Parts.{Reading, name, member, other, tree_of, Argument, given, guarded, strict}
+use Rattle.mz_grammar.specs.Parts.{Operand, name, member, other, tree_of, Argument, given, guarded, strict}
 use Rattle.mz_grammar.specs.Arguments.{possible_after, awaits_in, trees_of, Role, waiting, bound, unfit, role_of, by_role, generators_behind, generators_of}
 use Rattle.mz_syntax.specs.Next.{Next}
 use Rattle.mz_syntax.specs.ModelSyntax as ebnf
 use Rattle.mz_syntax.specs.ModelSyntax.{Derives, list, optional, perhaps, expr, tight, gen}
 
 -- what was read beside an expression: a name, or a name in a set
-abbrev pub Kind : ℕ → Reading → List Token → List Token → Type 0
+abbrev pub Kind : ℕ → Operand → List Token → List Token → Type 0
 Kind k (name n s) ts us = (s ≡ place ts) × Next (Ident n) ts us
 Kind k (member n s e) ts us = (vs : List Token) × (ws : List Token) × (s ≡ place ts) × Next (Ident n) ts vs × Next (Word KIn) vs ws × Derives k tight ws e us
 Kind k (other s e) ts us = Unit {0}
 
 -- An `in` may come first only where a name waits for it.
 pub data Arg (k : ℕ) : Bool → List Token → Argument → List Token → Type 0 where
-  given_arg : {b : Bool} {ts us : List Token} (x : Reading) → Derives k expr ts (tree_of x) us → Kind k x ts us → Arg k b ts (given x) us
-  guarded_arg : {b : Bool} {ts us vs ws : List Token} (x : Reading) (c : Tree) → Kind k x ts us → Next (Word KWhere) us vs → Derives k expr vs c ws → Arg k b ts (guarded x c) ws
+  given_arg : {b : Bool} {ts us : List Token} (x : Operand) → Derives k expr ts (tree_of x) us → Kind k x ts us → Arg k b ts (given x) us
+  guarded_arg : {b : Bool} {ts us vs ws : List Token} (x : Operand) (c : Tree) → Kind k x ts us → Next (Word KWhere) us vs → Derives k expr vs c ws → Arg k b ts (guarded x c) ws
   in_arg : {ts us vs ws : List Token} {e : Tree} {w : Maybe} → Next (Word KIn) ts us → Derives k tight us e vs → Derives k (perhaps (Word KWhere)) vs w ws → Arg k true ts (strict (generator [] e w)) ws
   strict_arg : {b : Bool} {ts us : List Token} {g : Generator} → Derives k gen ts g us → Arg k b ts (strict g) us
 
@@ -54,7 +54,7 @@ weaker b (last_arg h) = last_arg (weaker_arg b h)
 weaker b (more_args h c g) = more_args (weaker_arg b h) c g
 
 -- as the rules keep account of it
-pub args_after : {k : ℕ} {ts us : List Token} {all : List Argument} (t : Generators) (x : Reading) → Args k (awaits_in (possible_after t x)) ts all us → Args k (waits_after (given x)) ts all us
+pub args_after : {k : ℕ} {ts us : List Token} {all : List Argument} (t : Generators) (x : Operand) → Args k (awaits_in (possible_after t x)) ts all us → Args k (waits_after (given x)) ts all us
 args_after Impossible (name n s) h = weaker true h
 args_after Impossible (member n s e) h = h
 args_after Impossible (other s e) h = h

@@ -8,25 +8,25 @@ ghost use Rattle.mz_cursor.specs.Reads.{Reads};
 ghost use Rattle.mz_grammar.specs.Parts as parts;
 ghost use Rattle.mz_grammar.specs.Reading.{reads};
 ghost use Rattle.mz_grammar.specs.Steps.{head_word_at, let_at, with_branches};
-ghost use Rattle.mz_operand.specs.Views.{reading};
+ghost use Rattle.mz_operand.specs.Views.{operand};
 ghost use Rattle.mz_expr.specs.Descent.{MayOpen, MayRead};
 
 use crate::parser::descent::{Descent, Entry};
 use mz_base::{Held, Stop};
 use mz_cursor::{Cursor, is_sym, is_word};
 use mz_lexer::{Keyword, Symbol};
-use mz_operand::reading::{Reading, other};
+use mz_operand::operand::{Operand, other};
 use mz_operand::step::let_separator;
 use mz_tree::{Expr, LetItem, make_if, make_let, make_let_constraint, make_let_declaration};
 use std::alloc::Global;
 
-impl<F: Fn(Global, &mut Cursor<'_>, Entry) -> Result<Reading, Stop>> Descent<F> {
+impl<F: Fn(Global, &mut Cursor<'_>, Entry) -> Result<Operand, Stop>> Descent<F> {
     /// An `if`.
     #[tactic(auto, using(mz_cursor::proofs::Steps::open_more, mz_cursor::proofs::Steps::open_none))]
-    pub fn choice(&self, cur: &mut Cursor<'_>) -> Result<Reading, Stop>
+    pub fn choice(&self, cur: &mut Cursor<'_>) -> Result<Operand, Stop>
         requires may { MayOpen self.now.room self.now.entry (F.pre self.now.reader) (F.post self.now.reader) cur.old }
         requires some { 0 < length cur.old.rest.now }
-        ensures { Reads reading (head_word_at Keyword.KIf) cur.old cur.new result }
+        ensures { Reads operand (head_word_at Keyword.KIf) cur.old cur.new result }
     {
         cur.push()?;
         let at = cur.pass();
@@ -81,10 +81,10 @@ impl<F: Fn(Global, &mut Cursor<'_>, Entry) -> Result<Reading, Stop>> Descent<F> 
 
     /// A `let`.
     #[tactic(auto, using(mz_cursor::proofs::Steps::open_more, mz_cursor::proofs::Steps::open_none))]
-    pub fn let_in(&self, cur: &mut Cursor<'_>) -> Result<Reading, Stop>
+    pub fn let_in(&self, cur: &mut Cursor<'_>) -> Result<Operand, Stop>
         requires may { MayOpen self.now.room self.now.entry (F.pre self.now.reader) (F.post self.now.reader) cur.old }
         requires some { 0 < length cur.old.rest.now }
-        ensures { Reads reading let_at cur.old cur.new result }
+        ensures { Reads operand let_at cur.old cur.new result }
     {
         cur.push()?;
         let at = cur.pass();

@@ -8,7 +8,7 @@ ghost use Rattle.mz_cursor.specs.Reading.{mapped, with_front};
 ghost use Rattle.mz_grammar.specs.Parts as parts;
 ghost use Rattle.mz_grammar.specs.Reading.{reads};
 ghost use Rattle.mz_grammar.specs.Steps.{called_at, guarded_at, waited_at};
-ghost use Rattle.mz_operand.specs.Views.{reading, argument};
+ghost use Rattle.mz_operand.specs.Views.{operand, argument};
 ghost use Rattle.mz_expr.specs.Descent.{MayOpen, MayRead};
 
 use crate::parser::descent::{Descent, Entry};
@@ -20,20 +20,20 @@ use mz_operand::argument::{
     Argument, awaits_in, exprs_of, generators_of, guarded_argument, possible_after,
     strict_argument, takes_where,
 };
-use mz_operand::reading::{Reading, other};
+use mz_operand::operand::{Operand, other};
 use mz_operand::step::separator;
 use mz_tree::{make_call, make_gen_call, make_generator};
 use std::alloc::Global;
 
-impl<F: Fn(Global, &mut Cursor<'_>, Entry) -> Result<Reading, Stop>> Descent<F> {
+impl<F: Fn(Global, &mut Cursor<'_>, Entry) -> Result<Operand, Stop>> Descent<F> {
     /// A name, or a call of it.
     #[tactic(auto, using(mz_grammar::proofs::Equations::named_reads, mz_cursor::proofs::Steps::open_more, mz_cursor::proofs::Steps::open_none))]
-    pub fn named(&self, cur: &mut Cursor<'_>, name: Name, at: Span) -> Result<Reading, Stop>
+    pub fn named(&self, cur: &mut Cursor<'_>, name: Name, at: Span) -> Result<Operand, Stop>
         requires { MayOpen self.now.room self.now.entry (F.pre self.now.reader) (F.post self.now.reader) cur.old }
-        ensures { Passes reading (reads (parts.named name at)) cur.old cur.new result }
+        ensures { Passes operand (reads (parts.named name at)) cur.old cur.new result }
     {
         if !is_sym(Symbol::SLParen, cur.tok()) {
-            return Ok(Reading::Name(name, at));
+            return Ok(Operand::Name(name, at));
         }
         cur.push()?;
         cur.skip();
@@ -49,9 +49,9 @@ impl<F: Fn(Global, &mut Cursor<'_>, Entry) -> Result<Reading, Stop>> Descent<F> 
         name: Name,
         at: Span,
         args: Vec<Argument>,
-    ) -> Result<Reading, Stop>
+    ) -> Result<Operand, Stop>
         requires { MayOpen self.now.room self.now.entry (F.pre self.now.reader) (F.post self.now.reader) cur.old }
-        ensures { Passes reading (called_at name at (map argument args.items)) cur.old cur.new result }
+        ensures { Passes operand (called_at name at (map argument args.items)) cur.old cur.new result }
     {
         if is_sym(Symbol::SLParen, cur.tok()) {
             return self.generator_call(cur, name, at, args);
@@ -70,10 +70,10 @@ impl<F: Fn(Global, &mut Cursor<'_>, Entry) -> Result<Reading, Stop>> Descent<F> 
         name: Name,
         at: Span,
         args: Vec<Argument>,
-    ) -> Result<Reading, Stop>
+    ) -> Result<Operand, Stop>
         requires may { MayOpen self.now.room self.now.entry (F.pre self.now.reader) (F.post self.now.reader) cur.old }
         requires opens { is_sym Symbol.SLParen (tok_at cur.old.rest.now) ≡ true }
-        ensures { Passes reading (called_at name at (map argument args.items)) cur.old cur.new result }
+        ensures { Passes operand (called_at name at (map argument args.items)) cur.old cur.new result }
     {
         match generators_of(self.alloc, args)? {
             None => Err(cur.unfit()),

@@ -16,12 +16,12 @@ use mz_base::{Held, Name, Span, Stop};
 use mz_cursor::{Cursor, is_sym, is_word};
 use mz_grammar::{Closing, Level};
 use mz_lexer::{Keyword, Symbol};
-use mz_operand::reading::Reading;
+use mz_operand::operand::Operand;
 use mz_operand::step::{closes, ident, ident_of, separator};
 use mz_tree::{Expr, Gen, make_generator};
 use std::alloc::Global;
 
-impl<F: Fn(Global, &mut Cursor<'_>, Entry) -> Result<Reading, Stop>> Descent<F> {
+impl<F: Fn(Global, &mut Cursor<'_>, Entry) -> Result<Operand, Stop>> Descent<F> {
     /// A generator.
     #[tactic(auto, using(mz_grammar::proofs::ListEquations::generator_reads))]
     pub fn generator(&self, cur: &mut Cursor<'_>) -> Result<Gen, Stop>

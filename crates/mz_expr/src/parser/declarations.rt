@@ -12,12 +12,12 @@ use crate::parser::descent::{Descent, Entry};
 use mz_base::Stop;
 use mz_cursor::{Cursor, is_sym};
 use mz_lexer::Symbol;
-use mz_operand::reading::Reading;
+use mz_operand::operand::Operand;
 use mz_operand::step::ident;
 use mz_tree::{Decl, Expr, TypeText, make_declaration};
 use std::alloc::Global;
 
-impl<F: Fn(Global, &mut Cursor<'_>, Entry) -> Result<Reading, Stop>> Descent<F> {
+impl<F: Fn(Global, &mut Cursor<'_>, Entry) -> Result<Operand, Stop>> Descent<F> {
     /// A declaration.
     #[tactic(auto, using(mz_grammar::proofs::ItemEquations::declaration_reads))]
     pub fn declaration(&self, cur: &mut Cursor<'_>) -> Result<Decl, Stop>

@@ -7,14 +7,14 @@ ghost use Rattle.mz_base.specs.declared.limit.TheConstants.{OPEN_LIMIT};
 ghost use Rattle.mz_cursor.specs.Reads.{Reads};
 ghost use Rattle.mz_grammar.specs.Parts as parts;
 ghost use Rattle.mz_grammar.specs.Reading.{reads};
-ghost use Rattle.mz_operand.specs.Views.{reading};
+ghost use Rattle.mz_operand.specs.Views.{operand};
 ghost use Rattle.mz_expr.specs.Descent.{entry_at, tighter, MayBegin, MayRead};
 
 use mz_base::Stop;
 use mz_cursor::Cursor;
 use mz_grammar::Level;
+use mz_operand::operand::Operand;
 use mz_operand::operator::tighter_level;
-use mz_operand::reading::Reading;
 use std::alloc::Global;
 
 /// Where the descent begins.
@@ -48,7 +48,7 @@ fn tighter(l: Level) -> Entry
     }
 }
 
-impl<F: Fn(Global, &mut Cursor<'_>, Entry) -> Result<Reading, Stop>> Descent<F> {
+impl<F: Fn(Global, &mut Cursor<'_>, Entry) -> Result<Operand, Stop>> Descent<F> {
     /// What reads all that stands where so many tokens may still be opened.
     pub fn outside(alloc: Global, room: u32, reader: F) -> Descent<F>
         requires { room ≤ OPEN_LIMIT }
@@ -64,35 +64,35 @@ impl<F: Fn(Global, &mut Cursor<'_>, Entry) -> Result<Reading, Stop>> Descent<F> 
 
     /// What is read behind a token that was opened.
     #[tactic(auto, using(crate::proofs::Descents::below_room))]
-    pub fn inside(&self, cur: &mut Cursor<'_>, entry: Entry) -> Result<Reading, Stop>
+    pub fn inside(&self, cur: &mut Cursor<'_>, entry: Entry) -> Result<Operand, Stop>
         requires { MayRead self.now.room self.now.entry (F.pre self.now.reader) (F.post self.now.reader) cur.old }
-        ensures { Reads reading (entry_at entry) cur.old cur.new result }
+        ensures { Reads operand (entry_at entry) cur.old cur.new result }
     {
         (self.reader)(self.alloc, cur, entry)
     }
 
     /// The head of an annotation.
     #[tactic(auto, using(crate::proofs::Descents::below_unit))]
-    pub fn apart(&self, cur: &mut Cursor<'_>) -> Result<Reading, Stop>
+    pub fn apart(&self, cur: &mut Cursor<'_>) -> Result<Operand, Stop>
         requires { MayBegin Entry.Unit self.now.room self.now.entry (F.pre self.now.reader) (F.post self.now.reader) cur.old }
-        ensures { Reads reading (reads parts.head) cur.old cur.new result }
+        ensures { Reads operand (reads parts.head) cur.old cur.new result }
     {
         (self.reader)(self.alloc, cur, Entry::Head)
     }
 
     /// What stands on either side of an operator of this level.
     #[tactic(auto, using(crate::proofs::Descents::operand_entry, crate::proofs::Descents::below_level))]
-    pub fn operand(&self, cur: &mut Cursor<'_>, l: Level) -> Result<Reading, Stop>
+    pub fn operand(&self, cur: &mut Cursor<'_>, l: Level) -> Result<Operand, Stop>
         requires { MayBegin (Entry.Level l) self.now.room self.now.entry (F.pre self.now.reader) (F.post self.now.reader) cur.old }
-        ensures { Reads reading (reads (parts.operand l)) cur.old cur.new result }
+        ensures { Reads operand (reads (parts.operand l)) cur.old cur.new result }
     {
         (self.reader)(self.alloc, cur, tighter(l))
     }
 }
 
 /// What the descent reads from this entry on.
-pub fn descend(alloc: Global, cur: &mut Cursor<'_>, entry: Entry) -> Result<Reading, Stop>
-    ensures { Reads reading (entry_at entry) cur.old cur.new result }
+pub fn descend(alloc: Global, cur: &mut Cursor<'_>, entry: Entry) -> Result<Operand, Stop>
+    ensures { Reads operand (entry_at entry) cur.old cur.new result }
 {
     let descent = Descent {
         alloc,

@@ -5,7 +5,7 @@ ghost use Rattle.mz_tree.specs.Views.{tree, link};
 ghost use Rattle.mz_cursor.specs.Reads.{Passes, Reads};
 ghost use Rattle.mz_grammar.specs.Parts as parts;
 ghost use Rattle.mz_grammar.specs.Reading.{reads};
-ghost use Rattle.mz_operand.specs.Views.{reading};
+ghost use Rattle.mz_operand.specs.Views.{operand};
 ghost use Rattle.mz_expr.specs.StepsClimb.{finished};
 ghost use Rattle.mz_expr.specs.Descent.{MayBegin, MayOpen, MayRead};
 
@@ -14,13 +14,13 @@ use mz_base::Stop;
 use mz_cursor::{Cursor, is_sym};
 use mz_grammar::{Closing, Level};
 use mz_lexer::Symbol;
+use mz_operand::operand::{Operand, accessed, chained, other, unless_annotated};
 use mz_operand::operator::{binary_of, is_nonassociative, level_number, next_level, prefix_of};
-use mz_operand::reading::{Reading, accessed, chained, other, unless_annotated};
 use mz_operand::step::separator;
 use mz_tree::{BinOp, Expr, make_unary};
 use std::alloc::Global;
 
-impl<F: Fn(Global, &mut Cursor<'_>, Entry) -> Result<Reading, Stop>> Descent<F> {
+impl<F: Fn(Global, &mut Cursor<'_>, Entry) -> Result<Operand, Stop>> Descent<F> {
     /// A whole expression.
     #[tactic(auto, using(mz_grammar::proofs::Equations::expr_reads))]
     pub fn expr(&self, cur: &mut Cursor<'_>) -> Result<Expr, Stop>
@@ -34,9 +34,9 @@ impl<F: Fn(Global, &mut Cursor<'_>, Entry) -> Result<Reading, Stop>> Descent<F> 
     /// An expression of this level or a tighter one: what stands in front of the operators, and then level by level those that
     /// stand there, each level looser than the last.
     #[tactic(auto, using(crate::proofs::Climbs::climbs))]
-    pub fn level(&self, cur: &mut Cursor<'_>, l: Level) -> Result<Reading, Stop>
+    pub fn level(&self, cur: &mut Cursor<'_>, l: Level) -> Result<Operand, Stop>
         requires { MayBegin (Entry.Level l) self.now.room self.now.entry (F.pre self.now.reader) (F.post self.now.reader) cur.old }
-        ensures { Reads reading (reads (parts.level l)) cur.old cur.new result }
+        ensures { Reads operand (reads (parts.level l)) cur.old cur.new result }
     {
         let mut x = self.unit(cur)?;
         let mut done: u8 = 13;
@@ -48,9 +48,9 @@ impl<F: Fn(Global, &mut Cursor<'_>, Entry) -> Result<Reading, Stop>> Descent<F> 
     }
 
     /// An operand with the operators of one level behind it.
-    fn finished(&self, cur: &mut Cursor<'_>, l: Level, first: Reading) -> Result<Reading, Stop>
+    fn finished(&self, cur: &mut Cursor<'_>, l: Level, first: Operand) -> Result<Operand, Stop>
         requires { MayBegin (Entry.Level l) self.now.room self.now.entry (F.pre self.now.reader) (F.post self.now.reader) cur.old }
-        ensures { Passes reading (finished l (reading first)) cur.old cur.new result }
+        ensures { Passes operand (finished l (operand first)) cur.old cur.new result }
     {
         let links = self.operators(cur, l)?;
         Ok(chained(self.alloc, first, links)?)
@@ -76,9 +76,9 @@ impl<F: Fn(Global, &mut Cursor<'_>, Entry) -> Result<Reading, Stop>> Descent<F> 
 
     /// An atom, or a prefix operator and what it applies to.
     #[tactic(auto, using(mz_grammar::proofs::Equations::unit_reads, mz_cursor::proofs::Steps::open_more, mz_cursor::proofs::Steps::open_none))]
-    pub fn unit(&self, cur: &mut Cursor<'_>) -> Result<Reading, Stop>
+    pub fn unit(&self, cur: &mut Cursor<'_>) -> Result<Operand, Stop>
         requires { MayBegin Entry.Unit self.now.room self.now.entry (F.pre self.now.reader) (F.post self.now.reader) cur.old }
-        ensures { Reads reading (reads parts.unit) cur.old cur.new result }
+        ensures { Reads operand (reads parts.unit) cur.old cur.new result }
     {
         match prefix_of(cur.tok()) {
             None => self.atom(cur),
@@ -95,9 +95,9 @@ impl<F: Fn(Global, &mut Cursor<'_>, Entry) -> Result<Reading, Stop>> Descent<F> 
 
     /// A head with its accesses and annotations.
     #[tactic(auto, using(mz_grammar::proofs::Equations::atom_reads))]
-    fn atom(&self, cur: &mut Cursor<'_>) -> Result<Reading, Stop>
+    fn atom(&self, cur: &mut Cursor<'_>) -> Result<Operand, Stop>
         requires { MayBegin Entry.Unit self.now.room self.now.entry (F.pre self.now.reader) (F.post self.now.reader) cur.old }
-        ensures { Reads reading (reads parts.atom) cur.old cur.new result }
+        ensures { Reads operand (reads parts.atom) cur.old cur.new result }
     {
         let first = self.head(cur)?;
         let x = self.accesses(cur, first)?;
@@ -107,9 +107,9 @@ impl<F: Fn(Global, &mut Cursor<'_>, Entry) -> Result<Reading, Stop>> Descent<F> 
 
     /// The accesses behind a head. Each `[` stays open up to the last `]`.
     #[tactic(auto, using(mz_grammar::proofs::Equations::accesses_reads, mz_cursor::proofs::Steps::open_more, mz_cursor::proofs::Steps::open_none))]
-    fn accesses(&self, cur: &mut Cursor<'_>, first: Reading) -> Result<Reading, Stop>
+    fn accesses(&self, cur: &mut Cursor<'_>, first: Operand) -> Result<Operand, Stop>
         requires { MayOpen self.now.room self.now.entry (F.pre self.now.reader) (F.post self.now.reader) cur.old }
-        ensures { Passes reading (reads (parts.accesses (reading first))) cur.old cur.new result }
+        ensures { Passes operand (reads (parts.accesses (operand first))) cur.old cur.new result }
     {
         let room = cur.room;
         let mut x = first;

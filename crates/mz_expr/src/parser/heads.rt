@@ -5,23 +5,23 @@ ghost use Rattle.mz_cursor.specs.Reads.{Reads};
 ghost use Rattle.mz_grammar.specs.Parts as parts;
 ghost use Rattle.mz_grammar.specs.Reading.{reads};
 ghost use Rattle.mz_grammar.specs.Steps.{head_at, head_word_at, head_symbol_at, parenthesised_at};
-ghost use Rattle.mz_operand.specs.Views.{reading};
+ghost use Rattle.mz_operand.specs.Views.{operand};
 ghost use Rattle.mz_expr.specs.Descent.{MayOpen};
 
 use crate::parser::descent::{Descent, Entry};
 use mz_base::{Held, Name, Stop};
 use mz_cursor::{Cursor, is_sym};
 use mz_lexer::{Keyword, Symbol, Tok};
-use mz_operand::reading::{Reading, other};
+use mz_operand::operand::{Operand, other};
 use mz_tree::{make_absent, make_bool, make_int, make_interp, make_plain, make_rows, make_text};
 use std::alloc::Global;
 
-impl<F: Fn(Global, &mut Cursor<'_>, Entry) -> Result<Reading, Stop>> Descent<F> {
+impl<F: Fn(Global, &mut Cursor<'_>, Entry) -> Result<Operand, Stop>> Descent<F> {
     /// A head.
     #[tactic(auto, using(mz_grammar::proofs::Equations::head_reads))]
-    pub fn head(&self, cur: &mut Cursor<'_>) -> Result<Reading, Stop>
+    pub fn head(&self, cur: &mut Cursor<'_>) -> Result<Operand, Stop>
         requires { MayOpen self.now.room self.now.entry (F.pre self.now.reader) (F.post self.now.reader) cur.old }
-        ensures { Reads reading (reads parts.head) cur.old cur.new result }
+        ensures { Reads operand (reads parts.head) cur.old cur.new result }
     {
         match cur.tok() {
             None => Err(cur.unfit()),
@@ -30,10 +30,10 @@ impl<F: Fn(Global, &mut Cursor<'_>, Entry) -> Result<Reading, Stop>> Descent<F> 
     }
 
     /// A head that begins with this token.
-    fn head_token(&self, cur: &mut Cursor<'_>, tok: Tok) -> Result<Reading, Stop>
+    fn head_token(&self, cur: &mut Cursor<'_>, tok: Tok) -> Result<Operand, Stop>
         requires may { MayOpen self.now.room self.now.entry (F.pre self.now.reader) (F.post self.now.reader) cur.old }
         requires some { 0 < length cur.old.rest.now }
-        ensures { Reads reading (head_at (Some tok)) cur.old cur.new result }
+        ensures { Reads operand (head_at (Some tok)) cur.old cur.new result }
     {
         match tok {
             Tok::Int(n) => {
@@ -57,10 +57,10 @@ impl<F: Fn(Global, &mut Cursor<'_>, Entry) -> Result<Reading, Stop>> Descent<F> 
     }
 
     /// A head that begins with this keyword.
-    fn head_word(&self, cur: &mut Cursor<'_>, k: Keyword) -> Result<Reading, Stop>
+    fn head_word(&self, cur: &mut Cursor<'_>, k: Keyword) -> Result<Operand, Stop>
         requires may { MayOpen self.now.room self.now.entry (F.pre self.now.reader) (F.post self.now.reader) cur.old }
         requires some { 0 < length cur.old.rest.now }
-        ensures { Reads reading (head_word_at k) cur.old cur.new result }
+        ensures { Reads operand (head_word_at k) cur.old cur.new result }
     {
         match k {
             Keyword::KTrue => {
@@ -78,10 +78,10 @@ impl<F: Fn(Global, &mut Cursor<'_>, Entry) -> Result<Reading, Stop>> Descent<F> 
     }
 
     /// A head that begins with this symbol.
-    fn head_symbol(&self, cur: &mut Cursor<'_>, s: Symbol) -> Result<Reading, Stop>
+    fn head_symbol(&self, cur: &mut Cursor<'_>, s: Symbol) -> Result<Operand, Stop>
         requires may { MayOpen self.now.room self.now.entry (F.pre self.now.reader) (F.post self.now.reader) cur.old }
         requires some { 0 < length cur.old.rest.now }
-        ensures { Reads reading (head_symbol_at s) cur.old cur.new result }
+        ensures { Reads operand (head_symbol_at s) cur.old cur.new result }
     {
         match s {
             Symbol::SAbsent => {
@@ -98,10 +98,10 @@ impl<F: Fn(Global, &mut Cursor<'_>, Entry) -> Result<Reading, Stop>> Descent<F> 
 
     /// A text with interpolation, whose first piece is this one.
     #[tactic(auto, using(mz_cursor::proofs::Steps::open_more, mz_cursor::proofs::Steps::open_none))]
-    fn interpolated(&self, cur: &mut Cursor<'_>, content: Name) -> Result<Reading, Stop>
+    fn interpolated(&self, cur: &mut Cursor<'_>, content: Name) -> Result<Operand, Stop>
         requires may { MayOpen self.now.room self.now.entry (F.pre self.now.reader) (F.post self.now.reader) cur.old }
         requires some { 0 < length cur.old.rest.now }
-        ensures { Reads reading (head_at (Some (Tok.TextHead content))) cur.old cur.new result }
+        ensures { Reads operand (head_at (Some (Tok.TextHead content))) cur.old cur.new result }
     {
         cur.push()?;
         let at = cur.pass();
@@ -114,10 +114,10 @@ impl<F: Fn(Global, &mut Cursor<'_>, Entry) -> Result<Reading, Stop>> Descent<F> 
 
     /// An expression in parentheses, which make no node.
     #[tactic(auto, using(mz_cursor::proofs::Steps::open_more, mz_cursor::proofs::Steps::open_none))]
-    fn parenthesised(&self, cur: &mut Cursor<'_>) -> Result<Reading, Stop>
+    fn parenthesised(&self, cur: &mut Cursor<'_>) -> Result<Operand, Stop>
         requires may { MayOpen self.now.room self.now.entry (F.pre self.now.reader) (F.post self.now.reader) cur.old }
         requires some { 0 < length cur.old.rest.now }
-        ensures { Reads reading parenthesised_at cur.old cur.new result }
+        ensures { Reads operand parenthesised_at cur.old cur.new result }
     {
         cur.push()?;
         let at = cur.pass();
@@ -135,10 +135,10 @@ impl<F: Fn(Global, &mut Cursor<'_>, Entry) -> Result<Reading, Stop>> Descent<F> 
 
     /// An array literal or an array comprehension.
     #[tactic(auto, using(mz_cursor::proofs::Steps::open_more, mz_cursor::proofs::Steps::open_none))]
-    fn array(&self, cur: &mut Cursor<'_>) -> Result<Reading, Stop>
+    fn array(&self, cur: &mut Cursor<'_>) -> Result<Operand, Stop>
         requires may { MayOpen self.now.room self.now.entry (F.pre self.now.reader) (F.post self.now.reader) cur.old }
         requires some { 0 < length cur.old.rest.now }
-        ensures { Reads reading (head_symbol_at Symbol.SLBrack) cur.old cur.new result }
+        ensures { Reads operand (head_symbol_at Symbol.SLBrack) cur.old cur.new result }
     {
         cur.push()?;
         let at = cur.pass();
@@ -149,10 +149,10 @@ impl<F: Fn(Global, &mut Cursor<'_>, Entry) -> Result<Reading, Stop>> Descent<F> 
 
     /// An array literal of two dimensions.
     #[tactic(auto, using(mz_cursor::proofs::Steps::open_more, mz_cursor::proofs::Steps::open_none))]
-    fn rows(&self, cur: &mut Cursor<'_>) -> Result<Reading, Stop>
+    fn rows(&self, cur: &mut Cursor<'_>) -> Result<Operand, Stop>
         requires may { MayOpen self.now.room self.now.entry (F.pre self.now.reader) (F.post self.now.reader) cur.old }
         requires some { 0 < length cur.old.rest.now }
-        ensures { Reads reading (head_symbol_at Symbol.SLRows) cur.old cur.new result }
+        ensures { Reads operand (head_symbol_at Symbol.SLRows) cur.old cur.new result }
     {
         cur.push()?;
         let at = cur.pass();
@@ -163,10 +163,10 @@ impl<F: Fn(Global, &mut Cursor<'_>, Entry) -> Result<Reading, Stop>> Descent<F> 
 
     /// A set literal or a set comprehension.
     #[tactic(auto, using(mz_cursor::proofs::Steps::open_more, mz_cursor::proofs::Steps::open_none))]
-    fn set(&self, cur: &mut Cursor<'_>) -> Result<Reading, Stop>
+    fn set(&self, cur: &mut Cursor<'_>) -> Result<Operand, Stop>
         requires may { MayOpen self.now.room self.now.entry (F.pre self.now.reader) (F.post self.now.reader) cur.old }
         requires some { 0 < length cur.old.rest.now }
-        ensures { Reads reading (head_symbol_at Symbol.SLBrace) cur.old cur.new result }
+        ensures { Reads operand (head_symbol_at Symbol.SLBrace) cur.old cur.new result }
     {
         cur.push()?;
         let at = cur.pass();

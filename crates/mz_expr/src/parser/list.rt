@@ -19,14 +19,14 @@ use mz_base::{Held, Span, Stop};
 use mz_cursor::{Cursor, is_sym};
 use mz_grammar::Closing;
 use mz_lexer::Symbol;
-use mz_operand::reading::Reading;
+use mz_operand::operand::Operand;
 use mz_operand::step::{closes, ends_row, middle_of, separator, tail_of};
 use mz_tree::{
     Expr, TextPart, make_array, make_array_comp, make_plain, make_set, make_set_comp, make_shown,
 };
 use std::alloc::Global;
 
-impl<F: Fn(Global, &mut Cursor<'_>, Entry) -> Result<Reading, Stop>> Descent<F> {
+impl<F: Fn(Global, &mut Cursor<'_>, Entry) -> Result<Operand, Stop>> Descent<F> {
     /// The rest of a text behind pieces that were read: expressions and pieces up to its last one.
     #[tactic(auto, using(mz_grammar::proofs::ListEquations::text_rest_reads, mz_cursor::proofs::Steps::front_push, std::proofs::lemmas::List::map_push, mz_cursor::proofs::Steps::nothing_behind, mz_cursor::proofs::Steps::front_front))]
     pub fn text_rest(

@@ -4,19 +4,19 @@ ghost use Rattle.mz_tree.specs.Views.{tree, declaration, written};
 ghost use Rattle.mz_cursor.specs.Reads.{Passes, Reads};
 ghost use Rattle.mz_grammar.specs.Parts as parts;
 ghost use Rattle.mz_grammar.specs.Reading.{reads};
-ghost use Rattle.mz_operand.specs.Views.{reading};
+ghost use Rattle.mz_operand.specs.Views.{operand};
 
 use crate::parser::descent::{Descent, Entry, descend};
 use mz_base::Stop;
 use mz_cursor::Cursor;
 use mz_grammar::Level;
-use mz_operand::reading::Reading;
+use mz_operand::operand::Operand;
 use mz_tree::{Decl, Expr, TypeText};
 use std::alloc::Global;
 
 /// An expression of this level or a tighter one.
-pub fn level(alloc: Global, cur: &mut Cursor<'_>, l: Level) -> Result<Reading, Stop>
-    ensures { Reads reading (reads (parts.level l)) cur.old cur.new result }
+pub fn level(alloc: Global, cur: &mut Cursor<'_>, l: Level) -> Result<Operand, Stop>
+    ensures { Reads operand (reads (parts.level l)) cur.old cur.new result }
 {
     descend(alloc, cur, Entry::Level(l))
 }

@@ -13,12 +13,12 @@ use mz_base::{Span, Stop};
 use mz_cursor::{Cursor, is_sym, is_word};
 use mz_grammar::{Closing, Level};
 use mz_lexer::{Keyword, Symbol};
-use mz_operand::reading::Reading;
+use mz_operand::operand::Operand;
 use mz_operand::step::{begins_base, separator};
 use mz_tree::{TypeBase, TypeText, make_bool_base, make_int_base, make_scalar, make_set_base};
 use std::alloc::Global;
 
-impl<F: Fn(Global, &mut Cursor<'_>, Entry) -> Result<Reading, Stop>> Descent<F> {
+impl<F: Fn(Global, &mut Cursor<'_>, Entry) -> Result<Operand, Stop>> Descent<F> {
     /// A type.
     #[tactic(auto, using(mz_grammar::proofs::ItemEquations::type_reads))]
     pub fn type_text(&self, cur: &mut Cursor<'_>) -> Result<TypeText, Stop>

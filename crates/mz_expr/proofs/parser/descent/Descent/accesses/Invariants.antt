@@ -1,12 +1,12 @@
 use Rattle.std.proofs.Common.{◌≡◌, ◌≤◌, length}
 use Rattle.mz_grammar.specs.Parts as parts
 use Rattle.mz_grammar.specs.Reading.{reads}
-use Rattle.mz_operand.specs.Views.{reading}
+use Rattle.mz_operand.specs.Views.{operand}
 use Rattle.mz_expr.proofs.parser.descent.Descent.accesses.Given as goal
 
 abbrev pub invariant-loop-cur : goal.invariant-loop-cur
 invariant-loop-cur g l = record {
-  reads : reads (parts.accesses (reading l.x)) l.cur.room l.cur.rest.now ≡ reads (parts.accesses (reading l.initial.x)) l.initial.cur.room l.initial.cur.rest.now;
+  reads : reads (parts.accesses (operand l.x)) l.cur.room l.cur.rest.now ≡ reads (parts.accesses (operand l.initial.x)) l.initial.cur.room l.initial.cur.rest.now;
   room : l.cur.room ≤ l.initial.cur.room;
   end : l.cur.end ≡ l.initial.cur.end;
   shorter : length l.cur.rest.now ≤ length l.initial.cur.rest.now;

@@ -2,8 +2,8 @@ use Rattle.std.proofs.Common.{◌≡◌, rules, true}
 use Rattle.std.specs.Prelude.{map}
 use Rattle.mz_tree.specs.Views.{link}
 use Rattle.mz_operand.specs.Views.{is_one_member}
-use Rattle.mz_operand.proofs.Readings.{chained-member}
-use Rattle.mz_operand.proofs.reading.related.Goals as goal
+use Rattle.mz_operand.proofs.Operands.{chained-member}
+use Rattle.mz_operand.proofs.operand.related.Goals as goal
 
 pub returns : goal.returns
 returns c = let one : is_one_member (map link c.args.links.items) ≡ true = search rules in

@@ -7,7 +7,7 @@ ghost use Rattle.mz_tree.specs.Tree.{node, chain};
 ghost use Rattle.mz_grammar.specs.Parts as pure_parts;
 ghost use Rattle.mz_grammar.specs.Parts.{at_of, tree_of, chained};
 ghost use Rattle.mz_grammar.specs.Model.{accessed, unless_annotated};
-ghost use Rattle.mz_operand.specs.Views.{reading, is_one_member};
+ghost use Rattle.mz_operand.specs.Views.{operand, is_one_member};
 
 use mz_base::{Held, Name, Span};
 use mz_tree::{BinOp, Expr, make_access, make_chain, make_ident};
@@ -15,7 +15,7 @@ use std::alloc::{AllocError, Global};
 
 /// An expression, with the place of its first token. A name alone, and a name in a set, may become generators of a call.
 #[derive(Drop)]
-pub enum Reading {
+pub enum Operand {
     /// An identifier.
     Name(Name, Span),
     /// An identifier, `in` and what stands behind it.
@@ -25,36 +25,36 @@ pub enum Reading {
 }
 
 /// An expression that is no name, with the place of its first token.
-pub fn other(at: Span, e: Expr) -> Reading
-    ensures { reading result ≡ pure_parts.other at (tree e) }
+pub fn other(at: Span, e: Expr) -> Operand
+    ensures { operand result ≡ pure_parts.other at (tree e) }
 {
-    Reading::Other(at, Held::new(e))
+    Operand::Other(at, Held::new(e))
 }
 
-impl Reading {
+impl Operand {
     /// The place of the first token.
     pub fn at(&self) -> Span
-        ensures { result ≡ at_of (reading self.now) }
+        ensures { result ≡ at_of (operand self.now) }
     {
         match self {
-            Reading::Name(_, at) => *at,
-            Reading::Member(_, at, _) => *at,
-            Reading::Other(at, _) => *at,
+            Operand::Name(_, at) => *at,
+            Operand::Member(_, at, _) => *at,
+            Operand::Other(at, _) => *at,
         }
     }
 
     /// The tree of the expression.
     pub fn into_expr(self, alloc: Global) -> Result<Expr, AllocError>
-        ensures { IfOk result (λ e. tree e ≡ tree_of (reading self)) }
+        ensures { IfOk result (λ e. tree e ≡ tree_of (operand self)) }
     {
         match self {
-            Reading::Name(name, at) => Ok(make_ident(at, name)),
-            Reading::Member(name, at, set) => {
+            Operand::Name(name, at) => Ok(make_ident(at, name)),
+            Operand::Member(name, at, set) => {
                 let mut links = Vec::with_capacity(alloc, 1)?;
                 links.push((BinOp::Member, set.take()))?;
                 make_chain(alloc, at, make_ident(at, name), links)
             }
-            Reading::Other(_, e) => Ok(e.take()),
+            Operand::Other(_, e) => Ok(e.take()),
         }
     }
 }
@@ -62,24 +62,24 @@ impl Reading {
 /// An operand with the operators of one level behind it.
 pub fn chained(
     alloc: Global,
-    first: Reading,
+    first: Operand,
     links: Vec<(BinOp, Expr)>,
-) -> Result<Reading, AllocError>
-    ensures { IfOk result (λ x. reading x ≡ chained (reading first) (map link links.items)) }
+) -> Result<Operand, AllocError>
+    ensures { IfOk result (λ x. operand x ≡ chained (operand first) (map link links.items)) }
 {
     if links.is_empty() {
         return Ok(first);
     }
     match first {
-        Reading::Name(name, at) => related(alloc, name, at, links),
-        Reading::Member(name, at, set) => linked(alloc, Reading::Member(name, at, set), links),
-        Reading::Other(at, e) => linked(alloc, Reading::Other(at, e), links),
+        Operand::Name(name, at) => related(alloc, name, at, links),
+        Operand::Member(name, at, set) => linked(alloc, Operand::Member(name, at, set), links),
+        Operand::Other(at, e) => linked(alloc, Operand::Other(at, e), links),
     }
 }
 
 /// An expression with operators behind it.
-fn linked(alloc: Global, first: Reading, links: Vec<(BinOp, Expr)>) -> Result<Reading, AllocError>
-    ensures { IfOk result (λ x. reading x ≡ pure_parts.other (at_of (reading first)) (node (at_of (reading first)) (chain (tree_of (reading first)) (pure.links (map link links.items))))) }
+fn linked(alloc: Global, first: Operand, links: Vec<(BinOp, Expr)>) -> Result<Operand, AllocError>
+    ensures { IfOk result (λ x. operand x ≡ pure_parts.other (at_of (operand first)) (node (at_of (operand first)) (chain (tree_of (operand first)) (pure.links (map link links.items))))) }
 {
     let at = first.at();
     let operand = first.into_expr(alloc)?;
@@ -92,17 +92,17 @@ fn related(
     name: Name,
     at: Span,
     links: Vec<(BinOp, Expr)>,
-) -> Result<Reading, AllocError>
+) -> Result<Operand, AllocError>
     requires { 0 < length links.items }
-    ensures { IfOk result (λ x. reading x ≡ chained (pure_parts.name name at) (map link links.items)) }
+    ensures { IfOk result (λ x. operand x ≡ chained (pure_parts.name name at) (map link links.items)) }
 {
     if !is_member(links.as_slice()) {
-        return linked(alloc, Reading::Name(name, at), links);
+        return linked(alloc, Operand::Name(name, at), links);
     }
     let mut links = links;
     match links.pop() {
-        None => Ok(Reading::Name(name, at)),
-        Some((_, set)) => Ok(Reading::Member(name, at, Held::new(set))),
+        None => Ok(Operand::Name(name, at)),
+        Some((_, set)) => Ok(Operand::Member(name, at, Held::new(set))),
     }
 }
 
@@ -117,8 +117,8 @@ fn is_member(links: &[(BinOp, Expr)]) -> bool
 }
 
 /// An expression with the indices of an access behind it.
-pub fn accessed(alloc: Global, x: Reading, indices: Vec<Expr>) -> Result<Reading, AllocError>
-    ensures { IfOk result (λ y. reading y ≡ accessed (reading x) (map tree indices.items)) }
+pub fn accessed(alloc: Global, x: Operand, indices: Vec<Expr>) -> Result<Operand, AllocError>
+    ensures { IfOk result (λ y. operand y ≡ accessed (operand x) (map tree indices.items)) }
 {
     let at = x.at();
     let of = x.into_expr(alloc)?;
@@ -126,8 +126,8 @@ pub fn accessed(alloc: Global, x: Reading, indices: Vec<Expr>) -> Result<Reading
 }
 
 /// An annotation keeps a name from being a generator's.
-pub fn unless_annotated(alloc: Global, annotated: bool, x: Reading) -> Result<Reading, AllocError>
-    ensures { IfOk result (λ y. reading y ≡ unless_annotated annotated (reading x)) }
+pub fn unless_annotated(alloc: Global, annotated: bool, x: Operand) -> Result<Operand, AllocError>
+    ensures { IfOk result (λ y. operand y ≡ unless_annotated annotated (operand x)) }
 {
     if !annotated {
         return Ok(x);
