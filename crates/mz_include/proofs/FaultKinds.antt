@@ -15,7 +15,7 @@ use Rattle.mz_base.specs.Faults.{IfRefused as IfStopped}
 use Rattle.mz_cursor.specs.Rules.{Reason, syntax, left_out as is_left_out, too_deep}
 use Rattle.mz_cursor.specs.Promise.{kind_of, reason_of}
 use Rattle.mz_lexer.specs.declared.token.Token.{Token}
-use Rattle.mz_parser.specs.Model.{IsRead, IsRefused}
+use Rattle.mz_parser.specs.Model.{IsItems, IsRefused}
 use Rattle.mz_include.specs.Parsing.{IsUnparsed, by_its_bytes, by_its_tokens}
 use Rattle.mz_include.specs.Ends.{CountsRefusal}
 
@@ -66,6 +66,6 @@ stop_then P Q (Err d) (Refused f) e step h = rw e (step f h)
 stop_then P Q (Err d) Memory e step h = rw e tt
 
 -- what parsing answers where it stops
-pub refused_stop : (X : Type 0) (end : Span) (tokens : List Token) (s : Stop) → IsRead {Z = X} end tokens (Err s) → IfStopped s (IsRefused end tokens)
+pub refused_stop : (X : Type 0) (end : Span) (tokens : List Token) (s : Stop) → IsItems {Z = X} end tokens (Err s) → IfStopped s (IsRefused end tokens)
 refused_stop X end tokens (Refused f) h = h
 refused_stop X end tokens Memory h = tt

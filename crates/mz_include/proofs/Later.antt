@@ -16,7 +16,7 @@ use Rattle.mz_include.specs.Library.{is_library}
 use Rattle.mz_include.specs.Trees.{IsItemKnown}
 use Rattle.mz_include.specs.Naming.{Mention, File, the_model, included_by, included, with_mention, first_mentions, named}
 use Rattle.mz_include.specs.Parsing.{AreTokens, IsUnparsed, by_its_bytes, by_its_tokens}
-use Rattle.mz_include.specs.Sources.{IsReading, AreRead, none_yet, one_more, IsSources, Fails, missing, too_long, unparsed, IsFirstFailure}
+use Rattle.mz_include.specs.Sources.{IsLoaded, AreRead, none_yet, one_more, IsSources, Fails, missing, too_long, unparsed, IsFirstFailure}
 use Rattle.mz_include.proofs.KnownItems.{items_known}
 
 -- what an item includes, when the table has grown
@@ -49,15 +49,15 @@ module _ (old new : List (List ℕ)) (grows : Grows old new) where
     known = all_named_later old new grows tokens lexed.known;
   }
 
-  pub reading_later : (texts : Texts) (turn : ℕ) (m : Mention) (f : File) → IsReading old texts turn m f → IsReading new texts turn m f
-  reading_later texts turn m f r = record {
+  pub loaded_later : (texts : Texts) (turn : ℕ) (m : Mention) (f : File) → IsLoaded old texts turn m f → IsLoaded new texts turn m f
+  loaded_later texts turn m f r = record {
     text = r.text;
     fetched = r.fetched;
     parsed = record { tokens = r.parsed.tokens; lexed = tokens_later turn r.text r.parsed.tokens r.parsed.lexed; model = r.parsed.model; end = r.parsed.end };
     name = r.name;
   }
 
-  pub included_same : (texts : Texts) (turn : ℕ) (m : Mention) (f : File) → IsReading old texts turn m f → included new f ≡ included old f
+  pub included_same : (texts : Texts) (turn : ℕ) (m : Mention) (f : File) → IsLoaded old texts turn m f → included new f ≡ included old f
   unfolding included
   included_same texts turn m f r = each_included_later old new f.name f.items grows (items_known old turn r.text r.parsed.tokens f.items r.parsed.lexed r.parsed.model)
 
@@ -76,7 +76,7 @@ module _ (old new : List (List ℕ)) (grows : Grows old new) where
   pub read_later : (texts : Texts) (first : List ℕ) (files : List File) → AreRead old texts first files → AreRead new texts first files
   read_later texts first [] none_yet = none_yet
   read_later texts first _ (one_more {files = files} {m = m} {file = f} r n h) =
-      one_more (read_later texts first files r) (ap (λ ms. slice_get ms (length files)) (named_same texts first files r) ∙ n) (reading_later texts (length files) m f h)
+      one_more (read_later texts first files r) (ap (λ ms. slice_get ms (length files)) (named_same texts first files r) ∙ n) (loaded_later texts (length files) m f h)
 
   -- a model's files, as they are read
   pub sources_later : (texts : Texts) (first : List ℕ) (files : List File) → IsSources old texts first files → IsSources new texts first files

@@ -10,7 +10,7 @@ use Rattle.mz_tree.specs.Items.{ItemTree}
 use Rattle.mz_include.specs.Naming.{Mention, File, next}
 use Rattle.mz_include.specs.Parsing.{IsParsed, IsUnparsed}
 use Rattle.mz_base.specs.declared.limit.TheConstants.{FILE_LIMIT}
-use Rattle.mz_include.specs.Sources.{IsReading, AreRead, none_yet, one_more, IsSources, Fails, missing, too_long, unparsed, IsFirstFailure}
+use Rattle.mz_include.specs.Sources.{IsLoaded, AreRead, none_yet, one_more, IsSources, Fails, missing, too_long, unparsed, IsFirstFailure}
 use Rattle.mz_include.proofs.OneReading.{parsed_or_not, one_parsing, one_unparsed}
 
 longer : {A : Type 0} (xs : List A) (x : A) → length (xs ++ x ∷ []) ≡ length xs + 1
@@ -21,14 +21,14 @@ module _ (names : List (List ℕ)) (distinct : AreDistinct names) (texts : List 
   same_text name text other h g = let e : Some text ≡ Some other = sym h ∙ g in cc
 
   -- a file whose turn it is is read, or fails, in one way
-  read_or_fails : (turn : ℕ) (m : Mention) (file : File) (f : Fault) (owner : List ℕ) → IsReading names (Some texts) turn m file → Fails names (Some texts) turn m f owner → ⊥
+  read_or_fails : (turn : ℕ) (m : Mention) (file : File) (f : Fault) (owner : List ℕ) → IsLoaded names (Some texts) turn m file → Fails names (Some texts) turn m f owner → ⊥
   read_or_fails turn m file f owner r (missing h) = let e : Some r.text ≡ None = sym r.fetched.told ∙ h in absurd (cc)
   read_or_fails turn m file f owner r (too_long h) = let e = same_text m.name r.text h.0 r.fetched.told h.1 in let within : length r.text ≤ FILE_LIMIT = r.fetched.within in let over : FILE_LIMIT < length r.text = subst (λ t. FILE_LIMIT < length t) (sym e) h.2 in absurd (omega arith)
   read_or_fails turn m file f owner r (unparsed {f = g} text fetched h) =
       parsed_or_not names distinct turn text file g (subst (λ t. IsParsed names turn t file) (same_text m.name r.text text r.fetched.told fetched.told) r.parsed) h
 
-  one_reading : (turn : ℕ) (m : Mention) (file other : File) → IsReading names (Some texts) turn m file → IsReading names (Some texts) turn m other → file ≡ other
-  one_reading turn m file other r q =
+  one_loaded : (turn : ℕ) (m : Mention) (file other : File) → IsLoaded names (Some texts) turn m file → IsLoaded names (Some texts) turn m other → file ≡ other
+  one_loaded turn m file other r q =
       let e = one_parsing names distinct turn r.text file other r.parsed (subst (λ t. IsParsed names turn t other) (same_text m.name q.text r.text q.fetched.told r.fetched.told) q.parsed) in
       ap (λ (n : List ℕ). let v : File = record { name = n; items = file.items; end = file.end } in v) (r.name ∙ sym q.name)
       ∙ ap (λ (is : List ItemTree). let v : File = record { name = other.name; items = is; end = file.end } in v) e.0
@@ -65,7 +65,7 @@ module _ (names : List (List ℕ)) (distinct : AreDistinct names) (texts : List 
       let before : files ≡ others = one_read files others r r' (omega arith) in
       let turn : m ≡ m' = same_turn files others m m' before n n' in
       one_file_more files others file other before
-      (one_reading (length files) m file other h (subst (λ k. IsReading names (Some texts) k m other) (ap length (sym before)) (subst (λ v. IsReading names (Some texts) (length others) v other) (sym turn) h')))
+      (one_loaded (length files) m file other h (subst (λ k. IsLoaded names (Some texts) k m other) (ap length (sym before)) (subst (λ v. IsLoaded names (Some texts) (length others) v other) (sym turn) h')))
 
   -- the files that were read when the turn came to a file that is read
   record Before (turn : ℕ) : Type 0 where
@@ -75,12 +75,12 @@ module _ (names : List (List ℕ)) (distinct : AreDistinct names) (texts : List 
     read : AreRead names (Some texts) first files
     count : length files ≡ turn
     next_is : next names first files ≡ Some mention
-    reading : IsReading names (Some texts) turn mention file
+    loaded : IsLoaded names (Some texts) turn mention file
 
   before : (turn : ℕ) (files : List File) → AreRead names (Some texts) first files → turn < length files → Before turn
   before turn _ none_yet below = absurd (omega arith)
   before turn _ (one_more {files = files} {m = m} {file = file} r n h) below = elim (cases_order turn (length files)) [
-    | inl same ↦ record { files = files; mention = m; file = file; read = r; count = sym same; next_is = n; reading = subst (λ k. IsReading names (Some texts) k m file) (sym same) h }
+    | inl same ↦ record { files = files; mention = m; file = file; read = r; count = sym same; next_is = n; loaded = subst (λ k. IsLoaded names (Some texts) k m file) (sym same) h }
     | inr other ↦ elim other [
       | inl less ↦ before turn files r less
       | inr more ↦ let e = longer files file in absurd (omega arith)
@@ -109,7 +109,7 @@ module _ (names : List (List ℕ)) (distinct : AreDistinct names) (texts : List 
   not_read files f owner r h less =
       let b = before (length h.files) files r less in
       let e : b.mention ≡ h.mention = same_turn b.files h.files b.mention h.mention (one_read b.files h.files b.read h.read b.count) b.next_is h.turn in
-      read_or_fails (length h.files) h.mention b.file f owner (subst (λ m. IsReading names (Some texts) (length h.files) m b.file) e b.reading) h.fails
+      read_or_fails (length h.files) h.mention b.file f owner (subst (λ m. IsLoaded names (Some texts) (length h.files) m b.file) e b.loaded) h.fails
 
   -- a model's files and a first failure exclude each other
   pub sources_or_failure : (files : List File) (f : Fault) (owner : List ℕ) → IsSources names (Some texts) first files → IsFirstFailure names (Some texts) first f owner → ⊥

@@ -24,7 +24,7 @@ use Rattle.mz_include.specs.Library.{is_library}
 use Rattle.mz_include.specs.Trees.{IsItemOf}
 use Rattle.mz_include.specs.Naming.{Mention, File, the_model, included_by, included, with_mention, first_mentions, named, next}
 use Rattle.mz_include.specs.Parsing.{IsUnparsed, by_its_bytes, by_its_tokens, end_of}
-use Rattle.mz_include.specs.Sources.{IsReading, AreRead, none_yet, one_more, Fails, missing, too_long, unparsed, IsFirstFailure, HasNumber, IsInItsFile}
+use Rattle.mz_include.specs.Sources.{IsLoaded, AreRead, none_yet, one_more, Fails, missing, too_long, unparsed, IsFirstFailure, HasNumber, IsInItsFile}
 use Rattle.mz_include.proofs.Places.{EachIn, lexed_in, after_file}
 use Rattle.mz_include.proofs.KnownItems.{items_of}
 use Rattle.mz_include.proofs.Later.{named_push}
@@ -92,7 +92,7 @@ all_from names turn owner (i ∷ is) all =
     (all_from names turn owner is (All-tail (IsItemOf names turn) i is all))
 
 module _ (names : List (List ℕ)) (texts : Texts) (first : List ℕ) where
-  included_from : (turn : ℕ) (m : Mention) (f : File) → IsReading names texts turn m f → All (IsFrom turn m.name) (included names f)
+  included_from : (turn : ℕ) (m : Mention) (f : File) → IsLoaded names texts turn m f → All (IsFrom turn m.name) (included names f)
   unfolding included
   included_from turn m f r =
       subst (λ n. All (IsFrom turn n) (flat_map (included_by names f.name) f.items)) r.name

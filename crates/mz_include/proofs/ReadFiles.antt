@@ -13,13 +13,13 @@ use Rattle.mz_tree.specs.declared.source.SourceFile.{SourceFile}
 use Rattle.mz_tree.specs.Items.{item}
 use Rattle.mz_include.specs.declared.queue.Mention.{Mention as CodeMention}
 use Rattle.mz_include.specs.Naming.{Mention, File, the_model, included_by, included, with_mention, first_mentions, named, next}
-use Rattle.mz_include.specs.Sources.{IsReading, AreRead, none_yet, one_more, IsSources, Fails, IsFirstFailure}
+use Rattle.mz_include.specs.Sources.{IsLoaded, AreRead, none_yet, one_more, IsSources, Fails, IsFirstFailure}
 use Rattle.mz_include.specs.declared.end.GatherEnd.{GatherEnd}
 use Rattle.mz_include.specs.declared.end.GatherEnd.TheVariants.{Refused, ReadFault, Memory}
 use Rattle.mz_include.specs.Ends.{IfRefused}
 use Rattle.mz_include.specs.Views.{file, mention, IsKnown, IsFileOf, AreKnown}
 use Rattle.mz_include.proofs.KnownFiles.{file_of_later, files_known_later, no_files, files_known_push, each_named}
-use Rattle.mz_include.proofs.Later.{included_same, named_same, read_later, reading_later, named_push}
+use Rattle.mz_include.proofs.Later.{included_same, named_same, read_later, loaded_later, named_push}
 use Rattle.mz_include.proofs.Noting.{mentions_later}
 
 -- the file's name is of this table
@@ -71,15 +71,15 @@ module _ (old : List (List ℕ)) (texts : Texts) (first : List ℕ) (queue : Lis
     }
 
     -- the file whose turn it is is read, and what it includes is noted
-    pub gathered_on : (mid new : List (List ℕ)) → Grows old mid → Grows mid new → Grows old new → (f : SourceFile) → IsFileOf mid (length files) f → IsReading mid texts (length files) (mention old m) (file mid f)
+    pub gathered_on : (mid new : List (List ℕ)) → Grows old mid → Grows mid new → Grows old new → (f : SourceFile) → IsFileOf mid (length files) f → IsLoaded mid texts (length files) (mention old m) (file mid f)
         → (later : List CodeMention) → map (mention new) later ≡ fold with_mention (map (mention mid) queue) (flat_map (included_by mid (text_of mid f.name)) (map item f.items.items)) → All (IsKnown new) later
         → Gathered new texts first later (files ++ f ∷ [])
     unfolding included
-    gathered_on mid new g h gh f of reading later noted known =
+    gathered_on mid new g h gh f of loaded later noted known =
         let olds = map (file old) files in
         let same : map (file new) (files ++ f ∷ []) ≡ olds ++ file new f ∷ [] = map-append (file new) files (f ∷ []) ∙ ap (λ fs. fs ++ file new f ∷ []) (files_later old new gh files (each_named old files so_far.files_known)) in
         let renamed : file new f ≡ file mid f = file_later mid new h f of.name in
-        let included_then : included new (file new f) ≡ included mid (file mid f) = ap (included new) renamed ∙ included_same mid new h texts (length files) (mention old m) (file mid f) reading in
+        let included_then : included new (file new f) ≡ included mid (file mid f) = ap (included new) renamed ∙ included_same mid new h texts (length files) (mention old m) (file mid f) loaded in
         record {
           queued = noted
               ∙ ap (λ ms. fold with_mention ms (included mid (file mid f))) (mentions_later old mid g queue so_far.known ∙ so_far.queued ∙ sym (named_same old new gh texts first olds so_far.read))
@@ -88,8 +88,8 @@ module _ (old : List (List ℕ)) (texts : Texts) (first : List ℕ) (queue : Lis
           known = known;
           read = subst (AreRead new texts first) (sym same) (one_more (read_later old new gh texts first olds so_far.read)
               (ap (λ ms. slice_get ms (length olds)) (named_same old new gh texts first olds so_far.read) ∙ turn_of (Some m) is)
-              (subst (λ turn. IsReading new texts turn (mention old m) (file new f)) (sym (length-map files (file old)))
-              (subst (IsReading new texts (length files) (mention old m)) (sym renamed) (reading_later mid new h texts (length files) (mention old m) (file mid f) reading))));
+              (subst (λ turn. IsLoaded new texts turn (mention old m) (file new f)) (sym (length-map files (file old)))
+              (subst (IsLoaded new texts (length files) (mention old m)) (sym renamed) (loaded_later mid new h texts (length files) (mention old m) (file mid f) loaded))));
           files_known = files_known_push new files f (files_known_later old new gh files so_far.files_known) (file_of_later mid new h (length files) f of);
         }
 
@@ -102,8 +102,8 @@ pub gathered_as : (names : List (List ℕ)) (texts : Texts) (first : List ℕ) (
 gathered_as names texts first queue files all same so_far = subst (Gathered names texts first queue) (sym same) so_far
 
 -- what is said of the files as they are, and of whose turn it is
-pub reading_at : (names : List (List ℕ)) (texts now : Texts) (m : Mention) (f : File) (turn k : ℕ) → turn ≡ k → now ≡ texts → IsReading names now turn m f → IsReading names texts k m f
-reading_at names texts now m f turn k same kept reading = subst (λ t. IsReading names texts t m f) same (subst (λ ts. IsReading names ts turn m f) kept reading)
+pub loaded_at : (names : List (List ℕ)) (texts now : Texts) (m : Mention) (f : File) (turn k : ℕ) → turn ≡ k → now ≡ texts → IsLoaded names now turn m f → IsLoaded names texts k m f
+loaded_at names texts now m f turn k same kept loaded = subst (λ t. IsLoaded names texts t m f) same (subst (λ ts. IsLoaded names ts turn m f) kept loaded)
 
 pub fails_at : (names : List (List ℕ)) (texts now : Texts) (m : Mention) (f : Fault) (owner : List ℕ) (turn k : ℕ) → turn ≡ k → now ≡ texts → Fails names now turn m f owner → Fails names texts k m f owner
 fails_at names texts now m f owner turn k same kept fails = subst (λ t. Fails names texts t m f owner) same (subst (λ ts. Fails names ts turn m f owner) kept fails)

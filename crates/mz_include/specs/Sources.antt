@@ -27,7 +27,7 @@ pub record IsFetched (texts : Texts) (name text : List ℕ) : Type 0 where
   pub within : length text ≤ FILE_LIMIT
 
 -- the file whose turn it is, read
-pub record IsReading (names : List (List ℕ)) (texts : Texts) (turn : ℕ) (m : Mention) (file : File) : Type 0 where
+pub record IsLoaded (names : List (List ℕ)) (texts : Texts) (turn : ℕ) (m : Mention) (file : File) : Type 0 where
   pub text : List ℕ
   pub fetched : IsFetched texts m.name text
   pub parsed : IsParsed names turn text file
@@ -36,7 +36,7 @@ pub record IsReading (names : List (List ℕ)) (texts : Texts) (turn : ℕ) (m :
 -- these files are read, one after the other, each in its turn
 pub data AreRead (names : List (List ℕ)) (texts : Texts) (first : List ℕ) : List File → Type 0 where
   none_yet : AreRead names texts first []
-  one_more : {files : List File} {m : Mention} {file : File} → AreRead names texts first files → next names first files ≡ Some m → IsReading names texts (length files) m file → AreRead names texts first (files ++ file ∷ [])
+  one_more : {files : List File} {m : Mention} {file : File} → AreRead names texts first files → next names first files ≡ Some m → IsLoaded names texts (length files) m file → AreRead names texts first (files ++ file ∷ [])
 
 -- The model with its included files: the model, then each included name in the order in which it was first named, each once.
 pub record IsSources (names : List (List ℕ)) (texts : Texts) (first : List ℕ) (files : List File) : Type 0 where

@@ -4,7 +4,7 @@ ghost use Rattle.std.specs.Prelude.{◌≡◌, ◌<◌, ◌≤◌, length, IfOk,
 ghost use Rattle.mz_base.specs.Names.{Grows, text_of};
 ghost use Rattle.mz_base.specs.declared.limit.TheConstants.{FILE_LIMIT};
 ghost use Rattle.mz_base.specs.Faults.{IfRefused as IfStopped, fault_at};
-ghost use Rattle.mz_include.specs.Sources.{IsReading, Fails};
+ghost use Rattle.mz_include.specs.Sources.{IsLoaded, Fails};
 ghost use Rattle.mz_include.specs.Parsing.{IsParsed, IsUnparsed};
 ghost use Rattle.mz_include.specs.Ends.{IfRefused, CountsFiles};
 ghost use Rattle.mz_include.specs.Views.{mention, file, IsKnown, IsFileOf};
@@ -56,7 +56,7 @@ pub fn read_file<F: Files>(
     names: &mut Names,
 ) -> Result<SourceFile, GatherEnd>
     requires { IsKnown names.old named }
-    ensures read { IfOk result (λ f. IsReading names.new (F.texts files.old) turn (mention names.old named) (file names.new f)) }
+    ensures read { IfOk result (λ f. IsLoaded names.new (F.texts files.old) turn (mention names.old named) (file names.new f)) }
     ensures name { IfOk result (λ f. f.name ≡ named.name) }
     ensures known { IfOk result (λ f. IsFileOf names.new turn f) }
     ensures refused { IfRefused result (λ f n. Fails names.new (F.texts files.old) turn (mention names.old named) f (text_of names.new n)) }

@@ -17,7 +17,7 @@ use Rattle.mz_grammar.proofs.Viability.{answers}
 use Rattle.mz_grammar.proofs.ItemHeights.{items_are_bounded}
 use Rattle.mz_syntax.specs.ModelSyntax.{DerivesModel}
 use Rattle.mz_syntax.proofs.ModelMeans.{models_derived}
-use Rattle.mz_parser.specs.Model.{IsModel, IsRead}
+use Rattle.mz_parser.specs.Model.{IsModel, IsItems}
 
 -- a front behind which nothing stands is the whole file
 all_tokens : (tokens new : List Token) (is : List ItemTree) → new ≡ [] → IsFront rule Parts.file OPEN_LIMIT tokens new is → IsModel tokens is
@@ -27,24 +27,24 @@ all_tokens tokens new is e f = subst (λ ts. IsModel ts is) (sym (f.split ∙ ap
 abbrev trees : {Z : Type 0} → Vec Item Z → List ItemTree
 trees v = map item v.items
 
-answered : {Z : Type 0} (end : Span) (tokens new : List Token) (result : Result (Vec Item Z) Stop) → OnOk result (new ≡ []) → Gives trees end new result (reads Parts.file OPEN_LIMIT tokens) → IsRead end tokens result
+answered : {Z : Type 0} (end : Span) (tokens new : List Token) (result : Result (Vec Item Z) Stop) → OnOk result (new ≡ []) → Gives trees end new result (reads Parts.file OPEN_LIMIT tokens) → IsItems end tokens result
 answered {Z = Z} end tokens new (Ok items) e g = all_tokens tokens new (map item items.items) e (answers {X = Vec Item Z} Parts.file trees OPEN_LIMIT end tokens new (Ok items) refl g)
 answered {Z = Z} end tokens new (Err (Refused f)) e g = answers {X = Vec Item Z} Parts.file trees OPEN_LIMIT end tokens new (Err (Refused f)) refl g
 answered {Z = Z} end tokens new (Err Memory) e g = tt
 
 -- from the cursor before the first token
-pub whole : {Z : Type 0} (end at : Span) (tokens ts new : List Token) (room : ℕ) (result : Result (Vec Item Z) Stop) → at ≡ end → ts ≡ tokens → room ≡ OPEN_LIMIT → OnOk result (new ≡ []) → Gives trees at new result (reads Parts.file room ts) → IsRead end tokens result
+pub whole : {Z : Type 0} (end at : Span) (tokens ts new : List Token) (room : ℕ) (result : Result (Vec Item Z) Stop) → at ≡ end → ts ≡ tokens → room ≡ OPEN_LIMIT → OnOk result (new ≡ []) → Gives trees at new result (reads Parts.file room ts) → IsItems end tokens result
 whole end at tokens ts new room result ea et er e g = answered end tokens new result e
     (subst (λ r. Gives trees end new result (reads Parts.file r tokens)) er
     (subst (λ l. Gives trees end new result (reads Parts.file room l)) et
     (subst (λ a. Gives trees a new result (reads Parts.file room ts)) ea g)))
 
 -- the lines of the EBNF derive the items of a file
-pub derived : {Z : Type 0} (end : Span) (tokens : List Token) (result : Result (Vec Item Z) Stop) → IsRead end tokens result → IfOk result (λ items. DerivesModel OPEN_LIMIT tokens (map item items.items))
+pub derived : {Z : Type 0} (end : Span) (tokens : List Token) (result : Result (Vec Item Z) Stop) → IsItems end tokens result → IfOk result (λ items. DerivesModel OPEN_LIMIT tokens (map item items.items))
 derived end tokens (Ok items) r = models_derived OPEN_LIMIT tokens (map item items.items) r
 derived end tokens (Err s) r = tt
 
 -- the items of a file are at most so high
-pub bounded : {Z : Type 0} (end : Span) (tokens : List Token) (result : Result (Vec Item Z) Stop) → IsRead end tokens result → IfOk result (λ items. items_height items.items ≤ HEIGHT_LIMIT)
+pub bounded : {Z : Type 0} (end : Span) (tokens : List Token) (result : Result (Vec Item Z) Stop) → IsItems end tokens result → IfOk result (λ items. items_height items.items ≤ HEIGHT_LIMIT)
 bounded end tokens (Ok items) r = items_are_bounded items.items refl r
 bounded end tokens (Err s) r = tt

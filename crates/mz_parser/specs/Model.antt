@@ -25,10 +25,10 @@ IsModel tokens items = IsWithin rule file OPEN_LIMIT tokens items
 abbrev pub IsRefused : Span → List Token → Fault → Type 0
 IsRefused end tokens f = (f ≡ fault_of (reason_of f.kind) f.span) × IsFault rule file OPEN_LIMIT (reason_of f.kind) end tokens f.span
 
-abbrev pub IsRead : {Z : Type 0} → Span → List Token → Result (Vec Item Z) Stop → Type 0
-IsRead end tokens (Ok items) = IsModel tokens (map item items.items)
-IsRead end tokens (Err (Refused f)) = IsRefused end tokens f
-IsRead end tokens (Err Memory) = Unit {0}
+abbrev pub IsItems : {Z : Type 0} → Span → List Token → Result (Vec Item Z) Stop → Type 0
+IsItems end tokens (Ok items) = IsModel tokens (map item items.items)
+IsItems end tokens (Err (Refused f)) = IsRefused end tokens f
+IsItems end tokens (Err Memory) = Unit {0}
 
 -- behind an item: its semicolon, or the end of the file
 abbrev pub semicolon_at : Reader Unit

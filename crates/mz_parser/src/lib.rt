@@ -6,7 +6,7 @@ ghost use Rattle.mz_base.specs.declared.limit.TheConstants.{OPEN_LIMIT};
 ghost use Rattle.mz_tree.specs.declared.height.TheConstants.{HEIGHT_LIMIT};
 ghost use Rattle.mz_tree.specs.Items.{item, items_height};
 ghost use Rattle.mz_syntax.specs.ModelSyntax.{DerivesModel};
-ghost use Rattle.mz_parser.specs.Model.{IsRead};
+ghost use Rattle.mz_parser.specs.Model.{IsItems};
 
 mod enums;
 mod file;
@@ -27,7 +27,7 @@ use std::alloc::Global;
 /// complete there. LeftOut where the token begins a form that is left out of the language, TooDeep where it would be one more
 /// open at once than `OPEN_LIMIT`. Memory where memory runs out.
 pub fn items(alloc: Global, tokens: &[Token], end: Span) -> Result<Vec<Item>, Stop>
-    ensures reads { IsRead end tokens.now result }
+    ensures reads { IsItems end tokens.now result }
     ensures derived { IfOk result (λ items. DerivesModel OPEN_LIMIT tokens.now (map item items.items)) }
     ensures bounded { IfOk result (λ items. items_height items.items ≤ HEIGHT_LIMIT) }
 {

@@ -4,11 +4,11 @@ use Rattle.mz_base.specs.Names.{text_of, Grows}
 use Rattle.mz_base.proofs.Tables.{grows_on}
 use Rattle.mz_tree.specs.declared.source.SourceFile.{SourceFile}
 use Rattle.mz_tree.specs.declared.source.Sources.{Sources}
-use Rattle.mz_include.specs.Sources.{Fails, IsFirstFailure, IsReading}
+use Rattle.mz_include.specs.Sources.{Fails, IsFirstFailure, IsLoaded}
 use Rattle.mz_include.specs.Views.{file, mention, IsKnown, IsFileOf}
 use Rattle.mz_include.proofs.KnownFiles.{each_included}
 use Rattle.mz_include.proofs.Noting.{all_known_later}
-use Rattle.mz_include.proofs.ReadFiles.{gathered_at_first, gathered_on, gathered_as, all_read, first_failure, at_turn, reading_at, fails_at, holds_at, refused_then}
+use Rattle.mz_include.proofs.ReadFiles.{gathered_at_first, gathered_on, gathered_as, all_read, first_failure, at_turn, loaded_at, fails_at, holds_at, refused_then}
 use Rattle.mz_include.proofs.gathering.gather.Goals as goal
 
 pub loop-named-init : goal.loop-named-init
@@ -66,12 +66,12 @@ loop-named-preserved g c =
     let turn : c.len-in-Some.result ≡ length files = c.len-in-Some.ensures ∙ c.loop-named.read.ok.0 in
     let at : Some c.in-Some.named ≡ slice_get c.loop-named.queue (length files) = at_turn c.loop-named.queue files (Some c.in-Some.named) c.len.result (c.len.ensures ∙ c.loop-named.read.ok.0) c.in-Some.ensures in
     let of : IsFileOf mid (length files) f = subst (λ k. IsFileOf mid k f) turn c.in-Ok.ensures.known in
-    let reading : IsReading mid texts (length files) m (file mid f) =
-    reading_at mid texts (g.F.Files.texts c.loop-named.files) m (file mid f) c.len-in-Some.result (length files) turn c.loop-named.invariant.texts c.in-Ok.ensures.read in
+    let loaded : IsLoaded mid texts (length files) m (file mid f) =
+    loaded_at mid texts (g.F.Files.texts c.loop-named.files) m (file mid f) c.len-in-Some.result (length files) turn c.loop-named.invariant.texts c.in-Ok.ensures.read in
     let grown : Grows old new = grows_on old mid new c.in-Ok.ensures.grows c.in_ok-note_included.ensures.grows in
     record {
       so_far = gathered_as new texts c.args.first.now c.note_included.new.queue (files ++ f ∷ []) c.push.new.self.items c.in_ok-push.ensures.items
-          (gathered_on old texts c.args.first.now c.loop-named.queue files c.loop-named.invariant.so_far c.in-Some.named at mid new c.in-Ok.ensures.grows c.in_ok-note_included.ensures.grows grown f of reading
+          (gathered_on old texts c.args.first.now c.loop-named.queue files c.loop-named.invariant.so_far c.in-Some.named at mid new c.in-Ok.ensures.grows c.in_ok-note_included.ensures.grows grown f of loaded
           c.note_included.new.queue (rw c.as_slice.ensures.value at c.in_ok-note_included.ensures.noted) c.in_ok-note_included.ensures.known);
       grows = grows_on c.args.names.now old new c.loop-named.invariant.grows grown;
       texts = c.in-Ok.ensures.texts ∙ c.loop-named.invariant.texts;
