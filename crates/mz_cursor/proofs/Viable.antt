@@ -153,8 +153,8 @@ module _ {Part : Type 0} {Value : Part → Type 0} (rule : (n : Part) → Rule V
   pub takes_step : {n : Part} (p : Rule Value n) (more rest : List Token) → Taken n 9 p (more ++ rest) (step (read_by rule 60) p 9 (more ++ rest))
   takes_step p more rest = take_step 60 (take 60) p 9 (more ++ rest)
 
-  pub finished : {n : Part} (p : Rule Value n) (more : List Token) → Done p more → MayTake p more
-  finished p more d = finish p more _ (take_step 60 (take 60) p 9 more) d
+  pub may_take : {n : Part} (p : Rule Value n) (more : List Token) → Done p more → MayTake p more
+  may_take p more d = finish p more _ (take_step 60 (take 60) p 9 more) d
 
   -- What a grammar says of its parts: the tokens before which a part may end, wherever it may end before any;
   -- whether it takes a token at least; what its values are fit for; and whether it can be brought to the aim, a token,
@@ -258,7 +258,7 @@ module _ {Part : Type 0} {Value : Part → Type 0} (rule : (n : Part) → Rule V
         Goal {n = n} p us why rest = (more : List Token) × (y : Value n) × Goes p ((us ++ allowed why rest) ++ more) y None
 
         by_completion : {n : Part} (p : Rule Value n) → Completion p → (more : List Token) × (y : Value n) × Goes p more y None
-        by_completion p c = let h = finished p c.0 c.1 in (c.0, h.0, h.1)
+        by_completion p c = let h = may_take p c.0 c.1 in (c.0, h.0, h.1)
 
         from : (us : List Token) (why : Reason) (rest : List Token) {n : Part} {p : Rule Value n} → Completion p → (Begun us why rest → Goal p us why rest) → Goal p us why rest
         from [] syntax rest {p = p} c g = by_completion p c
@@ -280,16 +280,16 @@ module _ {Part : Type 0} {Value : Part → Type 0} (rule : (n : Part) → Rule V
 
         onward : {n m : Part} (f : Value m → Rule Value n) (us : List Token) (x : Value m) {p : Rule Value n} → f x ≡ p → After n m f p → Goes (rule m) us x None → Onward f us
         onward {n = n} f us x e (last {x = y} s) h = ([], y, goes_in us [] h (0, subst (λ p. Runs rule n 0 p [] y None) (sym e) gives))
-        onward {n = n} {m = m} f us x {p = p} e (tokens more d c t) h = onward_by f us x e more (finished p more d) c h
-        onward {n = n} {m = m} f us x {p = p} e (maybe more d c s) h = onward_by f us x e more (finished p more d) c h
-        onward {n = n} {m = m} f us x e (brought more d t e' b) h = let r = bring m e' h.0 us x None h.1 in onward_brought f us more r.0 r.1 (r.2.0, subst (λ o. Runs rule m r.2.0 (rule m) (us ++ r.0) r.1 o) b r.2.1) (finished (f r.1) more (d r.1))
+        onward {n = n} {m = m} f us x {p = p} e (tokens more d c t) h = onward_by f us x e more (may_take p more d) c h
+        onward {n = n} {m = m} f us x {p = p} e (maybe more d c s) h = onward_by f us x e more (may_take p more d) c h
+        onward {n = n} {m = m} f us x e (brought more d t e' b) h = let r = bring m e' h.0 us x None h.1 in onward_brought f us more r.0 r.1 (r.2.0, subst (λ o. Runs rule m r.2.0 (rule m) (us ++ r.0) r.1 o) b r.2.1) (may_take (f r.1) more (d r.1))
 
         -- what stopped at once behind a part was not at its end
         onward_refused : {n m : Part} (f : Value m → Rule Value n) (us : List Token) (x : Value m) {p : Rule Value n} {q room : ℕ} {vs : List Token} {why : Reason} {next ahead : Option Tok} → f x ≡ p → After n m f p → Runs rule m q (rule m) us x ahead → Refuses rule n room p vs why next → Onward f us
         onward_refused f us x e (last s) h g = elim g [ ]
-        onward_refused f us x {p = p} {q = q} e (tokens more d c t) h g = onward_by f us x e more (finished p more d) c (q, h)
-        onward_refused f us x {p = p} {q = q} e (maybe more d c s) h g = onward_by f us x e more (finished p more d) c (q, h)
-        onward_refused {m = m} f us x {q = q} {ahead = ahead} e (brought more d t e' b) h g = let r = bring m e' q us x ahead h in onward_brought f us more r.0 r.1 (r.2.0, subst (λ o. Runs rule m r.2.0 (rule m) (us ++ r.0) r.1 o) b r.2.1) (finished (f r.1) more (d r.1))
+        onward_refused f us x {p = p} {q = q} e (tokens more d c t) h g = onward_by f us x e more (may_take p more d) c (q, h)
+        onward_refused f us x {p = p} {q = q} e (maybe more d c s) h g = onward_by f us x e more (may_take p more d) c (q, h)
+        onward_refused {m = m} f us x {q = q} {ahead = ahead} e (brought more d t e' b) h g = let r = bring m e' q us x ahead h in onward_brought f us more r.0 r.1 (r.2.0, subst (λ o. Runs rule m r.2.0 (rule m) (us ++ r.0) r.1 o) b r.2.1) (may_take (f r.1) more (d r.1))
 
         beyond_from : {n m : Part} (f : Value m → Rule Value n) (us vs : List Token) (why : Reason) (rest : List Token) (x : Value m) {q : ℕ} {next : Option Tok} → tok_at rest ≡ next → After n m f (f x) → Runs rule m q (rule m) us x (follows vs next) → Refuses rule n q (f x) vs why next → (Begun vs why rest → Goal (f x) vs why rest) → (more : List Token) × (y : Value n) × Goes (part m f) (us ++ ((vs ++ allowed why rest) ++ more)) y None
         beyond_from f us [] syntax rest x e a h g ih = onward_refused f us x refl a h g

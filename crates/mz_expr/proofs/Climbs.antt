@@ -21,16 +21,16 @@ use Rattle.mz_grammar.proofs.Equations.{level_reads, operand_reads, operators_re
 use Rattle.mz_expr.specs.declared.parser.descent.Entry.{Entry}
 use Rattle.mz_expr.specs.declared.parser.descent.Entry.TheVariants as entry_is
 use Rattle.mz_operand.specs.Levels.{if_within, next_level}
-use Rattle.mz_expr.specs.StepsClimb.{numbered, levels, finished, climbing}
+use Rattle.mz_expr.specs.StepsClimb.{numbered, levels, with_operators, climbing}
 use Rattle.mz_expr.specs.Descent.{extent}
 
 -- a level more
-climbing_more : (ks : List Level) (l : Level) (x : Operand) (room : ℕ) (ts : List Token) → climbing (ks ++ (l ∷ [])) x room ts ≡ (climbing ks x room ts >>= λ y. finished l y.0 room y.1)
+climbing_more : (ks : List Level) (l : Level) (x : Operand) (room : ℕ) (ts : List Token) → climbing (ks ++ (l ∷ [])) x room ts ≡ (climbing ks x room ts >>= λ y. with_operators l y.0 room y.1)
 unfolding climbing
-climbing_more [] l x room ts = itself (finished l x room ts)
+climbing_more [] l x room ts = itself (with_operators l x room ts)
 climbing_more (k ∷ ks) l x room ts =
-    same_then (finished k x room ts) _ _ (λ y. climbing_more ks l y.0 room y.1)
-    ∙ grouped (finished k x room ts) (λ y. climbing ks y.0 room y.1) (λ y. finished l y.0 room y.1)
+    same_then (with_operators k x room ts) _ _ (λ y. climbing_more ks l y.0 room y.1)
+    ∙ grouped (with_operators k x room ts) (λ y. climbing ks y.0 room y.1) (λ y. with_operators l y.0 room y.1)
 
 -- an expression of this level is what stands in front of the operators, with the operators of these levels behind it
 abbrev Climbs : Level → List Level → Type 0
@@ -38,14 +38,14 @@ Climbs l ks = (room : ℕ) (ts : List Token) → reads (parts.level l) room ts �
 
 tightest : Climbs level.Concat (level.Concat ∷ [])
 unfolding climbing
-tightest room ts = level_reads level.Concat room ts ∙ ap (λ o. o >>= λ x. finished level.Concat x.0 room x.1) (operand_reads level.Concat room ts)
-    ∙ same_then (reads parts.unit room ts) _ _ (λ x. sym (itself (finished level.Concat x.0 room x.1)))
+tightest room ts = level_reads level.Concat room ts ∙ ap (λ o. o >>= λ x. with_operators level.Concat x.0 room x.1) (operand_reads level.Concat room ts)
+    ∙ same_then (reads parts.unit room ts) _ _ (λ x. sym (itself (with_operators level.Concat x.0 room x.1)))
 
 looser : (l k : Level) (ks : List Level) → tighter_level l ≡ Some k → Climbs k ks → Climbs l (ks ++ (l ∷ []))
 looser l k ks next climbs room ts =
     level_reads l room ts
-    ∙ ap (λ o. o >>= λ x. finished l x.0 room x.1) (operand_reads l room ts ∙ rw next (climbs room ts))
-    ∙ sym (grouped (reads parts.unit room ts) (λ x. climbing ks x.0 room x.1) (λ x. finished l x.0 room x.1))
+    ∙ ap (λ o. o >>= λ x. with_operators l x.0 room x.1) (operand_reads l room ts ∙ rw next (climbs room ts))
+    ∙ sym (grouped (reads parts.unit room ts) (λ x. climbing ks x.0 room x.1) (λ x. with_operators l x.0 room x.1))
     ∙ same_then (reads parts.unit room ts) _ _ (λ x. sym (climbing_more ks l x.0 room x.1))
 
 abbrev pub all_levels : Level → List Level
@@ -209,7 +209,7 @@ found l done (Some o) k is = go (nat_le (level_number l) (level_number o.0)) (na
     go false c a b e = absurd (cc e)
 
 taken : (l : Level) (done : ℕ) (k : Level) (x : Operand) (room : ℕ) (ts : List Token) → done ≤ 13 → next_level l done (tok_at ts) ≡ Some k →
-    climbing (levels done (level_number l)) x room ts ≡ (finished k x room ts >>= λ y. climbing (levels (level_number k) (level_number l)) y.0 room y.1)
+    climbing (levels done (level_number l)) x room ts ≡ (with_operators k x room ts >>= λ y. climbing (levels (level_number k) (level_number l)) y.0 room y.1)
 unfolding climbing
 taken l done k x room ts bound is =
     let f = found l done (operator_of (tok_at ts)) k is in
@@ -220,14 +220,14 @@ pub climb_starts : (l : Level) (x : Operand) (room after : ℕ) (ts next : List 
 climb_starts l x room after ts next sub same_room = rw same_room (climbs l room ts ∙ ap (λ o. o >>= λ y. climbing (all_levels l) y.0 room y.1) sub)
 
 pub climb_step : (l : Level) (done : ℕ) (k : Level) (x y : Operand) (room after : ℕ) (rest next : List Token) (all : Read Operand) → done ≤ 13 →
-    climbing (levels done (level_number l)) x room rest ≡ all → next_level l done (tok_at rest) ≡ Some k → finished k x room rest ≡ Ok (y, next) → after ≡ room →
+    climbing (levels done (level_number l)) x room rest ≡ all → next_level l done (tok_at rest) ≡ Some k → with_operators k x room rest ≡ Ok (y, next) → after ≡ room →
     climbing (levels (level_number k) (level_number l)) y after next ≡ all
 unfolding climbing
 climb_step l done k x y room after rest next all bound so_far is sub same_room =
     rw same_room (sym (ap (λ o. o >>= λ z. climbing (levels (level_number k) (level_number l)) z.0 room z.1) sub) ∙ sym (taken l done k x room rest bound is) ∙ so_far)
 
 pub climb_stops : (l : Level) (done : ℕ) (k : Level) (x : Operand) (room : ℕ) (rest : List Token) (all : Read Operand) → done ≤ 13 →
-    climbing (levels done (level_number l)) x room rest ≡ all → next_level l done (tok_at rest) ≡ Some k → (end : Span) (next : List Token) (stop : Stop) → Stops end next stop (finished k x room rest) → Stops end next stop all
+    climbing (levels done (level_number l)) x room rest ≡ all → next_level l done (tok_at rest) ≡ Some k → (end : Span) (next : List Token) (stop : Stop) → Stops end next stop (with_operators k x room rest) → Stops end next stop all
 unfolding climbing
 climb_stops l done k x room rest all bound so_far is end next Memory sub = tt
 climb_stops l done k x room rest all bound so_far is end next (Refused f) sub =

@@ -14,7 +14,7 @@ use Rattle.mz_cursor.specs.Look.{is_sym, symbol_number}
 use Rattle.mz_cursor.specs.Reading.{step, read_by}
 use Rattle.mz_cursor.proofs.Answering
 use Rattle.mz_cursor.proofs.Viable as ways
-use Rattle.mz_cursor.proofs.Viable.{never, last, tokens, maybe, done_by, goes_in, MayTake, Goes, finished}
+use Rattle.mz_cursor.proofs.Viable.{never, last, tokens, maybe, done_by, goes_in, MayTake, Goes, may_take}
 use Rattle.mz_grammar.specs.Tests.{ident_of, ends_row}
 use Rattle.mz_grammar.specs.Data.{Place, Value, rule, rank, width, reads, symbol, opening, file, item, datum, named, sized, index_sets, plains, rows, row, plain, range, set, bounds, ones, one, literal_of, negated_of}
 use Rattle.mz_tree.specs.Data.{is_name}
@@ -54,7 +54,7 @@ elements = sign SLBrack ∷ sign SRBrack ∷ sign SRParen ∷ []
 
 elements_stand : (n : ℕ) (ss : List pure.Value) → MayTake rule {n = sized n} (opening SLBrack (part plains λ vs. leave (symbol SRParen (give (pure.array_nd (pure.values ss) (pure.values vs)))))) elements
 unfolding step read_by rule symbol_number elements
-elements_stand n ss = finished rule {n = sized n} (opening SLBrack (part plains λ vs. leave (symbol SRParen (give (pure.array_nd (pure.values ss) (pure.values vs)))))) elements tt
+elements_stand n ss = may_take rule {n = sized n} (opening SLBrack (part plains λ vs. leave (symbol SRParen (give (pure.array_nd (pure.values ss) (pure.values vs)))))) elements tt
 
 sized_stands : (n : ℕ) → MayTake rule (rule (sized n)) (sets n ++ elements)
 unfolding rule symbol_number elements

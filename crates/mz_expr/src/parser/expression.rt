@@ -6,7 +6,7 @@ ghost use Rattle.mz_cursor.specs.Reads.{Passes, Reads};
 ghost use Rattle.mz_grammar.specs.Parts as parts;
 ghost use Rattle.mz_grammar.specs.Reading.{reads};
 ghost use Rattle.mz_operand.specs.Views.{operand};
-ghost use Rattle.mz_expr.specs.StepsClimb.{finished};
+ghost use Rattle.mz_expr.specs.StepsClimb.{with_operators};
 ghost use Rattle.mz_expr.specs.Descent.{MayBegin, MayOpen, MayRead};
 
 use crate::parser::descent::{Descent, Entry};
@@ -41,16 +41,21 @@ impl<F: Fn(Global, &mut Cursor<'_>, Entry) -> Result<Operand, Stop>> Descent<F> 
         let mut x = self.unit(cur)?;
         let mut done: u8 = 13;
         while let Some(k) = next_level(l, done, cur.tok()) {
-            x = self.finished(cur, k, x)?;
+            x = self.with_operators(cur, k, x)?;
             done = level_number(k);
         }
         Ok(x)
     }
 
     /// An operand with the operators of one level behind it.
-    fn finished(&self, cur: &mut Cursor<'_>, l: Level, first: Operand) -> Result<Operand, Stop>
+    fn with_operators(
+        &self,
+        cur: &mut Cursor<'_>,
+        l: Level,
+        first: Operand,
+    ) -> Result<Operand, Stop>
         requires { MayBegin (Entry.Level l) self.now.room self.now.entry (F.pre self.now.reader) (F.post self.now.reader) cur.old }
-        ensures { Passes operand (finished l (operand first)) cur.old cur.new result }
+        ensures { Passes operand (with_operators l (operand first)) cur.old cur.new result }
     {
         let links = self.operators(cur, l)?;
         Ok(chained(self.alloc, first, links)?)

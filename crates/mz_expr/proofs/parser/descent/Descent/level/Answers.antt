@@ -9,8 +9,8 @@ use Rattle.mz_expr.proofs.parser.descent.Descent.level.Goals as goal
 pub unit-requires : goal.unit-requires
 unit-requires g c = record { calls = c.requires.calls; below = unit_below _ _ c.args.l _ c.requires.below }
 
-pub finished-requires : goal.finished-requires
-finished-requires g c =
+pub with_operators-requires : goal.with_operators-requires
+with_operators-requires g c =
     let is : next_level c.args.l c.loop-k.done (tok_at c.loop-k.cur.rest.now) ≡ Some c.in-Some.k = ap (next_level c.args.l c.loop-k.done) (sym c.tok.ensures) ∙ sym c.next_level.ensures ∙ c.in-Some.is in
     record { calls = c.requires.calls; below = rw (c.loop-k.invariant.room, c.in_ok-x.ensures.room) (level_within _ _ _ _ _ _ _ is c.requires.below) }
 
@@ -24,10 +24,10 @@ loop-k-preserved g c =
     let is : next_level c.args.l c.loop-k.done (tok_at c.loop-k.cur.rest.now) ≡ Some c.in-Some.k = ap (next_level c.args.l c.loop-k.done) (sym c.tok.ensures) ∙ sym c.next_level.ensures ∙ c.in-Some.is in
     let smaller = number_below c.args.l c.loop-k.done c.in-Some.k c.loop-k.cur.rest.now is in
     record {
-      reads = rw c.level_number-done.ensures (climb_step c.args.l c.loop-k.done c.in-Some.k _ _ c.loop-k.cur.room c.finished.new.cur.room c.loop-k.cur.rest.now c.finished.new.cur.rest.now _ c.loop-k.invariant.bound c.loop-k.invariant.reads is c.in_ok-x-2.ensures.reads c.in_ok-x-2.ensures.room);
+      reads = rw c.level_number-done.ensures (climb_step c.args.l c.loop-k.done c.in-Some.k _ _ c.loop-k.cur.room c.with_operators.new.cur.room c.loop-k.cur.rest.now c.with_operators.new.cur.rest.now _ c.loop-k.invariant.bound c.loop-k.invariant.reads is c.in_ok-x-2.ensures.reads c.in_ok-x-2.ensures.room);
       bound = omega (arith, smaller, c.level_number-done.ensures, c.loop-k.invariant.bound);
       room = c.in_ok-x-2.ensures.room ∙ c.loop-k.invariant.room;
-      end = c.finished.ensures.end ∙ c.loop-k.invariant.end;
+      end = c.with_operators.ensures.end ∙ c.loop-k.invariant.end;
       shorter = omega (arith, c.in_ok-x-2.ensures.shorter, c.loop-k.invariant.shorter);
     }
 
@@ -37,7 +37,7 @@ returns-in_err-x-2 g c =
     let start = climb_starts c.args.l _ c.args.cur.now.room _ c.args.cur.now.rest.now _ c.in_ok-x.ensures.reads c.in_ok-x.ensures.room in
     let p = err_from_is_err_and c.from_residual-in_err-x-2.result c.from_residual-in_err-x-2.ensures.1 in
     record {
-      reads = rw (p.1, p.2) (climb_stops c.args.l c.loop-k.done c.in-Some.k _ c.loop-k.cur.room c.loop-k.cur.rest.now _ c.loop-k.invariant.bound (c.loop-k.invariant.reads ∙ sym start) is c.finished.new.cur.end c.finished.new.cur.rest.now c.in_err-x-2.field-0.0 c.in_err-x-2.ensures.reads);
+      reads = rw (p.1, p.2) (climb_stops c.args.l c.loop-k.done c.in-Some.k _ c.loop-k.cur.room c.loop-k.cur.rest.now _ c.loop-k.invariant.bound (c.loop-k.invariant.reads ∙ sym start) is c.with_operators.new.cur.end c.with_operators.new.cur.rest.now c.in_err-x-2.field-0.0 c.in_err-x-2.ensures.reads);
       room = rw (p.1) tt;
       end = search rules;
       shorter = rw (p.1) tt;
