@@ -11,7 +11,7 @@ use Rattle.mz_cursor.specs.Rules.{Reason, syntax, left_out, too_deep, Rule, Runs
 use Rattle.mz_cursor.specs.Reading.{Read, stuck, Falls, read}
 use Rattle.mz_cursor.specs.Promise.{reason_of, fault_of, Gives, Answers, IsWithin, Begins, BeginsWithin, FailsAt, EndsAt, IsUnfit, IsFault}
 use Rattle.mz_cursor.proofs.Laws.{Outcome, Reaches, reached, too_much, read_sound, read_reaches, read_refuses}
-use Rattle.mz_cursor.proofs.Viable.{Takes, Fine, Completion, Brought, ends, some_part}
+use Rattle.mz_cursor.proofs.Viable.{TakesToken, CanComplete, Completion, Brought, ends, some_part}
 
 -- a token is one too many only where there is one
 abbrev Deep : Reason → Option Tok → Type 0
@@ -44,9 +44,9 @@ pub one_more : (us more : List Token) (t : Token) → ((us ++ (t ∷ [])) ++ mor
 one_more us more t = append-nil ((us ++ (t ∷ [])) ++ more) ∙ append_assoc us (t ∷ []) more
 
 module _ {Part : Type 0} {Value : Part → Type 0} (rule : (n : Part) → Rule Value n) (rank : Part → ℕ) (width : ℕ) (low : (n : Part) → rank n < width) (falls : (n : Part) → Falls rank (rank n) (rule n))
-    (Calm : Part → Option Tok → Type 0) (taking : Part → Bool) (Apt : (n : Part) → Value n → Type 0) (far : Part → Bool) (aim : Token)
-    (takes : (n : Part) → taking n ≡ true → Takes rule Calm taking Apt far aim (rule n)) (complete : (n : Part) → Completion rule (rule n)) (fine : (n : Part) → Fine rule Calm taking Apt far aim (rule n))
-    (bring : (n : Part) → far n ≡ true → (q : ℕ) (us : List Token) (x : Value n) (next : Option Tok) → Runs rule n q (rule n) us x next → Brought rule Calm taking Apt far aim takes complete fine n us) where
+    (MayEndBefore : Part → Option Tok → Type 0) (takes_token : Part → Bool) (IsUsable : (n : Part) → Value n → Type 0) (far : Part → Bool) (aim : Token)
+    (takes : (n : Part) → takes_token n ≡ true → TakesToken rule MayEndBefore takes_token IsUsable far aim (rule n)) (complete : (n : Part) → Completion rule (rule n)) (can_complete : (n : Part) → CanComplete rule MayEndBefore takes_token IsUsable far aim (rule n))
+    (bring : (n : Part) → far n ≡ true → (q : ℕ) (us : List Token) (x : Value n) (next : Option Tok) → Runs rule n q (rule n) us x next → Brought rule MayEndBefore takes_token IsUsable far aim takes complete can_complete n us) where
   deep : {n : Part} {q : ℕ} {p : Rule Value n} {us : List Token} {why : Reason} {next : Option Tok} → Refuses rule n q p us why next → Deep why next
   deep unfit = tt
   deep unwanted = tt
@@ -113,8 +113,8 @@ module _ {Part : Type 0} {Value : Part → Type 0} (rule : (n : Part) → Rule V
   unfit_there n room end old why at new us e p s h b = record { front = us; rest = new; split = s; place = p; named = h; fails = fails n room us why new e h; begins = b }
 
   begins : (n : Part) (q : ℕ) (us : List Token) (why : Reason) → Ends why → (next : List Token) → Refuses rule n q (rule n) us why (tok_at next) → Begins rule n us
-  begins n q us syntax e next h = let r = some_part rule Calm taking Apt far aim takes complete fine bring n us syntax next h in (r.0, r.1, r.2.0, subst (λ l. IsWithin rule n r.2.0 (l ++ r.0) r.1) (append-nil us) r.2.1)
-  begins n q us left_out e next h = let r = some_part rule Calm taking Apt far aim takes complete fine bring n us left_out next h in (r.0, r.1, r.2.0, subst (λ l. IsWithin rule n r.2.0 (l ++ r.0) r.1) (append-nil us) r.2.1)
+  begins n q us syntax e next h = let r = some_part rule MayEndBefore takes_token IsUsable far aim takes complete can_complete bring n us syntax next h in (r.0, r.1, r.2.0, subst (λ l. IsWithin rule n r.2.0 (l ++ r.0) r.1) (append-nil us) r.2.1)
+  begins n q us left_out e next h = let r = some_part rule MayEndBefore takes_token IsUsable far aim takes complete can_complete bring n us left_out next h in (r.0, r.1, r.2.0, subst (λ l. IsWithin rule n r.2.0 (l ++ r.0) r.1) (append-nil us) r.2.1)
   begins n q us too_deep e next h = absurd e
 
   faulty : (n : Part) (room : ℕ) (end : Span) (old new : List Token) (why : Reason) (at : Span) (us : List Token) → at ≡ place_or end new → old ≡ us ++ new → Refuses rule n room (rule n) us why (tok_at new) → IsFault rule n room why end old at
@@ -122,16 +122,16 @@ module _ {Part : Type 0} {Value : Part → Type 0} (rule : (n : Part) → Rule V
   faulty n room end old new left_out at us p s h = unfit_there n room end old left_out at new us tt p s h (begins n room us left_out tt new h)
   faulty n room end old [] too_deep at us p s h = absurd (deep h)
   faulty n room end old (t ∷ rest) too_deep at us p s h =
-      let r = some_part rule Calm taking Apt far aim takes complete fine bring n us too_deep (t ∷ rest) h in
+      let r = some_part rule MayEndBefore takes_token IsUsable far aim takes complete can_complete bring n us too_deep (t ∷ rest) h in
       record { front = us; token = t; rest = rest; split = s; place = p; named = h; fails = fails_within n room us too_deep t h; begins = (r.0, r.1, r.2.0, r.2.1) }
 
   -- what gives the reading keeps the promise, for a part that may stand at the end
-  pub answers : {X : Type 0} (n : Part) (view : X → Value n) (room : ℕ) (end : Span) (old new : List Token) (result : Result X Stop) → Calm n None → Gives view end new result (read rule rank width n room old) → Answers rule n view room end old new result
-  answers n view room end old new (Ok x) calm g =
+  pub answers : {X : Type 0} (n : Part) (view : X → Value n) (room : ℕ) (end : Span) (old new : List Token) (result : Result X Stop) → MayEndBefore n None → Gives view end new result (read rule rank width n room old) → Answers rule n view room end old new result
+  answers n view room end old new (Ok x) may_end g =
       let h : Outcome rule rank width low falls n room (rule n) old (Ok (view x, new)) = subst (Outcome rule rank width low falls n room (rule n) old) g (read_sound rule rank width low falls n room old) in
-      record { front = h.0; split = h.1; reads = ends rule Calm taking Apt far aim takes complete fine None h.2 calm (fine n); longest = longest n room h.0 new (view x) h.2 }
-  answers n view room end old new (Err Memory) calm g = tt
-  answers n view room end old new (Err (Refused f)) calm g =
+      record { front = h.0; split = h.1; reads = ends rule MayEndBefore takes_token IsUsable far aim takes complete can_complete None h.2 may_end (can_complete n); longest = longest n room h.0 new (view x) h.2 }
+  answers n view room end old new (Err Memory) may_end g = tt
+  answers n view room end old new (Err (Refused f)) may_end g =
       let h : Outcome rule rank width low falls n room (rule n) old (stuck (reason_of f.kind) new) = subst (Outcome rule rank width low falls n room (rule n) old) g.0 (read_sound rule rank width low falls n room old) in
       let place : f.span ≡ place_or end new = ap (λ f. f.span) g.1 in
       (g.1 ∙ ap (fault_of (reason_of f.kind)) (sym place), faulty n room end old new (reason_of f.kind) f.span h.0 place h.1 h.2)

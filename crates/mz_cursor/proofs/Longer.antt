@@ -7,7 +7,7 @@ use Rattle.mz_lexer.specs.declared.token.Tok.{Tok}
 use Rattle.mz_cursor.specs.Tokens.{follows}
 use Rattle.mz_cursor.specs.Rules.{Rule, give, refuse, leave_out, look, pass, enter, leave, part, Runs, gives, looks, passes, enters, leaves, parts}
 use Rattle.mz_cursor.specs.Reading.{Read, step, read_by}
-use Rattle.mz_cursor.proofs.Viable.{Goes, Brought, goes_in, goes_out, Taken, takes_step, Takes, Fine, Completion, takes_a_token, ends}
+use Rattle.mz_cursor.proofs.Viable.{Goes, Brought, goes_in, goes_out, Taken, takes_step, TakesToken, CanComplete, Completion, takes_a_token, ends}
 
 -- the same last token, and the same ones before it
 pub same_last : (us vs : List Token) (t u : Token) → us ++ (t ∷ []) ≡ vs ++ (u ∷ []) → (us ≡ vs) × (t ≡ u)
@@ -44,17 +44,17 @@ module _ {Part : Type 0} {Value : Part → Type 0} (rule : (n : Part) → Rule V
   stopped : {n : Part} (p : Rule Value n) (more : List Token) → Before p more → (x : Value n) × Goes rule p more x (Some aim.tok)
   stopped p more d = stop p more _ (takes_step rule p more (aim ∷ [])) d
 
-  module _ (Calm : Part → Option Tok → Type 0) (taking : Part → Bool) (Apt : (n : Part) → Value n → Type 0) (far : Part → Bool)
-      (takes : (n : Part) → taking n ≡ true → Takes rule Calm taking Apt far aim (rule n)) (complete : (n : Part) → Completion rule (rule n)) (fine : (n : Part) → Fine rule Calm taking Apt far aim (rule n)) where
+  module _ (MayEndBefore : Part → Option Tok → Type 0) (takes_token : Part → Bool) (IsUsable : (n : Part) → Value n → Type 0) (far : Part → Bool)
+      (takes : (n : Part) → takes_token n ≡ true → TakesToken rule MayEndBefore takes_token IsUsable far aim (rule n)) (complete : (n : Part) → Completion rule (rule n)) (can_complete : (n : Part) → CanComplete rule MayEndBefore takes_token IsUsable far aim (rule n)) where
     -- a look never lets the part end, or else these tokens bring it to the aim
     pub data Seen {n : Part} (f : Option Tok → Rule Value n) : Type 0 where
-      firm : ((o : Option Tok) → Takes rule Calm taking Apt far aim (f o)) → Seen f
+      firm : ((o : Option Tok) → TakesToken rule MayEndBefore takes_token IsUsable far aim (f o)) → Seen f
       by : (more : List Token) → Before (look f) more → Seen f
 
     -- what stands behind the part m takes a token; or else m may end before the aim, or is brought to it
     pub data Reach (m : Part) {n : Part} (f : Value m → Rule Value n) : Rule Value n → Type 0 where
-      firmly : {p : Rule Value n} → Takes rule Calm taking Apt far aim p → Reach m f p
-      near : {p : Rule Value n} → Calm m (Some aim.tok) → Before p [] → Reach m f p
+      firmly : {p : Rule Value n} → TakesToken rule MayEndBefore takes_token IsUsable far aim p → Reach m f p
+      near : {p : Rule Value n} → MayEndBefore m (Some aim.tok) → Before p [] → Reach m f p
       farther : {p : Rule Value n} (more : List Token) → far m ≡ true → ((x : Value m) → Before (f x) more) → follows more (Some aim.tok) ≡ Some aim.tok → Reach m f p
 
     -- the rule can be brought to the aim, wherever it may end
@@ -73,14 +73,14 @@ module _ {Part : Type 0} {Value : Part → Type 0} (rule : (n : Part) → Rule V
       Longer {n = n} p us = (more : List Token) × (y : Value n) × Goes rule p (us ++ more) y (Some aim.tok)
 
       by_look : {n : Part} {q : ℕ} {f : Option Tok → Rule Value n} {x : Value n} (next : Option Tok) → Seen f → Runs rule n q (f next) [] x next → Longer (look f) []
-      by_look next (firm t) h = absurd (takes_a_token rule Calm taking Apt far aim takes complete fine h (t next))
+      by_look next (firm t) h = absurd (takes_a_token rule MayEndBefore takes_token IsUsable far aim takes complete can_complete h (t next))
       by_look {f = f} next (by more b) h = let r = stopped (look f) more b in (more, r.0, r.1)
 
       behind_it : {n m : Part} {q : ℕ} (f : Value m → Rule Value n) (us : List Token) (x : Value m) {p : Rule Value n} {y : Value n} {next : Option Tok} → f x ≡ p → Reach m f p → Runs rule m q (rule m) us x next → (far m ≡ true → Longer (rule m) us) → Runs rule n q p [] y next → Longer (part m f) us
-      behind_it f us x e (firmly t) h l g = absurd (takes_a_token rule Calm taking Apt far aim takes complete fine g t)
+      behind_it f us x e (firmly t) h l g = absurd (takes_a_token rule MayEndBefore takes_token IsUsable far aim takes complete can_complete g t)
       behind_it {n = n} {m = m} {q = q} f us x {p = p} e (near c b) h l g =
           let r = stopped p [] b in
-          ([], r.0, goes_in rule us [] (q, ends rule Calm taking Apt far aim takes complete fine (Some aim.tok) h c (fine m)) (r.1.0, subst (λ p. Runs rule n r.1.0 p [] r.0 (Some aim.tok)) (sym e) r.1.1))
+          ([], r.0, goes_in rule us [] (q, ends rule MayEndBefore takes_token IsUsable far aim takes complete can_complete (Some aim.tok) h c (can_complete m)) (r.1.0, subst (λ p. Runs rule n r.1.0 p [] r.0 (Some aim.tok)) (sym e) r.1.1))
       behind_it {m = m} f us x e (farther more t b s) h l g =
           let r = l t in
           let k = stopped (f r.1) more (b r.1) in (
@@ -103,5 +103,5 @@ module _ {Part : Type 0} {Value : Part → Type 0} (rule : (n : Part) → Rule V
           (r.0, r.1, subst (λ us. Goes rule (part m f) us r.1 (Some aim.tok)) (sym (append_assoc us (t ∷ vs) r.0)) (goes_in rule us (t ∷ (vs ++ r.0)) (q, h) r.2))
 
       -- some tokens more bring a part to the aim
-      pub bring : (n : Part) → far n ≡ true → (q : ℕ) (us : List Token) (x : Value n) (next : Option Tok) → Runs rule n q (rule n) us x next → Brought rule Calm taking Apt far aim takes complete fine n us
+      pub bring : (n : Part) → far n ≡ true → (q : ℕ) (us : List Token) (x : Value n) (next : Option Tok) → Runs rule n q (rule n) us x next → Brought rule MayEndBefore takes_token IsUsable far aim takes complete can_complete n us
       bring n t q us x next h = longer h (longs n t)

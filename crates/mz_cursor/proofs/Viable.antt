@@ -159,83 +159,83 @@ module _ {Part : Type 0} {Value : Part → Type 0} (rule : (n : Part) → Rule V
   -- What a grammar says of its parts: the tokens before which a part may end, wherever it may end before any;
   -- whether it takes a token at least; what its values are fit for; and whether it can be brought to the aim, a token,
   -- by some tokens more.
-  module _ (Calm : Part → Option Tok → Type 0) (taking : Part → Bool) (Apt : (n : Part) → Value n → Type 0) (far : Part → Bool) (aim : Token) where
+  module _ (MayEndBefore : Part → Option Tok → Type 0) (takes_token : Part → Bool) (IsUsable : (n : Part) → Value n → Type 0) (far : Part → Bool) (aim : Token) where
     -- it is so, or the grammar says so of a part
     abbrev pub Or : Bool → Type 0 → Type 0
     Or true A = Unit {0}
     Or false A = A
 
     -- the rule takes a token at least
-    abbrev pub Takes : {n : Part} → Rule Value n → Type 0
-    Takes (give x) = ⊥
-    Takes refuse = Unit {0}
-    Takes leave_out = Unit {0}
-    Takes (look f) = (o : Option Tok) → Takes (f o)
-    Takes (pass f) = Unit {0}
-    Takes (enter f) = Unit {0}
-    Takes (leave p) = Takes p
-    Takes (part m f) = Or (taking m) ((x : Value m) → Takes (f x))
+    abbrev pub TakesToken : {n : Part} → Rule Value n → Type 0
+    TakesToken (give x) = ⊥
+    TakesToken refuse = Unit {0}
+    TakesToken leave_out = Unit {0}
+    TakesToken (look f) = (o : Option Tok) → TakesToken (f o)
+    TakesToken (pass f) = Unit {0}
+    TakesToken (enter f) = Unit {0}
+    TakesToken (leave p) = TakesToken p
+    TakesToken (part m f) = Or (takes_token m) ((x : Value m) → TakesToken (f x))
 
-    -- a look never lets the part end, or else lets it end in the same way before each calm token
+    -- a look never lets the part end, or else lets it end in the same way before each token before which it may end
     pub data Steady {n : Part} (f : Option Tok → Rule Value n) : Type 0 where
-      never : ((o : Option Tok) → Takes (f o)) → Steady f
-      before_calm : ((o other : Option Tok) → Calm n other → Takes (f o) ⊎ (f o ≡ f other)) → Steady f
+      never : ((o : Option Tok) → TakesToken (f o)) → Steady f
+      before_end : ((o other : Option Tok) → MayEndBefore n other → TakesToken (f o) ⊎ (f o ≡ f other)) → Steady f
 
-    -- What stands behind the part m in one of n: nothing; or tokens of which the first is calm for m; where there need be
-    -- none of n, those that are calm for n must be so for m. Or else tokens that m can be brought to.
+    -- What follows the part m in one of n: nothing; or tokens, before the first of which m may end. Where none need follow, m may
+    -- end wherever n may. Or else tokens that m can be brought to.
     pub data After (n m : Part) (f : Value m → Rule Value n) : Rule Value n → Type 0 where
-      last : {x : Value n} → ((o : Option Tok) → Calm n o → Calm m o) → After n m f (give x)
-      tokens : {p : Rule Value n} (more : List Token) → Done p more → Calm m (follows more None) → Takes p → After n m f p
-      maybe : {p : Rule Value n} (more : List Token) → Done p more → Calm m (follows more None) → ((o : Option Tok) → Calm n o → Calm m o) → After n m f p
-      brought : {p : Rule Value n} (more : List Token) → ((x : Value m) → Done (f x) more) → Takes p → far m ≡ true → Some aim.tok ≡ follows more None → After n m f p
+      last : {x : Value n} → ((o : Option Tok) → MayEndBefore n o → MayEndBefore m o) → After n m f (give x)
+      tokens : {p : Rule Value n} (more : List Token) → Done p more → MayEndBefore m (follows more None) → TakesToken p → After n m f p
+      maybe : {p : Rule Value n} (more : List Token) → Done p more → MayEndBefore m (follows more None) → ((o : Option Tok) → MayEndBefore n o → MayEndBefore m o) → After n m f p
+      brought : {p : Rule Value n} (more : List Token) → ((x : Value m) → Done (f x) more) → TakesToken p → far m ≡ true → Some aim.tok ≡ follows more None → After n m f p
 
     -- what a rule must keep to: behind each token and each part there is a way on
-    abbrev pub Fine : {n : Part} → Rule Value n → Type 0
-    Fine {n = n} (give x) = Apt n x
-    Fine refuse = Unit {0}
-    Fine leave_out = Unit {0}
-    Fine (look f) = Steady f × ((o : Option Tok) → Fine (f o))
-    Fine (pass f) = (s : Span) → Completion (f s) × Fine (f s)
-    Fine (enter f) = (s : Span) → Completion (f s) × Fine (f s)
-    Fine (leave p) = Fine p
-    Fine {n = n} (part m f) = (x : Value m) → Apt m x → After n m f (f x) × Fine (f x)
+    abbrev pub CanComplete : {n : Part} → Rule Value n → Type 0
+    CanComplete {n = n} (give x) = IsUsable n x
+    CanComplete refuse = Unit {0}
+    CanComplete leave_out = Unit {0}
+    CanComplete (look f) = Steady f × ((o : Option Tok) → CanComplete (f o))
+    CanComplete (pass f) = (s : Span) → Completion (f s) × CanComplete (f s)
+    CanComplete (enter f) = (s : Span) → Completion (f s) × CanComplete (f s)
+    CanComplete (leave p) = CanComplete p
+    CanComplete {n = n} (part m f) = (x : Value m) → IsUsable m x → After n m f (f x) × CanComplete (f x)
 
-    module _ (takes : (n : Part) → taking n ≡ true → Takes (rule n)) (complete : (n : Part) → Completion (rule n)) (fine : (n : Part) → Fine (rule n)) where
+    module _ (takes : (n : Part) → takes_token n ≡ true → TakesToken (rule n)) (complete : (n : Part) → Completion (rule n)) (can_complete : (n : Part) → CanComplete (rule n)) where
       -- a rule that takes a token takes one
       part_takes : (b : Bool) (us vs : List Token) {A : Type 0} → (b ≡ true → HasToken us) → (A → HasToken vs) → Or b A → HasToken (us ++ vs)
       part_takes true us vs h g t = has_left us vs (h refl)
       part_takes false us vs h g t = has_right us vs (g t)
 
-      pub takes_a_token : {n : Part} {q : ℕ} {p : Rule Value n} {us : List Token} {x : Value n} {next : Option Tok} → Runs rule n q p us x next → Takes p → HasToken us
+      pub takes_a_token : {n : Part} {q : ℕ} {p : Rule Value n} {us : List Token} {x : Value n} {next : Option Tok} → Runs rule n q p us x next → TakesToken p → HasToken us
       takes_a_token gives t = t
       takes_a_token (looks {ts = ts} {next = next} h) t = takes_a_token h (t (follows ts next))
       takes_a_token (passes h) t = tt
       takes_a_token (enters h) t = tt
       takes_a_token (leaves h) t = takes_a_token h t
-      takes_a_token (parts {m = m} us vs {x = x} h g) t = part_takes (taking m) us vs (λ e. takes_a_token h (takes m e)) (λ l. takes_a_token g (l x)) t
+      takes_a_token (parts {m = m} us vs {x = x} h g) t = part_takes (takes_token m) us vs (λ e. takes_a_token h (takes m e)) (λ l. takes_a_token g (l x)) t
 
       -- the values are fit
-      pub apt : {n : Part} {q : ℕ} {p : Rule Value n} {us : List Token} {x : Value n} {next : Option Tok} → Runs rule n q p us x next → Fine p → Apt n x
-      apt gives l = l
-      apt (looks {ts = ts} {next = next} h) l = apt h (l.1 (follows ts next))
-      apt (passes {t = t} h) l = apt h (l t.span).1
-      apt (enters {t = t} h) l = apt h (l t.span).1
-      apt (leaves h) l = apt h l
-      apt (parts {m = m} us vs {x = x} h g) l = apt g (l x (apt h (fine m))).1
+      pub usable : {n : Part} {q : ℕ} {p : Rule Value n} {us : List Token} {x : Value n} {next : Option Tok} → Runs rule n q p us x next → CanComplete p → IsUsable n x
+      usable gives l = l
+      usable (looks {ts = ts} {next = next} h) l = usable h (l.1 (follows ts next))
+      usable (passes {t = t} h) l = usable h (l t.span).1
+      usable (enters {t = t} h) l = usable h (l t.span).1
+      usable (leaves h) l = usable h l
+      usable (parts {m = m} us vs {x = x} h g) l = usable g (l x (usable h (can_complete m))).1
 
-      -- what may end before a token may also end before any calm one
-      end_look : {n : Part} {q : ℕ} {f : Option Tok → Rule Value n} {x : Value n} (next other : Option Tok) → Calm n other → Steady f → Runs rule n q (f next) [] x other → Runs rule n q (look f) [] x other
+      -- what ends before a token may also end before any other before which its part may end
+      end_look : {n : Part} {q : ℕ} {f : Option Tok → Rule Value n} {x : Value n} (next other : Option Tok) → MayEndBefore n other → Steady f → Runs rule n q (f next) [] x other → Runs rule n q (look f) [] x other
       end_look next other c (never t) h = absurd (takes_a_token h (t next))
-      end_look {n = n} {q = q} {f = f} {x = x} next other c (before_calm s) h =
+      end_look {n = n} {q = q} {f = f} {x = x} next other c (before_end s) h =
           elim (s next other c) [ inl t ↦ absurd (takes_a_token h t) | inr e ↦ looks (subst (λ p. Runs rule n q p [] x other) e h) ]
 
-      end_part : {n m : Part} {f : Value m → Rule Value n} {q : ℕ} {p : Rule Value n} {y : Value n} (next other : Option Tok) → Calm n other → After n m f p → Runs rule n q p [] y other → Calm m other
+      end_part : {n m : Part} {f : Value m → Rule Value n} {q : ℕ} {p : Rule Value n} {y : Value n} (next other : Option Tok) → MayEndBefore n other → After n m f p → Runs rule n q p [] y other → MayEndBefore m other
       end_part next other c (last s) h = s other c
       end_part next other c (tokens more d cm t) h = absurd (takes_a_token h t)
       end_part next other c (maybe more d cm s) h = s other c
       end_part next other c (brought more d t e' b) h = absurd (takes_a_token h t)
 
-      pub ends : {n : Part} {q : ℕ} {p : Rule Value n} {us : List Token} {x : Value n} {next : Option Tok} (other : Option Tok) → Runs rule n q p us x next → Calm n other → Fine p → Runs rule n q p us x other
+      pub ends : {n : Part} {q : ℕ} {p : Rule Value n} {us : List Token} {x : Value n} {next : Option Tok} (other : Option Tok) → Runs rule n q p us x next → MayEndBefore n other → CanComplete p → Runs rule n q p us x other
       ends other gives c l = gives
       ends other (looks {ts = []} {next = next} h) c l = end_look next other c l.0 (ends other h c (l.1 next))
       ends other (looks {ts = t ∷ ts} h) c l = looks (ends other h c (l.1 (Some t.tok)))
@@ -243,10 +243,10 @@ module _ {Part : Type 0} {Value : Part → Type 0} (rule : (n : Part) → Rule V
       ends other (enters {t = t} h) c l = enters (ends other h c (l t.span).1)
       ends other (leaves h) c l = leaves (ends other h c l)
       ends other (parts {m = m} us [] {x = x} {next = next} h g) c l =
-          let after = l x (apt h (fine m)) in
+          let after = l x (usable h (can_complete m)) in
           let g' = ends other g c after.1 in
-          parts us [] (ends other h (end_part next other c after.0 g') (fine m)) g'
-      ends other (parts {m = m} us (t ∷ vs) {x = x} h g) c l = parts us (t ∷ vs) h (ends other g c (l x (apt h (fine m))).1)
+          parts us [] (ends other h (end_part next other c after.0 g') (can_complete m)) g'
+      ends other (parts {m = m} us (t ∷ vs) {x = x} h g) c l = parts us (t ∷ vs) h (ends other g c (l x (usable h (can_complete m))).1)
 
       -- a part with these tokens, and with some more behind them, before the aim
       abbrev pub Brought : (n : Part) → List Token → Type 0
@@ -271,9 +271,9 @@ module _ {Part : Type 0} {Value : Part → Type 0} (rule : (n : Part) → Rule V
         abbrev Onward : {n m : Part} → (Value m → Rule Value n) → List Token → Type 0
         Onward {n = n} {m = m} f us = (more : List Token) × (y : Value n) × Goes (part m f) (us ++ more) y None
 
-        onward_by : {n m : Part} (f : Value m → Rule Value n) (us : List Token) (x : Value m) {p : Rule Value n} {next : Option Tok} → f x ≡ p → (more : List Token) → (y : Value n) × Goes p more y None → Calm m (follows more None) → Goes (rule m) us x next → Onward f us
+        onward_by : {n m : Part} (f : Value m → Rule Value n) (us : List Token) (x : Value m) {p : Rule Value n} {next : Option Tok} → f x ≡ p → (more : List Token) → (y : Value n) × Goes p more y None → MayEndBefore m (follows more None) → Goes (rule m) us x next → Onward f us
         onward_by {n = n} {m = m} f us x e more r c h =
-            (more, r.0, goes_in us more (h.0, ends (follows more None) h.1 c (fine m)) (r.1.0, subst (λ p. Runs rule n r.1.0 p more r.0 None) (sym e) r.1.1))
+            (more, r.0, goes_in us more (h.0, ends (follows more None) h.1 c (can_complete m)) (r.1.0, subst (λ p. Runs rule n r.1.0 p more r.0 None) (sym e) r.1.1))
 
         onward_brought : {n m : Part} (f : Value m → Rule Value n) (us more front : List Token) (y : Value m) → Goes (rule m) (us ++ front) y (follows more None) → (x : Value n) × Goes (f y) more x None → Onward f us
         onward_brought f us more front y h r = (front ++ more, r.0, subst (λ us. Goes (part _ f) us r.0 None) (append_assoc us front more) (goes_in (us ++ front) more h r.1))
@@ -298,7 +298,7 @@ module _ {Part : Type 0} {Value : Part → Type 0} (rule : (n : Part) → Rule V
         beyond_from {m = m} f us [] too_deep (t ∷ rest) x {q = q} e a h g ih = let r = ih tt in (r.0, r.1, goes_in us (t ∷ r.0) (q, subst (λ o. Runs rule m q (rule m) us x o) (sym e) h) r.2)
         beyond_from f us (t ∷ vs) why rest x {q = q} e a h g ih = let r = ih tt in (r.0, r.1, goes_in us (t ∷ ((vs ++ allowed why rest) ++ r.0)) (q, h) r.2)
 
-        viable : {n : Part} {q : ℕ} {p : Rule Value n} {us : List Token} {why : Reason} {next : Option Tok} → Refuses rule n q p us why next → (rest : List Token) → tok_at rest ≡ next → Fine p → Begun us why rest → Goal p us why rest
+        viable : {n : Part} {q : ℕ} {p : Rule Value n} {us : List Token} {why : Reason} {next : Option Tok} → Refuses rule n q p us why next → (rest : List Token) → tok_at rest ≡ next → CanComplete p → Begun us why rest → Goal p us why rest
         viable unfit rest e l b = absurd b
         viable unwanted rest e l b = absurd b
         viable no_token rest e l b = absurd b
@@ -316,14 +316,14 @@ module _ {Part : Type 0} {Value : Part → Type 0} (rule : (n : Part) → Rule V
             (r.0, r.1, (suc r.2.0, enters r.2.1))
         viable (behind_leave h) rest e l b = let r = viable h rest e l b in (r.0, r.1, goes_out r.2)
         viable (within {m = m} {f = f} {ts = ts} {why = why} h) rest e l b =
-            let r = from ts why rest (complete m) (viable h rest e (fine m)) in
-            let g = onward f ((ts ++ allowed why rest) ++ r.0) r.1 refl (l r.1 (apt r.2.1 (fine m))).0 r.2 in
+            let r = from ts why rest (complete m) (viable h rest e (can_complete m)) in
+            let g = onward f ((ts ++ allowed why rest) ++ r.0) r.1 refl (l r.1 (usable r.2.1 (can_complete m))).0 r.2 in
             (r.0 ++ g.0, g.1, subst (λ us. Goes (part m f) us g.1 None) (append_assoc (ts ++ allowed why rest) r.0 g.0) g.2)
         viable (beyond {m = m} {f = f} us vs {x = x} {why = why} h g) rest e l b =
-            let after = l x (apt h (fine m)) in
+            let after = l x (usable h (can_complete m)) in
             let r = beyond_from f us vs why rest x e after.0 h g (viable g rest e after.1) in
             (r.0, r.1, subst (λ us. Goes (part m f) us r.1 None) (sym (append_assoc us (vs ++ allowed why rest) r.0) ∙ ap (λ us. us ++ r.0) (sym (append_assoc us vs (allowed why rest)))) r.2)
 
         -- some part begins with the tokens before a fault, and with the one that is one too many
         pub some_part : (n : Part) {q : ℕ} (us : List Token) (why : Reason) (rest : List Token) → Refuses rule n q (rule n) us why (tok_at rest) → (more : List Token) × (y : Value n) × Goes (rule n) ((us ++ allowed why rest) ++ more) y None
-        some_part n us why rest h = from us why rest (complete n) (viable h rest refl (fine n))
+        some_part n us why rest h = from us why rest (complete n) (viable h rest refl (can_complete n))

@@ -60,19 +60,19 @@ module _ (Named : Name → Type 0) (Placed : Span → Type 0) where
   Holds part.one v = Placed v.0 × Within v.1
 
   -- the name of the token in front
-  abbrev Fine : Option Tok → Type 0
-  Fine None = Unit {0}
-  Fine (Some (tok.Word k)) = Unit {0}
-  Fine (Some (tok.Sym s)) = Unit {0}
-  Fine (Some (tok.Ident n)) = Named n
-  Fine (Some (tok.Int z)) = Unit {0}
-  Fine (Some (tok.Text n)) = Unit {0}
-  Fine (Some (tok.TextHead n)) = Unit {0}
-  Fine (Some (tok.TextMid n)) = Unit {0}
-  Fine (Some (tok.TextTail n)) = Unit {0}
+  abbrev TokenHolds : Option Tok → Type 0
+  TokenHolds None = Unit {0}
+  TokenHolds (Some (tok.Word k)) = Unit {0}
+  TokenHolds (Some (tok.Sym s)) = Unit {0}
+  TokenHolds (Some (tok.Ident n)) = Named n
+  TokenHolds (Some (tok.Int z)) = Unit {0}
+  TokenHolds (Some (tok.Text n)) = Unit {0}
+  TokenHolds (Some (tok.TextHead n)) = Unit {0}
+  TokenHolds (Some (tok.TextMid n)) = Unit {0}
+  TokenHolds (Some (tok.TextTail n)) = Unit {0}
 
   abbrev Keeps : {n : Place} → Ruled n → Type 0
-  Keeps p = Generic.Keeps Holds Fine Placed p
+  Keeps p = Generic.Keeps Holds TokenHolds Placed p
 
   abbrev OnSome : {A : Type 0} → (A → Type 0) → Option A → Type 0
   OnSome Q None = Unit {0}
@@ -86,10 +86,10 @@ module _ (Named : Name → Type 0) (Placed : Span → Type 0) where
   found Q None p f q h g = h
   found Q (Some x) p f q h g = g x q
 
-  ident_named : (o : Option Tok) → Fine o → OnSome Named (ident_of o)
-  ident_named None fine = tt
-  ident_named (Some (tok.Ident n)) fine = fine
-  ident_named (Some _) fine = tt
+  ident_named : (o : Option Tok) → TokenHolds o → OnSome Named (ident_of o)
+  ident_named None holds = tt
+  ident_named (Some (tok.Ident n)) holds = holds
+  ident_named (Some _) holds = tt
 
   -- Values
 
@@ -133,13 +133,13 @@ module _ (Named : Name → Type 0) (Placed : Span → Type 0) where
   of_word KFalse = All-nil Named
   of_word _ = tt
 
-  of_literal : (o : Option Tok) → Fine o → OnSome Within (literal_of o)
+  of_literal : (o : Option Tok) → TokenHolds o → OnSome Within (literal_of o)
   unfolding names_in
-  of_literal None fine = tt
-  of_literal (Some (tok.Word k)) fine = of_word k
-  of_literal (Some (tok.Int z)) fine = All-nil Named
-  of_literal (Some (tok.Ident n)) fine = of_one_name n fine
-  of_literal (Some _) fine = tt
+  of_literal None holds = tt
+  of_literal (Some (tok.Word k)) holds = of_word k
+  of_literal (Some (tok.Int z)) holds = All-nil Named
+  of_literal (Some (tok.Ident n)) holds = of_one_name n holds
+  of_literal (Some _) holds = tt
 
   none : {A : Type 0} (o : Option A) → OnSome (λ x. Unit {0}) o
   none None = tt
@@ -148,73 +148,73 @@ module _ (Named : Name → Type 0) (Placed : Span → Type 0) where
   -- Rules
 
   symbol_kept : {n : Place} (s : Symbol) (p : Ruled n) → Keeps p → Keeps (symbol s p)
-  symbol_kept s p h = λ o fine. tested (is_sym s o) _ _ (λ at u. h) tt
+  symbol_kept s p h = λ o holds. tested (is_sym s o) _ _ (λ at u. h) tt
 
   opening_kept : {n : Place} (s : Symbol) (p : Ruled n) → Keeps p → Keeps (opening s p)
-  opening_kept s p h = λ o fine. tested (is_sym s o) _ _ (λ at u. h) tt
+  opening_kept s p h = λ o holds. tested (is_sym s o) _ _ (λ at u. h) tt
 
   behind_kept : {n : Place} (separator closing : Symbol) (more done : Ruled n) → Keeps more → Keeps done → Keeps (behind_element separator closing more done)
-  behind_kept separator closing more done h g = λ o fine. tested (is_sym separator o) _ _ (λ at u. h) (tested (is_sym closing o) _ _ (λ at u. g) tt)
+  behind_kept separator closing more done h g = λ o holds. tested (is_sym separator o) _ _ (λ at u. h) (tested (is_sym closing o) _ _ (λ at u. g) tt)
 
   one_kept : Keeps part.one_rule
   unfolding names_in
-  one_kept = λ o fine. tested (is_sym SMinus o) _ _
+  one_kept = λ o holds. tested (is_sym SMinus o) _ _
       (λ s u. λ p v. found (λ z. Unit {0}) (negated_of p) _ _ (none (negated_of p)) tt (λ z k. λ t w. (u, All-nil Named)))
-      (found Within (literal_of o) _ _ (of_literal o fine) tt (λ x h. λ s u. (u, h)))
+      (found Within (literal_of o) _ _ (of_literal o holds) tt (λ x h. λ s u. (u, h)))
 
   range_kept : (v : pure.Value) → Keeps (part.range_rule v)
-  range_kept v = λ o fine. tested (is_sym SDots o) _ _ (λ d u. λ w h. λ g. of_bounds v w.1 g h.1) (λ g. g)
+  range_kept v = λ o holds. tested (is_sym SDots o) _ _ (λ d u. λ w h. λ g. of_bounds v w.1 g h.1) (λ g. g)
 
   ones_kept : Keeps part.ones_rule
-  ones_kept = λ o fine. tested (is_sym SRBrace o) _ _ (λ c u. All-nil Within)
+  ones_kept = λ o holds. tested (is_sym SRBrace o) _ _ (λ c u. All-nil Within)
       (λ v h. behind_kept SComma SRBrace _ _ (λ vs g. All-cons Within v.1 vs h.1 g) (All-cons Within v.1 [] h.1 (All-nil Within)))
 
   bounds_kept : (v : pure.Value) → Keeps (part.bounds_rule v)
-  bounds_kept v = λ o fine. tested (is_sym SDots o) _ _ (λ d u. λ w h. λ g. of_bounds v w.1 g h.1) (tested (is_name v) _ _ (λ g. g) tt)
+  bounds_kept v = λ o holds. tested (is_sym SDots o) _ _ (λ d u. λ w h. λ g. of_bounds v w.1 g h.1) (tested (is_name v) _ _ (λ g. g) tt)
 
   set_kept : Keeps part.set_rule
-  set_kept = λ o fine. tested (is_sym SLBrace o) _ _ (λ s u. λ vs h. of_set vs h) (λ v h. λ w g. g h.1)
+  set_kept = λ o holds. tested (is_sym SLBrace o) _ _ (λ s u. λ vs h. of_set vs h) (λ v h. λ w g. g h.1)
 
   plain_kept : Keeps part.plain_rule
   unfolding names_in
-  plain_kept = λ o fine. tested (is_sym SLBrace o) _ _ (λ s u. λ vs h. (u, of_set vs h))
+  plain_kept = λ o holds. tested (is_sym SLBrace o) _ _ (λ s u. λ vs h. (u, of_set vs h))
       (tested (is_sym SAbsent o) _ _ (λ s u. (u, All-nil Named)) (λ v h. λ w g. (h.0, g h.1)))
 
   plains_kept : Keeps part.plains_rule
-  plains_kept = λ o fine. tested (is_sym SRBrack o) _ _ (λ c u. All-nil Within)
+  plains_kept = λ o holds. tested (is_sym SRBrack o) _ _ (λ c u. All-nil Within)
       (λ v h. behind_kept SComma SRBrack _ _ (λ vs g. All-cons Within v.1 vs h.1 g) (All-cons Within v.1 [] h.1 (All-nil Within)))
 
   row_kept : Keeps part.row_rule
-  row_kept = λ v h. λ o fine. tested (is_sym SComma o) _ _
+  row_kept = λ v h. λ o holds. tested (is_sym SComma o) _ _
       (λ c u. λ p w. tested (ends_row p) _ _ (All-cons Within v.1 [] h.1 (All-nil Within)) (λ vs g. All-cons Within v.1 vs h.1 g))
       (All-cons Within v.1 [] h.1 (All-nil Within))
 
   rows_kept : Keeps part.rows_rule
-  rows_kept = λ o fine. tested (is_sym SRRows o) _ _ (λ c u. All-nil EachWithin)
+  rows_kept = λ o holds. tested (is_sym SRRows o) _ _ (λ c u. All-nil EachWithin)
       (λ l h. behind_kept SBar SRRows _ _ (λ ls g. All-cons EachWithin l ls h g) (All-cons EachWithin l [] h (All-nil EachWithin)))
 
   index_sets_kept : (d : ℕ) → Keeps (part.index_sets_rule d)
-  index_sets_kept zero = λ o fine. tested (is_sym SComma o) _ _ (λ c u. All-nil Within) (All-nil Within)
+  index_sets_kept zero = λ o holds. tested (is_sym SComma o) _ _ (λ c u. All-nil Within) (All-nil Within)
   index_sets_kept (suc d) = λ v h. symbol_kept SComma _ (λ vs g. All-cons Within v vs h g)
 
   sized_kept : (d : ℕ) → Keeps (part.sized_rule d)
   sized_kept d = λ ss h. opening_kept SLBrack _ (λ vs g. symbol_kept SRParen _ (of_sized ss vs h g))
 
   named_kept : (d : Dimensions) (n : Name) → Keeps (part.named_rule d n)
-  named_kept d n = λ o fine. tested (is_sym SLParen o) _ _
+  named_kept d n = λ o holds. tested (is_sym SLParen o) _ _
       (found (λ m. Unit {0}) (d n) _ _ (none (d n)) tt (λ m k. λ p u. λ v h. λ g. h))
       (λ v h. λ g. h (of_one_name n g))
 
   datum_kept : (d : Dimensions) → Keeps (part.datum_rule d)
-  datum_kept d = λ o fine. tested (is_sym SLBrack o) _ _ (λ s u. λ vs h. (u, of_array vs h))
+  datum_kept d = λ o holds. tested (is_sym SLBrack o) _ _ (λ s u. λ vs h. (u, of_array vs h))
       (tested (is_sym SLRows o) _ _ (λ s u. λ ls h. (u, of_rows ls h))
-      (found Named (ident_of o) _ _ (ident_named o fine) (λ v h. h) (λ n k. λ s u. λ v h. (u, h k))))
+      (found Named (ident_of o) _ _ (ident_named o holds) (λ v h. h) (λ n k. λ s u. λ v h. (u, h k))))
 
   item_kept : (d : Dimensions) → Keeps (part.item_rule d)
-  item_kept d = λ o fine. found Named (ident_of o) _ _ (ident_named o fine) tt (λ n k. λ s u. symbol_kept SEq _ (λ v h. (k, h.1, u, h.0)))
+  item_kept d = λ o holds. found Named (ident_of o) _ _ (ident_named o holds) tt (λ n k. λ s u. symbol_kept SEq _ (λ v h. (k, h.1, u, h.0)))
 
   file_kept : (d : Dimensions) → Keeps (part.file_rule d)
-  file_kept d = λ o fine. found (λ t. Unit {0}) o _ _ (none o) (All-nil Kept) (λ t k. λ i h. λ p u.
+  file_kept d = λ o holds. found (λ t. Unit {0}) o _ _ (none o) (All-nil Kept) (λ t k. λ i h. λ p u.
       found (λ t. Unit {0}) p _ _ (none p) (All-cons Kept i [] h (All-nil Kept))
       (λ w l. symbol_kept SSemi _ (λ is g. All-cons Kept i is h g)))
 
@@ -237,22 +237,22 @@ module _ (Named : Name → Type 0) (Placed : Span → Type 0) where
   all_kept part.ones = ones_kept
   all_kept part.one = one_kept
 
-  abbrev AllFine : List Token → Type 0
-  AllFine ts = Generic.AllFine {Value = Value} Holds Fine Placed ts
+  abbrev AllHold : List Token → Type 0
+  AllHold ts = Generic.AllHold {Value = Value} Holds TokenHolds Placed ts
 
-  file_keeps : {d : Dimensions} {room : ℕ} {ts : List Token} {is : List Given} → Runs rule (part.file d) room (rule (part.file d)) ts is None → AllFine ts → All Kept is
-  file_keeps {d = d} r fine = Generic.kept Holds Fine Placed rule all_kept r fine tt (all_kept (part.file d))
+  file_keeps : {d : Dimensions} {room : ℕ} {ts : List Token} {is : List Given} → Runs rule (part.file d) room (rule (part.file d)) ts is None → AllHold ts → All Kept is
+  file_keeps {d = d} r holds = Generic.kept Holds TokenHolds Placed rule all_kept r holds tt (all_kept (part.file d))
 
   -- the tokens of a whole file
-  whole_keeps : (d : Dimensions) (room : ℕ) (tokens : List Token) (is : List Given) → IsFront rule (part.file d) room tokens [] is → AllFine tokens → All Kept is
-  whole_keeps d room tokens is h fine = file_keeps h.reads (subst AllFine (h.split ∙ append-nil h.front) fine)
+  whole_keeps : (d : Dimensions) (room : ℕ) (tokens : List Token) (is : List Given) → IsFront rule (part.file d) room tokens [] is → AllHold tokens → All Kept is
+  whole_keeps d room tokens is h holds = file_keeps h.reads (subst AllHold (h.split ∙ append-nil h.front) holds)
 
 -- Names of a table
 
 abbrev Anywhere : Span → Type 0
 Anywhere s = Unit {0}
 
-named_tok : (texts : List (List ℕ)) (t : Tok) → IsNamed texts t → Fine (λ n. n < length texts) Anywhere (Some t)
+named_tok : (texts : List (List ℕ)) (t : Tok) → IsNamed texts t → TokenHolds (λ n. n < length texts) Anywhere (Some t)
 named_tok texts (tok.Word k) h = tt
 named_tok texts (tok.Sym s) h = tt
 named_tok texts (tok.Ident n) h = h
@@ -262,7 +262,7 @@ named_tok texts (tok.TextHead n) h = tt
 named_tok texts (tok.TextMid n) h = tt
 named_tok texts (tok.TextTail n) h = tt
 
-named_tokens : (texts : List (List ℕ)) (tokens : List Token) → All (HasName texts) tokens → AllFine (λ n. n < length texts) Anywhere tokens
+named_tokens : (texts : List (List ℕ)) (tokens : List Token) → All (HasName texts) tokens → AllHold (λ n. n < length texts) Anywhere tokens
 named_tokens texts [] all = tt
 named_tokens texts (t ∷ ts) all = (named_tok texts t.tok (All-head (HasName texts) t ts all), tt, named_tokens texts ts (All-tail (HasName texts) t ts all))
 
@@ -277,7 +277,7 @@ whole_within texts d room tokens is h all =
 abbrev Any : Name → Type 0
 Any n = Unit {0}
 
-any_tok : (number : ℕ) (t : Tok) → Fine Any (λ s. s.file ≡ number) (Some t)
+any_tok : (number : ℕ) (t : Tok) → TokenHolds Any (λ s. s.file ≡ number) (Some t)
 any_tok number (tok.Word k) = tt
 any_tok number (tok.Sym s) = tt
 any_tok number (tok.Ident n) = tt
@@ -287,7 +287,7 @@ any_tok number (tok.TextHead n) = tt
 any_tok number (tok.TextMid n) = tt
 any_tok number (tok.TextTail n) = tt
 
-placed_tokens : (number : ℕ) (tokens : List Token) → All (λ t. t.span.file ≡ number) tokens → AllFine Any (λ s. s.file ≡ number) tokens
+placed_tokens : (number : ℕ) (tokens : List Token) → All (λ t. t.span.file ≡ number) tokens → AllHold Any (λ s. s.file ≡ number) tokens
 placed_tokens number [] all = tt
 placed_tokens number (t ∷ ts) all = (any_tok number t.tok, All-head (λ t. t.span.file ≡ number) t ts all, placed_tokens number ts (All-tail (λ t. t.span.file ≡ number) t ts all))
 

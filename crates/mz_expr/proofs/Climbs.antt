@@ -152,10 +152,10 @@ unfolding climbing
 not_here k ks x room ts none = ap (λ o. mapped (λ ls. chained x ls) o >>= λ y. climbing ks y.0 room y.1) (let e = operators_reads k room ts in rw none at e)
 
 -- a token that is an operator of none of these levels
-quiet : (n last : ℕ) (x : Operand) (room : ℕ) (ts : List Token) → ((j : ℕ) → last ≤ j → j < n → binary_of (numbered j) (tok_at ts) ≡ None) → climbing (levels n last) x room ts ≡ Ok (x, ts)
+none_follows : (n last : ℕ) (x : Operand) (room : ℕ) (ts : List Token) → ((j : ℕ) → last ≤ j → j < n → binary_of (numbered j) (tok_at ts) ≡ None) → climbing (levels n last) x room ts ≡ Ok (x, ts)
 unfolding levels climbing
-quiet zero last x room ts none = refl
-quiet (suc n) last x room ts none = go (nat_le last n) refl (λ h. none n (leb-true last n h) (omega arith)) (quiet n last x room ts (λ j a b. none j a (omega (arith, b))))
+none_follows zero last x room ts none = refl
+none_follows (suc n) last x room ts none = go (nat_le last n) refl (λ h. none n (leb-true last n h) (omega arith)) (none_follows n last x room ts (λ j a b. none j a (omega (arith, b))))
   where
     go : (b : Bool) → nat_le last n ≡ b → (nat_le last n ≡ true → binary_of (numbered n) (tok_at ts) ≡ None) → climbing (levels n last) x room ts ≡ Ok (x, ts) → climbing (if b then numbered n ∷ levels n last else []) x room ts ≡ Ok (x, ts)
     go false e here rest = refl
@@ -235,7 +235,7 @@ climb_stops l done k x room rest all bound so_far is end next (Refused f) sub =
 
 pub climb_end : (l : Level) (done : ℕ) (x : Operand) (room : ℕ) (rest : List Token) (all : Read Operand) → done ≤ 13 →
     climbing (levels done (level_number l)) x room rest ≡ all → next_level l done (tok_at rest) ≡ None → all ≡ Ok (x, rest)
-climb_end l done x room rest all bound so_far none = sym so_far ∙ quiet done (level_number l) x room rest (none_within l done (operator_of (tok_at rest)) bound none)
+climb_end l done x room rest all bound so_far none = sym so_far ∙ none_follows done (level_number l) x room rest (none_within l done (operator_of (tok_at rest)) bound none)
 
 -- the levels that were read go below the first
 rank_number : (l : Level) → operand_rank l + 2 * level_number l ≡ 27

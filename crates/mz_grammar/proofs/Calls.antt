@@ -21,7 +21,7 @@ use Rattle.mz_grammar.specs.Arguments.{possible_after, awaits_in, takes_where, t
 use Rattle.std.specs.Option.{option_map}
 use Rattle.std.specs.Prelude.{map}
 use Rattle.mz_grammar.specs.Model.{Ruled, rule, behind, generator_call, called, named_rule, guarded_rest, arguments_rule}
-use Rattle.mz_grammar.proofs.Calm.{Found, Fit, Takes, Fine, Completion, Done, sign, a_number, tested, found, takes_tested, takes_found, steady_tested, fine_symbol, takes_behind, fine_behind, quiet_closing}
+use Rattle.mz_grammar.proofs.PartEnds.{Found, Fit, TakesToken, CanComplete, Completion, Done, sign, a_number, tested, found, takes_tested, takes_found, steady_tested, can_complete_symbol, takes_behind, can_complete_behind, ends_item_closing}
 
 -- What the arguments are fit for
 
@@ -85,18 +85,18 @@ fit_strict AwaitingIn ms e w gs h = inr (λ ns m. strict_behind ns m ms e w (map
 
 -- Arguments
 
-pub takes_arguments : (t : Generators) → Takes (arguments_rule t)
+pub takes_arguments : (t : Generators) → TakesToken (arguments_rule t)
 takes_arguments t = λ o. takes_tested (is_sym SRParen o) _ _ tt (takes_tested (awaits_in t && is_word KIn o) _ _ tt tt)
 
 -- a test that may not hold
-tested_so : {n : Place} (b c : Bool) (p q : Ruled n) → (b ≡ true → Fine p) → Fine q → Fine (if b && c then p else q)
+tested_so : {n : Place} (b c : Bool) (p q : Ruled n) → (b ≡ true → CanComplete p) → CanComplete q → CanComplete (if b && c then p else q)
 tested_so true true p q h g = h refl
 tested_so true false p q h g = g
 tested_so false c p q h g = g
 
-fine_guarded_rest : (t : Generators) (x : Argument) → ((gs : List Generator) → Fit t (x ∷ map strict gs)) → Fine (guarded_rest {t = t} x)
+can_complete_guarded_rest : (t : Generators) (x : Argument) → ((gs : List Generator) → Fit t (x ∷ map strict gs)) → CanComplete (guarded_rest {t = t} x)
 unfolding step read_by rule symbol_number keyword_number
-fine_guarded_rest t x h = fine_behind Paren _ _ (sign SRParen ∷ [], tt) (λ gs a. (last (λ o h. h), h gs)) (h [])
+can_complete_guarded_rest t x h = can_complete_behind Paren _ _ (sign SRParen ∷ [], tt) (λ gs a. (last (λ o h. h), h gs)) (h [])
 
 -- a `where`, or what else stands behind an argument
 abbrev rest_of_arguments : (t : Generators) (x : Operand) → Bool → Option Tok → Ruled (Parts.arguments t)
@@ -109,34 +109,34 @@ unfolding step read_by rule symbol_number keyword_number
 done_rest t x true = tt
 done_rest t x false = tt
 
-takes_rest : (t : Generators) (x : Operand) (may : Bool) → Takes {n = Parts.arguments t} (look (rest_of_arguments t x may))
+takes_rest : (t : Generators) (x : Operand) (may : Bool) → TakesToken {n = Parts.arguments t} (look (rest_of_arguments t x may))
 takes_rest t x may = λ o. takes_tested (may && is_word KWhere o) _ _ tt (takes_behind Paren _ _)
 
-pub fine_arguments : (t : Generators) → Fine (arguments_rule t)
+pub can_complete_arguments : (t : Generators) → CanComplete (arguments_rule t)
 unfolding step read_by rule symbol_number keyword_number
-fine_arguments t = (
+can_complete_arguments t = (
   never (takes_arguments t),
   λ o. tested (is_sym SRParen o) _ _ (λ s. (([], tt), fit_none t))
       (tested_so (awaits_in t) (is_word KIn o) _ _
       (λ e s. (
         (a_number ∷ sign SRParen ∷ [], tt),
         λ x a. (
-          tokens (sign SRParen ∷ []) tt (quiet_closing Paren) (λ w. takes_behind Paren _ _),
+          tokens (sign SRParen ∷ []) tt (ends_item_closing Paren) (λ w. takes_behind Paren _ _),
           λ w b.
-              (tokens (sign SRParen ∷ []) tt (quiet_closing Paren) (takes_behind Paren _ _), fine_guarded_rest t _ (λ gs. fit_strict t [] (tree_of x) w gs e)),
+              (tokens (sign SRParen ∷ []) tt (ends_item_closing Paren) (takes_behind Paren _ _), can_complete_guarded_rest t _ (λ gs. fit_strict t [] (tree_of x) w gs e)),
         ),
       ))
       (λ x a. (
-        tokens (sign SRParen ∷ []) (done_rest t x (takes_where t x)) (quiet_closing Paren) (takes_rest t x (takes_where t x)),
+        tokens (sign SRParen ∷ []) (done_rest t x (takes_where t x)) (ends_item_closing Paren) (takes_rest t x (takes_where t x)),
         (
           never (takes_rest t x (takes_where t x)),
           λ o. tested_so (takes_where t x) (is_word KWhere o) _ _
               (λ e s. (
                 (a_number ∷ sign SRParen ∷ [], tt),
                 λ w b.
-                    (tokens (sign SRParen ∷ []) tt (quiet_closing Paren) (takes_behind Paren _ _), fine_guarded_rest t _ (λ gs. fit_guarded t x w gs e)),
+                    (tokens (sign SRParen ∷ []) tt (ends_item_closing Paren) (takes_behind Paren _ _), can_complete_guarded_rest t _ (λ gs. fit_guarded t x w gs e)),
               ))
-              (fine_behind Paren _ _ (sign SRParen ∷ [], tt) (λ xs b. (last (λ o h. h), fit_given t x xs b)) (fit_one t x)),
+              (can_complete_behind Paren _ _ (sign SRParen ∷ [], tt) (λ xs b. (last (λ o h. h), fit_given t x xs b)) (fit_one t x)),
         ),
       ))),
 )
@@ -148,18 +148,18 @@ fine_arguments t = (
 
 -- Calls
 
-fine_generator_call : (n : Name) (s : Span) (gs : List Generator) → Fine (generator_call n s gs)
+can_complete_generator_call : (n : Name) (s : Span) (gs : List Generator) → CanComplete (generator_call n s gs)
 unfolding step read_by rule symbol_number keyword_number
-fine_generator_call n s gs = λ p. (
+can_complete_generator_call n s gs = λ p. (
   (a_number ∷ sign SRParen ∷ [], tt),
   λ e a.
-      (tokens (sign SRParen ∷ []) tt (quiet_closing Paren) (λ o. takes_tested (is_sym SRParen o) _ _ tt tt), fine_symbol SRParen _ (λ c. (([], tt), tt))),
+      (tokens (sign SRParen ∷ []) tt (ends_item_closing Paren) (λ o. takes_tested (is_sym SRParen o) _ _ tt tt), can_complete_symbol SRParen _ (λ c. (([], tt), tt))),
 )
 
-fine_called : (n : Name) (s : Span) (xs : List Argument) → Fine (called n s xs)
-fine_called n s xs = (
+can_complete_called : (n : Name) (s : Span) (xs : List Argument) → CanComplete (called n s xs)
+can_complete_called n s xs = (
   steady_tested (is_sym SLParen) _ _ (takes_found (generators_of xs) _ _ tt (λ gs. tt)) (λ o h. h.0),
-  λ o. tested (is_sym SLParen o) _ _ (found (generators_of xs) _ _ tt (λ gs. fine_generator_call n s gs)) (found (trees_of xs) _ _ tt (λ es. tt)),
+  λ o. tested (is_sym SLParen o) _ _ (found (generators_of xs) _ _ tt (λ gs. can_complete_generator_call n s gs)) (found (trees_of xs) _ _ tt (λ es. tt)),
 )
 
 -- a call ends behind its arguments, or goes on where they are generators
@@ -179,11 +179,11 @@ found_either : (xs : List Argument) → Fit Possible xs → Found (trees_of xs) 
 found_either [] h = inl tt
 found_either (a ∷ xs) h = h
 
-pub fine_named : (n : Name) (s : Span) → Fine (named_rule n s)
+pub can_complete_named : (n : Name) (s : Span) → CanComplete (named_rule n s)
 unfolding step read_by rule symbol_number keyword_number
-fine_named n s = (
+can_complete_named n s = (
   steady_tested (is_sym SLParen) _ _ tt (λ o h. h.0),
   λ o. tested (is_sym SLParen o) _ _
-      (λ p. ((sign SRParen ∷ [], tt), λ xs a. let c = call_completion n s (trees_of xs) (generators_of xs) (found_either xs a) in (maybe c.0 c.1 tt (λ o h. tt), fine_called n s xs)))
+      (λ p. ((sign SRParen ∷ [], tt), λ xs a. let c = call_completion n s (trees_of xs) (generators_of xs) (found_either xs a) in (maybe c.0 c.1 tt (λ o h. tt), can_complete_called n s xs)))
       tt,
 )

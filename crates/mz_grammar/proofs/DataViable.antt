@@ -19,7 +19,7 @@ use Rattle.mz_grammar.specs.Tests.{ident_of, ends_row}
 use Rattle.mz_grammar.specs.Data.{Place, Value, rule, rank, width, reads, symbol, opening, file, item, datum, named, sized, index_sets, plains, rows, row, plain, range, set, bounds, ones, one, literal_of, negated_of}
 use Rattle.mz_tree.specs.Data.{is_name}
 use Rattle.mz_grammar.proofs.DataFalls.{low, falls}
-use Rattle.mz_grammar.proofs.DataCalm.{Quiet, Calm, taking, Apt, far, aim, sign, a_number, an_identifier, Fine, Completion, tested, found, takes_found, steady_false, steady_true, steady_none, takes_symbol, fine_symbol, takes_opening, fine_opening, takes_behind, fine_behind, takes}
+use Rattle.mz_grammar.proofs.DataPartEnds.{EndsValue, MayEndBefore, takes_token, IsUsable, far, aim, sign, a_number, an_identifier, CanComplete, Completion, tested, found, takes_found, steady_false, steady_true, steady_none, takes_symbol, can_complete_symbol, takes_opening, can_complete_opening, takes_behind, can_complete_behind, takes}
 
 -- Index sets, so many
 
@@ -86,55 +86,55 @@ complete (bounds v) = (sign SDots ∷ a_number ∷ [], tt)
 complete ones = (sign SRBrace ∷ [], tt)
 complete one = (a_number ∷ [], tt)
 
-quiet_end : Quiet None
-quiet_end = (refl, refl)
+ends_value_end : EndsValue None
+ends_value_end = (refl, refl)
 
-fine : (n : Place) → Fine (rule n)
+can_complete : (n : Place) → CanComplete (rule n)
 unfolding step read_by rule symbol_number
-fine (file d) = (
+can_complete (file d) = (
   steady_none (λ o. o) _ _ (λ t. tt) (λ o h. h),
   λ o. found o _ _ tt (λ t i a. (
-    maybe [] tt quiet_end (λ o h. subst Quiet (sym h) quiet_end),
-    (steady_none (λ o. o) _ _ (λ u. takes_symbol SSemi _) (λ o h. h), λ o. found o _ _ tt (λ u. fine_symbol SSemi _ ([], tt) (λ is b. (last (λ o h. h), tt)))),
+    maybe [] tt ends_value_end (λ o h. subst EndsValue (sym h) ends_value_end),
+    (steady_none (λ o. o) _ _ (λ u. takes_symbol SSemi _) (λ o h. h), λ o. found o _ _ tt (λ u. can_complete_symbol SSemi _ ([], tt) (λ is b. (last (λ o h. h), tt)))),
   )),
 )
-fine (item d) = (
+can_complete (item d) = (
   never (takes (item d) refl),
-  λ o. found (ident_of o) _ _ tt (λ n s. ((sign SEq ∷ a_number ∷ [], tt), fine_symbol SEq _ (a_number ∷ [], tt) (λ v a. (last (λ o h. h), tt)))),
+  λ o. found (ident_of o) _ _ tt (λ n s. ((sign SEq ∷ a_number ∷ [], tt), can_complete_symbol SEq _ (a_number ∷ [], tt) (λ v a. (last (λ o h. h), tt)))),
 )
-fine (datum d) = (
+can_complete (datum d) = (
   never (takes (datum d) refl),
   λ o. tested (is_sym SLBrack o) _ _ (λ s. ((sign SRBrack ∷ [], tt), λ vs a. (maybe [] tt tt (λ o h. tt), tt)))
       (tested (is_sym SLRows o) _ _ (λ s. ((sign SRRows ∷ [], tt), λ ls a. (maybe [] tt tt (λ o h. tt), tt)))
       (found (ident_of o) _ _ (λ v a. (last (λ o h. h), tt)) (λ n s. (([], tt), λ v a. (last (λ o h. h), tt))))),
 )
-fine (named d n) = (
+can_complete (named d n) = (
   steady_false (is_sym SLParen) _ _ (takes_found (d n) _ _ tt (λ k. tt)) (λ o h. h.1),
   λ o. tested (is_sym SLParen o) _ _
       (found (d n) _ _ tt (λ k s. ((sets k ++ elements, done_by rule {n = named d n} _ _ (in_parentheses d n k)), λ v a. (maybe [] tt tt (λ o h. tt), tt))))
       (λ v a. (last (λ o h. h), tt)),
 )
-fine (sized n) = λ ss a. (
+can_complete (sized n) = λ ss a. (
   tokens (sign SLBrack ∷ sign SRBrack ∷ sign SRParen ∷ []) tt refl (takes_opening SLBrack _),
-  fine_opening SLBrack _ (sign SRBrack ∷ sign SRParen ∷ [], tt) (λ vs b. (tokens (sign SRParen ∷ []) tt tt (takes_symbol SRParen _), fine_symbol SRParen _ ([], tt) tt)),
+  can_complete_opening SLBrack _ (sign SRBrack ∷ sign SRParen ∷ [], tt) (λ vs b. (tokens (sign SRParen ∷ []) tt tt (takes_symbol SRParen _), can_complete_symbol SRParen _ ([], tt) tt)),
 )
-fine (index_sets zero) = (steady_false (is_sym SComma) _ _ tt (λ o h. h), λ o. tested (is_sym SComma o) _ _ (λ c. (([], tt), tt)) tt)
-fine (index_sets (suc n)) = λ v a. (
+can_complete (index_sets zero) = (steady_false (is_sym SComma) _ _ tt (λ o h. h), λ o. tested (is_sym SComma o) _ _ (λ c. (([], tt), tt)) tt)
+can_complete (index_sets (suc n)) = λ v a. (
   tokens (sign SComma ∷ sets n) (done_by rule {n = index_sets (suc n)} _ _ (comma_and_sets n v)) (refl, refl) (takes_symbol SComma _),
-  fine_symbol SComma _ (sets n, done_by rule {n = index_sets (suc n)} _ _ (more_sets n v)) (λ vs b. (last (λ o h. h), tt)),
+  can_complete_symbol SComma _ (sets n, done_by rule {n = index_sets (suc n)} _ _ (more_sets n v)) (λ vs b. (last (λ o h. h), tt)),
 )
-fine plains = (
+can_complete plains = (
   never (takes plains refl),
   λ o. tested (is_sym SRBrack o) _ _ (λ c. (([], tt), tt))
-      (λ v a. (tokens (sign SRBrack ∷ []) tt (refl, refl) (takes_behind SComma SRBrack _ _), fine_behind SComma SRBrack _ _ (sign SRBrack ∷ [], tt) (λ vs b. (last (λ o h. tt), tt)))),
+      (λ v a. (tokens (sign SRBrack ∷ []) tt (refl, refl) (takes_behind SComma SRBrack _ _), can_complete_behind SComma SRBrack _ _ (sign SRBrack ∷ [], tt) (λ vs b. (last (λ o h. tt), tt)))),
 )
-fine rows = (
+can_complete rows = (
   never (takes rows refl),
   λ o. tested (is_sym SRRows o) _ _ (λ c. (([], tt), tt))
-      (λ l a. (tokens (sign SRRows ∷ []) tt ((refl, refl), refl, refl) (takes_behind SBar SRRows _ _), fine_behind SBar SRRows _ _ (sign SRRows ∷ [], tt) (λ ls b. (last (λ o h. tt), tt)))),
+      (λ l a. (tokens (sign SRRows ∷ []) tt ((refl, refl), refl, refl) (takes_behind SBar SRRows _ _), can_complete_behind SBar SRRows _ _ (sign SRRows ∷ [], tt) (λ ls b. (last (λ o h. tt), tt)))),
 )
-fine row = λ v a. (
-  maybe [] tt quiet_end (λ o h. h.0),
+can_complete row = λ v a. (
+  maybe [] tt ends_value_end (λ o h. h.0),
   (
     steady_false (is_sym SComma) _ _ tt (λ o h. h.1),
     λ o. tested (is_sym SComma o) _ _ (λ c. (
@@ -143,34 +143,34 @@ fine row = λ v a. (
     )) tt,
   ),
 )
-fine plain = (
+can_complete plain = (
   never (takes plain refl),
   λ o. tested (is_sym SLBrace o) _ _ (λ s. ((sign SRBrace ∷ [], tt), λ vs a. (maybe [] tt tt (λ o h. tt), tt)))
       (tested (is_sym SAbsent o) _ _ (λ s. (([], tt), tt)) (λ v a. (maybe [] tt tt (λ o h. tt), λ w b. (last (λ o h. h), tt)))),
 )
-fine (range v) = (steady_false (is_sym SDots) _ _ tt (λ o h. h.0), λ o. tested (is_sym SDots o) _ _ (λ d. ((a_number ∷ [], tt), λ w a. (last (λ o h. tt), tt))) tt)
-fine set = (
+can_complete (range v) = (steady_false (is_sym SDots) _ _ tt (λ o h. h.0), λ o. tested (is_sym SDots o) _ _ (λ d. ((a_number ∷ [], tt), λ w a. (last (λ o h. tt), tt))) tt)
+can_complete set = (
   never (takes set refl),
   λ o. tested (is_sym SLBrace o) _ _ (λ s. ((sign SRBrace ∷ [], tt), λ vs a. (maybe [] tt tt (λ o h. tt), tt)))
       (λ v a. (maybe (sign SDots ∷ a_number ∷ []) tt tt (λ o h. tt), λ w b. (last (λ o h. h), tt))),
 )
-fine (bounds v) = (steady_false (is_sym SDots) _ _ tt (λ o h. h.0), λ o. tested (is_sym SDots o) _ _ (λ d. ((a_number ∷ [], tt), λ w a. (last (λ o h. tt), tt))) (tested (is_name v) _ _ tt tt))
-fine ones = (
+can_complete (bounds v) = (steady_false (is_sym SDots) _ _ tt (λ o h. h.0), λ o. tested (is_sym SDots o) _ _ (λ d. ((a_number ∷ [], tt), λ w a. (last (λ o h. tt), tt))) (tested (is_name v) _ _ tt tt))
+can_complete ones = (
   never (takes ones refl),
   λ o. tested (is_sym SRBrace o) _ _ (λ c. (([], tt), tt))
-      (λ v a. (tokens (sign SRBrace ∷ []) tt tt (takes_behind SComma SRBrace _ _), fine_behind SComma SRBrace _ _ (sign SRBrace ∷ [], tt) (λ vs b. (last (λ o h. tt), tt)))),
+      (λ v a. (tokens (sign SRBrace ∷ []) tt tt (takes_behind SComma SRBrace _ _), can_complete_behind SComma SRBrace _ _ (sign SRBrace ∷ [], tt) (λ vs b. (last (λ o h. tt), tt)))),
 )
-fine one = (
+can_complete one = (
   never (takes one refl),
   λ o. tested (is_sym SMinus o) _ _
       (λ s. ((a_number ∷ [], tt), (never (λ o. takes_found (negated_of o) _ _ tt (λ z. tt)), λ o. found (negated_of o) _ _ tt (λ z t. (([], tt), tt)))))
       (found (literal_of o) _ _ tt (λ v s. (([], tt), tt))),
 )
 
-bring : (n : Place) → far n ≡ true → (q : ℕ) (us : List Token) (x : Value n) (next : Option Tok) → Runs rule n q (rule n) us x next → ways.Brought rule Calm taking Apt far aim takes complete fine n us
+bring : (n : Place) → far n ≡ true → (q : ℕ) (us : List Token) (x : Value n) (next : Option Tok) → Runs rule n q (rule n) us x next → ways.Brought rule MayEndBefore takes_token IsUsable far aim takes complete can_complete n us
 bring n e q us x next h = absurd (true≢false (sym e))
 
 -- what gives the reading keeps the promise, for a part that may stand at the end
-pub answers : {X : Type 0} (n : Place) (view : X → Value n) (room : ℕ) (end : Span) (old new : List Token) (result : Result X Stop) → Calm n None → Gives view end new result (reads n room old) → Answers rule n view room end old new result
+pub answers : {X : Type 0} (n : Place) (view : X → Value n) (room : ℕ) (end : Span) (old new : List Token) (result : Result X Stop) → MayEndBefore n None → Gives view end new result (reads n room old) → Answers rule n view room end old new result
 unfolding reads
-answers n view room end old new result calm g = Answering.answers rule rank width low falls Calm taking Apt far aim takes complete fine bring n view room end old new result calm g
+answers n view room end old new result may_end g = Answering.answers rule rank width low falls MayEndBefore takes_token IsUsable far aim takes complete can_complete bring n view room end old new result may_end g

@@ -11,55 +11,55 @@ use Rattle.mz_grammar.specs.Parts
 use Rattle.mz_tree.specs.Tree.{Written, Based}
 use Rattle.mz_grammar.specs.Tests.{begins_base}
 use Rattle.mz_grammar.specs.Model.{rule, declaration_rule, declared_rule, value_rule, type_rule, index_types_rule, element_rule, unmarked_rule, base_rule, params_rule, param_list_rule, param_rule}
-use Rattle.mz_grammar.proofs.Calm.{Takes, Fine, Done, sign, keyword, a_number, an_identifier, tested, takes_tested, steady_tested, fine_symbol, fine_opening, fine_word, fine_identifier, fine_behind, after_element, quiet_end, quiet_closing, quiet_colon}
+use Rattle.mz_grammar.proofs.PartEnds.{TakesToken, CanComplete, Done, sign, keyword, a_number, an_identifier, tested, takes_tested, steady_tested, can_complete_symbol, can_complete_opening, can_complete_word, can_complete_identifier, can_complete_behind, after_element, ends_item_end, ends_item_closing, ends_item_colon}
 
 -- Declarations
 
-pub fine_declaration : Fine declaration_rule
+pub can_complete_declaration : CanComplete declaration_rule
 unfolding step read_by rule symbol_number keyword_number
-fine_declaration = λ t a. (tokens (sign SColon ∷ an_identifier ∷ []) tt quiet_colon tt, λ d b. (last (λ o h. h), tt))
+can_complete_declaration = λ t a. (tokens (sign SColon ∷ an_identifier ∷ []) tt ends_item_colon tt, λ d b. (last (λ o h. h), tt))
 
-pub takes_declared : (t : Written) → Takes (declared_rule t)
+pub takes_declared : (t : Written) → TakesToken (declared_rule t)
 takes_declared t = λ o. takes_tested (is_sym SColon o) _ _ tt tt
 
-pub fine_declared : (t : Written) → Fine (declared_rule t)
+pub can_complete_declared : (t : Written) → CanComplete (declared_rule t)
 unfolding step read_by rule symbol_number keyword_number
-fine_declared t = fine_symbol SColon _ (λ c. ((an_identifier ∷ [], tt), fine_identifier _ (λ n s. (([], tt), λ m a. (maybe [] tt quiet_end (λ o h. h), λ v b. (last (λ o h. h), tt))))))
+can_complete_declared t = can_complete_symbol SColon _ (λ c. ((an_identifier ∷ [], tt), can_complete_identifier _ (λ n s. (([], tt), λ m a. (maybe [] tt ends_item_end (λ o h. h), λ v b. (last (λ o h. h), tt))))))
 
-pub fine_value : Fine value_rule
+pub can_complete_value : CanComplete value_rule
 unfolding step read_by rule symbol_number keyword_number
-fine_value = (steady_tested (is_sym SEq) _ _ tt (λ o h. h.3), λ o. tested (is_sym SEq o) _ _ (λ s. ((a_number ∷ [], tt), λ e a. (last (λ o h. h), tt))) tt)
+can_complete_value = (steady_tested (is_sym SEq) _ _ tt (λ o h. h.3), λ o. tested (is_sym SEq o) _ _ (λ s. ((a_number ∷ [], tt), λ e a. (last (λ o h. h), tt))) tt)
 
 -- Types
 
-pub takes_type : Takes type_rule
+pub takes_type : TakesToken type_rule
 takes_type = λ o. takes_tested (is_word KArray o) _ _ tt (takes_tested (is_word KList o) _ _ tt tt)
 
-pub fine_type : Fine type_rule
+pub can_complete_type : CanComplete type_rule
 unfolding step read_by rule symbol_number keyword_number
-fine_type = (
+can_complete_type = (
   never takes_type,
   λ o. tested (is_word KArray o) _ _
       (λ s. (
         (sign SLBrack ∷ keyword KInt ∷ sign SRBrack ∷ keyword KOf ∷ keyword KInt ∷ [], tt),
-        fine_opening SLBrack _ (λ b. (
+        can_complete_opening SLBrack _ (λ b. (
           (keyword KInt ∷ sign SRBrack ∷ keyword KOf ∷ keyword KInt ∷ [], tt),
           (
             never (λ o. takes_tested (is_sym SRBrack o) _ _ tt tt),
             λ o. tested (is_sym SRBrack o) _ _ tt (λ bs a. (
               tokens (keyword KOf ∷ keyword KInt ∷ []) tt tt (λ o. takes_tested (is_word KOf o) _ _ tt tt),
-              fine_word KOf _ (λ f. ((keyword KInt ∷ [], tt), λ t c. (last (λ o h. h), tt))),
+              can_complete_word KOf _ (λ f. ((keyword KInt ∷ [], tt), λ t c. (last (λ o h. h), tt))),
             )),
           ),
         )),
       )
       )
       (tested (is_word KList o) _ _
-      (λ s. ((keyword KOf ∷ keyword KInt ∷ [], tt), fine_word KOf _ (λ f. ((keyword KInt ∷ [], tt), λ t a. (last (λ o h. h), tt)))))
+      (λ s. ((keyword KOf ∷ keyword KInt ∷ [], tt), can_complete_word KOf _ (λ f. ((keyword KInt ∷ [], tt), λ t a. (last (λ o h. h), tt)))))
       (λ t a. (last (λ o h. h), tt))),
 )
 
-pub takes_index_types : (n : ℕ) → Takes (index_types_rule n)
+pub takes_index_types : (n : ℕ) → TakesToken (index_types_rule n)
 takes_index_types zero = λ o. takes_tested (is_sym SRBrack o) _ _ tt (takes_tested (begins_base o) _ _ tt tt)
 takes_index_types (suc n) = λ o. takes_tested (is_sym SRBrack o) _ _ tt tt
 
@@ -73,71 +73,71 @@ unfolding step read_by rule symbol_number keyword_number
 more_index_types k zero b = tt
 more_index_types k (suc n) b = tt
 
-pub fine_index_types : (n : ℕ) → Fine (index_types_rule n)
+pub can_complete_index_types : (n : ℕ) → CanComplete (index_types_rule n)
 unfolding step symbol_number
-fine_index_types zero = (never (takes_index_types zero), λ o. tested (is_sym SRBrack o) _ _ (λ s. (([], tt), tt)) (tested (begins_base o) _ _ tt tt))
-fine_index_types (suc n) = (
+can_complete_index_types zero = (never (takes_index_types zero), λ o. tested (is_sym SRBrack o) _ _ (λ s. (([], tt), tt)) (tested (begins_base o) _ _ tt tt))
+can_complete_index_types (suc n) = (
   never (takes_index_types (suc n)),
   λ o. tested (is_sym SRBrack o) _ _ (λ s. (([], tt), tt)) (λ b a.
-      (after_element _ _ _ Bracket _ _ (quiet_closing Bracket), fine_behind Bracket _ _ (sign SRBrack ∷ [], more_index_types (suc n) n b.1) (λ bs c. (last (λ o h. h), tt)) tt)),
+      (after_element _ _ _ Bracket _ _ (ends_item_closing Bracket), can_complete_behind Bracket _ _ (sign SRBrack ∷ [], more_index_types (suc n) n b.1) (λ bs c. (last (λ o h. h), tt)) tt)),
 )
 
-pub takes_element : Takes element_rule
+pub takes_element : TakesToken element_rule
 takes_element = λ o. takes_tested (is_word KVar o) _ _ tt (takes_tested (is_word KPar o) _ _ tt tt)
 
-pub fine_element : Fine element_rule
+pub can_complete_element : CanComplete element_rule
 unfolding step read_by rule symbol_number keyword_number
-fine_element = (
+can_complete_element = (
   never takes_element,
   λ o. tested (is_word KVar o) _ _ (λ s. ((keyword KInt ∷ [], tt), λ t a. (last (λ o h. h), tt)))
       (tested (is_word KPar o) _ _ (λ s. ((keyword KInt ∷ [], tt), λ t a. (last (λ o h. h), tt)))
       (λ t a. (last (λ o h. h), tt))),
 )
 
-pub takes_unmarked : Takes unmarked_rule
+pub takes_unmarked : TakesToken unmarked_rule
 takes_unmarked = λ o. takes_tested (is_word KOpt o) _ _ tt (takes_tested (is_word KSet o) _ _ tt tt)
 
-pub fine_unmarked : Fine unmarked_rule
+pub can_complete_unmarked : CanComplete unmarked_rule
 unfolding step read_by rule symbol_number keyword_number
-fine_unmarked = (
+can_complete_unmarked = (
   never takes_unmarked,
   λ o. tested (is_word KOpt o) _ _
       (λ s. ((keyword KInt ∷ [], tt), (never (λ o. takes_tested (is_word KSet o) _ _ tt tt), λ o. tested (is_word KSet o) _ _ tt (λ b a. (last (λ o h. h), tt)))))
       (tested (is_word KSet o) _ _
-      (λ s. ((keyword KOf ∷ keyword KInt ∷ [], tt), fine_word KOf _ (λ f. ((keyword KInt ∷ [], tt), λ b a. (last (λ o h. h), tt)))))
+      (λ s. ((keyword KOf ∷ keyword KInt ∷ [], tt), can_complete_word KOf _ (λ f. ((keyword KInt ∷ [], tt), λ b a. (last (λ o h. h), tt)))))
       (λ b a. (last (λ o h. h), tt))),
 )
 
-pub takes_base : Takes base_rule
+pub takes_base : TakesToken base_rule
 takes_base = λ o. takes_tested (is_word KBool o) _ _ tt (takes_tested (is_word KInt o) _ _ tt tt)
 
-pub fine_base : Fine base_rule
+pub can_complete_base : CanComplete base_rule
 unfolding step
-fine_base = (
+can_complete_base = (
   never takes_base,
   λ o. tested (is_word KBool o) _ _ (λ s. (([], tt), tt)) (tested (is_word KInt o) _ _ (λ s. (([], tt), tt)) (λ x a. (last (λ o h. h), tt))),
 )
 
 -- Parameters
 
-pub fine_params : Fine params_rule
+pub can_complete_params : CanComplete params_rule
 unfolding step read_by rule symbol_number keyword_number
-fine_params = (steady_tested (is_sym SLParen) _ _ tt (λ o h. h.0), λ o. tested (is_sym SLParen o) _ _ (λ s. ((sign SRParen ∷ [], tt), λ ds a. (maybe [] tt tt (λ o h. tt), tt))) tt)
+can_complete_params = (steady_tested (is_sym SLParen) _ _ tt (λ o h. h.0), λ o. tested (is_sym SLParen o) _ _ (λ s. ((sign SRParen ∷ [], tt), λ ds a. (maybe [] tt tt (λ o h. tt), tt))) tt)
 
-pub takes_param_list : Takes param_list_rule
+pub takes_param_list : TakesToken param_list_rule
 takes_param_list = λ o. takes_tested (is_sym SRParen o) _ _ tt tt
 
-pub fine_param_list : Fine param_list_rule
+pub can_complete_param_list : CanComplete param_list_rule
 unfolding step read_by rule symbol_number keyword_number
-fine_param_list = (
+can_complete_param_list = (
   never takes_param_list,
   λ o. tested (is_sym SRParen o) _ _ (λ s. (([], tt), tt)) (λ d a.
-      (after_element _ _ _ Paren _ _ (quiet_closing Paren), fine_behind Paren _ _ (sign SRParen ∷ [], tt) (λ ds b. (last (λ o h. h), tt)) tt)),
+      (after_element _ _ _ Paren _ _ (ends_item_closing Paren), can_complete_behind Paren _ _ (sign SRParen ∷ [], tt) (λ ds b. (last (λ o h. h), tt)) tt)),
 )
 
-pub fine_param : Fine param_rule
+pub can_complete_param : CanComplete param_rule
 unfolding step read_by rule symbol_number keyword_number
-fine_param = λ t a. (
-  tokens (sign SColon ∷ an_identifier ∷ []) tt quiet_colon (λ o. takes_tested (is_sym SColon o) _ _ tt tt),
-  fine_symbol SColon _ (λ c. ((an_identifier ∷ [], tt), fine_identifier _ (λ n s. (([], tt), λ m b. (last (λ o h. h), tt))))),
+can_complete_param = λ t a. (
+  tokens (sign SColon ∷ an_identifier ∷ []) tt ends_item_colon (λ o. takes_tested (is_sym SColon o) _ _ tt tt),
+  can_complete_symbol SColon _ (λ c. ((an_identifier ∷ [], tt), can_complete_identifier _ (λ n s. (([], tt), λ m b. (last (λ o h. h), tt))))),
 )

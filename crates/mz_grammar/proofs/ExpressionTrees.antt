@@ -48,11 +48,11 @@ module _ (Named : Name → Type 0) (Placed : Span → Type 0) where
 
   pub operators_kept : (l : Level) → Kept (operators_rule l)
   unfolding OfTree
-  operators_kept l = λ o fine. found (binary_of l o) _ _ tt (λ op. λ s at. λ x h. tested (is_nonassociative l) _ _ (Of.of_tree Named Placed x h, tt) (λ ls g. (Of.of_tree Named Placed x h, g)))
+  operators_kept l = λ o holds. found (binary_of l o) _ _ tt (λ op. λ s at. λ x h. tested (is_nonassociative l) _ _ (Of.of_tree Named Placed x h, tt) (λ ls g. (Of.of_tree Named Placed x h, g)))
 
   pub unit_kept : Kept unit_rule
   unfolding OfTree
-  unit_kept = λ o fine. found (prefix_of o) _ _ (λ x h. h) (λ op. λ s at. λ x h. (at, (at, Of.of_tree Named Placed x h)))
+  unit_kept = λ o holds. found (prefix_of o) _ _ (λ x h. h) (λ op. λ s at. λ x h. (at, (at, Of.of_tree Named Placed x h)))
 
   unless_annotated_kept : (annotated : Bool) (x : Operand) → Of.OfReading Named Placed x → Of.OfReading Named Placed (unless_annotated annotated x)
   unless_annotated_kept true x h = (Of.placed Named Placed x h, Of.of_tree Named Placed x h)
@@ -63,28 +63,28 @@ module _ (Named : Name → Type 0) (Placed : Span → Type 0) where
 
   pub accesses_kept : (x : Operand) → Kept (accesses_rule x)
   unfolding OfTree
-  accesses_kept x = λ o fine. tested (is_sym SLBrack o) _ _
+  accesses_kept x = λ o holds. tested (is_sym SLBrack o) _ _
       (λ s at. λ es hes. λ y hy. λ h. hy (Of.placed Named Placed x h, (Of.placed Named Placed x h, (Of.of_tree Named Placed x h, hes))))
       (λ h. h)
 
   pub indices_kept : Kept indices_rule
   unfolding OfTree
-  indices_kept = λ o fine. tested (is_sym SDots o) _ _ tt (λ e h. behind_kept Bracket _ _ (λ es g. (h, g)) (h, tt))
+  indices_kept = λ o holds. tested (is_sym SDots o) _ _ tt (λ e h. behind_kept Bracket _ _ (λ es g. (h, g)) (h, tt))
 
   pub more_indices_kept : Kept more_indices_rule
   unfolding OfTree
-  more_indices_kept = λ o fine. tested (is_sym SRBrack o) _ _ (λ s at. tt) (λ es h. h)
+  more_indices_kept = λ o holds. tested (is_sym SRBrack o) _ _ (λ s at. tt) (λ es h. h)
 
   pub annotations_kept : Kept annotations_rule
-  annotations_kept = λ o fine. tested (is_sym SColons o) _ _ (λ s at. λ h u. λ x v. λ m w. tt) tt
+  annotations_kept = λ o holds. tested (is_sym SColons o) _ _ (λ s at. λ h u. λ x v. λ m w. tt) tt
 
   pub marks_kept : Kept marks_rule
-  marks_kept = λ o fine. tested (is_sym SColons o) _ _ (λ s at. λ h u. λ m w. tt) tt
+  marks_kept = λ o holds. tested (is_sym SColons o) _ _ (λ s at. λ h u. λ m w. tt) tt
 
   symbol_kept : (s : Symbol) → Kept (head_symbol s)
   unfolding OfTree
   symbol_kept symbol_is.SAbsent = λ s at. (at, (at, tt))
-  symbol_kept symbol_is.SLParen = λ s at. λ e h. λ o fine. tested (is_sym SRParen o) _ _ (λ c u. (at, h)) (tested (is_sym SComma o) _ _ tt tt)
+  symbol_kept symbol_is.SLParen = λ s at. λ e h. λ o holds. tested (is_sym SRParen o) _ _ (λ c u. (at, h)) (tested (is_sym SComma o) _ _ tt tt)
   symbol_kept symbol_is.SLBrack = λ s at. λ f h. (at, (at, h))
   symbol_kept symbol_is.SLRows = λ s at. λ rs h. (at, (at, h))
   symbol_kept symbol_is.SLBrace = λ s at. λ f h. (at, (at, h))
@@ -95,71 +95,71 @@ module _ (Named : Name → Type 0) (Placed : Span → Type 0) where
   word_kept keyword.KTrue = λ s at. (at, (at, tt))
   word_kept keyword.KFalse = λ s at. (at, (at, tt))
   word_kept keyword.KIf = λ s at. λ b h. λ bs g. (at, (at, ((h.0, h.1, g.0), g.1)))
-  word_kept keyword.KLet = λ s at. λ o fine. tested (is_sym SLBrace o) _ _
+  word_kept keyword.KLet = λ s at. λ o holds. tested (is_sym SLBrace o) _ _
       (λ b u. λ ls h. λ p v. tested (is_word keyword.KIn p) _ _ (λ i w. λ e g. (at, (at, (h, g)))) tt) tt
   word_kept _ = tt
 
-  pub head_kept : (o : Option Tok) → Of.Fine Named Placed o → Kept (head_token o)
+  pub head_kept : (o : Option Tok) → Of.TokenHolds Named Placed o → Kept (head_token o)
   unfolding OfTree
-  head_kept None fine = tt
-  head_kept (Some (Int z)) fine = λ s at. (at, (at, tt))
-  head_kept (Some (Text n)) fine = λ s at. (at, (at, fine))
-  head_kept (Some (TextHead n)) fine = λ s at. λ ps h. (at, (at, (fine, h)))
-  head_kept (Some (TextMid n)) fine = tt
-  head_kept (Some (TextTail n)) fine = tt
-  head_kept (Some (Ident n)) fine = λ s at. λ x h. h fine at
-  head_kept (Some (Word k)) fine = word_kept k
-  head_kept (Some (Sym s)) fine = symbol_kept s
+  head_kept None holds = tt
+  head_kept (Some (Int z)) holds = λ s at. (at, (at, tt))
+  head_kept (Some (Text n)) holds = λ s at. (at, (at, holds))
+  head_kept (Some (TextHead n)) holds = λ s at. λ ps h. (at, (at, (holds, h)))
+  head_kept (Some (TextMid n)) holds = tt
+  head_kept (Some (TextTail n)) holds = tt
+  head_kept (Some (Ident n)) holds = λ s at. λ x h. h holds at
+  head_kept (Some (Word k)) holds = word_kept k
+  head_kept (Some (Sym s)) holds = symbol_kept s
 
   called_kept : (n : Name) (s : Span) (xs : List Argument) → Of.OfArguments Named Placed xs → Kept (called n s xs)
   unfolding OfTree
-  called_kept n s xs h = λ o fine. tested (is_sym SLParen o) _ _
+  called_kept n s xs h = λ o holds. tested (is_sym SLParen o) _ _
       (Of.found_with Named Placed (λ gs. OfGens Named Placed (gens gs)) (generators_of xs) _ _ (Of.generators_of_kept Named Placed xs h) tt
       (λ gs g. λ p u. λ e k. λ q v. tested (is_sym SRParen q) _ _ (λ c w. λ named at. (at, (at, (named, g, k)))) tt))
       (Of.found_with Named Placed (λ es. OfTrees Named Placed (trees es)) (trees_of xs) _ _ (Of.trees_of_kept Named Placed xs h) tt (λ es g. λ named at. (at, (at, (named, g)))))
 
   pub named_kept : (n : Name) (s : Span) → Kept (named_rule n s)
-  named_kept n s = λ o fine. tested (is_sym SLParen o) _ _ (λ p u. λ xs h. called_kept n s xs h) (λ named at. (named, at))
+  named_kept n s = λ o holds. tested (is_sym SLParen o) _ _ (λ p u. λ xs h. called_kept n s xs h) (λ named at. (named, at))
 
   guarded_kept : (t : Generators) (x : Argument) → Of.OfArgument Named Placed x → Kept (guarded_rest {t = t} x)
   guarded_kept t x h = behind_kept Paren _ _ (λ gs g. (h, Of.strict_kept Named Placed gs g)) (h, tt)
 
   pub arguments_kept : (t : Generators) → Kept (arguments_rule t)
   unfolding OfTree
-  arguments_kept t = λ o fine. tested (is_sym SRParen o) _ _ (λ s at. tt)
+  arguments_kept t = λ o holds. tested (is_sym SRParen o) _ _ (λ s at. tt)
       (tested (awaits_in t && is_word keyword.KIn o) _ _ (λ s at. λ x h. λ w g. guarded_kept t _ (All-nil (IsSpot Named Placed), Of.of_tree Named Placed x h, g))
-      (λ x h. λ p fine'. tested (takes_where t x && is_word keyword.KWhere p) _ _ (λ s at. λ w g. guarded_kept t _ (h, g))
+      (λ x h. λ p holds'. tested (takes_where t x && is_word keyword.KWhere p) _ _ (λ s at. λ w g. guarded_kept t _ (h, g))
       (behind_kept Paren _ _ (λ xs g. (h, g)) (h, tt))))
 
   pub text_rest_kept : Kept text_rest_rule
   unfolding OfTree
-  text_rest_kept = λ e h. λ o fine. by_name (middle_of o) _ _ (Of.middle_named Named Placed o fine)
-      (by_name (tail_of o) _ _ (Of.tail_named Named Placed o fine) tt (λ n named. λ s at. (h, (named, tt))))
+  text_rest_kept = λ e h. λ o holds. by_name (middle_of o) _ _ (Of.middle_named Named Placed o holds)
+      (by_name (tail_of o) _ _ (Of.tail_named Named Placed o holds) tt (λ n named. λ s at. (h, (named, tt))))
       (λ n named. λ s at. λ ps g. (h, (named, g)))
 
   pub elements_kept : (c : Closing) → Kept (elements_rule c)
   unfolding OfTree
-  elements_kept c = λ o fine. tested (closes c o) _ _ (λ s at. tt) (λ e h. behind_kept c _ _ (λ es g. (h, g)) (h, tt))
+  elements_kept c = λ o holds. tested (closes c o) _ _ (λ s at. tt) (λ e h. behind_kept c _ _ (λ es g. (h, g)) (h, tt))
 
   pub array_body_kept : Kept array_body_rule
   unfolding OfTree
-  array_body_kept = λ o fine. tested (is_sym SRBrack o) _ _ (λ s at. tt) (λ e h. λ p u. tested (is_sym SBar p) _ _
+  array_body_kept = λ o holds. tested (is_sym SRBrack o) _ _ (λ s at. tt) (λ e h. λ p u. tested (is_sym SBar p) _ _
       (λ s at. λ g hg. behind_kept Bracket _ _ (λ gs k. (h, (hg, k))) (h, (hg, tt)))
       (behind_kept Elements _ _ (λ es g. (h, g)) (h, tt)))
 
   pub set_body_kept : Kept set_body_rule
   unfolding OfTree
-  set_body_kept = λ o fine. tested (is_sym SRBrace o) _ _ (λ s at. tt) (λ e h. λ p u. tested (is_sym SBar p) _ _
+  set_body_kept = λ o holds. tested (is_sym SRBrace o) _ _ (λ s at. tt) (λ e h. λ p u. tested (is_sym SBar p) _ _
       (λ s at. λ g hg. behind_kept Brace _ _ (λ gs k. (h, (hg, k))) (h, (hg, tt)))
       (behind_kept Brace _ _ (λ es g. (h, g)) (h, tt)))
 
   pub rows_body_kept : Kept rows_body_rule
   unfolding OfTree
-  rows_body_kept = λ o fine. tested (is_sym SRRows o) _ _ (λ s at. tt) (tested (is_sym SBar o) _ _ tt (λ r h. λ rs g. (h, g)))
+  rows_body_kept = λ o holds. tested (is_sym SRRows o) _ _ (λ s at. tt) (tested (is_sym SBar o) _ _ tt (λ r h. λ rs g. (h, g)))
 
   pub more_rows_kept : Kept more_rows_rule
   unfolding OfTree
-  more_rows_kept = λ o fine. tested (is_sym SRRows o) _ _ (λ s at. tt) (tested (is_sym SBar o) _ _
+  more_rows_kept = λ o holds. tested (is_sym SRRows o) _ _ (λ s at. tt) (tested (is_sym SBar o) _ _
       (λ s at. λ p u. tested (is_sym SRRows p) _ _ (λ c v. tt) (λ r h. λ rs g. (h, g))) tt)
 
   pub row_kept : Kept row_rule
@@ -168,32 +168,32 @@ module _ (Named : Name → Type 0) (Placed : Span → Type 0) where
 
   pub cells_kept : Kept cells_rule
   unfolding OfTree
-  cells_kept = λ o fine. tested (is_sym SComma o) _ _ (λ s at. λ p u. tested (ends_row p) _ _ tt (λ e h. λ es g. (h, g))) tt
+  cells_kept = λ o holds. tested (is_sym SComma o) _ _ (λ s at. λ p u. tested (ends_row p) _ _ tt (λ e h. λ es g. (h, g))) tt
 
   pub generator_kept : Kept generator_rule
   unfolding OfTree
-  generator_kept = λ o fine. by_name (ident_of o) _ _ (Of.ident_named Named Placed o fine) tt
+  generator_kept = λ o holds. by_name (ident_of o) _ _ (Of.ident_named Named Placed o holds) tt
       (λ n named. λ s at. λ ns hn. λ p u. tested (is_word keyword.KIn p) _ _
       (λ i v. λ x h. λ w g. (All-cons (IsSpot Named Placed) (n, s) ns (named, at) hn, Of.of_tree Named Placed x h, g)) tt)
 
   pub more_names_kept : Kept more_names_rule
-  more_names_kept = λ o fine. tested (is_sym SComma o) _ _ (λ c u. λ p fine'. by_name (ident_of p) _ _ (Of.ident_named Named Placed p fine') (All-nil (IsSpot Named Placed))
+  more_names_kept = λ o holds. tested (is_sym SComma o) _ _ (λ c u. λ p holds'. by_name (ident_of p) _ _ (Of.ident_named Named Placed p holds') (All-nil (IsSpot Named Placed))
       (λ n named. λ s at. λ ns hn. All-cons (IsSpot Named Placed) (n, s) ns (named, at) hn)) (All-nil (IsSpot Named Placed))
 
   pub filter_kept : Kept filter_rule
   unfolding OfTree
-  filter_kept = λ o fine. tested (is_word keyword.KWhere o) _ _ (λ s at. λ e h. h) tt
+  filter_kept = λ o holds. tested (is_word keyword.KWhere o) _ _ (λ s at. λ e h. h) tt
 
   pub generators_kept : (c : Closing) → Kept (generators_rule c)
   unfolding OfTree
-  generators_kept c = λ o fine. tested (closes c o) _ _ (λ s at. tt) (λ g h. behind_kept c _ _ (λ gs k. (h, k)) (h, tt))
+  generators_kept c = λ o holds. tested (closes c o) _ _ (λ s at. tt) (λ g h. behind_kept c _ _ (λ gs k. (h, k)) (h, tt))
 
   pub branch_kept : Kept branch_rule
-  branch_kept = λ c h. λ o fine. tested (is_word keyword.KThen o) _ _ (λ t u. λ e g. (h, g)) tt
+  branch_kept = λ c h. λ o holds. tested (is_word keyword.KThen o) _ _ (λ t u. λ e g. (h, g)) tt
 
   pub branches_kept : Kept branches_rule
   unfolding OfTree
-  branches_kept = λ o fine. tested (is_word keyword.KElseif o) _ _
+  branches_kept = λ o holds. tested (is_word keyword.KElseif o) _ _
       (λ s at. λ b h. λ bs g. ((h.0, h.1, g.0), g.1))
       (tested (is_word keyword.KElse o) _ _
       (λ s at. λ e h. λ p u. tested (is_word keyword.KEndif p) _ _ (λ t v. (tt, h)) tt)
@@ -201,10 +201,10 @@ module _ (Named : Name → Type 0) (Placed : Span → Type 0) where
 
   pub let_items_kept : Kept let_items_rule
   unfolding OfTree
-  let_items_kept = λ o fine. tested (is_sym SRBrace o) _ _ (λ s at. tt) (λ l h. λ p u. tested (is_sym SComma p || is_sym SSemi p) _ _
+  let_items_kept = λ o holds. tested (is_sym SRBrace o) _ _ (λ s at. tt) (λ l h. λ p u. tested (is_sym SComma p || is_sym SSemi p) _ _
       (λ s at. λ ls g. (h, g))
       (tested (is_sym SRBrace p) _ _ (λ s at. (h, tt)) tt))
 
   pub let_item_kept : Kept let_item_rule
   unfolding OfTree
-  let_item_kept = λ o fine. tested (is_word keyword.KConstraint o) _ _ (λ s at. λ m u. λ e h. h) (λ d h. h)
+  let_item_kept = λ o holds. tested (is_word keyword.KConstraint o) _ _ (λ s at. λ m u. λ e h. h) (λ d h. h)

@@ -52,29 +52,29 @@ module _ (Named : Name → Type 0) (Placed : Span → Type 0) where
 
   base_kept : Kept base_rule
   unfolding OfTree
-  base_kept = λ o fine. tested (is_word keyword.KBool o) _ _ (λ s at. (at, tt))
+  base_kept = λ o holds. tested (is_word keyword.KBool o) _ _ (λ s at. (at, tt))
       (tested (is_word keyword.KInt o) _ _ (λ s at. (at, tt)) (λ x h. (Of.placed Named Placed x h, Of.of_tree Named Placed x h)))
 
   unmarked_kept : Kept unmarked_rule
   unfolding OfTree
-  unmarked_kept = λ o fine. tested (is_word keyword.KOpt o) _ _
+  unmarked_kept = λ o holds. tested (is_word keyword.KOpt o) _ _
       (λ s at. λ p u. tested (is_word keyword.KSet p) _ _ tt (λ b h. (at, tt, h.1)))
       (tested (is_word keyword.KSet o) _ _
       (λ s at. λ p u. tested (is_word keyword.KOf p) _ _ (λ f v. λ b h. (at, tt, h.1)) tt)
       (λ b h. (h.0, tt, h.1)))
 
   element_kept : Kept element_rule
-  element_kept = λ o fine. tested (is_word keyword.KVar o) _ _ (λ s at. λ t h. marked_kept s true t at h)
+  element_kept = λ o holds. tested (is_word keyword.KVar o) _ _ (λ s at. λ t h. marked_kept s true t at h)
       (tested (is_word keyword.KPar o) _ _ (λ s at. λ t h. marked_kept s false t at h) (λ t h. h))
 
   index_types_kept : (n : ℕ) → Kept (index_types_rule n)
   unfolding OfTree
-  index_types_kept zero = λ o fine. tested (is_sym SRBrack o) _ _ (λ s at. tt) (tested (begins_base o) _ _ tt tt)
-  index_types_kept (suc n) = λ o fine. tested (is_sym SRBrack o) _ _ (λ s at. tt) (λ b h. behind_kept Bracket _ _ (λ bs g. (h.1, g)) (h.1, tt))
+  index_types_kept zero = λ o holds. tested (is_sym SRBrack o) _ _ (λ s at. tt) (tested (begins_base o) _ _ tt tt)
+  index_types_kept (suc n) = λ o holds. tested (is_sym SRBrack o) _ _ (λ s at. tt) (λ b h. behind_kept Bracket _ _ (λ bs g. (h.1, g)) (h.1, tt))
 
   type_kept : Kept type_rule
   unfolding OfTree
-  type_kept = λ o fine. tested (is_word keyword.KArray o) _ _
+  type_kept = λ o holds. tested (is_word keyword.KArray o) _ _
       (λ s at. λ p u. tested (is_sym SLBrack p) _ _
       (λ b v. λ q w. tested (is_sym SRBrack q) _ _ tt
       (λ bs g. λ r k. tested (is_word keyword.KOf r) _ _ (λ f l. λ t h. array_type_kept s bs t at g h) tt))
@@ -83,31 +83,31 @@ module _ (Named : Name → Type 0) (Placed : Span → Type 0) where
 
   value_kept : Kept value_rule
   unfolding OfTree
-  value_kept = λ o fine. tested (is_sym SEq o) _ _ (λ s at. λ e h. h) tt
+  value_kept = λ o holds. tested (is_sym SEq o) _ _ (λ s at. λ e h. h) tt
 
   declared_kept : (t : Written) → Kept (declared_rule t)
   unfolding OfTree
-  declared_kept t = λ o fine. tested (is_sym SColon o) _ _
-      (λ c u. λ p fine'. by_name (ident_of p) _ _ (Of.ident_named Named Placed p fine') tt (λ n named. λ s at. λ m v. λ e h. λ g. (g, named, at, h))) tt
+  declared_kept t = λ o holds. tested (is_sym SColon o) _ _
+      (λ c u. λ p holds'. by_name (ident_of p) _ _ (Of.ident_named Named Placed p holds') tt (λ n named. λ s at. λ m v. λ e h. λ g. (g, named, at, h))) tt
 
   declaration_kept : Kept declaration_rule
   declaration_kept = λ t h. λ d g. g h
 
   param_kept : Kept param_rule
   unfolding OfTree
-  param_kept = λ t h. λ o fine. tested (is_sym SColon o) _ _ (λ c u. λ p fine'. by_name (ident_of p) _ _ (Of.ident_named Named Placed p fine') tt (λ n named. λ s at. λ m v. (h, named, at, tt))) tt
+  param_kept = λ t h. λ o holds. tested (is_sym SColon o) _ _ (λ c u. λ p holds'. by_name (ident_of p) _ _ (Of.ident_named Named Placed p holds') tt (λ n named. λ s at. λ m v. (h, named, at, tt))) tt
 
   param_list_kept : Kept param_list_rule
-  param_list_kept = λ o fine. tested (is_sym SRParen o) _ _ (λ s at. All-nil (OfDeclaration Named Placed))
+  param_list_kept = λ o holds. tested (is_sym SRParen o) _ _ (λ s at. All-nil (OfDeclaration Named Placed))
       (λ d h. behind_kept Paren _ _ (λ ds g. All-cons (OfDeclaration Named Placed) d ds h g) (All-cons (OfDeclaration Named Placed) d [] h (All-nil (OfDeclaration Named Placed))))
 
   params_kept : Kept params_rule
-  params_kept = λ o fine. tested (is_sym SLParen o) _ _ (λ s at. λ ds h. h) (All-nil (OfDeclaration Named Placed))
+  params_kept = λ o holds. tested (is_sym SLParen o) _ _ (λ s at. λ ds h. h) (All-nil (OfDeclaration Named Placed))
 
   -- Items
 
   function_kept : (t : Written) → OfWritten Named Placed t → Kept (function_rule t)
-  function_kept t h = λ o fine. by_name (ident_of o) _ _ (Of.ident_named Named Placed o fine) tt (λ n named. λ s at. λ ds g. λ m u. λ p v. tested (is_sym SEq p) _ _ (λ q w. λ e k. (named, at, h, g, k)) tt)
+  function_kept t h = λ o holds. by_name (ident_of o) _ _ (Of.ident_named Named Placed o holds) tt (λ n named. λ s at. λ ds g. λ m u. λ p v. tested (is_sym SEq p) _ _ (λ q w. λ e k. (named, at, h, g, k)) tt)
 
   -- the type that an expression is
   of_base : (s : Span) (e : Tree) → Placed s → OfTree Named Placed e → OfWritten Named Placed (written s no_array false false false (base_of e))
@@ -121,41 +121,41 @@ module _ (Named : Name → Type 0) (Placed : Span → Type 0) where
 
   item_by_kept : (k : ItemKind) → Kept (item_by k)
   unfolding OfTree
-  item_by_kept an_include = λ i u. λ o fine. by_name (text_of o) _ _ (Of.text_named Named Placed o fine) tt (λ n named. λ s at. (named, at))
+  item_by_kept an_include = λ i u. λ o holds. by_name (text_of o) _ _ (Of.text_named Named Placed o holds) tt (λ n named. λ s at. (named, at))
   item_by_kept a_constraint = λ c u. λ m v. λ e h. h
   item_by_kept a_solve = λ s at. λ m v. λ g h. (at, h)
   item_by_kept an_output = λ o u. λ m v. λ e h. h
   item_by_kept a_predicate = λ s at. function_kept _ (at, tt, tt)
   item_by_kept a_test = λ s at. function_kept _ (at, tt, tt)
-  item_by_kept a_function = λ f u. λ t h. λ o fine. tested (is_sym SColon o) _ _ (λ c v. function_kept t h) tt
-  item_by_kept an_annotation = λ a u. λ o fine. by_name (ident_of o) _ _ (Of.ident_named Named Placed o fine) tt (λ n named. λ s at. λ ds h. named)
-  item_by_kept an_enum = λ w u. λ o fine. by_name (ident_of o) _ _ (Of.ident_named Named Placed o fine) tt (λ n named. λ s at. λ m v. λ cs h. (named, at, h))
+  item_by_kept a_function = λ f u. λ t h. λ o holds. tested (is_sym SColon o) _ _ (λ c v. function_kept t h) tt
+  item_by_kept an_annotation = λ a u. λ o holds. by_name (ident_of o) _ _ (Of.ident_named Named Placed o holds) tt (λ n named. λ s at. λ ds h. named)
+  item_by_kept an_enum = λ w u. λ o holds. by_name (ident_of o) _ _ (Of.ident_named Named Placed o holds) tt (λ n named. λ s at. λ m v. λ cs h. (named, at, h))
 
   item_kept : Kept item_rule
-  item_kept = λ o fine. found (item_of o) _ _
+  item_kept = λ o holds. found (item_of o) _ _
       (tested (begins_type o) _ _ (λ d h. h) (λ x h. λ p u. by_expression_kept x h p))
       (λ k. item_by_kept k)
 
   goal_kept : Kept goal_rule
-  goal_kept = λ o fine. tested (is_word keyword.KSatisfy o) _ _ (λ s at. tt)
+  goal_kept = λ o holds. tested (is_word keyword.KSatisfy o) _ _ (λ s at. tt)
       (tested (is_word keyword.KMinimize o) _ _ (λ s at. λ e h. h)
       (tested (is_word keyword.KMaximize o) _ _ (λ s at. λ e h. h) tt))
 
   cases_kept : Kept cases_rule
-  cases_kept = λ o fine. tested (is_sym SEq o) _ _
+  cases_kept = λ o holds. tested (is_sym SEq o) _ _
       (λ q u. λ p v. tested (is_sym SLBrace p) _ _
       (λ s at. λ ns h. λ r w. tested (is_sym SConcat r || is_sym SLParen r) _ _ tt h)
       (found (ident_of p) _ _ tt (λ n. tt))) tt
 
   case_names_kept : Kept case_names_rule
-  case_names_kept = λ o fine. tested (is_sym SRBrace o) _ _ (λ s at. All-nil (IsSpot Named Placed)) (by_name (ident_of o) _ _ (Of.ident_named Named Placed o fine) tt
+  case_names_kept = λ o holds. tested (is_sym SRBrace o) _ _ (λ s at. All-nil (IsSpot Named Placed)) (by_name (ident_of o) _ _ (Of.ident_named Named Placed o holds) tt
       (λ n named. λ s at. behind_kept Brace _ _ (λ ns h. All-cons (IsSpot Named Placed) (n, s) ns (named, at) h) (Of.one_spot Named Placed n s named at)))
 
   file_kept : Kept file_rule
-  file_kept = λ o fine. found o _ _ (All-nil (OfItem Named Placed)) (λ t. λ i h. λ is g. All-cons (OfItem Named Placed) i is h g)
+  file_kept = λ o holds. found o _ _ (All-nil (OfItem Named Placed)) (λ t. λ i h. λ is g. All-cons (OfItem Named Placed) i is h g)
 
   more_items_kept : Kept more_items_rule
-  more_items_kept = λ o fine. found o _ _ (All-nil (OfItem Named Placed)) (λ t. tested (is_sym SSemi o) _ _ (λ s at. λ is h. h) tt)
+  more_items_kept = λ o holds. found o _ _ (All-nil (OfItem Named Placed)) (λ t. tested (is_sym SSemi o) _ _ (λ s at. λ is h. h) tt)
 
   -- every rule keeps it
   all_kept : (n : Place) → Kept (rule n)
@@ -208,9 +208,9 @@ module _ (Named : Name → Type 0) (Placed : Span → Type 0) where
   all_kept Parts.let_items = Expression.let_items_kept Named Placed
   all_kept Parts.let_item = Expression.let_item_kept Named Placed
 
-  abbrev pub AllFine : List Token → Type 0
-  AllFine ts = Generic.AllFine {Value = Value} (Of.Holds Named Placed) (Of.Fine Named Placed) Placed ts
+  abbrev pub AllHold : List Token → Type 0
+  AllHold ts = Generic.AllHold {Value = Value} (Of.Holds Named Placed) (Of.TokenHolds Named Placed) Placed ts
 
   -- what the grammar reads from such tokens
-  pub file_is_of : {room : ℕ} {ts : List Token} {is : List ItemTree} → Runs rule Parts.file room (rule Parts.file) ts is None → AllFine ts → All (OfItem Named Placed) is
-  file_is_of r fine = Generic.kept (Of.Holds Named Placed) (Of.Fine Named Placed) Placed rule all_kept r fine tt (all_kept Parts.file)
+  pub file_is_of : {room : ℕ} {ts : List Token} {is : List ItemTree} → Runs rule Parts.file room (rule Parts.file) ts is None → AllHold ts → All (OfItem Named Placed) is
+  file_is_of r holds = Generic.kept (Of.Holds Named Placed) (Of.TokenHolds Named Placed) Placed rule all_kept r holds tt (all_kept Parts.file)

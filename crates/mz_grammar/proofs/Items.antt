@@ -8,7 +8,7 @@ use Rattle.mz_lexer.specs.declared.token.Symbol.TheVariants.{SLParen, SLBrace, S
 use Rattle.mz_cursor.specs.Rules.{give, refuse, look, pass, part}
 use Rattle.mz_cursor.specs.Look.{is_sym, is_word, symbol_number, keyword_number}
 use Rattle.mz_cursor.specs.Reading.{on, step, read_by}
-use Rattle.mz_cursor.proofs.Viable.{never, before_calm, last, tokens, maybe, brought}
+use Rattle.mz_cursor.proofs.Viable.{never, before_end, last, tokens, maybe, brought}
 use Rattle.mz_grammar.specs.declared.list.Closing.TheVariants.{Brace}
 use Rattle.mz_grammar.specs.Parts
 use Rattle.mz_grammar.specs.Parts.{Operand}
@@ -16,48 +16,48 @@ use Rattle.mz_tree.specs.Tree.{Written}
 use Rattle.mz_grammar.specs.Parts.{name, member, other}
 use Rattle.mz_grammar.specs.Tests.{ItemKind, an_include, a_constraint, a_solve, an_output, a_predicate, a_test, a_function, an_annotation, an_enum, item_of, ident_of, text_of, begins_type}
 use Rattle.mz_grammar.specs.Model.{Ruled, rule, function_rule, by_expression, other_item, item_by, item_rule, goal_rule, cases_rule, case_names_rule, file_rule, more_items_rule}
-use Rattle.mz_grammar.proofs.Calm.{Quiet, Takes, Fine, Done, made, sign, keyword, a_number, an_identifier, tested, found, takes_tested, takes_found, steady_tested, steady_found, fine_symbol, fine_identifier, fine_behind, quiet_end, quiet_number, quiet_colon, quiet_satisfy, plain_equals}
+use Rattle.mz_grammar.proofs.PartEnds.{EndsItem, TakesToken, CanComplete, Done, made, sign, keyword, a_number, an_identifier, tested, found, takes_tested, takes_found, steady_tested, steady_found, can_complete_symbol, can_complete_identifier, can_complete_behind, ends_item_end, ends_item_number, ends_item_colon, ends_item_satisfy, plain_equals}
 
 -- Items with a keyword
 
-fine_function : (t : Written) → Fine (function_rule t)
+can_complete_function : (t : Written) → CanComplete (function_rule t)
 unfolding step read_by rule symbol_number keyword_number
-fine_function t = fine_identifier _ (λ n s. (
+can_complete_function t = can_complete_identifier _ (λ n s. (
   (sign SEq ∷ a_number ∷ [], tt),
   λ ds a. (
     tokens (sign SEq ∷ a_number ∷ []) tt plain_equals (λ m o. takes_tested (is_sym SEq o) _ _ tt tt),
     λ m b. (
       brought (sign SEq ∷ a_number ∷ []) (λ m. tt) (λ o. takes_tested (is_sym SEq o) _ _ tt tt) refl refl,
-      fine_symbol SEq _ (λ q. ((a_number ∷ [], tt), λ e c. (last (λ o h. h), tt))),
+      can_complete_symbol SEq _ (λ q. ((a_number ∷ [], tt), λ e c. (last (λ o h. h), tt))),
     ),
   ),
 ))
 
-takes_kind : (k : ItemKind) → Takes (item_by k)
+takes_kind : (k : ItemKind) → TakesToken (item_by k)
 takes_kind an_include = tt
 takes_kind _ = tt
 
-fine_kind : (k : ItemKind) → Fine (item_by k)
+can_complete_kind : (k : ItemKind) → CanComplete (item_by k)
 unfolding step read_by rule symbol_number keyword_number
-fine_kind an_include = λ i. ((made (Text 0) ∷ [], tt), (never (λ o. takes_found (text_of o) _ _ tt (λ n. tt)), λ o. found (text_of o) _ _ tt (λ n s. (([], tt), tt))))
-fine_kind a_constraint = λ c. ((a_number ∷ [], tt), λ m a. (tokens (a_number ∷ []) tt quiet_number tt, λ e b. (last (λ o h. h), tt)))
-fine_kind a_solve = λ s. ((keyword KSatisfy ∷ [], tt), λ m a. (tokens (keyword KSatisfy ∷ []) tt quiet_satisfy tt, λ g b. (last (λ o h. h), tt)))
-fine_kind an_output = λ c. ((a_number ∷ [], tt), λ m a. (tokens (a_number ∷ []) tt quiet_number tt, λ e b. (last (λ o h. h), tt)))
-fine_kind a_predicate = λ s. ((an_identifier ∷ sign SEq ∷ a_number ∷ [], tt), fine_function _)
-fine_kind a_test = λ s. ((an_identifier ∷ sign SEq ∷ a_number ∷ [], tt), fine_function _)
-fine_kind a_function = λ f. (
+can_complete_kind an_include = λ i. ((made (Text 0) ∷ [], tt), (never (λ o. takes_found (text_of o) _ _ tt (λ n. tt)), λ o. found (text_of o) _ _ tt (λ n s. (([], tt), tt))))
+can_complete_kind a_constraint = λ c. ((a_number ∷ [], tt), λ m a. (tokens (a_number ∷ []) tt ends_item_number tt, λ e b. (last (λ o h. h), tt)))
+can_complete_kind a_solve = λ s. ((keyword KSatisfy ∷ [], tt), λ m a. (tokens (keyword KSatisfy ∷ []) tt ends_item_satisfy tt, λ g b. (last (λ o h. h), tt)))
+can_complete_kind an_output = λ c. ((a_number ∷ [], tt), λ m a. (tokens (a_number ∷ []) tt ends_item_number tt, λ e b. (last (λ o h. h), tt)))
+can_complete_kind a_predicate = λ s. ((an_identifier ∷ sign SEq ∷ a_number ∷ [], tt), can_complete_function _)
+can_complete_kind a_test = λ s. ((an_identifier ∷ sign SEq ∷ a_number ∷ [], tt), can_complete_function _)
+can_complete_kind a_function = λ f. (
   (keyword KInt ∷ sign SColon ∷ an_identifier ∷ sign SEq ∷ a_number ∷ [], tt),
   λ t a. (
-    tokens (sign SColon ∷ an_identifier ∷ sign SEq ∷ a_number ∷ []) tt quiet_colon (λ o. takes_tested (is_sym SColon o) _ _ tt tt),
-    fine_symbol SColon _ (λ c. ((an_identifier ∷ sign SEq ∷ a_number ∷ [], tt), fine_function t)),
+    tokens (sign SColon ∷ an_identifier ∷ sign SEq ∷ a_number ∷ []) tt ends_item_colon (λ o. takes_tested (is_sym SColon o) _ _ tt tt),
+    can_complete_symbol SColon _ (λ c. ((an_identifier ∷ sign SEq ∷ a_number ∷ [], tt), can_complete_function t)),
   ),
 )
-fine_kind an_annotation = λ w. ((an_identifier ∷ [], tt), fine_identifier _ (λ n s. (([], tt), λ ds a. (last (λ o h. h.0), tt))))
-fine_kind an_enum = λ w. ((an_identifier ∷ [], tt), fine_identifier _ (λ n s. (([], tt), λ m a. (maybe [] tt quiet_end (λ o h. h), λ cs b. (last (λ o h. h), tt)))))
+can_complete_kind an_annotation = λ w. ((an_identifier ∷ [], tt), can_complete_identifier _ (λ n s. (([], tt), λ ds a. (last (λ o h. h.0), tt))))
+can_complete_kind an_enum = λ w. ((an_identifier ∷ [], tt), can_complete_identifier _ (λ n s. (([], tt), λ m a. (maybe [] tt ends_item_end (λ o h. h), λ cs b. (last (λ o h. h), tt)))))
 
 -- Declarations and assignments
 
-takes_by_expression : (x : Operand) (o : Option Tok) → Takes (by_expression x o)
+takes_by_expression : (x : Operand) (o : Option Tok) → TakesToken (by_expression x o)
 takes_by_expression (name n s) o = takes_tested (is_sym SEq o) _ _ tt tt
 takes_by_expression (member n s e) o = tt
 takes_by_expression (other s e) o = tt
@@ -68,30 +68,30 @@ done_by_expression (name n s) = tt
 done_by_expression (member n s e) = tt
 done_by_expression (other s e) = tt
 
-fine_by_expression : (x : Operand) (o : Option Tok) → Fine (by_expression x o)
+can_complete_by_expression : (x : Operand) (o : Option Tok) → CanComplete (by_expression x o)
 unfolding step read_by rule symbol_number keyword_number
-fine_by_expression (name n s) o = tested (is_sym SEq o) _ _ (λ q. ((a_number ∷ [], tt), λ e a. (last (λ o h. h), tt))) (λ d a. (last (λ o h. h), tt))
-fine_by_expression (member n s e) o = λ d a. (last (λ o h. h), tt)
-fine_by_expression (other s e) o = λ d a. (last (λ o h. h), tt)
+can_complete_by_expression (name n s) o = tested (is_sym SEq o) _ _ (λ q. ((a_number ∷ [], tt), λ e a. (last (λ o h. h), tt))) (λ d a. (last (λ o h. h), tt))
+can_complete_by_expression (member n s e) o = λ d a. (last (λ o h. h), tt)
+can_complete_by_expression (other s e) o = λ d a. (last (λ o h. h), tt)
 
-fine_other_item : (o : Option Tok) → Fine (other_item o)
-fine_other_item o = tested (begins_type o) _ _ (λ d a. (last (λ o h. h), tt))
-    (λ x a. (tokens (sign SColon ∷ an_identifier ∷ []) (done_by_expression x) quiet_colon (takes_by_expression x), (never (takes_by_expression x), fine_by_expression x)))
+can_complete_other_item : (o : Option Tok) → CanComplete (other_item o)
+can_complete_other_item o = tested (begins_type o) _ _ (λ d a. (last (λ o h. h), tt))
+    (λ x a. (tokens (sign SColon ∷ an_identifier ∷ []) (done_by_expression x) ends_item_colon (takes_by_expression x), (never (takes_by_expression x), can_complete_by_expression x)))
 
-pub takes_item : Takes item_rule
+pub takes_item : TakesToken item_rule
 takes_item = λ o. takes_found (item_of o) _ _ (takes_tested (begins_type o) _ _ tt tt) takes_kind
 
-pub fine_item : Fine item_rule
-fine_item = (never takes_item, λ o. found (item_of o) _ _ (fine_other_item o) fine_kind)
+pub can_complete_item : CanComplete item_rule
+can_complete_item = (never takes_item, λ o. found (item_of o) _ _ (can_complete_other_item o) can_complete_kind)
 
 -- Goals and the names of an enum
 
-pub takes_goal : Takes goal_rule
+pub takes_goal : TakesToken goal_rule
 takes_goal = λ o. takes_tested (is_word KSatisfy o) _ _ tt (takes_tested (is_word KMinimize o) _ _ tt (takes_tested (is_word KMaximize o) _ _ tt tt))
 
-pub fine_goal : Fine goal_rule
+pub can_complete_goal : CanComplete goal_rule
 unfolding step read_by rule symbol_number keyword_number
-fine_goal = (
+can_complete_goal = (
   never takes_goal,
   λ o. tested (is_word KSatisfy o) _ _ (λ s. (([], tt), tt))
       (tested (is_word KMinimize o) _ _ (λ s. ((a_number ∷ [], tt), λ e a. (last (λ o h. h), tt)))
@@ -103,9 +103,9 @@ neither : (a b : Bool) → a ≡ false → b ≡ false → (a || b) ≡ false
 neither true b h g = absurd (cc)
 neither false b h g = g
 
-pub fine_cases : Fine cases_rule
+pub can_complete_cases : CanComplete cases_rule
 unfolding step read_by rule symbol_number keyword_number
-fine_cases = (
+can_complete_cases = (
   steady_tested (is_sym SEq) _ _ tt (λ o h. h.3),
   λ o. tested (is_sym SEq o) _ _
       (λ q. (
@@ -129,37 +129,37 @@ fine_cases = (
       tt,
 )
 
-pub takes_case_names : Takes case_names_rule
+pub takes_case_names : TakesToken case_names_rule
 takes_case_names = λ o. takes_tested (is_sym SRBrace o) _ _ tt (takes_found (ident_of o) _ _ tt (λ n. tt))
 
-pub fine_case_names : Fine case_names_rule
+pub can_complete_case_names : CanComplete case_names_rule
 unfolding step read_by rule symbol_number keyword_number
-fine_case_names = (
+can_complete_case_names = (
   never takes_case_names,
   λ o. tested (is_sym SRBrace o) _ _ (λ s. (([], tt), tt)) (found (ident_of o) _ _ tt (λ n s.
-      ((sign SRBrace ∷ [], tt), fine_behind Brace _ _ (sign SRBrace ∷ [], tt) (λ ns a. (last (λ o h. h), tt)) tt))),
+      ((sign SRBrace ∷ [], tt), can_complete_behind Brace _ _ (sign SRBrace ∷ [], tt) (λ ns a. (last (λ o h. h), tt)) tt))),
 )
 
 -- Files
 
-quiet_none : (o : Option Tok) → o ≡ None → Quiet o
-quiet_none o e = subst Quiet (sym e) quiet_end
+ends_item_none : (o : Option Tok) → o ≡ None → EndsItem o
+ends_item_none o e = subst EndsItem (sym e) ends_item_end
 
-pub fine_file : Fine file_rule
+pub can_complete_file : CanComplete file_rule
 unfolding step read_by rule symbol_number keyword_number
-fine_file = (
+can_complete_file = (
   steady_found (λ o. o) _ _ (λ t. tt) (λ o h. h),
-  λ o. found o _ _ tt (λ t i a. (maybe [] tt quiet_end quiet_none, λ is b. (last (λ o h. h), tt))),
+  λ o. found o _ _ tt (λ t i a. (maybe [] tt ends_item_end ends_item_none, λ is b. (last (λ o h. h), tt))),
 )
 
 -- behind an item
 abbrev more_from : Option Tok → Ruled Parts.more_items
 more_from o = on o (give []) (λ t. if is_sym SSemi o then pass (λ s. part Parts.file λ is. give is) else refuse)
 
-steady_more : (o next : Option Tok) → next ≡ None → Takes (more_from o) ⊎ (more_from o ≡ more_from next)
+steady_more : (o next : Option Tok) → next ≡ None → TakesToken (more_from o) ⊎ (more_from o ≡ more_from next)
 steady_more None next e = inr (ap more_from (sym e))
 steady_more (Some t) next e = inl (takes_tested (is_sym SSemi (Some t)) _ _ tt tt)
 
-pub fine_more_items : Fine more_items_rule
+pub can_complete_more_items : CanComplete more_items_rule
 unfolding step read_by rule symbol_number keyword_number
-fine_more_items = (before_calm steady_more, λ o. found o _ _ tt (λ t. tested (is_sym SSemi o) _ _ (λ s. (([], tt), λ is a. (last (λ o h. h), tt))) tt))
+can_complete_more_items = (before_end steady_more, λ o. found o _ _ tt (λ t. tested (is_sym SSemi o) _ _ (λ s. (([], tt), λ is a. (last (λ o h. h), tt))) tt))

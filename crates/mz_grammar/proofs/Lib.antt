@@ -1,5 +1,5 @@
 pub mod Falls
-pub mod Calm
+pub mod PartEnds
 pub mod Expressions
 pub mod Calls
 pub mod Lists
@@ -17,7 +17,7 @@ pub mod ExpressionTrees
 pub mod ItemTrees
 pub mod DataFalls
 pub mod DataFaults
-pub mod DataCalm
+pub mod DataPartEnds
 pub mod DataViable
 pub mod DataExamples
 mod ModelExamples

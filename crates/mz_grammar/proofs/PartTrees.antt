@@ -99,19 +99,19 @@ module _ (Named : Name → Type 0) (Placed : Span → Type 0) where
   Holds _ x = Unit {0}
 
   -- the name of the token in front
-  abbrev pub Fine : Option Tok → Type 0
-  Fine None = Unit {0}
-  Fine (Some (tok.Word k)) = Unit {0}
-  Fine (Some (tok.Sym s)) = Unit {0}
-  Fine (Some (tok.Ident n)) = Named n
-  Fine (Some (tok.Int z)) = Unit {0}
-  Fine (Some (tok.Text n)) = Named n
-  Fine (Some (tok.TextHead n)) = Named n
-  Fine (Some (tok.TextMid n)) = Named n
-  Fine (Some (tok.TextTail n)) = Named n
+  abbrev pub TokenHolds : Option Tok → Type 0
+  TokenHolds None = Unit {0}
+  TokenHolds (Some (tok.Word k)) = Unit {0}
+  TokenHolds (Some (tok.Sym s)) = Unit {0}
+  TokenHolds (Some (tok.Ident n)) = Named n
+  TokenHolds (Some (tok.Int z)) = Unit {0}
+  TokenHolds (Some (tok.Text n)) = Named n
+  TokenHolds (Some (tok.TextHead n)) = Named n
+  TokenHolds (Some (tok.TextMid n)) = Named n
+  TokenHolds (Some (tok.TextTail n)) = Named n
 
   abbrev pub Kept : {n : Place} → Ruled n → Type 0
-  Kept p = Keeps Holds Fine Placed p
+  Kept p = Keeps Holds TokenHolds Placed p
 
   -- By a test, or by what stands in front.
   pub tested : {n : Place} (b : Bool) (p q : Ruled n) → Kept p → Kept q → Kept (if b then p else q)
@@ -126,28 +126,28 @@ module _ (Named : Name → Type 0) (Placed : Span → Type 0) where
   found None p f h g = h
   found (Some x) p f h g = g x
 
-  pub ident_named : (o : Option Tok) → Fine o → OnSome Named (ident_of o)
-  ident_named None fine = tt
-  ident_named (Some (tok.Ident n)) fine = fine
-  ident_named (Some _) fine = tt
+  pub ident_named : (o : Option Tok) → TokenHolds o → OnSome Named (ident_of o)
+  ident_named None holds = tt
+  ident_named (Some (tok.Ident n)) holds = holds
+  ident_named (Some _) holds = tt
 
-  pub text_named : (o : Option Tok) → Fine o → OnSome Named (text_of o)
-  text_named None fine = tt
-  text_named (Some (tok.Text n)) fine = fine
-  text_named (Some _) fine = tt
+  pub text_named : (o : Option Tok) → TokenHolds o → OnSome Named (text_of o)
+  text_named None holds = tt
+  text_named (Some (tok.Text n)) holds = holds
+  text_named (Some _) holds = tt
 
-  pub middle_named : (o : Option Tok) → Fine o → OnSome Named (middle_of o)
-  middle_named None fine = tt
-  middle_named (Some (tok.TextMid n)) fine = fine
-  middle_named (Some _) fine = tt
+  pub middle_named : (o : Option Tok) → TokenHolds o → OnSome Named (middle_of o)
+  middle_named None holds = tt
+  middle_named (Some (tok.TextMid n)) holds = holds
+  middle_named (Some _) holds = tt
 
-  pub tail_named : (o : Option Tok) → Fine o → OnSome Named (tail_of o)
-  tail_named None fine = tt
-  tail_named (Some (tok.TextTail n)) fine = fine
-  tail_named (Some _) fine = tt
+  pub tail_named : (o : Option Tok) → TokenHolds o → OnSome Named (tail_of o)
+  tail_named None holds = tt
+  tail_named (Some (tok.TextTail n)) holds = holds
+  tail_named (Some _) holds = tt
 
   pub behind_kept : {n : Place} (c : Closing) (more done : Ruled n) → Kept more → Kept done → Kept (behind c more done)
-  behind_kept c more done h g = λ o fine. tested (is_sym SComma o) _ _ (λ s at. h) (tested (closes c o) _ _ (λ s at. g) (tested (is_left_out c o) leave_out refuse tt tt))
+  behind_kept c more done h g = λ o holds. tested (is_sym SComma o) _ _ (λ s at. h) (tested (closes c o) _ _ (λ s at. g) (tested (is_left_out c o) leave_out refuse tt tt))
 
   pub placed : (x : Operand) → OfReading x → Placed (at_of x)
   placed (name n s) h = h.1

@@ -27,16 +27,16 @@ use Rattle.mz_grammar.specs.Parts.{Place, Value, Operand, tree_of, chained}
 use Rattle.mz_grammar.specs.Model.{Ruled, rule, operand_rule, operators_rule, unit_rule, atom_rule, annotations_rule, head_symbol, head_word, head_token}
 use Rattle.mz_grammar.specs.Reading.{rank, width, reads}
 use Rattle.mz_grammar.proofs.Falls.{low, falls}
-use Rattle.mz_grammar.proofs.Calm.{Calm, taking, Apt, far, aim, Takes, Fine, Completion, made, sign, keyword, a_number, an_identifier, closing, takes_tested, quiet_end, plain_end, plain_equals}
-use Rattle.mz_grammar.proofs.Expressions.{takes_operand, fine_operand, done_operand, fine_level, done_level, fine_expr, fine_operators, takes_unit, fine_unit, fine_atom, fine_accesses, takes_indices, fine_indices, takes_more_indices, fine_more_indices, fine_annotations, fine_marks, takes_head, fine_head, fine_text_rest}
-use Rattle.mz_grammar.proofs.Lists.{takes_elements, done_elements, fine_elements, takes_generators, done_generators, fine_generators, takes_generator, fine_generator, fine_more_names, fine_filter, takes_array_body, fine_array_body, takes_set_body, fine_set_body, takes_rows_body, fine_rows_body, takes_more_rows, fine_more_rows, fine_row, fine_cells, takes_branches, fine_branch, fine_branches, takes_let_items, fine_let_items, takes_let_item, fine_let_item}
-use Rattle.mz_grammar.proofs.Calls.{takes_arguments, fine_arguments, fine_named}
-use Rattle.mz_grammar.proofs.Declarations.{fine_declaration, takes_declared, fine_declared, fine_value, takes_type, fine_type, takes_index_types, done_index_types, fine_index_types, takes_element, fine_element, takes_unmarked, fine_unmarked, takes_base, fine_base, fine_params, takes_param_list, fine_param_list, fine_param}
-use Rattle.mz_grammar.proofs.Items.{takes_item, fine_item, takes_goal, fine_goal, fine_cases, takes_case_names, fine_case_names, fine_file, fine_more_items}
+use Rattle.mz_grammar.proofs.PartEnds.{MayEndBefore, takes_token, IsUsable, far, aim, TakesToken, CanComplete, Completion, made, sign, keyword, a_number, an_identifier, closing, takes_tested, ends_item_end, plain_end, plain_equals}
+use Rattle.mz_grammar.proofs.Expressions.{takes_operand, can_complete_operand, done_operand, can_complete_level, done_level, can_complete_expr, can_complete_operators, takes_unit, can_complete_unit, can_complete_atom, can_complete_accesses, takes_indices, can_complete_indices, takes_more_indices, can_complete_more_indices, can_complete_annotations, can_complete_marks, takes_head, can_complete_head, can_complete_text_rest}
+use Rattle.mz_grammar.proofs.Lists.{takes_elements, done_elements, can_complete_elements, takes_generators, done_generators, can_complete_generators, takes_generator, can_complete_generator, can_complete_more_names, can_complete_filter, takes_array_body, can_complete_array_body, takes_set_body, can_complete_set_body, takes_rows_body, can_complete_rows_body, takes_more_rows, can_complete_more_rows, can_complete_row, can_complete_cells, takes_branches, can_complete_branch, can_complete_branches, takes_let_items, can_complete_let_items, takes_let_item, can_complete_let_item}
+use Rattle.mz_grammar.proofs.Calls.{takes_arguments, can_complete_arguments, can_complete_named}
+use Rattle.mz_grammar.proofs.Declarations.{can_complete_declaration, takes_declared, can_complete_declared, can_complete_value, takes_type, can_complete_type, takes_index_types, done_index_types, can_complete_index_types, takes_element, can_complete_element, takes_unmarked, can_complete_unmarked, takes_base, can_complete_base, can_complete_params, takes_param_list, can_complete_param_list, can_complete_param}
+use Rattle.mz_grammar.proofs.Items.{takes_item, can_complete_item, takes_goal, can_complete_goal, can_complete_cases, takes_case_names, can_complete_case_names, can_complete_file, can_complete_more_items}
 
 -- Tables over the parts
 
-takes : (n : Place) → taking n ≡ true → Takes (rule n)
+takes : (n : Place) → takes_token n ≡ true → TakesToken (rule n)
 unfolding rule
 takes Parts.file e = absurd (cc)
 takes Parts.more_items e = absurd (cc)
@@ -137,63 +137,63 @@ complete Parts.branches = (keyword KEndif ∷ [], tt)
 complete Parts.let_items = (sign SRBrace ∷ [], tt)
 complete Parts.let_item = (keyword KConstraint ∷ a_number ∷ [], tt)
 
-fine : (n : Place) → Fine (rule n)
+can_complete : (n : Place) → CanComplete (rule n)
 unfolding rule
-fine Parts.file = fine_file
-fine Parts.more_items = fine_more_items
-fine Parts.item = fine_item
-fine Parts.goal = fine_goal
-fine Parts.cases = fine_cases
-fine Parts.case_names = fine_case_names
-fine Parts.params = fine_params
-fine Parts.param_list = fine_param_list
-fine Parts.param = fine_param
-fine Parts.declaration = fine_declaration
-fine (Parts.declared t) = fine_declared t
-fine Parts.value = fine_value
-fine Parts.type = fine_type
-fine Parts.element = fine_element
-fine Parts.unmarked = fine_unmarked
-fine Parts.base = fine_base
-fine (Parts.index_types n) = fine_index_types n
-fine Parts.expr = fine_expr
-fine (Parts.level l) = fine_level l
-fine (Parts.operand l) = fine_operand l
-fine (Parts.operators l) = fine_operators l
-fine Parts.unit = fine_unit
-fine Parts.atom = fine_atom
-fine (Parts.accesses x) = fine_accesses x
-fine Parts.indices = fine_indices
-fine Parts.more_indices = fine_more_indices
-fine Parts.annotations = fine_annotations
-fine Parts.marks = fine_marks
-fine Parts.head = fine_head
-fine (Parts.named n s) = fine_named n s
-fine (Parts.arguments t) = fine_arguments t
-fine Parts.text_rest = fine_text_rest
-fine (Parts.elements c) = fine_elements c
-fine Parts.array_body = fine_array_body
-fine Parts.set_body = fine_set_body
-fine Parts.rows_body = fine_rows_body
-fine Parts.more_rows = fine_more_rows
-fine Parts.row = fine_row
-fine Parts.cells = fine_cells
-fine Parts.generator = fine_generator
-fine Parts.more_names = fine_more_names
-fine Parts.filter = fine_filter
-fine (Parts.generators c) = fine_generators c
-fine Parts.branch = fine_branch
-fine Parts.branches = fine_branches
-fine Parts.let_items = fine_let_items
-fine Parts.let_item = fine_let_item
+can_complete Parts.file = can_complete_file
+can_complete Parts.more_items = can_complete_more_items
+can_complete Parts.item = can_complete_item
+can_complete Parts.goal = can_complete_goal
+can_complete Parts.cases = can_complete_cases
+can_complete Parts.case_names = can_complete_case_names
+can_complete Parts.params = can_complete_params
+can_complete Parts.param_list = can_complete_param_list
+can_complete Parts.param = can_complete_param
+can_complete Parts.declaration = can_complete_declaration
+can_complete (Parts.declared t) = can_complete_declared t
+can_complete Parts.value = can_complete_value
+can_complete Parts.type = can_complete_type
+can_complete Parts.element = can_complete_element
+can_complete Parts.unmarked = can_complete_unmarked
+can_complete Parts.base = can_complete_base
+can_complete (Parts.index_types n) = can_complete_index_types n
+can_complete Parts.expr = can_complete_expr
+can_complete (Parts.level l) = can_complete_level l
+can_complete (Parts.operand l) = can_complete_operand l
+can_complete (Parts.operators l) = can_complete_operators l
+can_complete Parts.unit = can_complete_unit
+can_complete Parts.atom = can_complete_atom
+can_complete (Parts.accesses x) = can_complete_accesses x
+can_complete Parts.indices = can_complete_indices
+can_complete Parts.more_indices = can_complete_more_indices
+can_complete Parts.annotations = can_complete_annotations
+can_complete Parts.marks = can_complete_marks
+can_complete Parts.head = can_complete_head
+can_complete (Parts.named n s) = can_complete_named n s
+can_complete (Parts.arguments t) = can_complete_arguments t
+can_complete Parts.text_rest = can_complete_text_rest
+can_complete (Parts.elements c) = can_complete_elements c
+can_complete Parts.array_body = can_complete_array_body
+can_complete Parts.set_body = can_complete_set_body
+can_complete Parts.rows_body = can_complete_rows_body
+can_complete Parts.more_rows = can_complete_more_rows
+can_complete Parts.row = can_complete_row
+can_complete Parts.cells = can_complete_cells
+can_complete Parts.generator = can_complete_generator
+can_complete Parts.more_names = can_complete_more_names
+can_complete Parts.filter = can_complete_filter
+can_complete (Parts.generators c) = can_complete_generators c
+can_complete Parts.branch = can_complete_branch
+can_complete Parts.branches = can_complete_branches
+can_complete Parts.let_items = can_complete_let_items
+can_complete Parts.let_item = can_complete_let_item
 
 -- What may end with the expression of a `let` is brought to an `=`: an `= 0` goes on each such expression that may take one.
 
 abbrev Long : {n : Place} → Ruled n → Type 0
-Long p = longer.Long rule aim Calm taking Apt far takes complete fine p
+Long p = longer.Long rule aim MayEndBefore takes_token IsUsable far takes complete can_complete p
 
 abbrev Reach : (m : Place) {n : Place} → (Value m → Ruled n) → Ruled n → Type 0
-Reach m f p = longer.Reach rule aim Calm taking Apt far takes complete fine m f p
+Reach m f p = longer.Reach rule aim MayEndBefore takes_token IsUsable far takes complete can_complete m f p
 
 long_tested : {n : Place} (b : Bool) (p q : Ruled n) → Long p → Long q → Long (if b then p else q)
 long_tested true p q h g = h
@@ -261,7 +261,7 @@ long_chain l op false x = λ ls. (farther [] refl (λ m. tt) refl, tt)
 abbrev operators_from : (l : Level) → Option Tok → Ruled (Parts.operators l)
 operators_from l o = on (binary_of l o) (give []) (λ op. pass (λ s. part (Parts.operand l) λ x. chain_behind l op (is_nonassociative l) x))
 
-seen_operators : (l : Level) → longer.Seen rule aim Calm taking Apt far takes complete fine (operators_from l)
+seen_operators : (l : Level) → longer.Seen rule aim MayEndBefore takes_token IsUsable far takes complete can_complete (operators_from l)
 unfolding step read_by rule symbol_number keyword_number
 seen_operators level_is.Iff = by [] tt
 seen_operators level_is.Imp = by [] tt
@@ -357,42 +357,42 @@ may_be_last Parts.row = false
 may_be_last Parts.cells = false
 may_be_last _ = true
 
-pub calm_end : (n : Place) → may_be_last n ≡ true → Calm n None
-calm_end Parts.file e = refl
-calm_end Parts.more_items e = refl
-calm_end Parts.item e = quiet_end
-calm_end Parts.goal e = quiet_end
-calm_end Parts.cases e = quiet_end
-calm_end Parts.params e = plain_end
-calm_end Parts.param e = quiet_end
-calm_end Parts.declaration e = quiet_end
-calm_end (Parts.declared t) e = quiet_end
-calm_end Parts.value e = quiet_end
-calm_end Parts.type e = quiet_end
-calm_end Parts.element e = quiet_end
-calm_end Parts.unmarked e = quiet_end
-calm_end Parts.base e = quiet_end
-calm_end Parts.expr e = quiet_end
-calm_end (Parts.level l) e = quiet_end
-calm_end (Parts.operand l) e = quiet_end
-calm_end (Parts.operators l) e = quiet_end
-calm_end Parts.unit e = quiet_end
-calm_end Parts.atom e = quiet_end
-calm_end (Parts.accesses x) e = plain_end
-calm_end Parts.annotations e = quiet_end
-calm_end Parts.marks e = quiet_end
-calm_end Parts.head e = quiet_end
-calm_end (Parts.named n s) e = plain_end
-calm_end Parts.row e = absurd (cc)
-calm_end Parts.cells e = absurd (cc)
-calm_end Parts.generator e = quiet_end
-calm_end Parts.more_names e = (refl, refl)
-calm_end Parts.filter e = quiet_end
-calm_end Parts.branch e = quiet_end
-calm_end Parts.let_item e = quiet_end
-calm_end _ e = tt
+pub may_end_last : (n : Place) → may_be_last n ≡ true → MayEndBefore n None
+may_end_last Parts.file e = refl
+may_end_last Parts.more_items e = refl
+may_end_last Parts.item e = ends_item_end
+may_end_last Parts.goal e = ends_item_end
+may_end_last Parts.cases e = ends_item_end
+may_end_last Parts.params e = plain_end
+may_end_last Parts.param e = ends_item_end
+may_end_last Parts.declaration e = ends_item_end
+may_end_last (Parts.declared t) e = ends_item_end
+may_end_last Parts.value e = ends_item_end
+may_end_last Parts.type e = ends_item_end
+may_end_last Parts.element e = ends_item_end
+may_end_last Parts.unmarked e = ends_item_end
+may_end_last Parts.base e = ends_item_end
+may_end_last Parts.expr e = ends_item_end
+may_end_last (Parts.level l) e = ends_item_end
+may_end_last (Parts.operand l) e = ends_item_end
+may_end_last (Parts.operators l) e = ends_item_end
+may_end_last Parts.unit e = ends_item_end
+may_end_last Parts.atom e = ends_item_end
+may_end_last (Parts.accesses x) e = plain_end
+may_end_last Parts.annotations e = ends_item_end
+may_end_last Parts.marks e = ends_item_end
+may_end_last Parts.head e = ends_item_end
+may_end_last (Parts.named n s) e = plain_end
+may_end_last Parts.row e = absurd (cc)
+may_end_last Parts.cells e = absurd (cc)
+may_end_last Parts.generator e = ends_item_end
+may_end_last Parts.more_names e = (refl, refl)
+may_end_last Parts.filter e = ends_item_end
+may_end_last Parts.branch e = ends_item_end
+may_end_last Parts.let_item e = ends_item_end
+may_end_last _ e = tt
 
 -- What a reader of models answers is what its callers are promised, for a part that may stand at the end.
 pub answers : {X : Type 0} (n : Place) (view : X → Value n) (room : ℕ) (end : Span) (old new : List Token) (result : Result X Stop) → may_be_last n ≡ true → Gives view end new result (reads n room old) → Answers rule n view room end old new result
 answers n view room end old new result may g =
-    answering.answers rule rank width low falls Calm taking Apt far aim takes complete fine (longer.bring rule aim Calm taking Apt far takes complete fine longs) n view room end old new result (calm_end n may) g
+    answering.answers rule rank width low falls MayEndBefore takes_token IsUsable far aim takes complete can_complete (longer.bring rule aim MayEndBefore takes_token IsUsable far takes complete can_complete longs) n view room end old new result (may_end_last n may) g

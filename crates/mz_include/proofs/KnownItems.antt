@@ -13,8 +13,8 @@ use Rattle.mz_parser.specs.Model.{IsModel}
 use Rattle.mz_include.specs.Trees.{IsItemOf, IsItemKnown}
 use Rattle.mz_include.specs.Parsing.{AreTokens}
 use Rattle.mz_include.proofs.Places.{EachIn, lexed_in}
-use Rattle.mz_grammar.proofs.PartTrees.{Fine}
-use Rattle.mz_grammar.proofs.ItemTrees.{AllFine, file_is_of}
+use Rattle.mz_grammar.proofs.PartTrees.{TokenHolds}
+use Rattle.mz_grammar.proofs.ItemTrees.{AllHold, file_is_of}
 
 module _ (names : List (List ℕ)) (turn : ℕ) where
   abbrev Named : Name → Type 0
@@ -23,22 +23,22 @@ module _ (names : List (List ℕ)) (turn : ℕ) where
   abbrev Placed : Span → Type 0
   Placed s = s.file ≡ turn
 
-  fine_tok : (t : Tok) → IsNamed names t → Fine Named Placed (Some t)
-  fine_tok (tok.Word k) h = tt
-  fine_tok (tok.Sym s) h = tt
-  fine_tok (tok.Ident n) h = h
-  fine_tok (tok.Int z) h = tt
-  fine_tok (tok.Text n) h = h
-  fine_tok (tok.TextHead n) h = h
-  fine_tok (tok.TextMid n) h = h
-  fine_tok (tok.TextTail n) h = h
+  holds_tok : (t : Tok) → IsNamed names t → TokenHolds Named Placed (Some t)
+  holds_tok (tok.Word k) h = tt
+  holds_tok (tok.Sym s) h = tt
+  holds_tok (tok.Ident n) h = h
+  holds_tok (tok.Int z) h = tt
+  holds_tok (tok.Text n) h = h
+  holds_tok (tok.TextHead n) h = h
+  holds_tok (tok.TextMid n) h = h
+  holds_tok (tok.TextTail n) h = h
 
-  all_fine : (tokens : List Token) → All (HasName names) tokens → EachIn turn (map (lex names) tokens) → AllFine Named Placed tokens
-  all_fine [] all at = tt
-  all_fine (t ∷ ts) all at = (fine_tok t.tok (All-head (HasName names) t ts all), at.0, all_fine ts (All-tail (HasName names) t ts all) at.1)
+  all_hold : (tokens : List Token) → All (HasName names) tokens → EachIn turn (map (lex names) tokens) → AllHold Named Placed tokens
+  all_hold [] all at = tt
+  all_hold (t ∷ ts) all at = (holds_tok t.tok (All-head (HasName names) t ts all), at.0, all_hold ts (All-tail (HasName names) t ts all) at.1)
 
   pub items_of : (text : List ℕ) (tokens : List Token) (items : List ItemTree) → AreTokens names turn text tokens → IsModel tokens items → All (IsItemOf names turn) items
-  items_of text tokens items lexed model = file_is_of Named Placed model (all_fine tokens lexed.known (lexed_in turn lexed.lexes refl))
+  items_of text tokens items lexed model = file_is_of Named Placed model (all_hold tokens lexed.known (lexed_in turn lexed.lexes refl))
 
   pub item_known : (i : ItemTree) → IsItemOf names turn i → IsItemKnown names i
   item_known (include n s) h = h.0

@@ -28,8 +28,8 @@ unfolding reads
 by_rule n room ts = Laws.by_rule rule rank width low falls n room ts
 
 -- no token that goes on a value
-abbrev Quiet : Option Tok → Type 0
-Quiet o = (is_sym SDots o ≡ false) × (is_sym SLParen o ≡ false)
+abbrev EndsValue : Option Tok → Type 0
+EndsValue o = (is_sym SDots o ≡ false) × (is_sym SLParen o ≡ false)
 
 -- no token that closes a list, or that opens an array or a table
 abbrev Inner : Option Tok → Type 0
@@ -256,7 +256,7 @@ taken_sets (ebnf.more {xs = xs} h (begins e) g) c q = by_rule (index_sets (suc (
 
 -- Data
 
-named_stops : (d : Dimensions) (k : ℕ) (n : Name) (us : List Token) → Quiet (tok_at us) → reads (named d n) k us ≡ Ok (pure.ident n, us)
+named_stops : (d : Dimensions) (k : ℕ) (n : Name) (us : List Token) → EndsValue (tok_at us) → reads (named d n) k us ≡ Ok (pure.ident n, us)
 unfolding step rule symbol_number
 named_stops d k n us q = by_rule (named d n) k us ∙ rw (step, q.1, range_stops k (pure.ident n) us q.0) refl
 
@@ -268,7 +268,7 @@ by_plain : (d : Dimensions) (k : ℕ) (ts : List Token) {us : List Token} {x : p
 unfolding step rule symbol_number
 by_plain d k ts i e h = by_rule (datum d) _ _ ∙ rw (step, i.0, i.1, e, h) refl
 
-single_datum : (d : Dimensions) {k : ℕ} {ts us : List Token} {x : pure.Value} → Derives k ebnf.one ts x us → Quiet (tok_at us) → reads (datum d) k ts ≡ Ok ((place ts, x), us)
+single_datum : (d : Dimensions) {k : ℕ} {ts us : List Token} {x : pure.Value} → Derives k ebnf.one ts x us → EndsValue (tok_at us) → reads (datum d) k ts ≡ Ok ((place ts, x), us)
 single_datum d {k = k} {ts = ts} {us = us} {x = x} h q = elim (one_kind h) [
   | inl c ↦ subst (λ x. reads (datum d) k ts ≡ Ok ((place ts, x), us)) (sym c.2) (by_name d k c.0 c.1 (named_stops d k c.0 us q))
   | inr e ↦ by_plain d k ts (one_begins h).2 e (single_plain h q.0)
@@ -281,7 +281,7 @@ range_datum d {k = k} {ts = ts} {us = us} {ws = ws} {x = x} {y = y} h c g q = el
   | inr e ↦ by_plain d k ts (one_begins h).2 e (taken_plain (ebnf.by_set (ebnf.range h c g)) q)
 ]
 
-other_datum : (d : Dimensions) {k : ℕ} {ts us : List Token} {x : pure.Value} → Derives k ebnf.plain ts x us → ident_of (tok_at ts) ≡ None → Quiet (tok_at us) → reads (datum d) k ts ≡ Ok ((place ts, x), us)
+other_datum : (d : Dimensions) {k : ℕ} {ts us : List Token} {x : pure.Value} → Derives k ebnf.plain ts x us → ident_of (tok_at ts) ≡ None → EndsValue (tok_at us) → reads (datum d) k ts ≡ Ok ((place ts, x), us)
 other_datum d {k = k} {ts = ts} h e q = by_plain d k ts (plain_begins h) e (taken_plain h q.0)
 
 taken_sized : {k : ℕ} {ts us vs ws xs ys zs : List Token} {ss es : List pure.Value} → Derives (suc k) (list SComma ebnf.set) ts ss us → Next (Sym SComma) us vs → Next (Sym SLBrack) vs ws → Derives k (optional SComma ebnf.plain) ws es xs → Next (Sym SRBrack) xs ys → Next (Sym SRParen) ys zs
@@ -289,7 +289,7 @@ taken_sized : {k : ℕ} {ts us vs ws xs ys zs : List Token} {ss es : List pure.V
 unfolding step rule symbol_number
 taken_sized l c (begins b) h f (begins r) = by_rule (sized _) _ _ ∙ rw (step, taken_sets l c (rw (b) refl), b, taken_plains h f, r) refl
 
-taken_datum : (d : Dimensions) {k : ℕ} {ts us : List Token} {x : pure.Value} → Derives k (ebnf.datum d) ts x us → Quiet (tok_at us) → reads (datum d) k ts ≡ Ok ((place ts, x), us)
+taken_datum : (d : Dimensions) {k : ℕ} {ts us : List Token} {x : pure.Value} → Derives k (ebnf.datum d) ts x us → EndsValue (tok_at us) → reads (datum d) k ts ≡ Ok ((place ts, x), us)
 unfolding step rule symbol_number
 taken_datum d (ebnf.by_plain (ebnf.by_one h)) q = single_datum d h q
 taken_datum d (ebnf.by_plain (ebnf.by_set (ebnf.braces (begins {t = t} e) h c))) q = other_datum d (ebnf.by_set (ebnf.braces (begins {t = t} e) h c)) (rw (e) refl) q
@@ -302,7 +302,7 @@ taken_datum d (ebnf.array_nd n a m (begins p) l c b h f r) q = by_name d _ n a (
 
 -- Items, and files
 
-taken_item : (d : Dimensions) {k : ℕ} {ts us : List Token} {i : Given} → Derives k (ebnf.item d) ts i us → Quiet (tok_at us) → reads (item d) k ts ≡ Ok (i, us)
+taken_item : (d : Dimensions) {k : ℕ} {ts us : List Token} {i : Given} → Derives k (ebnf.item d) ts i us → EndsValue (tok_at us) → reads (item d) k ts ≡ Ok (i, us)
 unfolding step rule symbol_number
 taken_item d (ebnf.assigns n (begins e) (begins f) h) q = by_rule (item d) _ _ ∙ rw (step, e, f, taken_datum d h q) refl
 

@@ -5,7 +5,7 @@ use Rattle.mz_grammar.specs.Parts.{file}
 use Rattle.mz_grammar.specs.Model.{rule}
 use Rattle.mz_grammar.specs.Reading.{rank, width}
 use Rattle.mz_grammar.proofs.Falls.{low, falls}
-use Rattle.mz_grammar.proofs.Viability.{calm_end}
+use Rattle.mz_grammar.proofs.Viability.{may_end_last}
 use Rattle.mz_grammar.proofs.Equations.{expr_reads}
 use Rattle.mz_grammar.proofs.ListEquations.{row_reads}
 use Rattle.mz_grammar.proofs.ItemEquations.{item_reads}
@@ -16,5 +16,5 @@ cited : {A B : Type 0} → A → B → B
 cited a b = b
 
 pub returns : goal.returns
-returns c = cited calm_end (cited expr_reads (cited row_reads (cited item_reads (cited fault_at_the_end
+returns c = cited may_end_last (cited expr_reads (cited row_reads (cited item_reads (cited fault_at_the_end
     (λ tokens items others p q. Laws.one_value rule rank width low falls file p.0 q.0 tokens [] items others p.1 q.1)))))
