@@ -8,10 +8,10 @@ use Rattle.soln_items.specs.declared.miss.Miss.{Miss}
 use Rattle.soln_items.specs.declared.miss.Miss.TheVariants.{Unfit, Memory}
 use Rattle.soln_items.specs.Gives.{Gives}
 use Rattle.fz_program.specs.Names.{Name}
-use Rattle.fz_reading.specs.Tables.{are_new, is_among, with_name, Adds, Named}
+use Rattle.fz_reading.specs.Tables.{are_new, is_among, with_text, Adds, Named}
 
 -- a name that was new was put last
-pub put_last : (old new : List Name) (x : Name) (b : Bool) → b ≡ not (is_among old x) → b ≡ true → new ≡ with_name old x → (is_among old x ≡ false) × (new ≡ old ++ x ∷ [])
+pub put_last : (old new : List Name) (x : Name) (b : Bool) → b ≡ not (is_among old x) → b ≡ true → new ≡ with_text old x → (is_among old x ≡ false) × (new ≡ old ++ x ∷ [])
 put_last old new x b is was names = by (is_among old x) refl (sym is ∙ was)
   where
     by : (t : Bool) → is_among old x ≡ t → not (is_among old x) ≡ true → (is_among old x ≡ false) × (new ≡ old ++ x ∷ [])

@@ -11,8 +11,8 @@ abbrev pub is_among : List Name → Name → Bool
 is_among names x = list_any (bytes_eq x) names
 
 -- the names with one more, where it doesn't stand there yet
-abbrev pub with_name : List Name → Name → List Name
-with_name names x = if is_among names x then names else names ++ x ∷ []
+abbrev pub with_text : List Name → Name → List Name
+with_text names x = if is_among names x then names else names ++ x ∷ []
 
 -- no name is one of the earlier names or stands twice
 unfoldable pub are_new : List Name → List Name → Bool

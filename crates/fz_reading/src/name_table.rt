@@ -4,7 +4,7 @@ ghost use Rattle.std.specs.Prelude.{◌≡◌, ◌++◌, [], map, not, position,
 ghost use Rattle.std.specs.Str.{bytes_eq};
 ghost use Rattle.soln_items.specs.Gives.{Gives};
 ghost use Rattle.fz_program.specs.Flat.{array_item, array_labels, labels_of, variable};
-ghost use Rattle.fz_reading.specs.Tables.{Adds, Named, is_among, named_items, named_variables, with_name};
+ghost use Rattle.fz_reading.specs.Tables.{Adds, Named, is_among, named_items, named_variables, with_text};
 
 use fz_program::{FzArray, FzVar};
 use indexmap::IndexSet;
@@ -45,7 +45,7 @@ impl<'a> NameTable<'a> {
     /// Puts a name last, where it doesn't stand yet, and says whether it was new.
     fn declare(&mut self, name: &'a str) -> Result<bool, AllocError>
         ensures new { IfOk result (λ new. new ≡ not (is_among self.old name.now)) }
-        ensures names { IfOk result (λ new. self.new ≡ with_name self.old name.now) }
+        ensures names { IfOk result (λ new. self.new ≡ with_text self.old name.now) }
     {
         let (_, new) = self.names.insert_full(name)?;
         Ok(new)

@@ -56,17 +56,17 @@ module _ (d e : Dimensions) where
       go None is = refl
       go (Some n) is = ap (with_place t.span) (named_same n room ts (All-head Agree t ts all n is))
 
-  abbrev with_name : Name → Span → Read Placed → Read Given
-  with_name n s o = mapped (λ v. record { name = n; span = s; at = v.0; value = v.1 }) o
+  abbrev item_named : Name → Span → Read Placed → Read Given
+  item_named n s o = mapped (λ v. record { name = n; span = s; at = v.0; value = v.1 }) o
 
   item_same : (room : ℕ) (ts : List Token) → All Agree ts → reads (item d) room ts ≡ reads (item e) room ts
   item_same room ts all = item_reads d room ts
       ∙ same_on (ident_of (tok_at ts)) _ _ refl (λ n. go n (is_sym SEq (tok_at (behind ts))))
       ∙ sym (item_reads e room ts)
     where
-      go : (n : Name) (b : Bool) → ((if b then Ok (place (behind ts), behind (behind ts)) else stuck {A = Span} syntax (behind ts)) >>= λ q. with_name n (place ts) (reads (datum d) room q.1))
-          ≡ ((if b then Ok (place (behind ts), behind (behind ts)) else stuck {A = Span} syntax (behind ts)) >>= λ q. with_name n (place ts) (reads (datum e) room q.1))
-      go n true = ap (with_name n (place ts)) (datum_same room (behind (behind ts)) (behind_agree (behind ts) (behind_agree ts all)))
+      go : (n : Name) (b : Bool) → ((if b then Ok (place (behind ts), behind (behind ts)) else stuck {A = Span} syntax (behind ts)) >>= λ q. item_named n (place ts) (reads (datum d) room q.1))
+          ≡ ((if b then Ok (place (behind ts), behind (behind ts)) else stuck {A = Span} syntax (behind ts)) >>= λ q. item_named n (place ts) (reads (datum e) room q.1))
+      go n true = ap (item_named n (place ts)) (datum_same room (behind (behind ts)) (behind_agree (behind ts) (behind_agree ts all)))
       go n false = refl
 
   -- what is read behind an item

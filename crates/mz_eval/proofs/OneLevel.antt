@@ -13,7 +13,7 @@ use Rattle.mz_meaning.specs.Cells.{Cell, Env, typed}
 use Rattle.mz_meaning.specs.Contexts.{Untested}
 use Rattle.mz_meaning.specs.Forms.{World, Eval, coerced_by}
 use Rattle.mz_meaning.specs.Arrays.{fitted}
-use Rattle.mz_meaning.specs.Lets.{Names, names_in, with_name, index_wants, want}
+use Rattle.mz_meaning.specs.Lets.{Names, names_in, with_local, index_wants, want}
 use Rattle.mz_meaning.specs.Calls.{parameter}
 use Rattle.mz_meaning.specs.Evaluation.{eval, node, is_name}
 use Rattle.mz_steps.specs.Operators.{argument, suited}
@@ -44,5 +44,5 @@ eval_more w (suc n) e b env s h is =
     ∙ ap (λ m. level w m (tree e) env s (form_layer (out-CoreForm b.form)) b.span (plain_type b.ty)) less
 
 -- a parameter is its argument under its sets, and then a name
-pub parameter_is : (go : Eval) (var : Bool) (top : Env) (b : Names) (d : Decl) (e : Tree) (k : Cell) (s : State) → parameter go Untested var top b (d, e, k) s ≡ then_do (argument go var (names_in b top) d e k s) (λ x. give (with_name b d.slot x))
-parameter_is go var top b d e k s = regroup (index_wants go Untested d.ty.index (names_in b top) s) (λ ixs. want go Untested d.ty.set (names_in b top)) (λ ixs x. fitted (place_of e) ixs k) (λ ixs x c. give (suited var d ixs x c)) (λ p. give (with_name b d.slot p))
+pub parameter_is : (go : Eval) (var : Bool) (top : Env) (b : Names) (d : Decl) (e : Tree) (k : Cell) (s : State) → parameter go Untested var top b (d, e, k) s ≡ then_do (argument go var (names_in b top) d e k s) (λ x. give (with_local b d.slot x))
+parameter_is go var top b d e k s = regroup (index_wants go Untested d.ty.index (names_in b top) s) (λ ixs. want go Untested d.ty.set (names_in b top)) (λ ixs x. fitted (place_of e) ixs k) (λ ixs x c. give (suited var d ixs x c)) (λ p. give (with_local b d.slot p))

@@ -13,7 +13,7 @@ use Rattle.mz_meaning.specs.Cells.{Cell, Env, Sure, sure, both_sure, bind, bind_
 use Rattle.mz_meaning.specs.Arrays.{Anything, fitted}
 use Rattle.mz_meaning.specs.Contexts.{Untested}
 use Rattle.mz_meaning.specs.Forms.{World, Eval, part, parts}
-use Rattle.mz_meaning.specs.Lets.{Names, nothing_bound, names_in, with_name, index_wants, want, all_have_sets}
+use Rattle.mz_meaning.specs.Lets.{Names, nothing_bound, names_in, with_local, index_wants, want, all_have_sets}
 use Rattle.mz_meaning.specs.Calls.{argument_suits, arguments, parameter, called, call_of, call}
 use Rattle.mz_chains.proofs.Runs.{then_again, then_same}
 use Rattle.mz_eval.specs.Calls.{called_in}
@@ -83,10 +83,10 @@ parameter_by go var top b d e k is o = do
   ixs ← index_wants go Untested is (names_in b top)
   x ← want go Untested o (names_in b top)
   c ← fitted (place_of e) ixs k
-  give (with_name b d.slot (c, both_sure (all_have_sets ixs) (argument_suits var d.ty.ty.var x c)))
+  give (with_local b d.slot (c, both_sure (all_have_sets ixs) (argument_suits var d.ty.ty.var x c)))
 
 abbrev named : Bool → Names → Decl → Cell → Names
-named var b d c = with_name b d.slot (c, argument_suits var d.ty.ty.var Anything c)
+named var b d c = with_local b d.slot (c, argument_suits var d.ty.ty.var Anything c)
 
 plain_parameter : (go : Eval) (var : Bool) (top : Env) (b : Names) (d : Decl) (e : Tree) (c : Cell) (s : State) → IsPlain d → parameter go Untested var top b (d, e, c) s ≡ Out (named var b d c) s
 plain_parameter go var top b d e c s p =

@@ -30,7 +30,7 @@ use mz_chains::place_of;
 use mz_core::{Core, CoreDecl, CoreFunction, Program, TypeInst};
 use mz_declared::{Want, all_have_sets, argument_suits, fitted, suits};
 use mz_frames::{Scope, World, done};
-use mz_steps::{Names, nothing_bound, with_name};
+use mz_steps::{Names, nothing_bound, with_local};
 use std::alloc::{AllocError, Global};
 
 // A call of a function of the program.
@@ -177,7 +177,7 @@ fn eval_parameter(
     ensures { Meets names_of result work.new (parameter (eval (world_of world.now) left) Untested var (env_cells world.now.env.now) (names_of b) (decl d.now, tree e.now, cell_of k.now) (at_work work.old)) }
 {
     let x = eval_suited(alloc, world, var, d, e, k, &b, left, work)?;
-    Ok(with_name(b, d.slot, x)?)
+    Ok(with_local(b, d.slot, x)?)
 }
 
 #[cycle(forms)]

@@ -26,7 +26,7 @@ use mz_chains::place_of;
 use mz_core::{Core, CoreDecl, CoreItem, TypeInst};
 use mz_declared::{Want, chosen, index_want, kept, want_of};
 use mz_frames::{Scope, World, done};
-use mz_steps::{Names, constrained, counted, nothing_bound, with_name};
+use mz_steps::{Names, constrained, counted, nothing_bound, with_local};
 use std::alloc::Global;
 
 // A let.
@@ -132,7 +132,7 @@ fn eval_local(
     ensures { Meets names_of result work.new (let_item (world_of world.now) (eval (world_of world.now) left) Untested (env_of world.now scope.now) (names_of b) (declares (decl d.now)) (at_work work.old)) }
 {
     let x = eval_framed(alloc, world, d, &b, scope, left, work)?;
-    Ok(with_name(b, d.slot, x)?)
+    Ok(with_local(b, d.slot, x)?)
 }
 
 #[cycle(forms)]

@@ -13,7 +13,7 @@ use Rattle.mz_include.specs.declared.queue.Mention.{Mention as CodeMention}
 use Rattle.mz_tree.specs.declared.item.Item.{Item}
 use Rattle.mz_tree.specs.Items.{ItemTree, item as tree_of}
 use Rattle.mz_include.specs.Naming.{Mention, with_mention}
-use Rattle.mz_include.specs.Views.{mention, IsKnown, with_name}
+use Rattle.mz_include.specs.Views.{mention, IsKnown, with_code_mention}
 use Rattle.mz_include.proofs.Later.{flat_map_push}
 
 -- where the table has grown from old to new
@@ -59,8 +59,8 @@ module _ (names : List (List ℕ)) (distinct : AreDistinct names) where
   chosen false q m = map-append (mention names) q (m ∷ [])
 
   -- a mention that is put into the queue is put among the texts
-  pub put_by_name : (q : List CodeMention) (m : CodeMention) → m.name < length names → All (IsKnown names) q → map (mention names) (with_name q m) ≡ with_mention (map (mention names) q) (mention names m)
-  unfolding with_name with_mention
+  pub put_by_name : (q : List CodeMention) (m : CodeMention) → m.name < length names → All (IsKnown names) q → map (mention names) (with_code_mention q m) ≡ with_mention (map (mention names) q) (mention names m)
+  unfolding with_code_mention with_mention
   put_by_name q m below known =
       chosen (list_any (λ (s : CodeMention). nat_eq m.name s.name) q) q m
       ∙ ap (λ b. cond b (map (mention names) q) (map (mention names) q ++ mention names m ∷ [])) (sym (seen_by_name m q below known))
@@ -69,20 +69,20 @@ known_chosen : (names : List (List ℕ)) (b : Bool) (q : List CodeMention) (m : 
 known_chosen names true q m known k = known
 known_chosen names false q m known k = All-push (IsKnown names) q m known k
 
-pub known_with : (names : List (List ℕ)) (q : List CodeMention) (m : CodeMention) → All (IsKnown names) q → IsKnown names m → All (IsKnown names) (with_name q m)
-unfolding with_name
+pub known_with : (names : List (List ℕ)) (q : List CodeMention) (m : CodeMention) → All (IsKnown names) q → IsKnown names m → All (IsKnown names) (with_code_mention q m)
+unfolding with_code_mention
 known_with names q m known k = known_chosen names (list_any (λ (s : CodeMention). nat_eq m.name s.name) q) q m known k
 
 -- a file that is named is put among the texts, where the table has got its name
 pub noted : (old new : List (List ℕ)) (q later : List CodeMention) (m : CodeMention) (path : List ℕ) → Grows old new → AreDistinct new → All (IsKnown old) q → m.name < length new → m.owner < length old → text_of new m.name ≡ path
-    → later ≡ with_name q m → map (mention new) later ≡ with_mention (map (mention old) q) (record { name = path; span = m.span; owner = text_of old m.owner })
+    → later ≡ with_code_mention q m → map (mention new) later ≡ with_mention (map (mention old) q) (record { name = path; span = m.span; owner = text_of old m.owner })
 noted old new q later m path grows distinct known below owner named put =
     ap (map (mention new)) put ∙ put_by_name new distinct q m below (all_known_later old new grows q known)
     ∙ ap (λ ms. with_mention ms (mention new m)) (mentions_later old new grows q known)
     ∙ ap (λ (t : List ℕ). with_mention (map (mention old) q) (let v : Mention = record { name = t; span = m.span; owner = text_of new m.owner } in v)) named
     ∙ ap (λ (t : List ℕ). with_mention (map (mention old) q) (let v : Mention = record { name = path; span = m.span; owner = t } in v)) (grows m.owner owner).1
 
-pub known_put : (old new : List (List ℕ)) (q later : List CodeMention) (m : CodeMention) → Grows old new → All (IsKnown old) q → m.name < length new → m.owner < length old → later ≡ with_name q m → All (IsKnown new) later
+pub known_put : (old new : List (List ℕ)) (q later : List CodeMention) (m : CodeMention) → Grows old new → All (IsKnown old) q → m.name < length new → m.owner < length old → later ≡ with_code_mention q m → All (IsKnown new) later
 known_put old new q later m grows known below owner put =
     subst (All (IsKnown new)) (sym put) (known_with new q m (all_known_later old new grows q known) (record { name = below; owner = (grows m.owner owner).0 }))
 

@@ -35,5 +35,5 @@ pub record IsKnown (names : List (List ℕ)) (m : CodeMention) : Type 0 where
   pub owner : m.owner < length names
 
 -- one more mention, where the name is new
-unfoldable pub with_name : List CodeMention → CodeMention → List CodeMention
-with_name seen m = if list_any (λ s. nat_eq m.name s.name) seen then seen else seen ++ m ∷ []
+unfoldable pub with_code_mention : List CodeMention → CodeMention → List CodeMention
+with_code_mention seen m = if list_any (λ s. nat_eq m.name s.name) seen then seen else seen ++ m ∷ []

@@ -1,7 +1,7 @@
 // The files that were named so far.
 
 ghost use Rattle.std.specs.Prelude.{◌≡◌, [], slice_get, OnOk, OnErr};
-ghost use Rattle.mz_include.specs.Views.{with_name};
+ghost use Rattle.mz_include.specs.Views.{with_code_mention};
 
 use indexmap::IndexMap;
 use mz_base::{Memory, Name, Span};
@@ -51,7 +51,7 @@ impl Queue {
 
     /// Puts a mention last, where its name is new. After `Memory` the queue is unchanged.
     pub fn add(&mut self, mention: Mention) -> Result<(), Memory>
-        ensures added { OnOk result (self.new ≡ with_name self.old mention) }
+        ensures added { OnOk result (self.new ≡ with_code_mention self.old mention) }
         ensures err { OnErr result (self.new ≡ self.old) }
     {
         if self.places.contains_key(&mention.name) {

@@ -19,7 +19,7 @@ use Rattle.mz_independence.proofs.Cells.{both_equal, both_sure_outline, guarded_
 use Rattle.mz_independence.proofs.Rows.{done_outlined}
 use Rattle.mz_independence.proofs.Arrays.{suits_outline, argument_suits_outline, all_have_sets_outline, fitted_outlined, all_lengths_outline}
 use Rattle.mz_independence.proofs.Forms.{handed_outlined, parts_outlined}
-use Rattle.mz_independence.proofs.Lets.{want_outlined, index_wants_outlined, names_in_outlined, with_name_outline}
+use Rattle.mz_independence.proofs.Lets.{want_outlined, index_wants_outlined, names_in_outlined, with_local_outline}
 
 -- ---- arguments
 
@@ -38,7 +38,7 @@ parameter_outlined g h var b p z =
     then_outlined _ (index_wants_outlined g h p.0.ty.index z.ty.index (names_in_outlined b g.tops))
     (λ ixs. then_outlined _ (want_outlined g h p.0.ty.set z.ty.set (names_in_outlined b g.tops))
     (λ x. then_outlined _ (fitted_outlined (place_of p.1) ixs p.2)
-    (λ y. give_outlined (ap (λ s. lets.with_name (outline_names b) p.0.slot (outline y, s)) (argument_holds_outline var p.0.ty.ty.var ixs x y) ∙ with_name_outline b p.0.slot (y, both_sure (all_have_sets ixs) (calls.argument_suits var p.0.ty.ty.var x y))))))
+    (λ y. give_outlined (ap (λ s. lets.with_local (outline_names b) p.0.slot (outline y, s)) (argument_holds_outline var p.0.ty.ty.var ixs x y) ∙ with_local_outline b p.0.slot (y, both_sure (all_have_sets ixs) (calls.argument_suits var p.0.ty.ty.var x y))))))
 
 -- ---- the body and the result
 

@@ -49,8 +49,8 @@ kept_outlined at ixs x c = then_outlined _ (fitted_outlined at ixs c) (λ f. giv
 pub names_in_outlined : (b : Names) {env env' : Env} → HasOutlines env env' → HasOutlines (lets.names_in b env) (lets.names_in (outline_names b) env')
 names_in_outlined b i = bind_all_outlined b.slots b.cells i
 
-pub with_name_outline : (b : Names) (slot : ℕ) (x : Cell × Sure) → lets.with_name (outline_names b) slot (outline_kept x) ≡ outline_names (lets.with_name b slot x)
-with_name_outline b slot x = both_equal (λ cs s. record { slots = b.slots ++ slot ∷ []; cells = cs; holds = s }) (push_outline b.cells x.0) (both_sure_outline b.holds x.1)
+pub with_local_outline : (b : Names) (slot : ℕ) (x : Cell × Sure) → lets.with_local (outline_names b) slot (outline_kept x) ≡ outline_names (lets.with_local b slot x)
+with_local_outline b slot x = both_equal (λ cs s. record { slots = b.slots ++ slot ∷ []; cells = cs; holds = s }) (push_outline b.cells x.0) (both_sure_outline b.holds x.1)
 
 -- ---- free locals: where a choice may be taken
 
@@ -122,7 +122,7 @@ constrained_outline b c = ap (λ s. record { slots = b.slots; cells = outlines b
 
 item_outlined : {t : Tie} {n : Bool} {w : World} {top : Env} {go go' : Eval} → EvalHasOutline t n w top go go' → {c d : Context} → Ties t c d → {env env' : Env} → HasOutlines env env' → (b : Names) (x : Item) → AllowsItem t x → HasOutline t n outline_names (lets.let_item w go c env b x) (lets.let_item (blank_world n w top) go' d env' (outline_names b) x)
 item_outlined g h i b (constrains e) z = then_outlined _ (g.by h e z (names_in_outlined b i)) (λ x. give_outlined (constrained_outline b x))
-item_outlined g h i b (declares p) z = then_outlined _ (declared_outlined g h p z (names_in_outlined b i)) (λ x. give_outlined (with_name_outline b p.slot x))
+item_outlined g h i b (declares p) z = then_outlined _ (declared_outlined g h p z (names_in_outlined b i)) (λ x. give_outlined (with_local_outline b p.slot x))
 
 pub let_outlined : {t : Tie} {n : Bool} {w : World} {top : Env} {go go' : Eval} → EvalHasOutline t n w top go go' → {c d : Context} → Ties t c d → (is : List Item) (e : Tree) → Each (AllowsItem t) is → Allows t (free_in e) → (at : Span) (ty : PlainType) {env env' : Env} → HasOutlines env env' → HasOutline t n outline (lets.let_of w go c is e at ty env) (lets.let_of (blank_world n w top) go' d is e at ty env')
 let_outlined {t = t} {n = n} {w = w} {top = top} {go = go} {go' = go'} g {c = c} {d = d} h is e y z at ty {env = env} {env' = env'} i =

@@ -8,7 +8,7 @@ use Rattle.mz_meaning.specs.Cells.{Cell, Env, undefined, length_of, or_zero, Sur
 use Rattle.mz_meaning.specs.Arrays.{Want, suits, has_set, fitted}
 use Rattle.mz_meaning.specs.Contexts.{Context}
 use Rattle.mz_meaning.specs.Forms.{World, Eval, done, parts, handed}
-use Rattle.mz_meaning.specs.Lets.{want, index_wants, all_have_sets, Names, nothing_bound, names_in, with_name}
+use Rattle.mz_meaning.specs.Lets.{want, index_wants, all_have_sets, Names, nothing_bound, names_in, with_local}
 
 -- AN ARGUMENT IS A PART: it is there and lies in its parameter's set. Where the call's result is par, an argument whose parameter is var counts as both; the set has to be there all the same
 abbrev pub argument_suits : Bool → Bool → Want → Cell → Sure
@@ -28,7 +28,7 @@ parameter go ctx var top b p = do
   ixs ← index_wants go ctx p.0.ty.index (names_in b top)
   x ← want go ctx p.0.ty.set (names_in b top)
   c ← fitted (place_of p.1) ixs p.2
-  give (with_name b p.0.slot (c, both_sure (all_have_sets ixs) (argument_suits var p.0.ty.ty.var x c)))
+  give (with_local b p.0.slot (c, both_sure (all_have_sets ixs) (argument_suits var p.0.ty.ty.var x c)))
 
 -- the body has the context of the call; then come the result's sets, with IndexMismatch at the body
 abbrev pub called : World → Eval → Context → Function → Span → Names → Run Cell

@@ -64,8 +64,8 @@ nothing_bound = record { slots = []; cells = []; holds = sure }
 abbrev pub names_in : Names → Env → Env
 names_in b env = bind_all b.slots b.cells env
 
-abbrev pub with_name : Names → ℕ → Cell × Sure → Names
-with_name b slot x = record { slots = b.slots ++ slot ∷ []; cells = b.cells ++ x.0 ∷ []; holds = both_sure b.holds x.1 }
+abbrev pub with_local : Names → ℕ → Cell × Sure → Names
+with_local b slot x = record { slots = b.slots ++ slot ∷ []; cells = b.cells ++ x.0 ∷ []; holds = both_sure b.holds x.1 }
 
 -- ---- FREE LOCALS. Each evaluation evaluates the sets, counts the elements, tests the context, and then takes a choice for each element, in the order of the places
 
@@ -158,7 +158,7 @@ let_item w go ctx env b (constrains e) = do
   give (constrained b c)
 let_item w go ctx env b (declares d) = do
   x ← declared w go ctx d (names_in b env)
-  give (with_name b d.slot x)
+  give (with_local b d.slot x)
 
 abbrev pub let_of : World → Eval → Context → List Item → Tree → Span → PlainType → Env → Run Cell
 let_of w go ctx items body at t env = do

@@ -45,8 +45,8 @@ length_names [] = refl
 length_names (x ∷ xs) = ap suc (length_names xs)
 
 -- one name more
-pub with_name : (names all : Declarations) (x : Name) → AreReadable names → (declared x).slot ≡ length names.list.items → all.list.items ≡ names.list.items ++ x ∷ [] → ((k : ℕ) → env_cells all.env k ≡ bind (declared x).slot (declared x).cell (env_cells names.env) k) → AreReadable all
-with_name names all x r e is env =
+pub with_declared : (names all : Declarations) (x : Name) → AreReadable names → (declared x).slot ≡ length names.list.items → all.list.items ≡ names.list.items ++ x ∷ [] → ((k : ℕ) → env_cells all.env k ≡ bind (declared x).slot (declared x).cell (env_cells names.env) k) → AreReadable all
+with_declared names all x r e is env =
     let xs = names_in names.list.items in
     let same : names_in all.list.items ≡ xs ++ declared x ∷ [] = ap names_in is ∙ map-append declared names.list.items (x ∷ []) in
     let slot : (declared x).slot ≡ 0 + length xs = omega (arith, length_names names.list.items, e) in

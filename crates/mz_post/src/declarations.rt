@@ -205,7 +205,7 @@ fn no_names(alloc: Global) -> Declarations
     }
 }
 
-fn with_name(names: Declarations, x: Declared) -> Result<Declarations, Memory>
+fn with_declared(names: Declarations, x: Declared) -> Result<Declarations, Memory>
     requires next { (declared x).slot ≡ length names.list.items }
     requires readable { AreReadable names }
     ensures more { IfOk result (λ all. all.list.items ≡ names.list.items ++ x ∷ []) }
@@ -268,7 +268,7 @@ fn declare_next(
     ensures within { IfOk result (λ _. work.new ≤ task.now.budget + 1) }
 {
     let x = next_name(alloc, task, &names, d, work)?;
-    Ok(with_name(names, x)?)
+    Ok(with_declared(names, x)?)
 }
 
 fn decl_in(decls: &[CoreDecl], k: u64) -> Option<&CoreDecl>

@@ -33,8 +33,8 @@ pub fn nothing_bound(alloc: Global) -> Names
 }
 
 /// One name more, with its cell and whether what is declared of it holds.
-pub fn with_name(b: Names, slot: u64, x: (Known, Sure)) -> Result<Names, AllocError>
-    ensures { IfOk result (λ r. names_of r ≡ lets.with_name (names_of b) slot (local_of x)) }
+pub fn with_local(b: Names, slot: u64, x: (Known, Sure)) -> Result<Names, AllocError>
+    ensures { IfOk result (λ r. names_of r ≡ lets.with_local (names_of b) slot (local_of x)) }
 {
     let Names {
         mut slots,

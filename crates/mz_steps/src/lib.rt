@@ -12,7 +12,7 @@ mod types;
 pub use counting::counted;
 pub use joins::{
     add_element, add_set, both_surely, comprehended, constrained, nothing_bound, nothing_made,
-    with_branch, with_name,
+    with_branch, with_local,
 };
 pub use operands::{append_operand, appended_nodes, nothing_appended, operated_on, prepared};
 pub use rows::{arguments_base, operated_all, operated_one, operated_two};
