@@ -20,11 +20,11 @@ use Rattle.mz_occurrence.specs.Sets.{holds}
 use Rattle.mz_given.specs.Named.{names_in, names_in_all}
 use Rattle.mz_scoped.specs.Parts.{cases_at, given_cases, unless, given_of}
 use Rattle.mz_scope.proofs.Parting.{or_none}
-use Rattle.mz_data.specs.WithData.{IsItemKnown}
+use Rattle.mz_data.specs.WithData.{IsGivenKnown}
 use Rattle.mz_analysis.specs.Known.{OfGiven}
 
 -- an item whose names are of a table, and whose places are in so many files
-pub known_given : (names files : ℕ) (g : Given) → IsItemKnown names files g → OfGiven (λ n. n < names) (λ at. at.file < files) g
+pub known_given : (names files : ℕ) (g : Given) → IsGivenKnown names files g → OfGiven (λ n. n < names) (λ at. at.file < files) g
 known_given names files g k = record { name = k.within.name; names = k.within.names; span = k.name; value = k.value }
 
 module _ (N : Name → Type 0) (P : Span → Type 0) where

@@ -21,7 +21,7 @@ use Rattle.mz_spaces.specs.Tests.{AreNamed, known_in, solve_in, refusal, refusal
 use Rattle.mz_scope.proofs.Naming.{all_named}
 use Rattle.mz_include.specs.Trees.{IsItemOf}
 use Rattle.mz_include.specs.Views.{file, IsFileOf, AreKnown}
-use Rattle.mz_data.specs.WithData.{IsItemKnown}
+use Rattle.mz_data.specs.WithData.{IsGivenKnown}
 use Rattle.mz_analysis.specs.Analysis.{items_of, end_of, name_fault}
 
 pub items_are : (table : List (List ℕ)) (fs : List SourceFile) → code.items_of fs ≡ items_of (map (file table) fs)
@@ -72,8 +72,8 @@ all_among table fs count fewer known =
     (code.items_of fs) (all_known table fs known)
 
 -- the names of all occurrences are of the table
-pub names_known : (table : List (List ℕ)) (fs : List SourceFile) (count : ℕ) (gs : List Given) → AreKnown table fs → All (IsItemKnown (length table) count) gs → AreNamed table (occurrences (code.items_of fs) gs)
+pub names_known : (table : List (List ℕ)) (fs : List SourceFile) (count : ℕ) (gs : List Given) → AreKnown table fs → All (IsGivenKnown (length table) count) gs → AreNamed table (occurrences (code.items_of fs) gs)
 names_known table fs count gs known items =
     all_named (length table) (code.items_of fs) gs
     (All-weaker (IsKnown table (length fs)) (λ i. All (λ o. o.name < length table) (in_item i)) (λ i h. item_named (λ n. n < length table) (λ s. s.file < length fs) i h) (code.items_of fs) (all_known table fs known))
-    (All-weaker (IsItemKnown (length table) count) (IsGivenWithin (length table)) (λ g k. k.within) gs items)
+    (All-weaker (IsGivenKnown (length table) count) (IsGivenWithin (length table)) (λ g k. k.within) gs items)

@@ -19,7 +19,7 @@ use Rattle.mz_scope.specs.Scope as scope
 use Rattle.mz_spaces.specs.Tests as tests
 use Rattle.mz_spaces.specs.Tests.{known_in, solve_in, refusal_of}
 use Rattle.mz_include.specs.Views.{file, IsFileOf, AreKnown}
-use Rattle.mz_data.specs.WithData.{IsItemKnown}
+use Rattle.mz_data.specs.WithData.{IsGivenKnown}
 use Rattle.mz_analysis.specs.Analysis.{IsScopedModel, IsIllNamed, by_a_test, by_a_cycle}
 use Rattle.mz_analysis.specs.Known.{IsWithin, OfGiven}
 use Rattle.mz_analysis.proofs.Items.{items_are, fault_is, all_among}
@@ -48,7 +48,7 @@ module _ (table : List (List ℕ)) (fs : List SourceFile) (ds : List DataItem) w
   ill_named (Err stop.Memory) refused = tt
 
   -- all names are of the table, and all places in so many files
-  module _ (count : ℕ) (fewer : length fs ≤ count) (known : AreKnown table fs) (items : All (IsItemKnown (length table) count) (map given ds)) where
+  module _ (count : ℕ) (fewer : length fs ≤ count) (known : AreKnown table fs) (items : All (IsGivenKnown (length table) count) (map given ds)) where
     abbrev IsNamed : ℕ → Type 0
     IsNamed n = n < length table
 
@@ -56,7 +56,7 @@ module _ (table : List (List ℕ)) (fs : List SourceFile) (ds : List DataItem) w
     IsPlaced at = at.file < count
 
     all_given : All (OfGiven IsNamed IsPlaced) (map given ds)
-    all_given = All-weaker (IsItemKnown (length table) count) (OfGiven IsNamed IsPlaced) (known_given (length table) count) (map given ds) items
+    all_given = All-weaker (IsGivenKnown (length table) count) (OfGiven IsNamed IsPlaced) (known_given (length table) count) (map given ds) items
 
     pub within : (r : Answer) → IfOk r HaveScope → IfOk r (λ s. IsWithin (length table) count (scoped_tree s))
     within (Ok s) scoped = of_scoped IsNamed IsPlaced (code.items_of fs) (map given ds) (scoped_tree s) (all_among table fs count fewer known) all_given scoped

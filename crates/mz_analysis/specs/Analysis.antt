@@ -18,7 +18,7 @@ use Rattle.mz_spaces.specs.Tests.{known_in, solve_in, refusal, first, first_afte
 use Rattle.mz_include.specs.Naming.{File}
 use Rattle.mz_include.specs.Views.{file, AreKnown}
 use Rattle.mz_data.specs.declared.gathering.SourcesWithData.{SourcesWithData}
-use Rattle.mz_data.specs.WithData.{IsItemKnown}
+use Rattle.mz_data.specs.WithData.{IsGivenKnown}
 
 -- the items of a model's files, in the order of the text
 abbrev pub items_of : List File → List ItemTree
@@ -125,7 +125,7 @@ count_read read = length read.sources.files.items + length read.data_files.items
 pub record IsRead (table : List (List ℕ)) (read : SourcesWithData) : Type 0 where
   pub some : 0 < length read.sources.files.items
   pub files : AreKnown table read.sources.files.items
-  pub items : All (IsItemKnown (length table) (count_read read)) (items_read read)
+  pub items : All (IsGivenKnown (length table) (count_read read)) (items_read read)
   pub named : All (λ n. n < length table) read.data_files.items
 
 -- Two files that end at the second line of their text; the second one includes nothing

@@ -14,7 +14,7 @@ use Rattle.mz_include.specs.declared.end.GatherEnd.{GatherEnd}
 use Rattle.mz_include.specs.declared.end.GatherEnd.TheVariants.{Refused, ReadFault, Memory}
 use Rattle.mz_include.specs.Ends.{IfRefused}
 use Rattle.mz_data.specs.DataFiles.{IsDataReading, AreDataRead, no_more, one_more, FailsAsData, FailsFirst, here, later}
-use Rattle.mz_data.specs.WithData.{IsItemKnown, words_of}
+use Rattle.mz_data.specs.WithData.{IsGivenKnown, words_of}
 use Rattle.mz_data.proofs.Later.{data_later}
 
 -- the name is of this table
@@ -24,14 +24,14 @@ IsNamed names n = n < length names
 -- these data files are read, and their items and names are known
 pub record SoFar (names : List (List ℕ)) (texts : Texts) (start : ℕ) (words : List (List ℕ)) (files : List ℕ) (items : List Given) : Type 0 where
   pub read : AreDataRead names texts start words items
-  pub known : All (IsItemKnown (length names) (start + length files)) items
+  pub known : All (IsGivenKnown (length names) (start + length files)) items
   pub named : All (λ n. n < length names) files
   pub words_are : map (text_of names) files ≡ words
 
 pub none_read : (names : List (List ℕ)) (texts : Texts) (start : ℕ) → SoFar names texts start [] [] []
 none_read names texts start = record {
   read = no_more;
-  known = All-nil (IsItemKnown (length names) (start + 0));
+  known = All-nil (IsGivenKnown (length names) (start + 0));
   named = All-nil (IsNamed names);
   words_are = refl;
 }
@@ -56,27 +56,27 @@ module _ (old new : List (List ℕ)) (grows : Grows old new) where
       ap (λ t. t ∷ map (text_of new) ns) (grows n (All-head (IsNamed old) n ns all)).1
       ∙ ap (λ ts. text_of old n ∷ ts) (texts_later ns (All-tail (IsNamed old) n ns all))
 
-  item_later : (files : ℕ) (g : Given) → IsItemKnown (length old) files g → IsItemKnown (length new) files g
+  item_later : (files : ℕ) (g : Given) → IsGivenKnown (length old) files g → IsGivenKnown (length new) files g
   item_later files g h = record { within = stays old new g grows h.within; name = h.name; value = h.value }
 
   pub so_far_later : (texts : Texts) (start : ℕ) (words : List (List ℕ)) (files : List ℕ) (items : List Given) → SoFar old texts start words files items → SoFar new texts start words files items
   so_far_later texts start words files items s = record {
     read = data_later old new grows texts start words items s.read;
-    known = All-weaker (IsItemKnown (length old) (start + length files)) (IsItemKnown (length new) (start + length files)) (item_later (start + length files)) items s.known;
+    known = All-weaker (IsGivenKnown (length old) (start + length files)) (IsGivenKnown (length new) (start + length files)) (item_later (start + length files)) items s.known;
     named = All-weaker (IsNamed old) (IsNamed new) (λ n below. (grows n below).0) files s.named;
     words_are = texts_later files s.named ∙ s.words_are;
   }
 
-more_files : (names files more : ℕ) (g : Given) → files ≤ more → IsItemKnown names files g → IsItemKnown names more g
+more_files : (names files more : ℕ) (g : Given) → files ≤ more → IsGivenKnown names files g → IsGivenKnown names more g
 more_files names files more g l h = let a : g.span.file < files = h.name in let b : g.at.file < files = h.value in record { within = h.within; name = omega arith; value = omega arith }
 
-new_item : (names number files : ℕ) (g : Given) → number < files → IsGivenWithin names g → IsGivenIn number g → IsItemKnown names files g
+new_item : (names number files : ℕ) (g : Given) → number < files → IsGivenWithin names g → IsGivenIn number g → IsGivenKnown names files g
 new_item names number files g l h at = record { within = h; name = subst (λ k. k < files) (sym at.name) l; value = subst (λ k. k < files) (sym at.value) l }
 
-new_items : (names number files : ℕ) (gs : List Given) → number < files → All (IsGivenWithin names) gs → All (IsGivenIn number) gs → All (IsItemKnown names files) gs
-new_items names number files [] l h at = All-nil (IsItemKnown names files)
+new_items : (names number files : ℕ) (gs : List Given) → number < files → All (IsGivenWithin names) gs → All (IsGivenIn number) gs → All (IsGivenKnown names files) gs
+new_items names number files [] l h at = All-nil (IsGivenKnown names files)
 new_items names number files (g ∷ gs) l h at =
-    All-cons (IsItemKnown names files) g gs (new_item names number files g l (All-head (IsGivenWithin names) g gs h) (All-head (IsGivenIn number) g gs at))
+    All-cons (IsGivenKnown names files) g gs (new_item names number files g l (All-head (IsGivenWithin names) g gs h) (All-head (IsGivenIn number) g gs at))
     (new_items names number files gs l (All-tail (IsGivenWithin names) g gs h) (All-tail (IsGivenIn number) g gs at))
 
 module _ (names : List (List ℕ)) (texts : Texts) (start : ℕ) (words : List (List ℕ)) (files : List ℕ) (items : List Given) (s : SoFar names texts start words files items) where
@@ -92,7 +92,7 @@ module _ (names : List (List ℕ)) (texts : Texts) (start : ℕ) (words : List (
       let k = count_is in
       record {
         read = read_push names texts start words items word more turn s.read (omega arith) reading;
-        known = All-append (IsItemKnown (length names) all) items more (All-weaker (IsItemKnown (length names) (start + length files)) (IsItemKnown (length names) all) (λ g. more_files (length names) (start + length files) all g (omega arith)) items s.known)
+        known = All-append (IsGivenKnown (length names) all) items more (All-weaker (IsGivenKnown (length names) (start + length files)) (IsGivenKnown (length names) all) (λ g. more_files (length names) (start + length files) all g (omega arith)) items s.known)
             (new_items (length names) turn all more (omega arith) within placed);
         named = All-push (IsNamed names) files name s.named below;
         words_are = map_push (text_of names) files name ∙ ap (λ ts. ts ++ text_of names name ∷ []) s.words_are ∙ ap (λ t. words ++ t ∷ []) is;

@@ -28,7 +28,7 @@ pub data FailsWithData (names : List (List ℕ)) (texts : Texts) (first : List �
   in_the_data : {f : Fault} {owner : List ℕ} (files : List File) → IsSources names texts first files → FailsFirst names texts (length files) data_names f owner → FailsWithData names texts first data_names f owner
 
 -- the names in an item are of a table of so many texts, and its places are in the first files, so many
-pub record IsItemKnown (names files : ℕ) (g : Given) : Type 0 where
+pub record IsGivenKnown (names files : ℕ) (g : Given) : Type 0 where
   pub within : IsGivenWithin names g
   pub name : g.span.file < files
   pub value : g.at.file < files
@@ -37,6 +37,6 @@ pub record IsItemKnown (names files : ℕ) (g : Given) : Type 0 where
 -- in the data the number of one of all files; and the data files have these names.
 pub record AreKnownWithData (names : List (List ℕ)) (data_names : List (List ℕ)) (s : SourcesWithData) : Type 0 where
   pub files : AreKnown names s.sources.files.items
-  pub items : All (IsItemKnown (length names) (length s.sources.files.items + length s.data_files.items)) (map given s.given_data.items.items)
+  pub items : All (IsGivenKnown (length names) (length s.sources.files.items + length s.data_files.items)) (map given s.given_data.items.items)
   pub named : All (λ n. n < length names) s.data_files.items
   pub data_files : map (text_of names) s.data_files.items ≡ data_names

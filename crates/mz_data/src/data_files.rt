@@ -5,7 +5,7 @@ ghost use Rattle.mz_base.specs.Names.{Grows, text_of};
 ghost use Rattle.mz_tree.specs.Data.{given};
 ghost use Rattle.mz_include.specs.Ends.{IfRefused, CountsFiles};
 ghost use Rattle.mz_data.specs.DataFiles.{AreDataRead, FailsFirst};
-ghost use Rattle.mz_data.specs.WithData.{IsItemKnown, words_of};
+ghost use Rattle.mz_data.specs.WithData.{IsGivenKnown, words_of};
 
 use crate::read::read_data_file;
 use mz_base::{Memory, Name, Names};
@@ -40,7 +40,7 @@ pub fn read_data_files<F: Files>(
     names: &mut Names,
 ) -> Result<DataFiles, GatherEnd>
     ensures read { IfOk result (λ r. AreDataRead names.new (F.texts files.old) (length sources.now.files.items) (words_of data_files.now) (map given r.items.items)) }
-    ensures items { IfOk result (λ r. All (IsItemKnown (length names.new) (length sources.now.files.items + length r.names.items)) (map given r.items.items)) }
+    ensures items { IfOk result (λ r. All (IsGivenKnown (length names.new) (length sources.now.files.items + length r.names.items)) (map given r.items.items)) }
     ensures named { IfOk result (λ r. All (λ n. n < length names.new) r.names.items) }
     ensures data_files { IfOk result (λ r. map (text_of names.new) r.names.items ≡ words_of data_files.now) }
     ensures refused { IfRefused result (λ f n. FailsFirst names.new (F.texts files.old) (length sources.now.files.items) (words_of data_files.now) f (text_of names.new n)) }

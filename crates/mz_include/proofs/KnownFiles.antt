@@ -10,7 +10,7 @@ use Rattle.mz_lexer.specs.Lexemes.{after}
 use Rattle.mz_tree.specs.declared.item.Item.{Item}
 use Rattle.mz_tree.specs.declared.source.SourceFile.{SourceFile}
 use Rattle.mz_tree.specs.Items.{ItemTree, item}
-use Rattle.mz_include.specs.Trees.{IsItemOf, IsItemKnown}
+use Rattle.mz_include.specs.Trees.{IsItemOf, IsIncludeKnown}
 use Rattle.mz_include.specs.Views.{IsFileOf, AreKnown}
 use Rattle.mz_include.proofs.Places.{after_file}
 use Rattle.mz_tree.proofs.Later.{item_later}
@@ -56,8 +56,8 @@ each_item names turn [] all = All-nil (λ i. IsItemOf names turn (item i))
 each_item names turn (i ∷ is) all =
     All-cons (λ i. IsItemOf names turn (item i)) i is (All-head (IsItemOf names turn) (item i) (map item is) all) (each_item names turn is (All-tail (IsItemOf names turn) (item i) (map item is) all))
 
-pub each_included : (names : List (List ℕ)) (turn : ℕ) (is : List Item) → All (λ i. IsItemOf names turn (item i)) is → All (λ i. IsItemKnown names (item i)) is
-each_included names turn is all = All-weaker (λ i. IsItemOf names turn (item i)) (λ i. IsItemKnown names (item i)) (λ i. item_known names turn (item i)) is all
+pub each_included : (names : List (List ℕ)) (turn : ℕ) (is : List Item) → All (λ i. IsItemOf names turn (item i)) is → All (λ i. IsIncludeKnown names (item i)) is
+each_included names turn is all = All-weaker (λ i. IsItemOf names turn (item i)) (λ i. IsIncludeKnown names (item i)) (λ i. item_known names turn (item i)) is all
 
 -- where a text ends
 pub end_in : (turn : ℕ) (text : List ℕ) (start end : Span) → start ≡ start_of turn → end ≡ after start text → end.file ≡ turn

@@ -10,7 +10,7 @@ use Rattle.mz_lexer.specs.Views.{lex, IsNamed, HasName}
 use Rattle.mz_tree.specs.Tree.{Name}
 use Rattle.mz_tree.specs.Items.{ItemTree, include, declare, assign, constraint, solve, output, function, enum, annotation}
 use Rattle.mz_parser.specs.Model.{IsModel}
-use Rattle.mz_include.specs.Trees.{IsItemOf, IsItemKnown}
+use Rattle.mz_include.specs.Trees.{IsItemOf, IsIncludeKnown}
 use Rattle.mz_include.specs.Parsing.{AreTokens}
 use Rattle.mz_include.proofs.Places.{EachIn, lexed_in}
 use Rattle.mz_grammar.proofs.PartTrees.{TokenHolds}
@@ -40,7 +40,7 @@ module _ (names : List (List ℕ)) (turn : ℕ) where
   pub items_of : (text : List ℕ) (tokens : List Token) (items : List ItemTree) → AreTokens names turn text tokens → IsModel tokens items → All (IsItemOf names turn) items
   items_of text tokens items lexed model = file_is_of Named Placed model (all_hold tokens lexed.known (lexed_in turn lexed.lexes refl))
 
-  pub item_known : (i : ItemTree) → IsItemOf names turn i → IsItemKnown names i
+  pub item_known : (i : ItemTree) → IsItemOf names turn i → IsIncludeKnown names i
   item_known (include n s) h = h.0
   item_known (declare d) h = tt
   item_known (assign n s e) h = tt
@@ -51,5 +51,5 @@ module _ (names : List (List ℕ)) (turn : ℕ) where
   item_known (enum n s cs) h = tt
   item_known (annotation n) h = tt
 
-  pub items_known : (text : List ℕ) (tokens : List Token) (items : List ItemTree) → AreTokens names turn text tokens → IsModel tokens items → All (IsItemKnown names) items
-  items_known text tokens items lexed model = All-weaker (IsItemOf names turn) (IsItemKnown names) item_known items (items_of text tokens items lexed model)
+  pub items_known : (text : List ℕ) (tokens : List Token) (items : List ItemTree) → AreTokens names turn text tokens → IsModel tokens items → All (IsIncludeKnown names) items
+  items_known text tokens items lexed model = All-weaker (IsItemOf names turn) (IsIncludeKnown names) item_known items (items_of text tokens items lexed model)

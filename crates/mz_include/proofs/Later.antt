@@ -13,14 +13,14 @@ use Rattle.mz_lexer.proofs.Steps.{all_named_later, all_seen_later}
 use Rattle.mz_tree.specs.Items.{ItemTree, include, declare, assign, constraint, solve, output, function, enum, annotation}
 use Rattle.mz_include.specs.Joining.{joined}
 use Rattle.mz_include.specs.Library.{is_library}
-use Rattle.mz_include.specs.Trees.{IsItemKnown}
+use Rattle.mz_include.specs.Trees.{IsIncludeKnown}
 use Rattle.mz_include.specs.Naming.{Mention, File, the_model, included_by, included, with_mention, first_mentions, named}
 use Rattle.mz_include.specs.Parsing.{AreTokens, IsUnparsed, by_its_bytes, by_its_tokens}
 use Rattle.mz_include.specs.Sources.{IsLoaded, AreRead, none_yet, one_more, IsSources, Fails, missing, too_long, unparsed, IsFirstFailure}
 use Rattle.mz_include.proofs.KnownItems.{items_known}
 
 -- what an item includes, when the table has grown
-pub included_later : (old new : List (List ℕ)) (owner : List ℕ) (i : ItemTree) → Grows old new → IsItemKnown old i → included_by new owner i ≡ included_by old owner i
+pub included_later : (old new : List (List ℕ)) (owner : List ℕ) (i : ItemTree) → Grows old new → IsIncludeKnown old i → included_by new owner i ≡ included_by old owner i
 included_later old new owner (include n s) grows known =
     ap (λ (t : List ℕ). if is_library t then [] else (let v : Mention = record { name = joined owner t; span = s; owner = owner } in v) ∷ []) (grows n known).1
 included_later old new owner (declare d) grows known = refl
@@ -32,11 +32,11 @@ included_later old new owner (function f) grows known = refl
 included_later old new owner (enum n s cs) grows known = refl
 included_later old new owner (annotation n) grows known = refl
 
-pub each_included_later : (old new : List (List ℕ)) (owner : List ℕ) (is : List ItemTree) → Grows old new → All (IsItemKnown old) is → flat_map (included_by new owner) is ≡ flat_map (included_by old owner) is
+pub each_included_later : (old new : List (List ℕ)) (owner : List ℕ) (is : List ItemTree) → Grows old new → All (IsIncludeKnown old) is → flat_map (included_by new owner) is ≡ flat_map (included_by old owner) is
 each_included_later old new owner [] grows known = refl
 each_included_later old new owner (i ∷ is) grows known =
-    ap (λ ms. ms ++ flat_map (included_by new owner) is) (included_later old new owner i grows (All-head (IsItemKnown old) i is known))
-    ∙ ap (λ ms. included_by old owner i ++ ms) (each_included_later old new owner is grows (All-tail (IsItemKnown old) i is known))
+    ap (λ ms. ms ++ flat_map (included_by new owner) is) (included_later old new owner i grows (All-head (IsIncludeKnown old) i is known))
+    ∙ ap (λ ms. included_by old owner i ++ ms) (each_included_later old new owner is grows (All-tail (IsIncludeKnown old) i is known))
 
 pub flat_map_push : {X A : Type 0} (f : X → List A) (xs : List X) (x : X) → flat_map f (xs ++ x ∷ []) ≡ flat_map f xs ++ f x
 flat_map_push f xs x = flat_map-append f xs (x ∷ []) ∙ ap (λ ys. flat_map f xs ++ ys) (append-nil (f x))

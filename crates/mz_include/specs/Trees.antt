@@ -9,9 +9,9 @@ abbrev pub IsItemOf : List (List ℕ) → ℕ → ItemTree → Type 0
 IsItemOf names turn i = OfItem (λ n. n < length names) (λ s. s.file ≡ turn) i
 
 -- the name that an include item gives is one of this table
-abbrev pub IsItemKnown : List (List ℕ) → ItemTree → Type 0
-IsItemKnown names (include n s) = n < length names
-IsItemKnown names _ = Unit {0}
+abbrev pub IsIncludeKnown : List (List ℕ) → ItemTree → Type 0
+IsIncludeKnown names (include n s) = n < length names
+IsIncludeKnown names _ = Unit {0}
 
 -- What is said of an include item of the third file
 pub of_an_include : (names : List (List ℕ)) (s : Span) → IsItemOf names 2 (include 0 s) ≡ ((0 < length names) × (s.file ≡ 2))

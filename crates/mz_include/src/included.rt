@@ -5,7 +5,7 @@ ghost use Rattle.std.specs.List.{flat_map};
 ghost use Rattle.mz_base.specs.Names.{Grows, text_of};
 ghost use Rattle.mz_tree.specs.Items.{include, item as tree_of};
 ghost use Rattle.mz_include.specs.Naming.{included_by};
-ghost use Rattle.mz_include.specs.Trees.{IsItemKnown};
+ghost use Rattle.mz_include.specs.Trees.{IsIncludeKnown};
 ghost use Rattle.mz_include.specs.Views.{Notes, IsKnown};
 
 use crate::joining::joined;
@@ -49,7 +49,7 @@ fn note_item(
     queue: &mut Queue,
 ) -> Result<(), Memory>
     requires owner { owner < length names.old }
-    requires item { IsItemKnown names.old (tree_of item.now) }
+    requires item { IsIncludeKnown names.old (tree_of item.now) }
     requires known { All (IsKnown names.old) queue.old }
     ensures noted { OnOk result (Notes names.old names.new queue.old queue.new (included_by names.old (text_of names.old owner) (tree_of item.now))) }
     ensures known { OnOk result (All (IsKnown names.new) queue.new) }
@@ -70,7 +70,7 @@ pub fn note_included(
     queue: &mut Queue,
 ) -> Result<(), Memory>
     requires owner { owner < length names.old }
-    requires items { All (λ i. IsItemKnown names.old (tree_of i)) items.now }
+    requires items { All (λ i. IsIncludeKnown names.old (tree_of i)) items.now }
     requires known { All (IsKnown names.old) queue.old }
     ensures noted { OnOk result (Notes names.old names.new queue.old queue.new (flat_map (included_by names.old (text_of names.old owner)) (map tree_of items.now))) }
     ensures known { OnOk result (All (IsKnown names.new) queue.new) }

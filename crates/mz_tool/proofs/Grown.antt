@@ -11,7 +11,7 @@ use Rattle.mz_include.specs.Naming.{File}
 use Rattle.mz_include.specs.Views.{file}
 use Rattle.mz_include.proofs.KnownFiles.{files_known_later}
 use Rattle.mz_data.specs.declared.gathering.SourcesWithData.{SourcesWithData}
-use Rattle.mz_data.specs.WithData.{IsSourcesWithData, IsItemKnown, AreKnownWithData}
+use Rattle.mz_data.specs.WithData.{IsSourcesWithData, IsGivenKnown, AreKnownWithData}
 use Rattle.mz_data.proofs.Later.{sources_later}
 use Rattle.fz_program.specs.Names.{Name}
 use Rattle.mz_analysis.specs.Analysis.{IsRead, files_read, items_read, count_read}
@@ -34,13 +34,13 @@ module _ (old new : List Name) (grows : Grows old new) where
       ap (λ g. g ∷ map (file new) fs) (file_later f (h 0 f refl))
       ∙ ap (λ gs. file old f ∷ gs) (files_later fs (λ turn g is. h (suc turn) g is))
 
-  item_later : (count : ℕ) (g : Given) → IsItemKnown (length old) count g → IsItemKnown (length new) count g
+  item_later : (count : ℕ) (g : Given) → IsGivenKnown (length old) count g → IsGivenKnown (length new) count g
   item_later count g h = record { within = stays old new g grows h.within; name = h.name; value = h.value }
 
   known_later : (words : List Name) (s : SourcesWithData) → AreKnownWithData old words s → AreKnownWithData new words s
   known_later words s h = record {
     files = files_known_later old new grows s.sources.files.items h.files;
-    items = All-weaker (IsItemKnown (length old) (count_read s)) (IsItemKnown (length new) (count_read s)) (item_later (count_read s)) (items_read s) h.items;
+    items = All-weaker (IsGivenKnown (length old) (count_read s)) (IsGivenKnown (length new) (count_read s)) (item_later (count_read s)) (items_read s) h.items;
     named = All-weaker (λ n. n < length old) (λ n. n < length new) (λ n below. (grows n below).0) s.data_files.items h.named;
     data_files = texts_later s.data_files.items h.named ∙ h.data_files;
   }
