@@ -15,7 +15,7 @@ use Rattle.mz_operand.specs.declared.argument.Argument.{Argument}
 use Rattle.mz_operand.specs.declared.argument.Role.{Role}
 use Rattle.mz_operand.specs.declared.argument.Role.TheVariants as role_is
 use Rattle.mz_operand.specs.declared.operand.Operand.{Operand}
-use Rattle.mz_base.specs.declared.held.Held.{Held}
+use Rattle.mz_base.specs.declared.one_drop.OneDrop.{OneDrop}
 use Rattle.mz_operand.specs.Views.{operand, argument, role, condition}
 use Rattle.mz_operand.proofs.Arguments.{trees_of-behind, Taken, taken-waiting, taken-bound, taken-unfit, taken-done, taken-waits, taken-fails}
 
@@ -34,7 +34,7 @@ pub taken_of-waiting : (args : List Argument) (arg : Argument) (fit : Bool) (gen
 taken_of-waiting args arg fit gens names more r n s g i m h = rw (map-append, m) (taken-waiting (map argument args) fit (map generator gens) names (argument arg) n s (sym g ∙ ap role i) h)
 
 -- one more that stands with a set
-pub taken_of-bound : (args : List Argument) (arg : Argument) (fit : Bool) (gens more : List Gen) (names all none : List (Name × Span)) (r : Role) (ms : List (Name × Span)) (e : Held Expr) (c : Option (Held Expr)) (f : Expr) (d : Option Expr) (g : Gen) → role r ≡ role_of (argument arg) → role r ≡ bound ms (tree e.value) (condition c) → all ≡ names ++ ms → f ≡ e.value → maybe (option_map tree d) ≡ condition c → generator g ≡ pure.generator all (tree f) (maybe (option_map tree d)) → more ≡ gens ++ (g ∷ []) → none ≡ [] → Taken (map argument args) fit (map generator gens) names → Taken (map argument (args ++ (arg ∷ []))) fit (map generator more) none
+pub taken_of-bound : (args : List Argument) (arg : Argument) (fit : Bool) (gens more : List Gen) (names all none : List (Name × Span)) (r : Role) (ms : List (Name × Span)) (e : OneDrop Expr) (c : Option (OneDrop Expr)) (f : Expr) (d : Option Expr) (g : Gen) → role r ≡ role_of (argument arg) → role r ≡ bound ms (tree e.value) (condition c) → all ≡ names ++ ms → f ≡ e.value → maybe (option_map tree d) ≡ condition c → generator g ≡ pure.generator all (tree f) (maybe (option_map tree d)) → more ≡ gens ++ (g ∷ []) → none ≡ [] → Taken (map argument args) fit (map generator gens) names → Taken (map argument (args ++ (arg ∷ []))) fit (map generator more) none
 taken_of-bound args arg fit gens more names all none r ms e c f d g k i a same_set same_condition m o z h = rw (map-append, o, map-append, m, a, same_set, same_condition, z) (taken-bound (map argument args) fit (map generator gens) names ms (argument arg) (tree e.value) (condition c) (sym k ∙ i) h)
 
 -- one more that is no generator's

@@ -6,7 +6,7 @@ use Rattle.mz_tree.specs.declared.expr.BinOp.{BinOp}
 use Rattle.mz_tree.specs.declared.expr.BinOp.TheVariants as op
 use Rattle.mz_grammar.specs.Arguments as pure_role
 use Rattle.mz_tree.specs.declared.expr.Expr.{Expr}
-use Rattle.mz_base.specs.declared.held.Held.{Held}
+use Rattle.mz_base.specs.declared.one_drop.OneDrop.{OneDrop}
 use Rattle.mz_operand.specs.declared.argument.Role.{Role}
 use Rattle.mz_operand.specs.declared.argument.Role.TheVariants as role_of
 use Rattle.mz_tree.specs.Views.{tree, generator}
@@ -27,7 +27,7 @@ argument (argument_of.Guarded x c) = pure.guarded (operand x) (tree c.value)
 argument (argument_of.Strict g) = pure.strict (generator g.value)
 
 -- a condition, if there is one
-abbrev pub condition : Option (Held Expr) → Maybe
+abbrev pub condition : Option (OneDrop Expr) → Maybe
 condition c = maybe (option_map (λ h. tree h.value) c)
 
 abbrev pub role : Role → pure_role.Role

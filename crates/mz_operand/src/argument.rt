@@ -9,7 +9,7 @@ ghost use Rattle.mz_grammar.specs.Arguments.{possible_after, awaits_in, takes_wh
 ghost use Rattle.mz_operand.specs.Views.{operand, argument, role, condition};
 
 use crate::operand::Operand;
-use mz_base::{Held, Name, Span};
+use mz_base::{Name, OneDrop, Span};
 use mz_grammar::Generators;
 use mz_tree::{Expr, Gen, make_generator};
 use std::alloc::{AllocError, Global};
@@ -18,22 +18,22 @@ use std::alloc::{AllocError, Global};
 #[derive(Drop)]
 pub enum Argument {
     Given(Operand),
-    Guarded(Operand, Held<Expr>),
-    Strict(Held<Gen>),
+    Guarded(Operand, OneDrop<Expr>),
+    Strict(OneDrop<Gen>),
 }
 
 /// An expression that a `where` makes a generator.
 pub fn guarded_argument(x: Operand, cond: Expr) -> Argument
     ensures { argument result ≡ guarded (operand x) (tree cond) }
 {
-    Argument::Guarded(x, Held::new(cond))
+    Argument::Guarded(x, OneDrop::new(cond))
 }
 
 /// A generator.
 pub fn strict_argument(g: Gen) -> Argument
     ensures { argument result ≡ strict (generator g) }
 {
-    Argument::Strict(Held::new(g))
+    Argument::Strict(OneDrop::new(g))
 }
 
 /// Whether they may still be generators after one more argument.
@@ -116,7 +116,7 @@ enum Role {
     /// A name that waits for its `in`.
     Waiting(Name, Span),
     /// The names that stand with a set, the set, and what its `where` says.
-    Bound(Vec<(Name, Span)>, Held<Expr>, Option<Held<Expr>>),
+    Bound(Vec<(Name, Span)>, OneDrop<Expr>, Option<OneDrop<Expr>>),
     Unfit,
 }
 
@@ -140,7 +140,7 @@ fn given_role(alloc: Global, x: Operand) -> Result<Role, AllocError>
     }
 }
 
-fn guarded_role(alloc: Global, x: Operand, cond: Held<Expr>) -> Result<Role, AllocError>
+fn guarded_role(alloc: Global, x: Operand, cond: OneDrop<Expr>) -> Result<Role, AllocError>
     ensures { IfOk result (λ r. role r ≡ role_of (guarded (operand x) (tree cond.value))) }
 {
     match x {
@@ -154,20 +154,20 @@ fn strict_role(g: Gen) -> Role
     ensures { role result ≡ role_of (strict (generator g)) }
 {
     let (names, set, cond) = g.into_parts();
-    Role::Bound(names, Held::new(set), holding(cond))
+    Role::Bound(names, OneDrop::new(set), holding(cond))
 }
 
-fn holding(cond: Option<Expr>) -> Option<Held<Expr>>
+fn holding(cond: Option<Expr>) -> Option<OneDrop<Expr>>
     ensures { condition result ≡ maybe (option_map tree cond) }
 {
     match cond {
         None => None,
-        Some(e) => Some(Held::new(e)),
+        Some(e) => Some(OneDrop::new(e)),
     }
 }
 
 /// A condition, if there is one.
-pub fn taken(cond: Option<Held<Expr>>) -> Option<Expr>
+pub fn taken(cond: Option<OneDrop<Expr>>) -> Option<Expr>
     ensures { maybe (option_map tree result) ≡ condition cond }
 {
     match cond {
@@ -180,8 +180,8 @@ fn bound(
     alloc: Global,
     name: Name,
     at: Span,
-    set: Held<Expr>,
-    cond: Option<Held<Expr>>,
+    set: OneDrop<Expr>,
+    cond: Option<OneDrop<Expr>>,
 ) -> Result<Role, AllocError>
     ensures { IfOk result (λ r. role r ≡ bound ((name, at) ∷ []) (tree set.value) (condition cond)) }
 {

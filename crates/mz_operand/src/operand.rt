@@ -9,7 +9,7 @@ ghost use Rattle.mz_grammar.specs.Parts.{at_of, tree_of, chained};
 ghost use Rattle.mz_grammar.specs.Model.{accessed, unless_annotated};
 ghost use Rattle.mz_operand.specs.Views.{operand, is_one_member};
 
-use mz_base::{Held, Name, Span};
+use mz_base::{Name, OneDrop, Span};
 use mz_tree::{BinOp, Expr, make_access, make_chain, make_ident};
 use std::alloc::{AllocError, Global};
 
@@ -19,16 +19,16 @@ pub enum Operand {
     /// An identifier.
     Name(Name, Span),
     /// An identifier, `in` and what stands behind it.
-    Member(Name, Span, Held<Expr>),
+    Member(Name, Span, OneDrop<Expr>),
     /// Any other expression.
-    Other(Span, Held<Expr>),
+    Other(Span, OneDrop<Expr>),
 }
 
 /// An expression that is no name, with the place of its first token.
 pub fn other(at: Span, e: Expr) -> Operand
     ensures { operand result ≡ pure_parts.other at (tree e) }
 {
-    Operand::Other(at, Held::new(e))
+    Operand::Other(at, OneDrop::new(e))
 }
 
 impl Operand {
@@ -102,7 +102,7 @@ fn related(
     let mut links = links;
     match links.pop() {
         None => Ok(Operand::Name(name, at)),
-        Some((_, set)) => Ok(Operand::Member(name, at, Held::new(set))),
+        Some((_, set)) => Ok(Operand::Member(name, at, OneDrop::new(set))),
     }
 }
 

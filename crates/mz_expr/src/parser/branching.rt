@@ -12,7 +12,7 @@ ghost use Rattle.mz_operand.specs.Views.{operand};
 ghost use Rattle.mz_expr.specs.Descent.{MayOpen, MayRead};
 
 use crate::parser::descent::{Descent, Entry};
-use mz_base::{Held, Stop};
+use mz_base::{OneDrop, Stop};
 use mz_cursor::{Cursor, is_sym, is_word};
 use mz_lexer::{Keyword, Symbol};
 use mz_operand::operand::{Operand, other};
@@ -44,7 +44,7 @@ impl<F: Fn(Global, &mut Cursor<'_>, Entry) -> Result<Operand, Stop>> Descent<F> 
         requires { MayRead self.now.room self.now.entry (F.pre self.now.reader) (F.post self.now.reader) cur.old }
         ensures { Reads branch (reads parts.branch) cur.old cur.new result }
     {
-        let condition = Held::new(self.expr(cur)?);
+        let condition = OneDrop::new(self.expr(cur)?);
         cur.word(Keyword::KThen)?;
         let e = self.expr(cur)?;
         Ok((condition.take(), e))
@@ -68,7 +68,7 @@ impl<F: Fn(Global, &mut Cursor<'_>, Entry) -> Result<Operand, Stop>> Descent<F> 
         }
         if is_word(Keyword::KElse, cur.tok()) {
             cur.skip();
-            let e = Held::new(self.expr(cur)?);
+            let e = OneDrop::new(self.expr(cur)?);
             cur.word(Keyword::KEndif)?;
             return Ok((all, Some(e.take())));
         }

@@ -12,7 +12,7 @@ ghost use Rattle.mz_operand.specs.Views.{operand, argument};
 ghost use Rattle.mz_expr.specs.Descent.{MayOpen, MayRead};
 
 use crate::parser::descent::{Descent, Entry};
-use mz_base::{Held, Name, Span, Stop};
+use mz_base::{Name, OneDrop, Span, Stop};
 use mz_cursor::{Cursor, is_sym, is_word};
 use mz_grammar::{Closing, Generators, Level};
 use mz_lexer::{Keyword, Symbol};
@@ -80,7 +80,7 @@ impl<F: Fn(Global, &mut Cursor<'_>, Entry) -> Result<Operand, Stop>> Descent<F> 
             Some(all) => {
                 cur.push()?;
                 cur.skip();
-                let e = Held::new(self.expr(cur)?);
+                let e = OneDrop::new(self.expr(cur)?);
                 cur.symbol(Symbol::SRParen)?;
                 cur.pop();
                 Ok(other(at, make_gen_call(self.alloc, at, name, all, e.take())?))
@@ -126,7 +126,7 @@ impl<F: Fn(Global, &mut Cursor<'_>, Entry) -> Result<Operand, Stop>> Descent<F> 
     {
         cur.skip();
         let x = self.inside(cur, Entry::Level(Level::Union))?;
-        let set = Held::new(x.into_expr(self.alloc)?);
+        let set = OneDrop::new(x.into_expr(self.alloc)?);
         let cond = self.filter(cur)?;
         Ok(strict_argument(make_generator(Vec::new(self.alloc), set.take(), cond)))
     }

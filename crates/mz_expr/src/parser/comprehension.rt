@@ -12,7 +12,7 @@ ghost use Rattle.mz_grammar.specs.Steps.{generators_at};
 ghost use Rattle.mz_expr.specs.Descent.{MayRead};
 
 use crate::parser::descent::{Descent, Entry};
-use mz_base::{Held, Name, Span, Stop};
+use mz_base::{Name, OneDrop, Span, Stop};
 use mz_cursor::{Cursor, is_sym, is_word};
 use mz_grammar::{Closing, Level};
 use mz_lexer::{Keyword, Symbol};
@@ -34,7 +34,7 @@ impl<F: Fn(Global, &mut Cursor<'_>, Entry) -> Result<Operand, Stop>> Descent<F> 
         let names = more_names(self.alloc, cur, before)?;
         cur.word(Keyword::KIn)?;
         let x = self.inside(cur, Entry::Level(Level::Union))?;
-        let set = Held::new(x.into_expr(self.alloc)?);
+        let set = OneDrop::new(x.into_expr(self.alloc)?);
         let cond = self.filter(cur)?;
         Ok(make_generator(names, set.take(), cond))
     }

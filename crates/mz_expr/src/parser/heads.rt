@@ -9,7 +9,7 @@ ghost use Rattle.mz_operand.specs.Views.{operand};
 ghost use Rattle.mz_expr.specs.Descent.{MayOpen};
 
 use crate::parser::descent::{Descent, Entry};
-use mz_base::{Held, Name, Stop};
+use mz_base::{Name, OneDrop, Stop};
 use mz_cursor::{Cursor, is_sym};
 use mz_lexer::{Keyword, Symbol, Tok};
 use mz_operand::operand::{Operand, other};
@@ -121,7 +121,7 @@ impl<F: Fn(Global, &mut Cursor<'_>, Entry) -> Result<Operand, Stop>> Descent<F> 
     {
         cur.push()?;
         let at = cur.pass();
-        let e = Held::new(self.expr(cur)?);
+        let e = OneDrop::new(self.expr(cur)?);
         if is_sym(Symbol::SRParen, cur.tok()) {
             cur.skip();
             cur.pop();

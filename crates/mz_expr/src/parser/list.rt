@@ -15,7 +15,7 @@ ghost use Rattle.mz_grammar.specs.Steps.{separator_at};
 ghost use Rattle.mz_expr.specs.Descent.{MayRead};
 
 use crate::parser::descent::{Descent, Entry};
-use mz_base::{Held, Span, Stop};
+use mz_base::{OneDrop, Span, Stop};
 use mz_cursor::{Cursor, is_sym};
 use mz_grammar::Closing;
 use mz_lexer::Symbol;
@@ -99,7 +99,7 @@ impl<F: Fn(Global, &mut Cursor<'_>, Entry) -> Result<Operand, Stop>> Descent<F> 
             cur.skip();
             return Ok(make_array(at, Vec::new(self.alloc)));
         }
-        let e = Held::new(self.expr(cur)?);
+        let e = OneDrop::new(self.expr(cur)?);
         if is_sym(Symbol::SBar, cur.tok()) {
             cur.skip();
             let all = self.generators(cur, Closing::Bracket)?;
@@ -119,7 +119,7 @@ impl<F: Fn(Global, &mut Cursor<'_>, Entry) -> Result<Operand, Stop>> Descent<F> 
             cur.skip();
             return Ok(make_set(at, Vec::new(self.alloc)));
         }
-        let e = Held::new(self.expr(cur)?);
+        let e = OneDrop::new(self.expr(cur)?);
         if is_sym(Symbol::SBar, cur.tok()) {
             cur.skip();
             let all = self.generators(cur, Closing::Brace)?;
