@@ -14,16 +14,16 @@ pub record ByteSource : Type 0 where
   pub faults : ℕ
 
 -- how many bytes an answer gives
-abbrev pub given : Took → ℕ
-given (took.Some n) = n
-given took.End = 0
-given took.Failed = 0
+abbrev pub count_of : Took → ℕ
+count_of (took.Some n) = n
+count_of took.End = 0
+count_of took.Failed = 0
 
 -- the source after a call: the bytes given are gone, its number and its answer are counted, and nothing else changes
 abbrev pub source_after : ByteSource → Took → ByteSource
 source_after old answer =
     record old {
-      left = drop (given answer) old.left;
+      left = drop (count_of answer) old.left;
       calls = raised old.calls;
       faults = faults_after old.faults answer;
     }

@@ -3,7 +3,7 @@
 ghost use Rattle.std.specs.Prelude.{◌≡◌, ◌↔◌, ◌++◌, ◌<◌, [], length, min, take, drop, Some};
 ghost use Rattle.std.specs.List.{Contains};
 ghost use Rattle.mz_io.specs.Source.{Gives, IsWithin, Counts};
-ghost use Rattle.mz_io.specs.MemSource.{source_after, given, IsMost};
+ghost use Rattle.mz_io.specs.MemSource.{source_after, count_of, IsMost};
 
 use crate::source::{Source, Took};
 use std::marker::Model;
@@ -80,7 +80,7 @@ impl Source for MemSource {
         ensures counted { Counts self.old.faults self.new.faults result }
         ensures failing { (result ≡ Took.Failed) ↔ Contains self.old.failing self.old.calls }
         ensures most { IsMost self.old (length buf.old) result }
-        ensures filled { buf.new ≡ take (given result) self.old.left ++ drop (given result) buf.old }
+        ensures filled { buf.new ≡ take (count_of result) self.old.left ++ drop (count_of result) buf.old }
         ensures after { self.new ≡ source_after self.old result }
     {
         let fails = self.failing.contains(&self.calls);
