@@ -8,9 +8,9 @@ use Rattle.fz_program.specs.declared.row_name.Kind.TheVariants.{Int, ConstInt, I
 use Rattle.fz_program.specs.declared.program.Domain.{Domain}
 use Rattle.fz_program.specs.Arguments.{Plain, int, var, Argument, one, array, plain_of}
 use Rattle.fz_program.specs.Values as values
-use Rattle.fz_program.specs.Values.{Value, Values, Given, number_in, number_at, linear}
+use Rattle.fz_program.specs.Values.{Value, Values, ArgumentValue, number_in, number_at, linear}
 use Rattle.fz_program.specs.Table.{Line, line, Holds, result_of, sum_equals, sum_at}
-use Rattle.fz_program.specs.Flat.{Variable, Program, plain_value, given, RowHolds, IsInDomain, FlatSolves, WellFormed, is_variable_of, same_kind, kind_of_domain, are_arguments, is_within, IsWellFormedRow}
+use Rattle.fz_program.specs.Flat.{Variable, Program, plain_value, argument_value, RowHolds, IsInDomain, FlatSolves, WellFormed, is_variable_of, same_kind, kind_of_domain, are_arguments, is_within, IsWellFormedRow}
 use Rattle.fz_domains.specs.Inputs.{argument_at, elements_at, is_sum}
 use Rattle.fz_domains.specs.Results.{is_giving, has_result, result_by, result_given}
 use Rattle.fz_domains.proofs.InputValues.{value_is, values_are}
@@ -26,20 +26,20 @@ module _ (name : RowName) (inputs : List Argument) (n : ℕ) (none : is_sum name
   args_last : args_with name inputs n ≡ inputs ++ one (var n) ∷ []
   args_last = ap (λ b. args_by b inputs n) none
 
-  given_last : (f : Values) → map (given f) (args_with name inputs n) ≡ map (given f) inputs ++ values.one (plain_value f (var n)) ∷ []
-  given_last f = ap (map (given f)) args_last ∙ map_push (given f) inputs (one (var n))
+  given_last : (f : Values) → map (argument_value f) (args_with name inputs n) ≡ map (argument_value f) inputs ++ values.one (plain_value f (var n)) ∷ []
+  given_last f = ap (map (argument_value f)) args_last ∙ map_push (argument_value f) inputs (one (var n))
 
-  result_plain : (xs : List Given) → result_given name xs ≡ result_of (line name).meaning xs
+  result_plain : (xs : List ArgumentValue) → result_given name xs ≡ result_of (line name).meaning xs
   result_plain xs = ap (λ b. result_by b (line name).meaning xs) none
 
   giving : has_result name ≡ true → is_giving (line name).meaning ≡ true
   giving h = ap (λ b. b || is_giving (line name).meaning) (sym none) ∙ h
 
-  plain_holds : (f : Values) → has_result name ≡ true → RowHolds f (defining name inputs n) → result_given name (map (given f) inputs) ≡ Some (plain_value f (var n))
-  plain_holds f r h = result_plain (map (given f) inputs) ∙ gives_last (line name).meaning (map (given f) inputs) (plain_value f (var n)) (giving r) (subst (Holds (line name).meaning) (given_last f) h)
+  plain_holds : (f : Values) → has_result name ≡ true → RowHolds f (defining name inputs n) → result_given name (map (argument_value f) inputs) ≡ Some (plain_value f (var n))
+  plain_holds f r h = result_plain (map (argument_value f) inputs) ∙ gives_last (line name).meaning (map (argument_value f) inputs) (plain_value f (var n)) (giving r) (subst (Holds (line name).meaning) (given_last f) h)
 
-  holds_plain : (f : Values) → has_result name ≡ true → result_given name (map (given f) inputs) ≡ Some (plain_value f (var n)) → RowHolds f (defining name inputs n)
-  holds_plain f r h = subst (Holds (line name).meaning) (sym (given_last f)) (last_given (line name).meaning (map (given f) inputs) (plain_value f (var n)) (giving r) (sym (result_plain (map (given f) inputs)) ∙ h))
+  holds_plain : (f : Values) → has_result name ≡ true → result_given name (map (argument_value f) inputs) ≡ Some (plain_value f (var n)) → RowHolds f (defining name inputs n)
+  holds_plain f r h = subst (Holds (line name).meaning) (sym (given_last f)) (last_given (line name).meaning (map (argument_value f) inputs) (plain_value f (var n)) (giving r) (sym (result_plain (map (argument_value f) inputs)) ∙ h))
 
 -- the sum
 args_sum : (name : RowName) (inputs : List Argument) (n : ℕ) → is_sum name ≡ true → args_with name inputs n ≡ sum_with inputs n
@@ -64,23 +64,23 @@ module _ (name : RowName) (inputs : List Argument) (n : ℕ) (is : is_sum name �
   args_are : args_with name inputs n ≡ sum_with Terms n
   args_are = args_sum name inputs n is ∙ ap (λ a. array (elements_at inputs 0 ++ int (negsuc 0) ∷ []) ∷ array (elements_at inputs 1 ++ var n ∷ []) ∷ a ∷ []) s.constant
 
-  to_sum : (f : Values) → RowHolds f (defining name inputs n) → sum_equals (map (given f) (sum_with Terms n)) ≡ true
+  to_sum : (f : Values) → RowHolds f (defining name inputs n) → sum_equals (map (argument_value f) (sum_with Terms n)) ≡ true
   unfolding line
-  to_sum f h = subst (λ xs. sum_equals (map (given f) xs) ≡ true) args_are (subst (λ (l : Line). Holds l.meaning (map (given f) (args_with name inputs n))) (sum_line name is) h)
+  to_sum f h = subst (λ xs. sum_equals (map (argument_value f) xs) ≡ true) args_are (subst (λ (l : Line). Holds l.meaning (map (argument_value f) (args_with name inputs n))) (sum_line name is) h)
 
-  from_sum : (f : Values) → sum_equals (map (given f) (sum_with Terms n)) ≡ true → RowHolds f (defining name inputs n)
+  from_sum : (f : Values) → sum_equals (map (argument_value f) (sum_with Terms n)) ≡ true → RowHolds f (defining name inputs n)
   unfolding line
-  from_sum f h = subst (λ (l : Line). Holds l.meaning (map (given f) (args_with name inputs n))) (sym (sum_line name is)) (subst (λ xs. sum_equals (map (given f) xs) ≡ true) (sym args_are) h)
+  from_sum f h = subst (λ (l : Line). Holds l.meaning (map (argument_value f) (args_with name inputs n))) (sym (sum_line name is)) (subst (λ xs. sum_equals (map (argument_value f) xs) ≡ true) (sym args_are) h)
 
-  given_sum : (f : Values) → result_given name (map (given f) inputs) ≡ Some (values.number (sum_at (map (given f) Terms) -ℤ number_in (plain_value f Constant)))
+  given_sum : (f : Values) → result_given name (map (argument_value f) inputs) ≡ Some (values.number (sum_at (map (argument_value f) Terms) -ℤ number_in (plain_value f Constant)))
   given_sum f =
-      let sum : sum_at (map (given f) inputs) ≡ sum_at (map (given f) Terms) = ap₂ (λ cs xs. linear (map number_in cs) (map number_in xs)) (values_are f inputs 0) (values_are f inputs 1) in
-      ap (λ b. result_by b (line name).meaning (map (given f) inputs)) is ∙ ap₂ (λ t c. Some (values.number (t -ℤ c))) sum (ap number_in (value_is f inputs 2))
+      let sum : sum_at (map (argument_value f) inputs) ≡ sum_at (map (argument_value f) Terms) = ap₂ (λ cs xs. linear (map number_in cs) (map number_in xs)) (values_are f inputs 0) (values_are f inputs 1) in
+      ap (λ b. result_by b (line name).meaning (map (argument_value f) inputs)) is ∙ ap₂ (λ t c. Some (values.number (t -ℤ c))) sum (ap number_in (value_is f inputs 2))
 
-  total_holds : (f : Values) → plain_value f (var n) ≡ values.number (number_in (plain_value f (var n))) → RowHolds f (defining name inputs n) → result_given name (map (given f) inputs) ≡ Some (plain_value f (var n))
+  total_holds : (f : Values) → plain_value f (var n) ≡ values.number (number_in (plain_value f (var n))) → RowHolds f (defining name inputs n) → result_given name (map (argument_value f) inputs) ≡ Some (plain_value f (var n))
   total_holds f e h = given_sum f ∙ sum_holds f (elements_at inputs 0) (elements_at inputs 1) Constant n s.as_many e (to_sum f h)
 
-  holds_total : (f : Values) → result_given name (map (given f) inputs) ≡ Some (plain_value f (var n)) → RowHolds f (defining name inputs n)
+  holds_total : (f : Values) → result_given name (map (argument_value f) inputs) ≡ Some (plain_value f (var n)) → RowHolds f (defining name inputs n)
   holds_total f h = from_sum f (holds_sum f (elements_at inputs 0) (elements_at inputs 1) Constant n s.as_many (sym (given_sum f) ∙ h))
 
 -- the new variable of a sum is an integer
@@ -102,22 +102,22 @@ module _ (p : Program) (name : RowName) (inputs : List Argument) (domain : Domai
   integer_last : is_sum name ≡ true → (x : Value) → IsInDomain domain x → x ≡ values.number (number_in x)
   integer_last is x i = let s = sum_in name inputs n Wide is m.row in number_of domain x (new_kind p.vars (defined_variable p domain) s.integer) i
 
-  holds_by : (b : Bool) → is_sum name ≡ b → (f : Values) (x : Value) → length f ≡ n → IsInDomain domain x → RowHolds (f ++ x ∷ []) (defining name inputs n) → result_given name (map (given (f ++ x ∷ [])) inputs) ≡ Some (plain_value (f ++ x ∷ []) (var n))
+  holds_by : (b : Bool) → is_sum name ≡ b → (f : Values) (x : Value) → length f ≡ n → IsInDomain domain x → RowHolds (f ++ x ∷ []) (defining name inputs n) → result_given name (map (argument_value (f ++ x ∷ [])) inputs) ≡ Some (plain_value (f ++ x ∷ []) (var n))
   holds_by true is f x l i h =
       let here : plain_value (f ++ x ∷ []) (var n) ≡ x = last_is n f x l in
       total_holds name inputs n is Wide (sum_in name inputs n Wide is m.row) (f ++ x ∷ []) (here ∙ integer_last is x i ∙ ap (λ y. values.number (number_in y)) (sym here)) h
   holds_by false none f x l i h = plain_holds name inputs n none (f ++ x ∷ []) m.result h
 
-  gives_by : (b : Bool) → is_sum name ≡ b → (f : Values) → result_given name (map (given f) inputs) ≡ Some (plain_value f (var n)) → RowHolds f (defining name inputs n)
+  gives_by : (b : Bool) → is_sum name ≡ b → (f : Values) → result_given name (map (argument_value f) inputs) ≡ Some (plain_value f (var n)) → RowHolds f (defining name inputs n)
   gives_by true is f h = holds_total name inputs n is Wide (sum_in name inputs n Wide is m.row) f h
   gives_by false none f h = holds_plain name inputs n none f m.result h
 
   -- what the inputs give by the values of the first variables
-  result_is : (f : Values) (x : Value) → length f ≡ n → IsInDomain domain x → RowHolds (f ++ x ∷ []) (defining name inputs n) → result_given name (map (given f) inputs) ≡ Some x
+  result_is : (f : Values) (x : Value) → length f ≡ n → IsInDomain domain x → RowHolds (f ++ x ∷ []) (defining name inputs n) → result_given name (map (argument_value f) inputs) ≡ Some x
   result_is f x l i h =
       ap (result_given name) (sym (all_given_over f (x ∷ []) n l inputs m.over)) ∙ holds_by (is_sum name) refl f x l i h ∙ ap (λ v. Some v) (last_is n f x l)
 
-  result_holds : (f : Values) (x : Value) → length f ≡ n → result_given name (map (given f) inputs) ≡ Some x → RowHolds (f ++ x ∷ []) (defining name inputs n)
+  result_holds : (f : Values) (x : Value) → length f ≡ n → result_given name (map (argument_value f) inputs) ≡ Some x → RowHolds (f ++ x ∷ []) (defining name inputs n)
   result_holds f x l h =
       gives_by (is_sum name) refl (f ++ x ∷ []) (ap (result_given name) (all_given_over f (x ∷ []) n l inputs m.over) ∙ h ∙ ap (λ v. Some v) (sym (last_is n f x l)))
 
@@ -130,7 +130,7 @@ record Parts (p : Program) (name : RowName) (inputs : List Argument) (f : Values
   pub is : front ++ last ∷ [] ≡ f
   pub as_many : length front ≡ length p.vars
   pub solves : FlatSolves p front
-  pub result : result_given name (map (given front) inputs) ≡ Some last
+  pub result : result_given name (map (argument_value front) inputs) ≡ Some last
 
 module _ (p : Program) (name : RowName) (inputs : List Argument) (domain : Domain) (m : MayDefine p name inputs domain) (w : WellFormed p) where
   abbrev Grown : Program
@@ -175,15 +175,15 @@ module _ (p : Program) (name : RowName) (inputs : List Argument) (domain : Domai
       let q = parts f s in
       let r = parts g t in
       let same : q.front ≡ r.front = sym (first_part f q) ∙ e ∙ first_part g r in
-      let last : q.last ≡ r.last = same_some q.last r.last (sym q.result ∙ ap (λ h. result_given name (map (given h) inputs)) same ∙ r.result) in
+      let last : q.last ≡ r.last = same_some q.last r.last (sym q.result ∙ ap (λ h. result_given name (map (argument_value h) inputs)) same ∙ r.result) in
       sym q.is ∙ ap₂ (λ h x. h ++ x ∷ []) same last ∙ r.is
 
-  value : (f : Values) → FlatSolves Grown f → result_given name (map (given f) inputs) ≡ Some (plain_value f (var (length p.vars)))
+  value : (f : Values) → FlatSolves Grown f → result_given name (map (argument_value f) inputs) ≡ Some (plain_value f (var (length p.vars)))
   value f s =
       let q = parts f s in
-      let here : result_given name (map (given (q.front ++ q.last ∷ [])) inputs) ≡ Some (plain_value (q.front ++ q.last ∷ []) (var (length p.vars))) =
+      let here : result_given name (map (argument_value (q.front ++ q.last ∷ [])) inputs) ≡ Some (plain_value (q.front ++ q.last ∷ []) (var (length p.vars))) =
       ap (result_given name) (all_given_over q.front (q.last ∷ []) (length p.vars) q.as_many inputs m.over) ∙ q.result ∙ ap (λ v. Some v) (sym (last_is (length p.vars) q.front q.last q.as_many)) in
-      subst (λ h. result_given name (map (given h) inputs) ≡ Some (plain_value h (var (length p.vars)))) q.is here
+      subst (λ h. result_given name (map (argument_value h) inputs) ≡ Some (plain_value h (var (length p.vars)))) q.is here
 
   pub defined : Defines p Grown name inputs domain (one (var (length p.vars)))
   defined = record {

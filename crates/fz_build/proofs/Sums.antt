@@ -13,9 +13,9 @@ use Rattle.fz_program.specs.declared.program.Domain.{Domain}
 use Rattle.fz_program.specs.declared.program.Domain.TheVariants.{Bool as Truths, Ints as Integers, SetOf}
 use Rattle.fz_program.specs.Arguments.{Plain, int, var, Argument, one, array, plain_of}
 use Rattle.fz_program.specs.Values as values
-use Rattle.fz_program.specs.Values.{Value, Values, Given, number_in, linear}
+use Rattle.fz_program.specs.Values.{Value, Values, ArgumentValue, number_in, linear}
 use Rattle.fz_program.specs.Table.{line, sum_equals, sum_at}
-use Rattle.fz_program.specs.Flat.{Variable, plain_value, given, kind_of_domain, same_kind, is_variable_of, is_plain, is_constant, is_argument, are_arguments, is_one_of, is_within, is_linear, weight, magnitude, most, IsInDomain}
+use Rattle.fz_program.specs.Flat.{Variable, plain_value, argument_value, kind_of_domain, same_kind, is_variable_of, is_plain, is_constant, is_argument, are_arguments, is_one_of, is_within, is_linear, weight, magnitude, most, IsInDomain}
 use Rattle.fz_domains.specs.Inputs.{is_sum, argument_at, elements_at}
 use Rattle.fz_build.specs.Build.{sum_with}
 
@@ -105,10 +105,10 @@ passed : (s y c : ℤ) → s -ℤ c ≡ y → int_eq (s +ℤ (negsuc 0 *ℤ y)) 
 passed s y c h = (Decides-int_eq (s +ℤ (negsuc 0 *ℤ y)) c).1 (omega (arith, ints, h))
 
 -- the row holds where the variable is what the sum passes its constant by
-pub sum_holds : (f : Values) (cs xs : List Plain) (c : Plain) (n : ℕ) → length cs ≡ length xs → plain_value f (var n) ≡ values.number (number_in (plain_value f (var n))) → sum_equals (map (given f) (sum_with (array cs ∷ array xs ∷ one c ∷ []) n)) ≡ true → Some (values.number (sum_at (map (given f) (array cs ∷ array xs ∷ one c ∷ [])) -ℤ number_in (plain_value f c))) ≡ Some (plain_value f (var n))
+pub sum_holds : (f : Values) (cs xs : List Plain) (c : Plain) (n : ℕ) → length cs ≡ length xs → plain_value f (var n) ≡ values.number (number_in (plain_value f (var n))) → sum_equals (map (argument_value f) (sum_with (array cs ∷ array xs ∷ one c ∷ []) n)) ≡ true → Some (values.number (sum_at (map (argument_value f) (array cs ∷ array xs ∷ one c ∷ [])) -ℤ number_in (plain_value f c))) ≡ Some (plain_value f (var n))
 sum_holds f cs xs c n l e h = ap (λ z. Some (values.number z)) (passes (linear (numbers f cs) (numbers f xs)) (number_in (plain_value f (var n))) (number_in (plain_value f c)) (ap (λ s. int_eq s (number_in (plain_value f c))) (sym (sum_with_term f cs xs n l)) ∙ h)) ∙ ap (λ v. Some v) (sym e)
 
-pub holds_sum : (f : Values) (cs xs : List Plain) (c : Plain) (n : ℕ) → length cs ≡ length xs → Some (values.number (sum_at (map (given f) (array cs ∷ array xs ∷ one c ∷ [])) -ℤ number_in (plain_value f c))) ≡ Some (plain_value f (var n)) → sum_equals (map (given f) (sum_with (array cs ∷ array xs ∷ one c ∷ []) n)) ≡ true
+pub holds_sum : (f : Values) (cs xs : List Plain) (c : Plain) (n : ℕ) → length cs ≡ length xs → Some (values.number (sum_at (map (argument_value f) (array cs ∷ array xs ∷ one c ∷ [])) -ℤ number_in (plain_value f c))) ≡ Some (plain_value f (var n)) → sum_equals (map (argument_value f) (sum_with (array cs ∷ array xs ∷ one c ∷ []) n)) ≡ true
 holds_sum f cs xs c n l h = ap (λ s. int_eq s (number_in (plain_value f c))) (sum_with_term f cs xs n l) ∙ passed (linear (numbers f cs) (numbers f xs)) (number_in (plain_value f (var n))) (number_in (plain_value f c)) (ap number_in (some_same _ _ h))
   where
     some_same : (x y : Value) → Some x ≡ Some y → x ≡ y

@@ -5,9 +5,9 @@ use Rattle.std.specs.List.{AllByRecursion}
 use Rattle.std.proofs.lemmas.List.{take_at, length_push}
 use Rattle.fz_program.specs.Arguments.{Plain, bool, int, set, var, nested, Argument, one, array}
 use Rattle.fz_program.specs.Values as values
-use Rattle.fz_program.specs.Values.{Value, Values, Given, value_in, value_at}
+use Rattle.fz_program.specs.Values.{Value, Values, ArgumentValue, value_in, value_at}
 use Rattle.fz_program.specs.Table.{Meaning, tests, gives, line, Holds, result_of}
-use Rattle.fz_program.specs.Flat.{Variable, Row, plain_value, given, RowHolds, IsInDomain, AreInDomains, IsWellFormedRow}
+use Rattle.fz_program.specs.Flat.{Variable, Row, plain_value, argument_value, RowHolds, IsInDomain, AreInDomains, IsWellFormedRow}
 use Rattle.fz_domains.specs.Results.{is_giving}
 use Rattle.fz_build.specs.Build.{IsOver, IsArgumentOver, AreOver}
 use Rattle.fz_build.proofs.Lists.{at_wider, at_last, map_same}
@@ -20,12 +20,12 @@ plain_over_values f ys n l (int i) h = refl
 plain_over_values f ys n l (set s) h = refl
 plain_over_values f ys n l nested h = refl
 
-given_over : (f ys : Values) (n : ℕ) → length f ≡ n → (a : Argument) → IsArgumentOver n a → given (f ++ ys) a ≡ given f a
+given_over : (f ys : Values) (n : ℕ) → length f ≡ n → (a : Argument) → IsArgumentOver n a → argument_value (f ++ ys) a ≡ argument_value f a
 given_over f ys n l (one p) h = ap (λ v. values.one v) (plain_over_values f ys n l p h)
 given_over f ys n l (array ps) h = ap (λ vs. values.many vs) (map_same (plain_value (f ++ ys)) (plain_value f) (IsOver n) ps (plain_over_values f ys n l) h)
 
-pub all_given_over : (f ys : Values) (n : ℕ) → length f ≡ n → (args : List Argument) → AreOver n args → map (given (f ++ ys)) args ≡ map (given f) args
-all_given_over f ys n l args h = map_same (given (f ++ ys)) (given f) (IsArgumentOver n) args (given_over f ys n l) h
+pub all_given_over : (f ys : Values) (n : ℕ) → length f ≡ n → (args : List Argument) → AreOver n args → map (argument_value (f ++ ys)) args ≡ map (argument_value f) args
+all_given_over f ys n l args h = map_same (argument_value (f ++ ys)) (argument_value f) (IsArgumentOver n) args (given_over f ys n l) h
 
 -- rows over the first variables
 pub rows_before : (vs : List Variable) (f ys : Values) → length f ≡ length vs → (rs : List Row) → AllByRecursion (IsWellFormedRow vs) rs → AllByRecursion (RowHolds (f ++ ys)) rs → AllByRecursion (RowHolds f) rs
@@ -69,19 +69,19 @@ split (w ∷ vs) v (x ∷ f) h =
 
 -- ---- the last argument is what the others give
 
-last_place : (xs : List Given) (x : Value) → length (xs ++ values.one x ∷ []) - 1 ≡ length xs
+last_place : (xs : List ArgumentValue) (x : Value) → length (xs ++ values.one x ∷ []) - 1 ≡ length xs
 last_place xs x = let l = length_push xs (values.one x) in omega (arith, l)
 
-others : (xs : List Given) (x : Value) → take (length (xs ++ values.one x ∷ []) - 1) (xs ++ values.one x ∷ []) ≡ xs
+others : (xs : List ArgumentValue) (x : Value) → take (length (xs ++ values.one x ∷ []) - 1) (xs ++ values.one x ∷ []) ≡ xs
 others xs x = ap (λ k. take k (xs ++ values.one x ∷ [])) (last_place xs x) ∙ take_at xs (values.one x ∷ []) (length xs) refl
 
-last_value : (xs : List Given) (x : Value) → value_at (xs ++ values.one x ∷ []) (length (xs ++ values.one x ∷ []) - 1) ≡ x
+last_value : (xs : List ArgumentValue) (x : Value) → value_at (xs ++ values.one x ∷ []) (length (xs ++ values.one x ∷ []) - 1) ≡ x
 last_value xs x = ap (value_at (xs ++ values.one x ∷ [])) (last_place xs x) ∙ ap value_in (at_last xs (values.one x) (values.many []))
 
-pub gives_last : (m : Meaning) (xs : List Given) (x : Value) → is_giving m ≡ true → Holds m (xs ++ values.one x ∷ []) → result_of m xs ≡ Some x
+pub gives_last : (m : Meaning) (xs : List ArgumentValue) (x : Value) → is_giving m ≡ true → Holds m (xs ++ values.one x ∷ []) → result_of m xs ≡ Some x
 gives_last (tests test) xs x g h = absurd (cc)
 gives_last (gives result) xs x g h = ap result (sym (others xs x)) ∙ h ∙ ap (λ v. Some v) (last_value xs x)
 
-pub last_given : (m : Meaning) (xs : List Given) (x : Value) → is_giving m ≡ true → result_of m xs ≡ Some x → Holds m (xs ++ values.one x ∷ [])
+pub last_given : (m : Meaning) (xs : List ArgumentValue) (x : Value) → is_giving m ≡ true → result_of m xs ≡ Some x → Holds m (xs ++ values.one x ∷ [])
 last_given (tests test) xs x g h = absurd (cc)
 last_given (gives result) xs x g h = ap result (others xs x) ∙ h ∙ ap (λ v. Some v) (sym (last_value xs x))

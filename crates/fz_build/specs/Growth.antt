@@ -4,7 +4,7 @@ use Rattle.fz_program.specs.declared.program.Domain.{Domain}
 use Rattle.fz_program.specs.declared.row_name.RowName.{RowName}
 use Rattle.fz_program.specs.Arguments.{Argument, plain_of}
 use Rattle.fz_program.specs.Values.{Value, Values}
-use Rattle.fz_program.specs.Flat.{Program, FlatSolves, IsInDomain, plain_value, given}
+use Rattle.fz_program.specs.Flat.{Program, FlatSolves, IsInDomain, plain_value, argument_value}
 use Rattle.fz_build.specs.Build.{IsArgumentOver, with_defined}
 use Rattle.fz_domains.specs.Results.{result_given}
 
@@ -23,7 +23,7 @@ pub record Grows (old new : Program) (Can : Values → Type 0) : Type 0 where
 -- the inputs have a result, in the domain
 pub record HasResult (name : RowName) (inputs : List Argument) (domain : Domain) (f : Values) : Type 0 where
   pub result : Value
-  pub is : result_given name (map (given f) inputs) ≡ Some result
+  pub is : result_given name (map (argument_value f) inputs) ≡ Some result
   pub inside : IsInDomain domain result
 
 -- what an argument that is no array stands for
@@ -34,7 +34,7 @@ value_of f a = plain_value f (plain_of a)
 pub record Defines (old new : Program) (name : RowName) (inputs : List Argument) (domain : Domain) (out : Argument) : Type 0 where
   pub grows : Grows old new (HasResult name inputs domain)
   pub place : IsArgumentOver (length new.vars) out
-  pub value : (f : Values) → FlatSolves new f → result_given name (map (given f) inputs) ≡ Some (value_of f out)
+  pub value : (f : Values) → FlatSolves new f → result_given name (map (argument_value f) inputs) ≡ Some (value_of f out)
 
 -- the program with the variable and its row, or the old one, where such a row stood in it
 abbrev pub IsAdded : Program → Program → RowName → List Argument → Domain → Type 0

@@ -3,7 +3,7 @@ use Rattle.std.proofs.Common.{◌≡◌, ◌-ℤ◌, List, Bool, Option, Some, N
 use Rattle.fz_program.specs.declared.row_name.RowName.{RowName}
 use Rattle.fz_program.specs.declared.row_name.RowName.TheVariants.{IntEq, IntNe, IntLe, IntLt, IntEqReif, IntNeReif, IntLeReif, IntLtReif, IntLinEq, IntLinNe, IntLinLe, IntLinEqReif, IntLinNeReif, IntLinLeReif, IntTimes, IntDiv, IntMod, IntMin, IntMax, IntAbs, ArrayIntElement, ArrayVarIntElement, ArrayBoolElement, ArrayVarBoolElement, ArraySetElement, ArrayVarSetElement, BoolEq, BoolNot, BoolToInt, BoolXor, BoolEqReif, BoolLeReif, ArrayBoolAnd, ArrayBoolOr, BoolClause, SetIn, SetInReif, SetEq, SetNe, SetSubset, SetEqReif, SetNeReif, SetSubsetReif, SetUnion, SetIntersect, SetDiff, SetSymdiff, SetCard}
 use Rattle.mz_operations.specs.Views.{number_of_bool}
-use Rattle.fz_program.specs.Values.{Value, Given, number, number_at}
+use Rattle.fz_program.specs.Values.{Value, ArgumentValue, number, number_at}
 use Rattle.fz_program.specs.Table.{line, truth, equals, differs, is_at_most, is_below, sum_at, sum_equals, sum_differs, sum_is_at_most, arithmetic, magnitude, number_element, set_element, is_true, is_false, are_all_true, is_some_true, is_element, same_sets, other_sets, is_part, set_result, size}
 use Rattle.fz_domains.specs.declared.form.Form.{Form}
 use Rattle.fz_domains.specs.declared.form.Form.TheVariants.{Test, Truth, TruthElement, Arithmetic, Magnitude, Flag, Element, Size, Sum, Combined, SetElement}
@@ -11,7 +11,7 @@ use Rattle.fz_domains.specs.Inputs.{is_sum}
 use Rattle.fz_domains.specs.Results.{result_given}
 use Rattle.fz_domains.specs.Bounds.{form_of}
 
-abbrev pub IsValueOf : Form → List Given → Option Value → Type 0
+abbrev pub IsValueOf : Form → List ArgumentValue → Option Value → Type 0
 IsValueOf Test xs r = r ≡ None
 IsValueOf Truth xs r = (b : Bool) × (r ≡ Some (number (number_of_bool b)))
 IsValueOf TruthElement xs r = r ≡ number_element xs
@@ -24,7 +24,7 @@ IsValueOf Sum xs r = r ≡ Some (number (sum_at xs -ℤ number_at xs 2))
 IsValueOf (Combined op) xs r = r ≡ set_result op xs
 IsValueOf SetElement xs r = r ≡ set_element xs
 
-pub value_by_form : (name : RowName) (xs : List Given) → IsValueOf (form_of name) xs (result_given name xs)
+pub value_by_form : (name : RowName) (xs : List ArgumentValue) → IsValueOf (form_of name) xs (result_given name xs)
 unfolding form_of is_sum line
 value_by_form IntEq xs = refl
 value_by_form IntNe xs = refl

@@ -19,7 +19,7 @@ use Rattle.fz_program.specs.declared.row_name.Kind.TheVariants.{Int, Bool as Tru
 use Rattle.fz_program.specs.Arguments.{Plain, bool, int, set as a_set, var, nested, Argument, one, array}
 use Rattle.fz_program.specs.Values.{Value, Values, number, set, number_in, set_in, number_at, numbers_at, set_at, sets_at, element_at, linear}
 use Rattle.fz_program.specs.Table.{line, sum_at}
-use Rattle.fz_program.specs.Flat.{Variable, IsWellFormedVariable, plain_value, given, is_plain, is_constant, is_argument, are_arguments, IsInDomain, AreInDomains}
+use Rattle.fz_program.specs.Flat.{Variable, IsWellFormedVariable, plain_value, argument_value, is_plain, is_constant, is_argument, are_arguments, IsInDomain, AreInDomains}
 use Rattle.fz_domains.specs.declared.form.Form.{Form}
 use Rattle.fz_domains.specs.declared.form.Form.TheVariants.{Test, Truth as TruthForm, TruthElement, Arithmetic, Magnitude, Flag, Element, Size, Sum, Combined, SetElement}
 use Rattle.fz_domains.specs.Inputs.{is_sum, elements_at}
@@ -114,9 +114,9 @@ module _ (vs : List Variable) (f : Values) (w : AllByRecursion IsWellFormedVaria
   flags [] a = tt
   flags (p ∷ ps) a = (plain_flag vs f p d a.0, flags ps a.1)
 
-  sum_value : (xs : List Argument) → Surrounds (excess_ends vs xs) (sum_at (map (given f) xs) -ℤ number_at (map (given f) xs) 2)
+  sum_value : (xs : List Argument) → Surrounds (excess_ends vs xs) (sum_at (map (argument_value f) xs) -ℤ number_at (map (argument_value f) xs) 2)
   sum_value xs =
-      let gs = map (given f) xs in
+      let gs = map (argument_value f) xs in
       let total : Surrounds (sum_ends vs (Some nothing) (elements_at xs 0) (elements_at xs 1)) (pos 0 +ℤ linear (map number_in (map (plain_value f) (elements_at xs 0))) (map number_in (map (plain_value f) (elements_at xs 1)))) =
       sum_surrounds vs f w d (elements_at xs 0) (elements_at xs 1) (Some nothing) (pos 0) (λ e k. let same : nothing ≡ e = some_same nothing e k in subst (λ (b : Ends). Encloses b (pos 0)) same (record { from = omega (arith, ints); to = omega (arith, ints) })) in
       let summed : Surrounds (sum_ends vs (Some nothing) (elements_at xs 0) (elements_at xs 1)) (pos 0 +ℤ sum_at gs) =
@@ -127,57 +127,57 @@ module _ (vs : List Variable) (f : Values) (w : AllByRecursion IsWellFormedVaria
       let whole_sum = plus_surrounds (sum_ends vs (Some nothing) (elements_at xs 0) (elements_at xs 1)) (negative (if_interval (number_ends vs xs 2))) (pos 0 +ℤ sum_at gs) (neg_ℤ (number_at gs 2)) summed constant in
       λ e k. let i = whole_sum e k in record { from = omega (arith, ints, i.from); to = omega (arith, ints, i.to) }
 
-  holds_by : (form : Form) (xs : List Argument) (kinds : List Kind) (e : Domain) (r : Option Value) (x : Value) → are_arguments vs kinds xs ≡ true → Suits form vs xs → domain_by form vs xs ≡ Some e → IsValueOf form (map (given f) xs) r → r ≡ Some x → IsInDomain e x
+  holds_by : (form : Form) (xs : List Argument) (kinds : List Kind) (e : Domain) (r : Option Value) (x : Value) → are_arguments vs kinds xs ≡ true → Suits form vs xs → domain_by form vs xs ≡ Some e → IsValueOf form (map (argument_value f) xs) r → r ≡ Some x → IsInDomain e x
   unfolding domain_by
   holds_by Test xs kinds e r x a s h v k = absurd (cc)
   holds_by TruthForm xs kinds e r x a s h v k = truth_value v.0 e x r h v.1 k
   holds_by TruthElement xs kinds e r x a s h v k =
-      let m = mapped number (element_at (numbers_at (map (given f) xs) 1) (number_at (map (given f) xs) 0)) x (sym v ∙ k) in
-      let there = subst (λ bs. element_at (map number_in bs) (number_at (map (given f) xs) 0) ≡ Some m.old) (values_are f xs 1) m.there in
-      let i = element_flag vs f w d (elements_at xs 1) (number_at (map (given f) xs) 0) m.old (flags (elements_at xs 1) s) there in
+      let m = mapped number (element_at (numbers_at (map (argument_value f) xs) 1) (number_at (map (argument_value f) xs) 0)) x (sym v ∙ k) in
+      let there = subst (λ bs. element_at (map number_in bs) (number_at (map (argument_value f) xs) 0) ≡ Some m.old) (values_are f xs 1) m.there in
+      let i = element_flag vs f w d (elements_at xs 1) (number_at (map (argument_value f) xs) 0) m.old (flags (elements_at xs 1) s) there in
       subst (λ (z : Domain). IsInDomain z x) (some_same Truths e h) (subst (IsInDomain Truths) m.is (i.from, i.to))
   holds_by (Arithmetic op) xs kinds e r x a s h v k =
-      let gs = map (given f) xs in
+      let gs = map (argument_value f) xs in
       let m = mapped number (computed op (number_at gs 0) (number_at gs 1)) x (sym v ∙ k) in
       subst (IsInDomain e) m.is (in_whole (arith_by op (if_interval (number_ends vs xs 0)) (if_interval (number_ends vs xs 1))) e m.old h
       (arith_surrounds op (if_interval (number_ends vs xs 0)) (if_interval (number_ends vs xs 1)) (number_at gs 0) (number_at gs 1) m.old
       (interval_surrounds (number_ends vs xs 0) (number_at gs 0) (number_encloses vs f xs 0 w d))
       (interval_surrounds (number_ends vs xs 1) (number_at gs 1) (number_encloses vs f xs 1 w d)) m.there))
   holds_by Magnitude xs kinds e r x a s h v k =
-      let gs = map (given f) xs in
+      let gs = map (argument_value f) xs in
       let same : number (signed Abs (number_at gs 0)) ≡ x = some_same _ x (sym v ∙ k) in
       subst (IsInDomain e) same (in_whole (magnitude_by (if_interval (number_ends vs xs 0))) e (signed Abs (number_at gs 0)) h
       (magnitude_surrounds (if_interval (number_ends vs xs 0)) (number_at gs 0) (interval_surrounds (number_ends vs xs 0) (number_at gs 0) (number_encloses vs f xs 0 w d))))
   holds_by Flag xs kinds e r x a s h v k =
-      let gs = map (given f) xs in
+      let gs = map (argument_value f) xs in
       let flag : IsFlag (number_at gs 0) = subst (λ y. IsFlag (number_in y)) (sym (value_is f xs 0)) (plain_flag vs f (plain_at xs 0) d s) in
       let same : number (number_at gs 0) ≡ x = ap number (sym (flag_same (number_at gs 0) flag)) ∙ some_same _ x (sym v ∙ k) in
       subst (IsInDomain e) same (in_whole (if_interval (number_ends vs xs 0)) e (number_at gs 0) h (interval_surrounds (number_ends vs xs 0) (number_at gs 0) (number_encloses vs f xs 0 w d)))
   holds_by Element xs kinds e r x a s h v k =
-      let gs = map (given f) xs in
+      let gs = map (argument_value f) xs in
       let m = mapped number (element_at (numbers_at gs 1) (number_at gs 0)) x (sym v ∙ k) in
       let there = subst (λ bs. element_at (map number_in bs) (number_at gs 0) ≡ Some m.old) (values_are f xs 1) m.there in
       let inside = element_encloses vs f w d (elements_at xs 1) (number_ends vs xs 0) (number_at gs 0) m.old (number_encloses vs f xs 0 w d) there in
       subst (IsInDomain e) m.is (in_whole (if_interval (element_ends vs (number_ends vs xs 0) (elements_at xs 1))) e m.old h (interval_surrounds (element_ends vs (number_ends vs xs 0) (elements_at xs 1)) m.old inside))
   holds_by Size xs kinds e r x a s h v k =
-      let gs = map (given f) xs in
+      let gs = map (argument_value f) xs in
       let same = some_same _ x (sym v ∙ k) in
       subst (IsInDomain e) same (in_whole _ e _ h (card_surrounds (upper_at vs xs 0) (set_at gs 0) (set_holds vs f kinds xs 0 w d a)))
   holds_by Sum xs kinds e r x a s h v k =
-      let gs = map (given f) xs in
+      let gs = map (argument_value f) xs in
       let same : number (sum_at gs -ℤ number_at gs 2) ≡ x = some_same _ x (sym v ∙ k) in
       subst (IsInDomain e) same (in_whole (excess_ends vs xs) e (sum_at gs -ℤ number_at gs 2) h (sum_value xs))
   holds_by (Combined op) xs kinds e r x a s h v k =
-      let gs = map (given f) xs in
+      let gs = map (argument_value f) xs in
       set_value _ (combined op (set_at gs 0) (set_at gs 1)) e x h (some_same _ x (sym v ∙ k)) (combined_in op (upper_at vs xs 0) (upper_at vs xs 1) (set_at gs 0) (set_at gs 1) (set_holds vs f kinds xs 0 w d a) (set_holds vs f kinds xs 1 w d a))
   holds_by SetElement xs kinds e r x a s h v k =
-      let gs = map (given f) xs in
+      let gs = map (argument_value f) xs in
       let m = mapped set (element_at (sets_at gs 1) (number_at gs 0)) x (sym v ∙ k) in
       let there = subst (λ bs. element_at (map set_in bs) (number_at gs 0) ≡ Some m.old) (values_are f xs 1) m.there in
       set_value _ m.old e x h m.is (set_element_in vs f w d (elements_at xs 1) (number_ends vs xs 0) (number_at gs 0) m.old (elements_canonical vs kinds xs 1 a) (number_encloses vs f xs 0 w d) there)
 
 pub results_held : (vs : List Variable) (name : RowName) (xs : List Argument) (e : Domain) → AllByRecursion IsWellFormedVariable vs → AreInputs vs name xs → result_domain vs name xs ≡ Some e → HoldsResults vs name xs e
-results_held vs name xs e w a h = λ f x d k. holds_by vs f w d (form_of name) xs (input_kinds name) e (result_given name (map (given f) xs)) x a (suits name vs xs a) h (value_by_form name (map (given f) xs)) k
+results_held vs name xs e w a h = λ f x d k. holds_by vs f w d (form_of name) xs (input_kinds name) e (result_given name (map (argument_value f) xs)) x a (suits name vs xs a) h (value_by_form name (map (argument_value f) xs)) k
 
 -- the same of a result
 pub result_held : {E : Type 0} (r : Result Domain E) (vs : List Variable) (name : RowName) (xs : List Argument) → AllByRecursion IsWellFormedVariable vs → AreInputs vs name xs → IfOk r (λ e. result_domain vs name xs ≡ Some e) → IfOk r (λ e. HoldsResults vs name xs e)

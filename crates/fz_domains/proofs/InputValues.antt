@@ -15,7 +15,7 @@ use Rattle.fz_program.specs.declared.row_name.Kind.TheVariants.{Int, Bool as Tru
 use Rattle.fz_program.specs.Arguments.{Plain, bool, int, set, var, nested, Argument, one, array, plain_of}
 use Rattle.fz_program.specs.Values as values
 use Rattle.fz_program.specs.Values.{Value, Values, number_in, set_in, value_in, values_in, value_at, values_at}
-use Rattle.fz_program.specs.Flat.{Variable, IsSet, IsOfSet, IsWellFormedVariable, is_set, is_constant, is_plain, is_one_of, are_all_of, is_argument, are_arguments, number_of_truth, plain_value, given, IsInDomain, AreInDomains, same_kind, kind_of_domain, is_variable_of}
+use Rattle.fz_program.specs.Flat.{Variable, IsSet, IsOfSet, IsWellFormedVariable, is_set, is_constant, is_plain, is_one_of, are_all_of, is_argument, are_arguments, number_of_truth, plain_value, argument_value, IsInDomain, AreInDomains, same_kind, kind_of_domain, is_variable_of}
 use Rattle.fz_program.proofs.Sets as canonical
 use Rattle.fz_domains.specs.Inputs.{argument_at, elements_in, elements_at}
 use Rattle.fz_domains.specs.Bounds.{domain_ends, variable_ends, ends_of, domain_upper, variable_upper, upper_of, plain_at, number_ends, upper_at}
@@ -27,23 +27,23 @@ each_there P [] k x h a = absurd (cc)
 each_there P (y ∷ xs) zero x h a = let same : y ≡ x = cc in subst P same a.0
 each_there P (y ∷ xs) (suc k) x h a = each_there P xs k x h a.1
 
-given_at : (f : Values) (xs : List Argument) (k : ℕ) → slice_index_or (map (given f) xs) k (values.many []) ≡ given f (argument_at xs k)
+given_at : (f : Values) (xs : List Argument) (k : ℕ) → slice_index_or (map (argument_value f) xs) k (values.many []) ≡ argument_value f (argument_at xs k)
 given_at f [] k = refl
 given_at f (x ∷ xs) zero = refl
 given_at f (x ∷ xs) (suc k) = given_at f xs k
 
-value_of_argument : (f : Values) (a : Argument) → value_in (given f a) ≡ plain_value f (plain_of a)
+value_of_argument : (f : Values) (a : Argument) → value_in (argument_value f a) ≡ plain_value f (plain_of a)
 value_of_argument f (one p) = refl
 value_of_argument f (array ps) = refl
 
-values_of_argument : (f : Values) (a : Argument) → values_in (given f a) ≡ map (plain_value f) (elements_in a)
+values_of_argument : (f : Values) (a : Argument) → values_in (argument_value f a) ≡ map (plain_value f) (elements_in a)
 values_of_argument f (one p) = refl
 values_of_argument f (array ps) = refl
 
-pub value_is : (f : Values) (xs : List Argument) (k : ℕ) → value_at (map (given f) xs) k ≡ plain_value f (plain_of (argument_at xs k))
+pub value_is : (f : Values) (xs : List Argument) (k : ℕ) → value_at (map (argument_value f) xs) k ≡ plain_value f (plain_of (argument_at xs k))
 value_is f xs k = ap value_in (given_at f xs k) ∙ value_of_argument f (argument_at xs k)
 
-pub values_are : (f : Values) (xs : List Argument) (k : ℕ) → values_at (map (given f) xs) k ≡ map (plain_value f) (elements_at xs k)
+pub values_are : (f : Values) (xs : List Argument) (k : ℕ) → values_at (map (argument_value f) xs) k ≡ map (plain_value f) (elements_at xs k)
 values_are f xs k = ap values_in (given_at f xs k) ∙ values_of_argument f (argument_at xs k)
 
 -- ---- numbers
@@ -76,7 +76,7 @@ ends_enclose vs f (set s) w d = none_in
 ends_enclose vs f (var k) w d = variable_encloses vs f k w d
 ends_enclose vs f nested w d = none_in
 
-pub number_encloses : (vs : List Variable) (f : Values) (xs : List Argument) (k : ℕ) → AllByRecursion IsWellFormedVariable vs → AreInDomains vs f → Encloses (number_ends vs xs k) (values.number_at (map (given f) xs) k)
+pub number_encloses : (vs : List Variable) (f : Values) (xs : List Argument) (k : ℕ) → AllByRecursion IsWellFormedVariable vs → AreInDomains vs f → Encloses (number_ends vs xs k) (values.number_at (map (argument_value f) xs) k)
 number_encloses vs f xs k w d = subst (λ x. Encloses (number_ends vs xs k) (number_in x)) (sym (value_is f xs k)) (ends_enclose vs f (plain_at xs k) w d)
 
 -- ---- sets
@@ -191,7 +191,7 @@ elements_of_canonical : (a : Argument) → IsArgumentCanonical a → AllByRecurs
 elements_of_canonical (one p) h = tt
 elements_of_canonical (array ps) h = h
 
-pub set_holds : (vs : List Variable) (f : Values) (kinds : List Kind) (xs : List Argument) (k : ℕ) → AllByRecursion IsWellFormedVariable vs → AreInDomains vs f → are_arguments vs kinds xs ≡ true → LiesInSet (upper_at vs xs k) (values.set_at (map (given f) xs) k)
+pub set_holds : (vs : List Variable) (f : Values) (kinds : List Kind) (xs : List Argument) (k : ℕ) → AllByRecursion IsWellFormedVariable vs → AreInDomains vs f → are_arguments vs kinds xs ≡ true → LiesInSet (upper_at vs xs k) (values.set_at (map (argument_value f) xs) k)
 set_holds vs f kinds xs k w d h = subst (λ x. LiesInSet (upper_at vs xs k) (set_in x)) (sym (value_is f xs k)) (upper_holds vs f (plain_at xs k) w d (plain_of_canonical (argument_at xs k) (canonical_at vs kinds xs k h)))
 
 pub elements_canonical : (vs : List Variable) (kinds : List Kind) (xs : List Argument) (k : ℕ) → are_arguments vs kinds xs ≡ true → AllByRecursion IsCanonical (elements_at xs k)

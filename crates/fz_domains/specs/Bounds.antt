@@ -17,7 +17,7 @@ use Rattle.fz_program.specs.declared.row_name.Kind.{Kind}
 use Rattle.fz_program.specs.Arguments.{Plain, bool, int, set, var, nested, Argument, plain_of}
 use Rattle.fz_program.specs.Table.{line}
 use Rattle.fz_program.specs.Values.{Value, Values}
-use Rattle.fz_program.specs.Flat.{Variable, number_of_truth, given, are_arguments, AreInDomains, IsInDomain}
+use Rattle.fz_program.specs.Flat.{Variable, number_of_truth, argument_value, are_arguments, AreInDomains, IsInDomain}
 use Rattle.fz_domains.specs.declared.form.Form.{Form}
 use Rattle.fz_domains.specs.declared.form.Form.TheVariants.{Test, Truth, TruthElement, Arithmetic, Magnitude, Flag, Element, Size, Sum, Combined, SetElement}
 use Rattle.fz_domains.specs.Inputs.{argument_at, elements_at, is_sum}
@@ -217,4 +217,4 @@ AreInputs vs name inputs = are_arguments vs (input_kinds name) inputs ≡ true
 
 -- the result of inputs in their domains lies in the domain
 abbrev pub HoldsResults : List Variable → RowName → List Argument → Domain → Type 0
-HoldsResults vs name inputs domain = (f : Values) (x : Value) → AreInDomains vs f → result_given name (map (given f) inputs) ≡ Some x → IsInDomain domain x
+HoldsResults vs name inputs domain = (f : Values) (x : Value) → AreInDomains vs f → result_given name (map (argument_value f) inputs) ≡ Some x → IsInDomain domain x

@@ -6,27 +6,27 @@ use Rattle.mz_operations.specs.Numbers.{computed, signed}
 use Rattle.mz_operations.specs.Sets.{combined, complement, contains, difference, intersection, missing_from, same_set, union}
 use Rattle.fz_program.specs.declared.row_name.RowName.{RowName}
 use Rattle.fz_program.specs.declared.row_name.RowName.TheVariants.{IntEq, IntNe, IntLe, IntLt, IntEqReif, IntNeReif, IntLeReif, IntLtReif, IntLinEq, IntLinNe, IntLinLe, IntLinEqReif, IntLinNeReif, IntLinLeReif, IntTimes, IntDiv, IntMod, IntMin, IntMax, IntAbs, ArrayIntElement, ArrayVarIntElement, ArrayBoolElement, ArrayVarBoolElement, ArraySetElement, ArrayVarSetElement, BoolEq, BoolNot, BoolToInt, BoolXor, BoolEqReif, BoolLeReif, ArrayBoolAnd, ArrayBoolOr, BoolClause, SetIn, SetInReif, SetEq, SetNe, SetSubset, SetEqReif, SetNeReif, SetSubsetReif, SetUnion, SetIntersect, SetDiff, SetSymdiff, SetCard}
-use Rattle.fz_program.specs.Values.{Value, number, set, Given, one, many, linear}
+use Rattle.fz_program.specs.Values.{Value, number, set, ArgumentValue, one, many, linear}
 use Rattle.fz_program.specs.Table.{line, result_of, answer_of}
 use Rattle.fz_program.specs.Flat.{is_set}
 
 -- an integer, a set, an array of integers, an array of sets
-abbrev n : ℤ → Given
+abbrev n : ℤ → ArgumentValue
 n x = one (number x)
 
-abbrev s : List Range → Given
+abbrev s : List Range → ArgumentValue
 s x = one (set x)
 
-abbrev ns : List ℤ → Given
+abbrev ns : List ℤ → ArgumentValue
 ns xs = many (map number xs)
 
-abbrev ss : List (List Range) → Given
+abbrev ss : List (List Range) → ArgumentValue
 ss xs = many (map set xs)
 
-abbrev result : RowName → List Given → Option Value
+abbrev result : RowName → List ArgumentValue → Option Value
 result name xs = result_of (line name).meaning xs
 
-abbrev holds : RowName → List Given → Bool
+abbrev holds : RowName → List ArgumentValue → Bool
 holds name xs = answer_of (line name).meaning xs
 
 -- comparisons, at equal numbers and beside them

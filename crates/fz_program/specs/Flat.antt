@@ -19,7 +19,7 @@ use Rattle.mz_operations.specs.Sets.{end_of}
 use Rattle.fz_program.specs.Names.{Name}
 use Rattle.fz_program.specs.Arguments.{Plain, bool, int, set, var, nested, Argument, one, array, argument}
 use Rattle.fz_program.specs.Values as values
-use Rattle.fz_program.specs.Values.{Value, Values, Given}
+use Rattle.fz_program.specs.Values.{Value, Values, ArgumentValue}
 use Rattle.fz_program.specs.Table.{line, Holds}
 use Rattle.mz_base.specs.Words.{is_identifier}
 
@@ -312,13 +312,13 @@ plain_value f (set s) = values.set s
 plain_value f (var k) = slice_index_or f k (values.number (pos 0))
 plain_value f nested = values.number (pos 0)
 
-abbrev pub given : Values → Argument → Given
-given f (one p) = values.one (plain_value f p)
-given f (array ps) = values.many (map (plain_value f) ps)
+abbrev pub argument_value : Values → Argument → ArgumentValue
+argument_value f (one p) = values.one (plain_value f p)
+argument_value f (array ps) = values.many (map (plain_value f) ps)
 
 -- what a row asks of the variables' values
 abbrev pub RowHolds : Values → Row → Type 0
-RowHolds f r = Holds (line r.name).meaning (map (given f) r.args)
+RowHolds f r = Holds (line r.name).meaning (map (argument_value f) r.args)
 
 -- a truth value is 0 or 1, an integer lies in the set, a set is a subset, by its canonical list of ranges
 abbrev pub IsInDomain : Domain → Value → Type 0

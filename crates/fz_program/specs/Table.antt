@@ -16,12 +16,12 @@ use Rattle.fz_program.specs.declared.row_name.Kind.{Kind}
 use Rattle.fz_program.specs.declared.row_name.Kind.TheVariants.{Int, Bool as Truth, Set, ConstInt, Ints, Bools, Sets, ConstInts, ConstBools, ConstSets}
 use Rattle.fz_program.specs.declared.row_name.RowName.{RowName}
 use Rattle.fz_program.specs.declared.row_name.RowName.TheVariants.{IntEq, IntNe, IntLe, IntLt, IntEqReif, IntNeReif, IntLeReif, IntLtReif, IntLinEq, IntLinNe, IntLinLe, IntLinEqReif, IntLinNeReif, IntLinLeReif, IntTimes, IntDiv, IntMod, IntMin, IntMax, IntAbs, ArrayIntElement, ArrayVarIntElement, ArrayBoolElement, ArrayVarBoolElement, ArraySetElement, ArrayVarSetElement, BoolEq, BoolNot, BoolToInt, BoolXor, BoolEqReif, BoolLeReif, ArrayBoolAnd, ArrayBoolOr, BoolClause, SetIn, SetInReif, SetEq, SetNe, SetSubset, SetEqReif, SetNeReif, SetSubsetReif, SetUnion, SetIntersect, SetDiff, SetSymdiff, SetCard}
-use Rattle.fz_program.specs.Values.{Value, number, set, Given, number_at, set_at, numbers_at, sets_at, value_at, element_at, is_one, linear}
+use Rattle.fz_program.specs.Values.{Value, number, set, ArgumentValue, number_at, set_at, numbers_at, sets_at, value_at, element_at, is_one, linear}
 
 -- What a constraint asks of the values of its arguments: that a test holds, or that the last is what the others give. Where they give nothing, it doesn't hold.
 pub data Meaning : Type 0 where
-  tests : (List Given → Bool) → Meaning
-  gives : (List Given → Option Value) → Meaning
+  tests : (List ArgumentValue → Bool) → Meaning
+  gives : (List ArgumentValue → Option Value) → Meaning
 
 pub record Line : Type 0 where
   pub text : List ℕ
@@ -34,79 +34,79 @@ row text kinds meaning = record { text = text; kinds = kinds; meaning = meaning 
 -- ---- what the constraints ask: `xs` are all arguments, or all but the last
 
 -- a truth value is 1 where it is true, else 0
-abbrev pub truth : (List Given → Bool) → List Given → Option Value
+abbrev pub truth : (List ArgumentValue → Bool) → List ArgumentValue → Option Value
 truth test xs = Some (number (number_of_bool (test xs)))
 
-abbrev pub equals : List Given → Bool
+abbrev pub equals : List ArgumentValue → Bool
 equals xs = int_eq (number_at xs 0) (number_at xs 1)
 
-abbrev pub differs : List Given → Bool
+abbrev pub differs : List ArgumentValue → Bool
 differs xs = not (equals xs)
 
-abbrev pub is_at_most : List Given → Bool
+abbrev pub is_at_most : List ArgumentValue → Bool
 is_at_most xs = int_le (number_at xs 0) (number_at xs 1)
 
-abbrev pub is_below : List Given → Bool
+abbrev pub is_below : List ArgumentValue → Bool
 is_below xs = int_lt (number_at xs 0) (number_at xs 1)
 
 -- the sum of the products of coefficients and integers
-abbrev pub sum_at : List Given → ℤ
+abbrev pub sum_at : List ArgumentValue → ℤ
 sum_at xs = linear (numbers_at xs 0) (numbers_at xs 1)
 
-abbrev pub sum_equals : List Given → Bool
+abbrev pub sum_equals : List ArgumentValue → Bool
 sum_equals xs = int_eq (sum_at xs) (number_at xs 2)
 
-abbrev pub sum_differs : List Given → Bool
+abbrev pub sum_differs : List ArgumentValue → Bool
 sum_differs xs = not (sum_equals xs)
 
-abbrev pub sum_is_at_most : List Given → Bool
+abbrev pub sum_is_at_most : List ArgumentValue → Bool
 sum_is_at_most xs = int_le (sum_at xs) (number_at xs 2)
 
 -- nothing where the divisor is 0
-abbrev pub arithmetic : Arith → List Given → Option Value
+abbrev pub arithmetic : Arith → List ArgumentValue → Option Value
 arithmetic op xs = option_map number (computed op (number_at xs 0) (number_at xs 1))
 
-abbrev pub magnitude : List Given → Option Value
+abbrev pub magnitude : List ArgumentValue → Option Value
 magnitude xs = Some (number (signed Abs (number_at xs 0)))
 
 -- nothing where there is no such place
-abbrev pub number_element : List Given → Option Value
+abbrev pub number_element : List ArgumentValue → Option Value
 number_element xs = option_map number (element_at (numbers_at xs 1) (number_at xs 0))
 
-abbrev pub set_element : List Given → Option Value
+abbrev pub set_element : List ArgumentValue → Option Value
 set_element xs = option_map set (element_at (sets_at xs 1) (number_at xs 0))
 
-abbrev pub is_true : List Given → Bool
+abbrev pub is_true : List ArgumentValue → Bool
 is_true xs = is_one (number_at xs 0)
 
-abbrev pub is_false : List Given → Bool
+abbrev pub is_false : List ArgumentValue → Bool
 is_false xs = not (is_true xs)
 
-abbrev pub are_all_true : List Given → Bool
+abbrev pub are_all_true : List ArgumentValue → Bool
 are_all_true xs = list_all is_one (numbers_at xs 0)
 
-abbrev pub is_some_true : List Given → Bool
+abbrev pub is_some_true : List ArgumentValue → Bool
 is_some_true xs = list_any is_one (numbers_at xs 0)
 
-abbrev pub is_clause : List Given → Bool
+abbrev pub is_clause : List ArgumentValue → Bool
 is_clause xs = is_some_true xs || not (list_all is_one (numbers_at xs 1))
 
-abbrev pub is_element : List Given → Bool
+abbrev pub is_element : List ArgumentValue → Bool
 is_element xs = contains (set_at xs 1) (number_at xs 0)
 
-abbrev pub same_sets : List Given → Bool
+abbrev pub same_sets : List ArgumentValue → Bool
 same_sets xs = same_set (set_at xs 0) (set_at xs 1)
 
-abbrev pub other_sets : List Given → Bool
+abbrev pub other_sets : List ArgumentValue → Bool
 other_sets xs = not (same_sets xs)
 
-abbrev pub is_part : List Given → Bool
+abbrev pub is_part : List ArgumentValue → Bool
 is_part xs = is_subset (set_at xs 0) (set_at xs 1)
 
-abbrev pub set_result : SetOp → List Given → Option Value
+abbrev pub set_result : SetOp → List ArgumentValue → Option Value
 set_result op xs = Some (set (combined op (set_at xs 0) (set_at xs 1)))
 
-abbrev pub size : List Given → Option Value
+abbrev pub size : List ArgumentValue → Option Value
 size xs = Some (number (pos (cardinality (set_at xs 0))))
 
 -- ---- the table
@@ -162,15 +162,15 @@ line SetSymdiff = row (codes "set_symdiff") (Set ∷ Set ∷ Set ∷ []) (gives 
 line SetCard = row (codes "set_card") (Set ∷ Int ∷ []) (gives size)
 
 -- what a constraint's inputs give, and what its test says; nothing and false where it has no such
-abbrev pub result_of : Meaning → List Given → Option Value
+abbrev pub result_of : Meaning → List ArgumentValue → Option Value
 result_of (tests test) xs = None
 result_of (gives result) xs = result xs
 
-abbrev pub answer_of : Meaning → List Given → Bool
+abbrev pub answer_of : Meaning → List ArgumentValue → Bool
 answer_of (tests test) xs = test xs
 answer_of (gives result) xs = false
 
 -- a constraint holds of the values of its arguments
-abbrev pub Holds : Meaning → List Given → Type 0
+abbrev pub Holds : Meaning → List ArgumentValue → Type 0
 Holds (tests test) xs = test xs ≡ true
 Holds (gives result) xs = result (take (length xs - 1) xs) ≡ Some (value_at xs (length xs - 1))

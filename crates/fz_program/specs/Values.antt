@@ -13,9 +13,9 @@ abbrev pub Values : Type 0
 Values = List Value
 
 -- what an argument stands for: a value, or one for each element of an array
-pub data Given : Type 0 where
-  one : Value → Given
-  many : List Value → Given
+pub data ArgumentValue : Type 0 where
+  one : Value → ArgumentValue
+  many : List Value → ArgumentValue
 
 -- a value of another kind counts as 0 or as the empty set: no well-formed row asks for it
 abbrev pub number_in : Value → ℤ
@@ -26,31 +26,31 @@ abbrev pub set_in : Value → List Range
 set_in (number n) = []
 set_in (set s) = s
 
-abbrev pub value_in : Given → Value
+abbrev pub value_in : ArgumentValue → Value
 value_in (one v) = v
 value_in (many vs) = number (pos 0)
 
-abbrev pub values_in : Given → List Value
+abbrev pub values_in : ArgumentValue → List Value
 values_in (one v) = []
 values_in (many vs) = vs
 
 -- the argument at a place, from 0
-abbrev pub value_at : List Given → ℕ → Value
+abbrev pub value_at : List ArgumentValue → ℕ → Value
 value_at xs k = value_in (slice_index_or xs k (many []))
 
-abbrev pub values_at : List Given → ℕ → List Value
+abbrev pub values_at : List ArgumentValue → ℕ → List Value
 values_at xs k = values_in (slice_index_or xs k (many []))
 
-abbrev pub number_at : List Given → ℕ → ℤ
+abbrev pub number_at : List ArgumentValue → ℕ → ℤ
 number_at xs k = number_in (value_at xs k)
 
-abbrev pub set_at : List Given → ℕ → List Range
+abbrev pub set_at : List ArgumentValue → ℕ → List Range
 set_at xs k = set_in (value_at xs k)
 
-abbrev pub numbers_at : List Given → ℕ → List ℤ
+abbrev pub numbers_at : List ArgumentValue → ℕ → List ℤ
 numbers_at xs k = map number_in (values_at xs k)
 
-abbrev pub sets_at : List Given → ℕ → List (List Range)
+abbrev pub sets_at : List ArgumentValue → ℕ → List (List Range)
 sets_at xs k = map set_in (values_at xs k)
 
 -- a truth value is true where it is 1
