@@ -20,7 +20,7 @@ use Rattle.mz_grammar.specs.declared.level.Level.{Level}
 use Rattle.mz_grammar.specs.declared.level.Level.TheVariants as level_is
 use Rattle.mz_grammar.specs.declared.list.Closing.{Closing}
 use Rattle.mz_grammar.specs.Parts
-use Rattle.mz_grammar.specs.Parts.{Place, Value, Operand, name, member, other, tree_of, related, chained, Argument, given, guarded, strict}
+use Rattle.mz_grammar.specs.Parts.{Place, Value, Operand, name, member, other, tree_of, related, chained, Argument, unguarded, guarded, strict}
 use Rattle.mz_grammar.specs.Arguments.{trees_of, generators_behind, generators_of}
 use Rattle.mz_grammar.specs.Tests.{closes, is_left_out}
 use Rattle.mz_grammar.specs.Model.{Ruled, behind}
@@ -30,7 +30,7 @@ abbrev pub reading_height : Operand → ℕ
 reading_height x = height (tree_of x)
 
 abbrev pub argument_height : Argument → ℕ
-argument_height (given x) = reading_height x
+argument_height (unguarded x) = reading_height x
 argument_height (guarded x e) = max (reading_height x) (height e)
 argument_height (strict g) = generator_height g
 
@@ -201,7 +201,7 @@ on_map Q R f (Some x) q h = h x q
 pub trees_of_height : (b : ℕ) (xs : List Argument) → arguments_height xs ≤ b → OnSome (λ es. trees_height (trees es) ≤ b) (trees_of xs)
 unfolding trees_height
 trees_of_height b [] h = omega arith
-trees_of_height b (given x ∷ rest) h = on_map _ _ _ (trees_of rest) (trees_of_height b rest (right_of (reading_height x) _ h)) (λ es he. max-le (left_of (reading_height x) _ h) he)
+trees_of_height b (unguarded x ∷ rest) h = on_map _ _ _ (trees_of rest) (trees_of_height b rest (right_of (reading_height x) _ h)) (λ es he. max-le (left_of (reading_height x) _ h) he)
 trees_of_height b (guarded x c ∷ rest) h = tt
 trees_of_height b (strict g ∷ rest) h = tt
 
@@ -214,9 +214,9 @@ generators_behind_height : (b : ℕ) (ns : List (Name × Span)) (xs : List Argum
 unfolding gens_height generator_height maybe_height
 generators_behind_height b [] [] h = omega arith
 generators_behind_height b (n ∷ ns) [] h = tt
-generators_behind_height b ns (given (name n s) ∷ rest) h = generators_behind_height b (ns ++ ((n, s) ∷ [])) rest (right_of _ (arguments_height rest) h)
-generators_behind_height b ns (given (member n s e) ∷ rest) h = on_map _ _ _ (generators_behind [] rest) (generators_behind_height b [] rest (right_of _ (arguments_height rest) h)) (λ gs hg. max-le (max-le (member_height n s e b (left_of _ (arguments_height rest) h)) (omega arith)) hg)
-generators_behind_height b ns (given (other s e) ∷ rest) h = tt
+generators_behind_height b ns (unguarded (name n s) ∷ rest) h = generators_behind_height b (ns ++ ((n, s) ∷ [])) rest (right_of _ (arguments_height rest) h)
+generators_behind_height b ns (unguarded (member n s e) ∷ rest) h = on_map _ _ _ (generators_behind [] rest) (generators_behind_height b [] rest (right_of _ (arguments_height rest) h)) (λ gs hg. max-le (max-le (member_height n s e b (left_of _ (arguments_height rest) h)) (omega arith)) hg)
+generators_behind_height b ns (unguarded (other s e) ∷ rest) h = tt
 generators_behind_height b ns (guarded (name n s) c ∷ rest) h = tt
 generators_behind_height b ns (guarded (member n s e) c ∷ rest) h = let k = left_of _ (arguments_height rest) h in on_map _ _ _ (generators_behind [] rest) (generators_behind_height b [] rest (right_of _ (arguments_height rest) h)) (λ gs hg. max-le (max-le (member_height n s e b (left_of _ (height c) k)) (right_of _ (height c) k)) hg)
 generators_behind_height b ns (guarded (other s e) c ∷ rest) h = tt

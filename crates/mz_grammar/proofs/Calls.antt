@@ -16,7 +16,7 @@ use Rattle.mz_grammar.specs.declared.list.Closing.TheVariants.{Paren}
 use Rattle.mz_grammar.specs.Parts
 use Rattle.mz_grammar.specs.Parts.{Place, Operand, tree_of}
 use Rattle.mz_tree.specs.Tree.{Generator, generator, Maybe, node, call, trees as tree_list}
-use Rattle.mz_grammar.specs.Parts.{Argument, name, member, other, given, guarded, strict}
+use Rattle.mz_grammar.specs.Parts.{Argument, name, member, other, unguarded, guarded, strict}
 use Rattle.mz_grammar.specs.Arguments.{possible_after, awaits_in, takes_where, trees_of, generators_of, generators_behind}
 use Rattle.std.specs.Option.{option_map}
 use Rattle.std.specs.Prelude.{map}
@@ -38,7 +38,7 @@ strict_behind : (ns : List (Name × Span)) (n : Name × Span) (ms : List (Name �
 strict_behind [] n ms e w xs h = found_map _ (generators_behind [] xs) h
 strict_behind (m ∷ ns) n ms e w xs h = found_map _ (generators_behind [] xs) h
 
-member_behind : (ns : List (Name × Span)) (n : Name × Span) (x : Name) (s : Span) (e : Tree) (xs : List Argument) → Found (generators_behind [] xs) → Found (generators_behind (ns ++ (n ∷ [])) (given (member x s e) ∷ xs))
+member_behind : (ns : List (Name × Span)) (n : Name × Span) (x : Name) (s : Span) (e : Tree) (xs : List Argument) → Found (generators_behind [] xs) → Found (generators_behind (ns ++ (n ∷ [])) (unguarded (member x s e) ∷ xs))
 member_behind [] n x s e xs h = found_map _ (generators_behind [] xs) h
 member_behind (m ∷ ns) n x s e xs h = found_map _ (generators_behind [] xs) h
 
@@ -46,25 +46,25 @@ guarded_behind : (ns : List (Name × Span)) (n : Name × Span) (x : Name) (s : S
 guarded_behind [] n x s e w xs h = found_map _ (generators_behind [] xs) h
 guarded_behind (m ∷ ns) n x s e w xs h = found_map _ (generators_behind [] xs) h
 
-name_behind : (ns : List (Name × Span)) (n : Name × Span) (x : Name) (s : Span) (xs : List Argument) → Found (generators_behind ((ns ++ (n ∷ [])) ++ ((x, s) ∷ [])) xs) → Found (generators_behind (ns ++ (n ∷ [])) (given (name x s) ∷ xs))
+name_behind : (ns : List (Name × Span)) (n : Name × Span) (x : Name) (s : Span) (xs : List Argument) → Found (generators_behind ((ns ++ (n ∷ [])) ++ ((x, s) ∷ [])) xs) → Found (generators_behind (ns ++ (n ∷ [])) (unguarded (name x s) ∷ xs))
 name_behind [] n x s xs h = h
 name_behind (m ∷ ns) n x s xs h = h
 
 -- one argument more
-fit_given : (t : Generators) (x : Operand) (xs : List Argument) → Fit (possible_after t x) xs → Fit t (given x ∷ xs)
-fit_given Impossible x xs h = found_map _ (trees_of xs) h
-fit_given Possible (name n s) xs (inl h) = inl (found_map _ (trees_of xs) h)
-fit_given Possible (name n s) xs (inr h) = inr (h [] (n, s))
-fit_given Possible (member n s e) xs (inl h) = inl (found_map _ (trees_of xs) h)
-fit_given Possible (member n s e) xs (inr h) = inr (found_map _ (generators_behind [] xs) h)
-fit_given Possible (other s e) xs h = inl (found_map _ (trees_of xs) h)
-fit_given AwaitingIn (name n s) xs (inl h) = inl (found_map _ (trees_of xs) h)
-fit_given AwaitingIn (name n s) xs (inr h) = inr (λ ns m. name_behind ns m n s xs (h (ns ++ (m ∷ [])) (n, s)))
-fit_given AwaitingIn (member n s e) xs (inl h) = inl (found_map _ (trees_of xs) h)
-fit_given AwaitingIn (member n s e) xs (inr h) = inr (λ ns m. member_behind ns m n s e xs h)
-fit_given AwaitingIn (other s e) xs h = inl (found_map _ (trees_of xs) h)
+fit_unguarded : (t : Generators) (x : Operand) (xs : List Argument) → Fit (possible_after t x) xs → Fit t (unguarded x ∷ xs)
+fit_unguarded Impossible x xs h = found_map _ (trees_of xs) h
+fit_unguarded Possible (name n s) xs (inl h) = inl (found_map _ (trees_of xs) h)
+fit_unguarded Possible (name n s) xs (inr h) = inr (h [] (n, s))
+fit_unguarded Possible (member n s e) xs (inl h) = inl (found_map _ (trees_of xs) h)
+fit_unguarded Possible (member n s e) xs (inr h) = inr (found_map _ (generators_behind [] xs) h)
+fit_unguarded Possible (other s e) xs h = inl (found_map _ (trees_of xs) h)
+fit_unguarded AwaitingIn (name n s) xs (inl h) = inl (found_map _ (trees_of xs) h)
+fit_unguarded AwaitingIn (name n s) xs (inr h) = inr (λ ns m. name_behind ns m n s xs (h (ns ++ (m ∷ [])) (n, s)))
+fit_unguarded AwaitingIn (member n s e) xs (inl h) = inl (found_map _ (trees_of xs) h)
+fit_unguarded AwaitingIn (member n s e) xs (inr h) = inr (λ ns m. member_behind ns m n s e xs h)
+fit_unguarded AwaitingIn (other s e) xs h = inl (found_map _ (trees_of xs) h)
 
-fit_one : (t : Generators) (x : Operand) → Fit t (given x ∷ [])
+fit_one : (t : Generators) (x : Operand) → Fit t (unguarded x ∷ [])
 fit_one Impossible x = tt
 fit_one Possible x = inl tt
 fit_one AwaitingIn x = inl tt
@@ -102,7 +102,7 @@ can_complete_guarded_rest t x h = can_complete_behind Paren _ _ (sign SRParen �
 abbrev rest_of_arguments : (t : Generators) (x : Operand) → Bool → Option Tok → Ruled (Parts.arguments t)
 rest_of_arguments t x may o = if may && is_word KWhere o
     then pass (λ s. part Parts.expr λ w. guarded_rest (guarded x w))
-    else behind Paren (part (Parts.arguments (possible_after t x)) λ xs. give (given x ∷ xs)) (give (given x ∷ []))
+    else behind Paren (part (Parts.arguments (possible_after t x)) λ xs. give (unguarded x ∷ xs)) (give (unguarded x ∷ []))
 
 done_rest : (t : Generators) (x : Operand) (may : Bool) → Done {n = Parts.arguments t} (look (rest_of_arguments t x may)) (sign SRParen ∷ [])
 unfolding step read_by rule symbol_number keyword_number
@@ -136,7 +136,7 @@ can_complete_arguments t = (
                 λ w b.
                     (tokens (sign SRParen ∷ []) tt (ends_item_closing Paren) (takes_behind Paren _ _), can_complete_guarded_rest t _ (λ gs. fit_guarded t x w gs e)),
               ))
-              (can_complete_behind Paren _ _ (sign SRParen ∷ [], tt) (λ xs b. (last (λ o h. h), fit_given t x xs b)) (fit_one t x)),
+              (can_complete_behind Paren _ _ (sign SRParen ∷ [], tt) (λ xs b. (last (λ o h. h), fit_unguarded t x xs b)) (fit_one t x)),
         ),
       ))),
 )

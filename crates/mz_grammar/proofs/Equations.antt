@@ -24,7 +24,7 @@ use Rattle.mz_grammar.specs.declared.list.Generators.{Generators}
 use Rattle.mz_grammar.specs.declared.list.Generators.TheVariants.{Possible}
 use Rattle.mz_grammar.specs.Operators.{prefix_of, binary_of, is_nonassociative, tighter_level}
 use Rattle.mz_grammar.specs.Parts
-use Rattle.mz_grammar.specs.Parts.{Place, Operand, tree_of, chained, Argument, given, guarded, strict}
+use Rattle.mz_grammar.specs.Parts.{Place, Operand, tree_of, chained, Argument, unguarded, guarded, strict}
 use Rattle.mz_grammar.specs.Arguments.{possible_after, awaits_in, takes_where, trees_of, generators_of}
 use Rattle.mz_grammar.specs.Tests.{closes, is_left_out, ident_of}
 use Rattle.mz_grammar.specs.Model.{Ruled, rule, behind as behind_element, symbol, word, identifier, accessed, unless_annotated, called, generator_call, guarded_rest, head_token, head_symbol, head_word}
@@ -268,7 +268,7 @@ pub arguments_reads : (t : Generators) (room : ℕ) (ts : List Token) → reads 
     then (waited_at room ts >>= λ g. guarded_at g.0 room g.1)
     else (reads (Parts.level level_is.Iff) room ts >>= λ x. if takes_where t x.0 && is_word KWhere (tok_at x.1)
     then (reads Parts.expr room (behind x.1) >>= λ w. guarded_at (guarded x.0 w.0) room w.1)
-    else listed (separator_at Paren) (reads (Parts.arguments (possible_after t x.0)) room) (given x.0) x.1)))
+    else listed (separator_at Paren) (reads (Parts.arguments (possible_after t x.0)) room) (unguarded x.0) x.1)))
 unfolding step rule
 arguments_reads t room ts = by_rule (Parts.arguments t) room ts
     ∙ pass_if reads {n = Parts.arguments t} (is_sym SRParen) refl _ _ room ts

@@ -16,7 +16,7 @@ use Rattle.mz_cursor.specs.Reading.{on}
 use Rattle.mz_cursor.specs.Look.{is_sym}
 use Rattle.mz_grammar.specs.declared.list.Closing.{Closing}
 use Rattle.mz_grammar.specs.Parts
-use Rattle.mz_grammar.specs.Parts.{Place, Value, Operand, name, member, other, at_of, tree_of, related, chained, Argument, given, guarded, strict}
+use Rattle.mz_grammar.specs.Parts.{Place, Value, Operand, name, member, other, at_of, tree_of, related, chained, Argument, unguarded, guarded, strict}
 use Rattle.mz_grammar.specs.Arguments.{trees_of, generators_behind, generators_of}
 use Rattle.mz_grammar.specs.Tests.{closes, is_left_out, ident_of, text_of, middle_of, tail_of}
 use Rattle.mz_grammar.specs.Model.{Ruled, behind}
@@ -41,7 +41,7 @@ module _ (Named : Name → Type 0) (Placed : Span → Type 0) where
   OfReading (other s e) = Placed s × OfTree Named Placed e
 
   abbrev pub OfArgument : Argument → Type 0
-  OfArgument (given x) = OfReading x
+  OfArgument (unguarded x) = OfReading x
   OfArgument (guarded x e) = OfReading x × OfTree Named Placed e
   OfArgument (strict g) = OfGenerator Named Placed g
 
@@ -175,7 +175,7 @@ module _ (Named : Name → Type 0) (Placed : Span → Type 0) where
   pub trees_of_kept : (xs : List Argument) → OfArguments xs → OnSome (λ es. OfTrees Named Placed (trees es)) (trees_of xs)
   unfolding OfTree
   trees_of_kept [] h = tt
-  trees_of_kept (given x ∷ rest) h = on_map _ _ _ (trees_of rest) (trees_of_kept rest h.1) (λ es he. (of_tree x h.0, he))
+  trees_of_kept (unguarded x ∷ rest) h = on_map _ _ _ (trees_of rest) (trees_of_kept rest h.1) (λ es he. (of_tree x h.0, he))
   trees_of_kept (guarded x c ∷ rest) h = tt
   trees_of_kept (strict g ∷ rest) h = tt
 
@@ -186,10 +186,10 @@ module _ (Named : Name → Type 0) (Placed : Span → Type 0) where
   unfolding OfTree
   generators_behind_kept [] [] hn h = tt
   generators_behind_kept (n ∷ ns) [] hn h = tt
-  generators_behind_kept ns (given (name n s) ∷ rest) hn h = generators_behind_kept (ns ++ ((n, s) ∷ [])) rest (All-push (IsSpot Named Placed) ns (n, s) hn (h.0.0, h.0.1)) h.1
-  generators_behind_kept ns (given (member n s e) ∷ rest) hn h =
+  generators_behind_kept ns (unguarded (name n s) ∷ rest) hn h = generators_behind_kept (ns ++ ((n, s) ∷ [])) rest (All-push (IsSpot Named Placed) ns (n, s) hn (h.0.0, h.0.1)) h.1
+  generators_behind_kept ns (unguarded (member n s e) ∷ rest) hn h =
       on_map _ _ _ (generators_behind [] rest) (generators_behind_kept [] rest (All-nil (IsSpot Named Placed)) h.1) (λ gs hg. ((All-push (IsSpot Named Placed) ns (n, s) hn (h.0.0, h.0.1), h.0.2, tt), hg))
-  generators_behind_kept ns (given (other s e) ∷ rest) hn h = tt
+  generators_behind_kept ns (unguarded (other s e) ∷ rest) hn h = tt
   generators_behind_kept ns (guarded (name n s) c ∷ rest) hn h = tt
   generators_behind_kept ns (guarded (member n s e) c ∷ rest) hn h =
       on_map _ _ _ (generators_behind [] rest) (generators_behind_kept [] rest (All-nil (IsSpot Named Placed)) h.1) (λ gs hg. ((All-push (IsSpot Named Placed) ns (n, s) hn (h.0.0.0, h.0.0.1), h.0.0.2, h.0.1), hg))

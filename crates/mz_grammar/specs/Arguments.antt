@@ -6,7 +6,7 @@ use Rattle.mz_tree.specs.Tree.{Name, Tree, Maybe, Generator, generator, just, no
 use Rattle.mz_cursor.specs.Reading.{on}
 use Rattle.mz_grammar.specs.declared.list.Generators.{Generators}
 use Rattle.mz_grammar.specs.declared.list.Generators.TheVariants.{Possible, AwaitingIn, Impossible}
-use Rattle.mz_grammar.specs.Parts.{Operand, name, member, other, tree_of, Argument, given, guarded, strict}
+use Rattle.mz_grammar.specs.Parts.{Operand, name, member, other, tree_of, Argument, unguarded, guarded, strict}
 
 -- whether they may still be generators after one more argument
 abbrev pub possible_after : Generators → Operand → Generators
@@ -27,15 +27,15 @@ takes_where t (member n s e) = true
 takes_where t x = false
 
 -- an argument that is an expression
-abbrev pub given_of : Argument → Option Operand
-given_of (given x) = Some x
-given_of (guarded x c) = None
-given_of (strict g) = None
+abbrev pub unguarded_of : Argument → Option Operand
+unguarded_of (unguarded x) = Some x
+unguarded_of (guarded x c) = None
+unguarded_of (strict g) = None
 
 -- the arguments as expressions
 abbrev pub trees_of : List Argument → Option (List Tree)
 trees_of [] = Some []
-trees_of (a ∷ rest) = on (given_of a) None (λ x. option_map (λ es. tree_of x ∷ es) (trees_of rest))
+trees_of (a ∷ rest) = on (unguarded_of a) None (λ x. option_map (λ es. tree_of x ∷ es) (trees_of rest))
 
 -- what an argument is to the generators of a call: a name that waits for its `in`, or the names that stand with a set, and its `where`, or neither
 pub data Role : Type 0 where
@@ -44,9 +44,9 @@ pub data Role : Type 0 where
   unfit : Role
 
 abbrev pub role_of : Argument → Role
-role_of (given (name n s)) = waiting n s
-role_of (given (member n s e)) = bound ((n, s) ∷ []) e nothing
-role_of (given (other s e)) = unfit
+role_of (unguarded (name n s)) = waiting n s
+role_of (unguarded (member n s e)) = bound ((n, s) ∷ []) e nothing
+role_of (unguarded (other s e)) = unfit
 role_of (guarded (name n s) c) = unfit
 role_of (guarded (member n s e) c) = bound ((n, s) ∷ []) e (just c)
 role_of (guarded (other s e) c) = unfit

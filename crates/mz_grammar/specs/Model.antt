@@ -21,7 +21,7 @@ use Rattle.mz_grammar.specs.declared.list.Generators.{Generators}
 use Rattle.mz_grammar.specs.declared.list.Generators.TheVariants.{Possible}
 use Rattle.mz_grammar.specs.Operators.{prefix_of, binary_of, is_nonassociative, tighter_level}
 use Rattle.mz_grammar.specs.Parts
-use Rattle.mz_grammar.specs.Parts.{Operand, name, other, at_of, tree_of, chained, Argument, given, guarded, strict, Place, Value}
+use Rattle.mz_grammar.specs.Parts.{Operand, name, other, at_of, tree_of, chained, Argument, unguarded, guarded, strict, Place, Value}
 use Rattle.mz_grammar.specs.Arguments.{possible_after, awaits_in, takes_where, trees_of, generators_of}
 use Rattle.mz_grammar.specs.Tests.{closes, is_left_out, ident_of, ItemKind, an_include, a_constraint, a_solve, an_output, a_predicate, a_test, a_function, an_annotation, an_enum, item_of, text_of, middle_of, tail_of, ends_row, begins_base, begins_type}
 
@@ -172,7 +172,7 @@ set_argument = pass (λ s. part (Parts.level level_is.Union) λ x. part Parts.fi
 abbrev pub expr_argument : (t : Generators) → Ruled (Parts.arguments t)
 expr_argument t = part (Parts.level level_is.Iff) λ x. look (λ o. if takes_where t x && is_word KWhere o
     then pass (λ s. part Parts.expr λ w. guarded_rest (guarded x w))
-    else behind Paren (part (Parts.arguments (possible_after t x)) λ xs. give (given x ∷ xs)) (give (given x ∷ [])))
+    else behind Paren (part (Parts.arguments (possible_after t x)) λ xs. give (unguarded x ∷ xs)) (give (unguarded x ∷ [])))
 
 abbrev pub arguments_rule : (t : Generators) → Ruled (Parts.arguments t)
 arguments_rule t = look (λ o. if is_sym SRParen o then pass (λ s. give [])

@@ -39,7 +39,7 @@ chained x (l ∷ ls) = other (at_of x) (node (at_of x) (chain (tree_of x) (links
 
 -- an argument of a call: an expression, one that a `where` makes a generator, or a generator behind such a one
 pub data Argument : Type 0 where
-  given : Operand → Argument
+  unguarded : Operand → Argument
   guarded : Operand → Tree → Argument
   strict : Generator → Argument
 

@@ -6,8 +6,8 @@ use Rattle.std.proofs.lemmas.List.{append-nil}
 use Rattle.mz_base.specs.declared.fault.Span.{Span}
 use Rattle.mz_tree.specs.Tree.{Name, Tree, Maybe, Generator, generator}
 use Rattle.mz_cursor.specs.Reading.{on}
-use Rattle.mz_grammar.specs.Parts.{Operand, tree_of, Argument, given, guarded, strict}
-use Rattle.mz_grammar.specs.Arguments.{given_of, trees_of, Role, role_of, waiting, bound, unfit, by_role, generators_behind, generators_of}
+use Rattle.mz_grammar.specs.Parts.{Operand, tree_of, Argument, unguarded, guarded, strict}
+use Rattle.mz_grammar.specs.Arguments.{unguarded_of, trees_of, Role, role_of, waiting, bound, unfit, by_role, generators_behind, generators_of}
 
 -- one more argument behind trees that were taken, if it is an expression
 abbrev with_last : Option (List Tree) → Option Operand → Option (List Tree)
@@ -20,9 +20,9 @@ with_last-cons y (Some es) None = refl
 with_last-cons y (Some es) (Some x) = refl
 
 -- the trees of arguments, and of one more behind them
-pub trees_of-behind : (xs : List Argument) (a : Argument) → trees_of (xs ++ (a ∷ [])) ≡ with_last (trees_of xs) (given_of a)
+pub trees_of-behind : (xs : List Argument) (a : Argument) → trees_of (xs ++ (a ∷ [])) ≡ with_last (trees_of xs) (unguarded_of a)
 trees_of-behind [] a = refl
-trees_of-behind (given y ∷ xs) a = ap (option_map (λ es. tree_of y ∷ es)) (trees_of-behind xs a) ∙ with_last-cons y (trees_of xs) (given_of a)
+trees_of-behind (unguarded y ∷ xs) a = ap (option_map (λ es. tree_of y ∷ es)) (trees_of-behind xs a) ∙ with_last-cons y (trees_of xs) (unguarded_of a)
 trees_of-behind (guarded y c ∷ xs) a = refl
 trees_of-behind (strict g ∷ xs) a = refl
 

@@ -10,7 +10,7 @@ use Rattle.mz_tree.specs.declared.expr.Expr.{Expr}
 use Rattle.mz_tree.specs.declared.expr.Gen.{Gen}
 use Rattle.mz_tree.specs.Views.{tree, generator}
 use Rattle.mz_grammar.specs.Parts.{tree_of}
-use Rattle.mz_grammar.specs.Arguments.{given_of, trees_of, role_of, bound, generators_of}
+use Rattle.mz_grammar.specs.Arguments.{unguarded_of, trees_of, role_of, bound, generators_of}
 use Rattle.mz_operand.specs.declared.argument.Argument.{Argument}
 use Rattle.mz_operand.specs.declared.argument.Role.{Role}
 use Rattle.mz_operand.specs.declared.argument.Role.TheVariants as role_is
@@ -20,12 +20,12 @@ use Rattle.mz_operand.specs.Views.{operand, argument, role, condition}
 use Rattle.mz_operand.proofs.Arguments.{trees_of-behind, Taken, taken-waiting, taken-bound, taken-unfit, taken-done, taken-waits, taken-fails}
 
 -- one more that is an expression
-pub exprs_of-given : (args : List Argument) (arg : Argument) (x : Operand) (fit : Bool) (all more : List Expr) (e : Expr) → Some (operand x) ≡ given_of (argument arg) → tree e ≡ tree_of (operand x) → more ≡ all ++ (e ∷ []) → trees_of (map argument args) ≡ (if fit then Some (map tree all) else None) → trees_of (map argument (args ++ (arg ∷ []))) ≡ (if fit then Some (map tree more) else None)
-exprs_of-given args arg x true all more e g t m h = rw (map-append, trees_of-behind (map argument args) (argument arg), h, ← g, m, map-append, t)
-exprs_of-given args arg x false all more e g t m h = rw (map-append, trees_of-behind (map argument args) (argument arg), h)
+pub exprs_of-unguarded : (args : List Argument) (arg : Argument) (x : Operand) (fit : Bool) (all more : List Expr) (e : Expr) → Some (operand x) ≡ unguarded_of (argument arg) → tree e ≡ tree_of (operand x) → more ≡ all ++ (e ∷ []) → trees_of (map argument args) ≡ (if fit then Some (map tree all) else None) → trees_of (map argument (args ++ (arg ∷ []))) ≡ (if fit then Some (map tree more) else None)
+exprs_of-unguarded args arg x true all more e g t m h = rw (map-append, trees_of-behind (map argument args) (argument arg), h, ← g, m, map-append, t)
+exprs_of-unguarded args arg x false all more e g t m h = rw (map-append, trees_of-behind (map argument args) (argument arg), h)
 
 -- one more that is none
-pub exprs_of-other : (args : List Argument) (arg : Argument) (fit : Bool) (all : List Expr) → None ≡ given_of (argument arg) → trees_of (map argument args) ≡ (if fit then Some (map tree all) else None) → trees_of (map argument (args ++ (arg ∷ []))) ≡ None
+pub exprs_of-other : (args : List Argument) (arg : Argument) (fit : Bool) (all : List Expr) → None ≡ unguarded_of (argument arg) → trees_of (map argument args) ≡ (if fit then Some (map tree all) else None) → trees_of (map argument (args ++ (arg ∷ []))) ≡ None
 exprs_of-other args arg true all g h = rw (map-append, trees_of-behind (map argument args) (argument arg), h, ← g)
 exprs_of-other args arg false all g h = rw (map-append, trees_of-behind (map argument args) (argument arg), h)
 

@@ -22,7 +22,7 @@ operand (of_code.Member n s e) = pure.member n s (tree e.value)
 operand (of_code.Other s e) = pure.other s (tree e.value)
 
 abbrev pub argument : Argument → pure.Argument
-argument (argument_of.Given x) = pure.given (operand x)
+argument (argument_of.Unguarded x) = pure.unguarded (operand x)
 argument (argument_of.Guarded x c) = pure.guarded (operand x) (tree c.value)
 argument (argument_of.Strict g) = pure.strict (generator g.value)
 

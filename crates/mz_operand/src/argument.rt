@@ -4,8 +4,8 @@ ghost use Rattle.std.specs.Prelude.{◌≡◌, IfOk, map, [], ◌∷◌, ◌++�
 ghost use Rattle.std.specs.Option.{option_map};
 ghost use Rattle.mz_tree.specs.Tree.{maybe};
 ghost use Rattle.mz_tree.specs.Views.{tree, generator};
-ghost use Rattle.mz_grammar.specs.Parts.{given, guarded, strict};
-ghost use Rattle.mz_grammar.specs.Arguments.{possible_after, awaits_in, takes_where, given_of, trees_of, role_of, bound, generators_of};
+ghost use Rattle.mz_grammar.specs.Parts.{unguarded, guarded, strict};
+ghost use Rattle.mz_grammar.specs.Arguments.{possible_after, awaits_in, takes_where, unguarded_of, trees_of, role_of, bound, generators_of};
 ghost use Rattle.mz_operand.specs.Views.{operand, argument, role, condition};
 
 use crate::operand::Operand;
@@ -17,7 +17,7 @@ use std::alloc::{AllocError, Global};
 /// An argument: an expression, one that a `where` makes a generator, or a generator behind such a one.
 #[derive(Drop)]
 pub enum Argument {
-    Given(Operand),
+    Unguarded(Operand),
     Guarded(Operand, OneDrop<Expr>),
     Strict(OneDrop<Gen>),
 }
@@ -85,11 +85,11 @@ fn is_member(x: &Operand) -> bool
     }
 }
 
-fn given_of(arg: Argument) -> Option<Operand>
-    ensures { option_map operand result ≡ given_of (argument arg) }
+fn unguarded_of(arg: Argument) -> Option<Operand>
+    ensures { option_map operand result ≡ unguarded_of (argument arg) }
 {
     match arg {
-        Argument::Given(x) => Some(x),
+        Argument::Unguarded(x) => Some(x),
         Argument::Guarded(_, _) => None,
         Argument::Strict(_) => None,
     }
@@ -102,7 +102,7 @@ pub fn exprs_of(alloc: Global, args: Vec<Argument>) -> Result<Option<Vec<Expr>>,
     let mut all = Vec::with_capacity(alloc, args.len())?;
     let mut fit = true;
     for arg in args {
-        match given_of(arg) {
+        match unguarded_of(arg) {
             Some(x) => all.push(x.into_expr(alloc)?)?,
             None => fit = false,
         }
@@ -124,14 +124,14 @@ fn role_of(alloc: Global, arg: Argument) -> Result<Role, AllocError>
     ensures { IfOk result (λ r. role r ≡ role_of (argument arg)) }
 {
     match arg {
-        Argument::Given(x) => given_role(alloc, x),
+        Argument::Unguarded(x) => unguarded_role(alloc, x),
         Argument::Guarded(x, cond) => guarded_role(alloc, x, cond),
         Argument::Strict(g) => Ok(strict_role(g.take())),
     }
 }
 
-fn given_role(alloc: Global, x: Operand) -> Result<Role, AllocError>
-    ensures { IfOk result (λ r. role r ≡ role_of (given (operand x))) }
+fn unguarded_role(alloc: Global, x: Operand) -> Result<Role, AllocError>
+    ensures { IfOk result (λ r. role r ≡ role_of (unguarded (operand x))) }
 {
     match x {
         Operand::Name(n, at) => Ok(Role::Waiting(n, at)),

@@ -23,7 +23,7 @@ use Rattle.mz_grammar.specs.Operators.{prefix_of, binary_of, is_nonassociative, 
 use Rattle.mz_grammar.specs.Tests.{closes, is_left_out, ident_of, text_of, middle_of, tail_of, ends_row, begins_base, begins_type, ItemKind, an_include, a_constraint, a_solve, an_output, a_predicate, a_test, a_function, an_annotation, an_enum, item_of}
 use Rattle.mz_grammar.specs.Arguments.{awaits_in, takes_where, trees_of, generators_of}
 use Rattle.mz_grammar.specs.Parts
-use Rattle.mz_grammar.specs.Parts.{Operand, name, member, other, at_of, tree_of, Argument, given, guarded, strict, Place, Value}
+use Rattle.mz_grammar.specs.Parts.{Operand, name, member, other, at_of, tree_of, Argument, unguarded, guarded, strict, Place, Value}
 use Rattle.mz_grammar.specs.Model.{Ruled, rule, symbol, opening, word, identifier, behind, head_token, head_word, head_symbol, called, guarded_rest, function_rule, by_expression, item_by}
 use Rattle.mz_syntax.specs.Next.{Next}
 use Rattle.mz_syntax.specs.ModelSyntax as ebnf

@@ -26,7 +26,7 @@ use Rattle.mz_grammar.specs.Operators.{prefix_of, binary_of, is_nonassociative, 
 use Rattle.mz_grammar.specs.Tests.{closes, is_left_out, ident_of, text_of, middle_of, tail_of, ends_row, begins_base, begins_type, ItemKind, an_include, a_constraint, a_solve, an_output, a_predicate, a_test, a_function, an_annotation, an_enum, item_of}
 use Rattle.mz_grammar.specs.Arguments.{awaits_in, takes_where, trees_of, generators_of}
 use Rattle.mz_grammar.specs.Parts
-use Rattle.mz_grammar.specs.Parts.{Operand, name, member, other, at_of, tree_of, Argument, given, guarded, strict, Place, Value}
+use Rattle.mz_grammar.specs.Parts.{Operand, name, member, other, at_of, tree_of, Argument, unguarded, guarded, strict, Place, Value}
 use Rattle.mz_grammar.specs.Model as model
 use Rattle.mz_grammar.specs.Model.{Ruled, rule, symbol, opening, word, identifier, behind, head_token, head_word, head_symbol, called, guarded_rest, function_rule, by_expression, other_item, item_by}
 use Rattle.mz_syntax.specs.Next.{Next, begins}
@@ -34,7 +34,7 @@ use Rattle.mz_syntax.specs.ModelSyntax as ebnf
 use Rattle.mz_syntax.specs.ModelSyntax.{Ending, closed, with_body, Phrase, Meaning, Derives, DerivesModel, list, optional, term}
 use Rattle.mz_syntax.proofs.Means as meant
 use Rattle.mz_syntax.proofs.Means.{Over, over}
-use Rattle.mz_syntax.proofs.Turned.{Arg, given_arg, guarded_arg, in_arg, no_args, last_arg, more_args, waits_after, weaker, args_after, all_strict, all_turned, exprs, after}
+use Rattle.mz_syntax.proofs.Turned.{Arg, unguarded_arg, guarded_arg, in_arg, no_args, last_arg, more_args, waits_after, weaker, args_after, all_strict, all_turned, exprs, after}
 use Rattle.mz_syntax.proofs.ModelClaims.{Claim, closing, Term, as_deep, no_operator, follow_one, follow_more, level_claim, by_tighter_claim, by_unit_claim, atom_unit, prefix_unit, expr_claim, tight_claim, atom_claim, ann_claim, sees}
 
 abbrev Means : {n : Place} → ℕ → List Token → ℕ → List Token → Ruled n → Type 0
@@ -196,8 +196,8 @@ arguments_mean t k ts = by_symbol k ts k ts SRParen _ _
     (λ b x us h. tested k ts k us (takes_where t x && is_word KWhere (tok_at us)) _ _
     (λ d vs o c ws i. guarded_means t k ts ws (guarded x c) (guarded_arg x c h.0.kind (meant.next_word KWhere (both (takes_where t x) _ d).1 o) i.0))
     (λ d. element k ts k us Paren _ _
-    (λ vs c xs ws g. (refl, (g.0, more_args (given_arg x (expr_claim k ts us x h).0 h.0.kind) c (args_after t x g.1), g.2)))
-    (λ vs c. (refl, (us, last_arg (given_arg x (expr_claim k ts us x h).0 h.0.kind), c))))))
+    (λ vs c xs ws g. (refl, (g.0, more_args (unguarded_arg x (expr_claim k ts us x h).0 h.0.kind) c (args_after t x g.1), g.2)))
+    (λ vs c. (refl, (us, last_arg (unguarded_arg x (expr_claim k ts us x h).0 h.0.kind), c))))))
   where
     in_first : (t : Generators) (k : ℕ) (ts us vs ws : List Token) (x : Operand) (w : pure.Maybe) → (awaits_in t && is_word KIn (tok_at ts)) ≡ true → Over ts us → Claim (Parts.level level_is.Union) k us x vs → Claim Parts.filter k vs w ws → Arg k (awaits_in t) ts (strict (generator [] (tree_of x) w)) ws
     in_first t k ts us vs ws x w b o h i =

@@ -12,7 +12,7 @@ use Rattle.mz_tree.specs.Tree.{Name, Tree, Maybe, Generator, generator, nothing,
 use Rattle.mz_cursor.specs.Tokens.{place}
 use Rattle.mz_grammar.specs.declared.list.Generators.{Generators}
 use Rattle.mz_grammar.specs.declared.list.Generators.TheVariants.{Possible, AwaitingIn, Impossible}
-use Rattle.mz_grammar.specs.Parts.{Operand, name, member, other, tree_of, Argument, given, guarded, strict}
+use Rattle.mz_grammar.specs.Parts.{Operand, name, member, other, tree_of, Argument, unguarded, guarded, strict}
 use Rattle.mz_grammar.specs.Arguments.{possible_after, awaits_in, trees_of, Role, waiting, bound, unfit, role_of, by_role, generators_behind, generators_of}
 use Rattle.mz_syntax.specs.Next.{Next}
 use Rattle.mz_syntax.specs.ModelSyntax as ebnf
@@ -26,14 +26,14 @@ Kind k (other s e) ts us = Unit {0}
 
 -- An `in` may come first only where a name waits for it.
 pub data Arg (k : ℕ) : Bool → List Token → Argument → List Token → Type 0 where
-  given_arg : {b : Bool} {ts us : List Token} (x : Operand) → Derives k expr ts (tree_of x) us → Kind k x ts us → Arg k b ts (given x) us
+  unguarded_arg : {b : Bool} {ts us : List Token} (x : Operand) → Derives k expr ts (tree_of x) us → Kind k x ts us → Arg k b ts (unguarded x) us
   guarded_arg : {b : Bool} {ts us vs ws : List Token} (x : Operand) (c : Tree) → Kind k x ts us → Next (Word KWhere) us vs → Derives k expr vs c ws → Arg k b ts (guarded x c) ws
   in_arg : {ts us vs ws : List Token} {e : Tree} {w : Maybe} → Next (Word KIn) ts us → Derives k tight us e vs → Derives k (perhaps (Word KWhere)) vs w ws → Arg k true ts (strict (generator [] e w)) ws
   strict_arg : {b : Bool} {ts us : List Token} {g : Generator} → Derives k gen ts g us → Arg k b ts (strict g) us
 
 -- a name waits after this argument
 abbrev pub waits_after : Argument → Bool
-waits_after (given (name n s)) = true
+waits_after (unguarded (name n s)) = true
 waits_after _ = false
 
 pub data Args (k : ℕ) : Bool → List Token → List Argument → List Token → Type 0 where
@@ -44,7 +44,7 @@ pub data Args (k : ℕ) : Bool → List Token → List Argument → List Token �
 -- where no `in` may come first, one may
 
 weaker_arg : {k : ℕ} {ts us : List Token} {a : Argument} (b : Bool) → Arg k false ts a us → Arg k b ts a us
-weaker_arg b (given_arg x d h) = given_arg x d h
+weaker_arg b (unguarded_arg x d h) = unguarded_arg x d h
 weaker_arg b (guarded_arg x c h w d) = guarded_arg x c h w d
 weaker_arg b (strict_arg h) = strict_arg h
 
@@ -54,7 +54,7 @@ weaker b (last_arg h) = last_arg (weaker_arg b h)
 weaker b (more_args h c g) = more_args (weaker_arg b h) c g
 
 -- as the rules keep account of it
-pub args_after : {k : ℕ} {ts us : List Token} {all : List Argument} (t : Generators) (x : Operand) → Args k (awaits_in (possible_after t x)) ts all us → Args k (waits_after (given x)) ts all us
+pub args_after : {k : ℕ} {ts us : List Token} {all : List Argument} (t : Generators) (x : Operand) → Args k (awaits_in (possible_after t x)) ts all us → Args k (waits_after (unguarded x)) ts all us
 args_after Impossible (name n s) h = weaker true h
 args_after Impossible (member n s e) h = h
 args_after Impossible (other s e) h = h
@@ -94,13 +94,13 @@ after h c (ebnf.some g) = ebnf.more h c g
 -- Arguments that are expressions
 
 exprs_last : {k : ℕ} {b : Bool} {ts us : List Token} {a : Argument} (es : List Tree) → Arg k b ts a us → trees_of (a ∷ []) ≡ Some es → Derives k (optional SComma expr) ts es us
-exprs_last {k = k} {ts = ts} {us = us} es (given_arg x d h) e = subst (λ es. Derives k (optional SComma expr) ts es us) (some_inner e) (ebnf.some (ebnf.last d))
+exprs_last {k = k} {ts = ts} {us = us} es (unguarded_arg x d h) e = subst (λ es. Derives k (optional SComma expr) ts es us) (some_inner e) (ebnf.some (ebnf.last d))
 exprs_last es (guarded_arg x c h w d) e = absurd (no_some e)
 exprs_last es (in_arg c h w) e = absurd (no_some e)
 exprs_last es (strict_arg h) e = absurd (no_some e)
 
 exprs_more : {k : ℕ} {b : Bool} {ts us vs ws : List Token} {a : Argument} (rest : List Argument) (es : List Tree) → Arg k b ts a us → Next (Sym SComma) us vs → ((es : List Tree) → trees_of rest ≡ Some es → Derives k (optional SComma expr) vs es ws) → trees_of (a ∷ rest) ≡ Some es → Derives k (optional SComma expr) ts es ws
-exprs_more {k = k} {ts = ts} {ws = ws} rest es (given_arg x d h) c again e = let r = given_by {g = tree_of x} (trees_of rest) e in subst (λ es. Derives k (optional SComma expr) ts es ws) (r.2) (ebnf.some (after d c (again r.0 r.1)))
+exprs_more {k = k} {ts = ts} {ws = ws} rest es (unguarded_arg x d h) c again e = let r = given_by {g = tree_of x} (trees_of rest) e in subst (λ es. Derives k (optional SComma expr) ts es ws) (r.2) (ebnf.some (after d c (again r.0 r.1)))
 exprs_more rest es (guarded_arg x c h w d) f again e = absurd (no_some e)
 exprs_more rest es (in_arg c h w) f again e = absurd (no_some e)
 exprs_more rest es (strict_arg h) f again e = absurd (no_some e)
@@ -177,9 +177,9 @@ strict_bound : {k : ℕ} {start ts us : List Token} {ns ms : List (Name × Span)
 strict_bound w (ebnf.a_gen h i s c) = ebnf.a_gen (names_after w h) i s c
 
 last_step : {k : ℕ} {b : Bool} {start ts us : List Token} {ns : List (Name × Span)} {a : Argument} {gs : List Generator} → Arg k b ts a us → Commas start ns ts → Waits b ns → by_role ns (role_of a) (λ ms. generators_behind ms []) ≡ Some gs → Gens k start gs us
-last_step {ns = ns} (given_arg (name n s) d h) w l e = absurd (no_some (sym (none_waits ns (n, s)) ∙ e))
-last_step (given_arg (member n s t) d h) w l e = last_bound (member_bound n s t nothing w h ebnf.without) e
-last_step (given_arg (other s t) d h) w l e = absurd (no_some e)
+last_step {ns = ns} (unguarded_arg (name n s) d h) w l e = absurd (no_some (sym (none_waits ns (n, s)) ∙ e))
+last_step (unguarded_arg (member n s t) d h) w l e = last_bound (member_bound n s t nothing w h ebnf.without) e
+last_step (unguarded_arg (other s t) d h) w l e = absurd (no_some e)
 last_step (guarded_arg (name n s) c h x d) w l e = absurd (no_some e)
 last_step (guarded_arg (member n s t) c h x d) w l e = last_bound (member_bound n s t (just c) w h (ebnf.with_it x d)) e
 last_step (guarded_arg (other s t) c h x d) w l e = absurd (no_some e)
@@ -191,9 +191,9 @@ abbrev Again : ℕ → Bool → List Token → List Argument → List Token → 
 Again k b vs rest ws = (start : List Token) (ns : List (Name × Span)) (gs : List Generator) → Commas start ns vs → Waits b ns → generators_behind ns rest ≡ Some gs → Gens k start gs ws
 
 more_step : {k : ℕ} {b : Bool} {start ts us vs ws : List Token} {ns : List (Name × Span)} {a : Argument} {gs : List Generator} (rest : List Argument) → Arg k b ts a us → Next (Sym SComma) us vs → Again k (waits_after a) vs rest ws → Commas start ns ts → Waits b ns → by_role ns (role_of a) (λ ms. generators_behind ms rest) ≡ Some gs → Gens k start gs ws
-more_step {start = start} {ns = ns} {gs = gs} rest (given_arg (name n s) d h) c again w l e = again start (ns ++ ((n, s) ∷ [])) gs (one_more n s w h.0 h.1 c) (now_waits ns (n, s)) e
-more_step rest (given_arg (member n s t) d h) c again w l e = more_bound rest (member_bound n s t nothing w h ebnf.without) c (λ gs. again _ [] gs no_commas tt) e
-more_step rest (given_arg (other s t) d h) c again w l e = absurd (no_some e)
+more_step {start = start} {ns = ns} {gs = gs} rest (unguarded_arg (name n s) d h) c again w l e = again start (ns ++ ((n, s) ∷ [])) gs (one_more n s w h.0 h.1 c) (now_waits ns (n, s)) e
+more_step rest (unguarded_arg (member n s t) d h) c again w l e = more_bound rest (member_bound n s t nothing w h ebnf.without) c (λ gs. again _ [] gs no_commas tt) e
+more_step rest (unguarded_arg (other s t) d h) c again w l e = absurd (no_some e)
 more_step rest (guarded_arg (name n s) b h x d) c again w l e = absurd (no_some e)
 more_step rest (guarded_arg (member n s t) b h x d) c again w l e = more_bound rest (member_bound n s t (just b) w h (ebnf.with_it x d)) c (λ gs. again _ [] gs no_commas tt) e
 more_step rest (guarded_arg (other s t) b h x d) c again w l e = absurd (no_some e)

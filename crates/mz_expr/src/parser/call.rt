@@ -108,7 +108,7 @@ impl<F: Fn(Global, &mut Cursor<'_>, Entry) -> Result<Operand, Stop>> Descent<F> 
                 return self.guarded(cur, all, guarded_argument(x, condition));
             }
             generators = possible_after(generators, &x);
-            all.push(Argument::Given(x))?;
+            all.push(Argument::Unguarded(x))?;
             if !separator(cur, Closing::Paren)? {
                 return Ok(all);
             }
