@@ -110,7 +110,7 @@ module _ {Part : Type 0} {Value : Part → Type 0} (rule : (n : Part) → Rule V
 
   unfit_there : (n : Part) (room : ℕ) (end : Span) (old : List Token) (why : Reason) (at : Span) (new us : List Token) → Ends why → at ≡ place_or end new → old ≡ us ++ new → Refuses rule n room (rule n) us why (tok_at new)
       → Begins rule n us → IsUnfit rule n room why end old at
-  unfit_there n room end old why at new us e p s h b = record { front = us; rest = new; split = s; place = p; named = h; fails = fails n room us why new e h; begins = b }
+  unfit_there n room end old why at new us e p s h b = record { prefix = us; rest = new; split = s; place = p; named = h; fails = fails n room us why new e h; begins = b }
 
   begins : (n : Part) (q : ℕ) (us : List Token) (why : Reason) → Ends why → (next : List Token) → Refuses rule n q (rule n) us why (tok_at next) → Begins rule n us
   begins n q us syntax e next h = let r = some_part rule MayEndBefore takes_token IsUsable far aim takes complete can_complete bring n us syntax next h in (r.0, r.1, r.2.0, subst (λ l. IsWithin rule n r.2.0 (l ++ r.0) r.1) (append-nil us) r.2.1)
@@ -123,13 +123,13 @@ module _ {Part : Type 0} {Value : Part → Type 0} (rule : (n : Part) → Rule V
   faulty n room end old [] too_deep at us p s h = absurd (deep h)
   faulty n room end old (t ∷ rest) too_deep at us p s h =
       let r = some_part rule MayEndBefore takes_token IsUsable far aim takes complete can_complete bring n us too_deep (t ∷ rest) h in
-      record { front = us; token = t; rest = rest; split = s; place = p; named = h; fails = fails_within n room us too_deep t h; begins = (r.0, r.1, r.2.0, r.2.1) }
+      record { prefix = us; token = t; rest = rest; split = s; place = p; named = h; fails = fails_within n room us too_deep t h; begins = (r.0, r.1, r.2.0, r.2.1) }
 
   -- what gives the reading keeps the promise, for a part that may stand at the end
   pub answers : {X : Type 0} (n : Part) (view : X → Value n) (room : ℕ) (end : Span) (old new : List Token) (result : Result X Stop) → MayEndBefore n None → Gives view end new result (read rule rank width n room old) → Answers rule n view room end old new result
   answers n view room end old new (Ok x) may_end g =
       let h : Outcome rule rank width low falls n room (rule n) old (Ok (view x, new)) = subst (Outcome rule rank width low falls n room (rule n) old) g (read_sound rule rank width low falls n room old) in
-      record { front = h.0; split = h.1; reads = ends rule MayEndBefore takes_token IsUsable far aim takes complete can_complete None h.2 may_end (can_complete n); longest = longest n room h.0 new (view x) h.2 }
+      record { prefix = h.0; split = h.1; reads = ends rule MayEndBefore takes_token IsUsable far aim takes complete can_complete None h.2 may_end (can_complete n); longest = longest n room h.0 new (view x) h.2 }
   answers n view room end old new (Err Memory) may_end g = tt
   answers n view room end old new (Err (Refused f)) may_end g =
       let h : Outcome rule rank width low falls n room (rule n) old (stuck (reason_of f.kind) new) = subst (Outcome rule rank width low falls n room (rule n) old) g.0 (read_sound rule rank width low falls n room old) in

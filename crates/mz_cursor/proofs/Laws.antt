@@ -12,9 +12,9 @@ pub follow : (f rest : List Token) → tok_at (f ++ rest) ≡ follows f (tok_at 
 follow [] rest = refl
 follow (t ∷ f) rest = refl
 
-weight_front : (w : ℕ) (us rest : List Token) → weight w rest ≤ weight w (us ++ rest)
-weight_front w [] rest = omega arith
-weight_front w (t ∷ us) rest = let h = weight_front w us rest in omega arith
+weight_prefix : (w : ℕ) (us rest : List Token) → weight w rest ≤ weight w (us ++ rest)
+weight_prefix w [] rest = omega arith
+weight_prefix w (t ∷ us) rest = let h = weight_prefix w us rest in omega arith
 
 module _ {Part : Type 0} {Value : Part → Type 0} (rule : (n : Part) → Rule Value n) (rank : Part → ℕ) (width : ℕ) (low : (n : Part) → rank n < width) (falls : (n : Part) → Falls rank (rank n) (rule n)) where
   -- behind a token, any part is one further down
@@ -30,8 +30,8 @@ module _ {Part : Type 0} {Value : Part → Type 0} (rule : (n : Part) → Rule V
 
   -- what a reader's answer says of the tokens
   abbrev pub Outcome : (n : Part) → ℕ → Rule Value n → List Token → Read (Value n) → Type 0
-  Outcome n room p ts (Ok x) = (front : List Token) × (ts ≡ front ++ x.1) × Runs rule n room p front x.0 (tok_at x.1)
-  Outcome n room p ts (Err e) = (front : List Token) × (ts ≡ front ++ e.rest) × Refuses rule n room p front e.why (tok_at e.rest)
+  Outcome n room p ts (Ok x) = (prefix : List Token) × (ts ≡ prefix ++ x.1) × Runs rule n room p prefix x.0 (tok_at x.1)
+  Outcome n room p ts (Err e) = (prefix : List Token) × (ts ≡ prefix ++ e.rest) × Refuses rule n room p prefix e.why (tok_at e.rest)
 
   abbrev Sound : ℕ → Type 0
   Sound fuel = (m : Part) (room : ℕ) (us : List Token) → weight width us + rank m < fuel → Outcome m room (rule m) us (read_by rule fuel m room us)
@@ -59,7 +59,7 @@ module _ {Part : Type 0} {Value : Part → Type 0} (rule : (n : Part) → Rule V
   in_part : (fuel : ℕ) {n m : Part} (room r : ℕ) (f : Value m → Rule Value n) (ts : List Token) (o : Read (Value m)) → Outcome m room (rule m) ts o
       → ((x : Value m) (us : List Token) → weight width us ≤ weight width ts → Outcome n room (f x) us (step (read_by rule fuel) (f x) room us))
       → Outcome n room (part m f) ts (o >>= λ x. step (read_by rule fuel) (f x.0) room x.1)
-  in_part fuel room r f ts (Ok x) h rest = beyond_part room f ts x.0 x.1 h _ (rest x.0 x.1 (subst (λ l. weight width x.1 ≤ weight width l) (sym h.1) (weight_front width h.0 x.1)))
+  in_part fuel room r f ts (Ok x) h rest = beyond_part room f ts x.0 x.1 h _ (rest x.0 x.1 (subst (λ l. weight width x.1 ≤ weight width l) (sym h.1) (weight_prefix width h.0 x.1)))
   in_part fuel room r f ts (Err e) h rest = (h.0, h.1, within h.2)
 
   sound_step : (fuel : ℕ) → Sound fuel → {n : Part} (p : Rule Value n) (r room : ℕ) (ts : List Token) → Falls rank r p → weight width ts + r ≤ fuel → Outcome n room p ts (step (read_by rule fuel) p room ts)
@@ -116,7 +116,7 @@ module _ {Part : Type 0} {Value : Part → Type 0} (rule : (n : Part) → Rule V
       let there : us ++ (vs ++ rest) ≡ (us ++ vs) ++ rest = sym (append_assoc us vs rest) in
       rw (append_assoc) (onward y rest (λ x. step (read_by rule (suc fuel)) (f x.0) room x.1)
       (reaches h fuel (rank m) room (vs ++ rest) (seen vs rest next e) (falls m) (rw (there) (omega (arith, d.0))))
-      (reaches g (suc fuel) r room rest e (d.1 x) (let w = weight_front width us (vs ++ rest) in let eq = ap (weight width) there in omega (arith, w, eq))))
+      (reaches g (suc fuel) r room rest e (d.1 x) (let w = weight_prefix width us (vs ++ rest) in let eq = ap (weight width) there in omega (arith, w, eq))))
 
   enough : {A : Type 0} {room : ℕ} {x : A} {rest : List Token} {o : Read A} → Reaches room room x rest o → o ≡ Ok (x, rest)
   enough (reached e) = e
@@ -143,7 +143,7 @@ module _ {Part : Type 0} {Value : Part → Type 0} (rule : (n : Part) → Rule V
   refuses (beyond {m = m} {room = q} {f = f} us vs {x = x} {next = next} h g) (suc fuel) r rest e d l =
       let there : us ++ (vs ++ rest) ≡ (us ++ vs) ++ rest = sym (append_assoc us vs rest) in
       rw (append_assoc) (ap (λ o. o >>= λ x. step (read_by rule (suc fuel)) (f x.0) q x.1) (enough (reaches h fuel (rank m) q (vs ++ rest) (seen vs rest next e) (falls m) (rw (there) (omega (arith, d.0)))))
-      ∙ refuses g (suc fuel) r rest e (d.1 x) (let w = weight_front width us (vs ++ rest) in let eq = ap (weight width) there in omega (arith, w, eq)))
+      ∙ refuses g (suc fuel) r rest e (d.1 x) (let w = weight_prefix width us (vs ++ rest) in let eq = ap (weight width) there in omega (arith, w, eq)))
 
   -- what is read does not depend on the fuel, where there is enough
   abbrev reads : (n : Part) → ℕ → Reader (Value n)
@@ -161,7 +161,7 @@ module _ {Part : Type 0} {Value : Part → Type 0} (rule : (n : Part) → Rule V
   same_behind : (fuel : ℕ) {n m : Part} (q : ℕ) (f : Value m → Rule Value n) (us : List Token) (o : Read (Value m)) → Outcome m q (rule m) us o
       → ((x : Value m) (vs : List Token) → weight width vs ≤ weight width us → step (read_by rule fuel) (f x) q vs ≡ step reads (f x) q vs)
       → (o >>= λ x. step (read_by rule fuel) (f x.0) q x.1) ≡ (o >>= λ x. step reads (f x.0) q x.1)
-  same_behind fuel q f us (Ok x) h rest = rest x.0 x.1 (subst (λ l. weight width x.1 ≤ weight width l) (sym h.1) (weight_front width h.0 x.1))
+  same_behind fuel q f us (Ok x) h rest = rest x.0 x.1 (subst (λ l. weight width x.1 ≤ weight width l) (sym h.1) (weight_prefix width h.0 x.1))
   same_behind fuel q f us (Err e) h rest = refl
 
   same_step : (fuel : ℕ) {n : Part} (p : Rule Value n) (r q : ℕ) (us : List Token) → Falls rank r p → weight width us + r ≤ fuel → step (read_by rule fuel) p q us ≡ step reads p q us

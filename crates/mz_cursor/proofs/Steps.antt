@@ -7,7 +7,7 @@ use Rattle.mz_lexer.specs.declared.token.Token.{Token}
 use Rattle.mz_lexer.specs.declared.token.Tok.{Tok}
 use Rattle.mz_cursor.specs.Tokens.{tok_at, behind, place}
 use Rattle.mz_cursor.specs.Rules.{Rule, give, refuse, leave_out, look, pass, enter, leave, part, too_deep}
-use Rattle.mz_cursor.specs.Reading.{Read, Reader, Stuck, stuck, on, open_at, mapped, with_front, listed, step, ◌>>=◌}
+use Rattle.mz_cursor.specs.Reading.{Read, Reader, Stuck, stuck, on, open_at, mapped, with_prefix, listed, step, ◌>>=◌}
 
 -- the room of a call that pushed
 pub open_more : {A : Type 0} (room r : ℕ) (ts : List Token) (f : ℕ → Read A) → room ≡ suc r → open_at room ts f ≡ f r
@@ -25,44 +25,44 @@ pub listed_mapped : {A B : Type 0} (f : List A → B) (separator : Reader Bool) 
     (separator ts >>= λ b. if b.0 then mapped (λ xs. f (x ∷ xs)) (next b.1) else Ok (f (x ∷ []), b.1)) ≡ mapped f (listed separator next x ts)
 listed_mapped {A = A} {B = B} f separator next x ts = go (separator ts)
   where
-    last : (o : Read (List A)) → mapped (λ xs. f (x ∷ xs)) o ≡ mapped f (with_front (x ∷ []) o)
+    last : (o : Read (List A)) → mapped (λ xs. f (x ∷ xs)) o ≡ mapped f (with_prefix (x ∷ []) o)
     last (Ok y) = refl
     last (Err e) = refl
 
-    by_flag : (b : Bool) (us : List Token) → (if b then mapped (λ xs. f (x ∷ xs)) (next us) else Ok (f (x ∷ []), us)) ≡ mapped f (if b then with_front (x ∷ []) (next us) else Ok (x ∷ [], us))
+    by_flag : (b : Bool) (us : List Token) → (if b then mapped (λ xs. f (x ∷ xs)) (next us) else Ok (f (x ∷ []), us)) ≡ mapped f (if b then with_prefix (x ∷ []) (next us) else Ok (x ∷ [], us))
     by_flag true us = last (next us)
     by_flag false us = refl
 
-    go : (o : Read Bool) → (o >>= λ b. if b.0 then mapped (λ xs. f (x ∷ xs)) (next b.1) else Ok (f (x ∷ []), b.1)) ≡ mapped f (o >>= λ b. if b.0 then with_front (x ∷ []) (next b.1) else Ok (x ∷ [], b.1))
+    go : (o : Read Bool) → (o >>= λ b. if b.0 then mapped (λ xs. f (x ∷ xs)) (next b.1) else Ok (f (x ∷ []), b.1)) ≡ mapped f (o >>= λ b. if b.0 then with_prefix (x ∷ []) (next b.1) else Ok (x ∷ [], b.1))
     go (Ok b) = by_flag b.0 b.1
     go (Err e) = refl
 
 -- what was read first, in two pieces
-pub front_front : {A : Type 0} (xs ys : List A) (o : Read (List A)) → with_front xs (with_front ys o) ≡ with_front (xs ++ ys) o
-front_front xs ys (Ok x) = ap (λ l. Ok (l, x.1)) (sym (append_assoc xs ys x.0))
-front_front xs ys (Err e) = refl
+pub prefix_prefix : {A : Type 0} (xs ys : List A) (o : Read (List A)) → with_prefix xs (with_prefix ys o) ≡ with_prefix (xs ++ ys) o
+prefix_prefix xs ys (Ok x) = ap (λ l. Ok (l, x.1)) (sym (append_assoc xs ys x.0))
+prefix_prefix xs ys (Err e) = refl
 
-pub front_more : {A : Type 0} (xs : List A) (x : A) (o : Read (List A)) → with_front (xs ++ (x ∷ [])) o ≡ with_front xs (with_front (x ∷ []) o)
-front_more xs x o = sym (front_front xs (x ∷ []) o)
+pub prefix_more : {A : Type 0} (xs : List A) (x : A) (o : Read (List A)) → with_prefix (xs ++ (x ∷ [])) o ≡ with_prefix xs (with_prefix (x ∷ []) o)
+prefix_more xs x o = sym (prefix_prefix xs (x ∷ []) o)
 
-pub front_push : {A X : Type 0} (f : X → A) (xs : List X) (x : X) (o : Read (List A)) → with_front (map f (xs ++ (x ∷ []))) o ≡ with_front (map f xs) (with_front (f x ∷ []) o)
-front_push f xs x o = ap (λ l. with_front l o) (map-append f xs (x ∷ [])) ∙ front_more (map f xs) (f x) o
+pub prefix_push : {A X : Type 0} (f : X → A) (xs : List X) (x : X) (o : Read (List A)) → with_prefix (map f (xs ++ (x ∷ []))) o ≡ with_prefix (map f xs) (with_prefix (f x ∷ []) o)
+prefix_push f xs x o = ap (λ l. with_prefix l o) (map-append f xs (x ∷ [])) ∙ prefix_more (map f xs) (f x) o
 
 pub nothing_behind : {A : Type 0} (xs : List A) → xs ++ [] ≡ xs
 nothing_behind xs = append-nil xs
 
-pub no_front : {A : Type 0} (o : Read (List A)) → with_front [] o ≡ o
-no_front (Ok x) = refl
-no_front (Err e) = refl
+pub no_prefix : {A : Type 0} (o : Read (List A)) → with_prefix [] o ≡ o
+no_prefix (Ok x) = refl
+no_prefix (Err e) = refl
 
-pub then_front : {A B : Type 0} (x : A) (o : Read (List A)) (f : List A → Reader B) → (o >>= λ y. f (x ∷ y.0) y.1) ≡ (with_front (x ∷ []) o >>= λ y. f y.0 y.1)
-then_front x (Ok y) f = refl
-then_front x (Err e) f = refl
+pub then_prefix : {A B : Type 0} (x : A) (o : Read (List A)) (f : List A → Reader B) → (o >>= λ y. f (x ∷ y.0) y.1) ≡ (with_prefix (x ∷ []) o >>= λ y. f y.0 y.1)
+then_prefix x (Ok y) f = refl
+then_prefix x (Err e) f = refl
 
 -- a list that is turned into another, element by element
-pub mapped_front : {A B : Type 0} (f : A → B) (x : A) (o : Read (List A)) → mapped (λ xs. map f xs) (with_front (x ∷ []) o) ≡ with_front (f x ∷ []) (mapped (λ xs. map f xs) o)
-mapped_front f x (Ok y) = refl
-mapped_front f x (Err e) = refl
+pub mapped_prefix : {A B : Type 0} (f : A → B) (x : A) (o : Read (List A)) → mapped (λ xs. map f xs) (with_prefix (x ∷ []) o) ≡ with_prefix (f x ∷ []) (mapped (λ xs. map f xs) o)
+mapped_prefix f x (Ok y) = refl
+mapped_prefix f x (Err e) = refl
 
 -- one reading after another, in two groups
 pub grouped : {A B C : Type 0} (o : Read A) (f : A × List Token → Read B) (g : B × List Token → Read C) → (o >>= λ x. f x >>= g) ≡ ((o >>= f) >>= g)

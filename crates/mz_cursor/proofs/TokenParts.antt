@@ -27,9 +27,9 @@ module _ {Part : Type 0} {Value : Part → Type 0} (Holds : (n : Part) → Value
   holds_follows [] next all holds = holds
   holds_follows (t ∷ ts) next all holds = all.0
 
-  holds_front : (us vs : List Token) → AllHold (us ++ vs) → AllHold us
-  holds_front [] vs all = tt
-  holds_front (u ∷ us) vs all = (all.0, all.1, holds_front us vs all.2)
+  holds_prefix : (us vs : List Token) → AllHold (us ++ vs) → AllHold us
+  holds_prefix [] vs all = tt
+  holds_prefix (u ∷ us) vs all = (all.0, all.1, holds_prefix us vs all.2)
 
   holds_back : (us vs : List Token) → AllHold (us ++ vs) → AllHold vs
   holds_back [] vs all = all
@@ -43,4 +43,4 @@ module _ {Part : Type 0} {Value : Part → Type 0} (Holds : (n : Part) → Value
     kept (enters r) all holds h = kept r all.2 holds (h _ all.1)
     kept (leaves r) all holds h = kept r all holds h
     kept (parts {m = m} us vs {x = x} {next = next} r q) all holds h =
-        kept q (holds_back us vs all) holds (h x (kept r (holds_front us vs all) (holds_follows vs next (holds_back us vs all) holds) (all_keep m)))
+        kept q (holds_back us vs all) holds (h x (kept r (holds_prefix us vs all) (holds_follows vs next (holds_back us vs all) holds) (all_keep m)))

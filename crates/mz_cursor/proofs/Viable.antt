@@ -37,12 +37,12 @@ has_right [] vs h = h
 has_right (t ∷ us) vs h = tt
 
 -- the token that follows stays the same, whatever stands behind
-same_front : (us : List Token) (why : Reason) (rest more : List Token) (next other : Option Tok) → tok_at rest ≡ next → Begun us why rest → follows us next ≡ follows ((us ++ allowed why rest) ++ more) other
-same_front [] syntax rest more next other e b = absurd b
-same_front [] left_out rest more next other e b = absurd b
-same_front [] too_deep [] more next other e b = absurd b
-same_front [] too_deep (t ∷ rest) more next other e b = sym e
-same_front (t ∷ us) why rest more next other e b = refl
+same_prefix : (us : List Token) (why : Reason) (rest more : List Token) (next other : Option Tok) → tok_at rest ≡ next → Begun us why rest → follows us next ≡ follows ((us ++ allowed why rest) ++ more) other
+same_prefix [] syntax rest more next other e b = absurd b
+same_prefix [] left_out rest more next other e b = absurd b
+same_prefix [] too_deep [] more next other e b = absurd b
+same_prefix [] too_deep (t ∷ rest) more next other e b = sym e
+same_prefix (t ∷ us) why rest more next other e b = refl
 
 module _ {Part : Type 0} {Value : Part → Type 0} (rule : (n : Part) → Rule Value n) where
   -- more room harms nothing
@@ -70,7 +70,7 @@ module _ {Part : Type 0} {Value : Part → Type 0} (rule : (n : Part) → Rule V
 
   -- what a reader took without being stuck, it may take
   abbrev pub Taken : (n : Part) → ℕ → Rule Value n → List Token → Read (Value n) → Type 0
-  Taken n room p ts (Ok x) = (front : List Token) × (ts ≡ front ++ x.1) × Runs rule n room p front x.0 (tok_at x.1)
+  Taken n room p ts (Ok x) = (prefix : List Token) × (ts ≡ prefix ++ x.1) × Runs rule n room p prefix x.0 (tok_at x.1)
   Taken n room p ts (Err e) = Unit {0}
 
   take_look : {n : Part} (room : ℕ) (f : Option Tok → Rule Value n) (ts : List Token) (o : Read (Value n)) → Taken n room (f (tok_at ts)) ts o → Taken n room (look f) ts o
@@ -275,8 +275,8 @@ module _ {Part : Type 0} {Value : Part → Type 0} (rule : (n : Part) → Rule V
         onward_by {n = n} {m = m} f us x e more r c h =
             (more, r.0, goes_in us more (h.0, ends (follows more None) h.1 c (can_complete m)) (r.1.0, subst (λ p. Runs rule n r.1.0 p more r.0 None) (sym e) r.1.1))
 
-        onward_brought : {n m : Part} (f : Value m → Rule Value n) (us more front : List Token) (y : Value m) → Goes (rule m) (us ++ front) y (follows more None) → (x : Value n) × Goes (f y) more x None → Onward f us
-        onward_brought f us more front y h r = (front ++ more, r.0, subst (λ us. Goes (part _ f) us r.0 None) (append_assoc us front more) (goes_in (us ++ front) more h r.1))
+        onward_brought : {n m : Part} (f : Value m → Rule Value n) (us more prefix : List Token) (y : Value m) → Goes (rule m) (us ++ prefix) y (follows more None) → (x : Value n) × Goes (f y) more x None → Onward f us
+        onward_brought f us more prefix y h r = (prefix ++ more, r.0, subst (λ us. Goes (part _ f) us r.0 None) (append_assoc us prefix more) (goes_in (us ++ prefix) more h r.1))
 
         onward : {n m : Part} (f : Value m → Rule Value n) (us : List Token) (x : Value m) {p : Rule Value n} → f x ≡ p → After n m f p → Goes (rule m) us x None → Onward f us
         onward {n = n} f us x e (last {x = y} s) h = ([], y, goes_in us [] h (0, subst (λ p. Runs rule n 0 p [] y None) (sym e) gives))
@@ -307,7 +307,7 @@ module _ {Part : Type 0} {Value : Part → Type 0} (rule : (n : Part) → Rule V
         viable (one_too_many {f = f}) (t ∷ rest) e l b = let r = by_completion (f t.span) (l t.span).0 in (r.0, r.1, (suc r.2.0, enters r.2.1))
         viable (behind_look {n = n} {f = f} {ts = ts} {why = why} {next = next} h) rest e l b =
             let r = viable h rest e (l.1 (follows ts next)) b in
-            (r.0, r.1, (r.2.0, looks (subst (λ o. Runs rule n r.2.0 (f o) ((ts ++ allowed why rest) ++ r.0) r.1 None) (same_front ts why rest r.0 next None e b) r.2.1)))
+            (r.0, r.1, (r.2.0, looks (subst (λ o. Runs rule n r.2.0 (f o) ((ts ++ allowed why rest) ++ r.0) r.1 None) (same_prefix ts why rest r.0 next None e b) r.2.1)))
         viable (behind_pass {t = t} {ts = ts} {why = why} h) rest e l b =
             let r = from ts why rest (l t.span).0 (viable h rest e (l t.span).1) in
             (r.0, r.1, (r.2.0, passes r.2.1))

@@ -42,47 +42,47 @@ module _ {Part : Type 0} {Value : Part → Type 0} (rule : (n : Part) → Rule V
 
   -- some such part begins with these tokens, whatever is open at once
   abbrev pub Begins : Part → List Token → Type 0
-  Begins n front = (more : List Token) × (x : Value n) × (room : ℕ) × IsWithin n room (front ++ more) x
+  Begins n prefix = (more : List Token) × (x : Value n) × (room : ℕ) × IsWithin n room (prefix ++ more) x
 
   abbrev pub BeginsWithin : Part → ℕ → List Token → Type 0
-  BeginsWithin n room front = (more : List Token) × (x : Value n) × IsWithin n room (front ++ more) x
+  BeginsWithin n room prefix = (more : List Token) × (x : Value n) × IsWithin n room (prefix ++ more) x
 
   -- no such part goes on with the first token of rest; nor ends there, where rest is the end of the file
   abbrev pub FailsAt : Part → List Token → List Token → Type 0
-  FailsAt n front [] = (x : Value n) (room : ℕ) → IsWithin n room front x → ⊥
-  FailsAt n front (t ∷ rest) = Begins n (front ++ (t ∷ [])) → ⊥
+  FailsAt n prefix [] = (x : Value n) (room : ℕ) → IsWithin n room prefix x → ⊥
+  FailsAt n prefix (t ∷ rest) = Begins n (prefix ++ (t ∷ [])) → ⊥
 
   abbrev pub EndsAt : Part → List Token → List Token → Type 0
-  EndsAt n front [] = Unit {0}
-  EndsAt n front (t ∷ rest) = Begins n (front ++ (t ∷ [])) → ⊥
+  EndsAt n prefix [] = Unit {0}
+  EndsAt n prefix (t ∷ rest) = Begins n (prefix ++ (t ∷ [])) → ⊥
 
   -- the longest front that is such a part
-  pub record IsFront (n : Part) (room : ℕ) (old rest : List Token) (x : Value n) : Type 0 where
-    pub front : List Token
-    pub split : old ≡ front ++ rest
-    pub reads : IsWithin n room front x
-    pub longest : EndsAt n front rest
+  pub record IsLongestPrefix (n : Part) (room : ℕ) (old rest : List Token) (x : Value n) : Type 0 where
+    pub prefix : List Token
+    pub split : old ≡ prefix ++ rest
+    pub reads : IsWithin n room prefix x
+    pub longest : EndsAt n prefix rest
 
   -- the first token at which no such part is possible; it is left out, or not, as the grammar says there
   pub record IsUnfit (n : Part) (room : ℕ) (why : Reason) (end : Span) (old : List Token) (at : Span) : Type 0 where
-    pub front : List Token
+    pub prefix : List Token
     pub rest : List Token
-    pub split : old ≡ front ++ rest
+    pub split : old ≡ prefix ++ rest
     pub place : at ≡ place_or end rest
-    pub named : Refuses rule n room (rule n) front why (tok_at rest)
-    pub fails : FailsAt n front rest
-    pub begins : Begins n front
+    pub named : Refuses rule n room (rule n) prefix why (tok_at rest)
+    pub fails : FailsAt n prefix rest
+    pub begins : Begins n prefix
 
   -- the token that opens one too many: some such part begins so, and none where no more may be open
   pub record IsTooDeep (n : Part) (room : ℕ) (old : List Token) (at : Span) : Type 0 where
-    pub front : List Token
+    pub prefix : List Token
     pub token : Token
     pub rest : List Token
-    pub split : old ≡ front ++ (token ∷ rest)
+    pub split : old ≡ prefix ++ (token ∷ rest)
     pub place : at ≡ token.span
-    pub named : Refuses rule n room (rule n) front too_deep (Some token.tok)
-    pub fails : BeginsWithin n room (front ++ (token ∷ [])) → ⊥
-    pub begins : Begins n (front ++ (token ∷ []))
+    pub named : Refuses rule n room (rule n) prefix too_deep (Some token.tok)
+    pub fails : BeginsWithin n room (prefix ++ (token ∷ [])) → ⊥
+    pub begins : Begins n (prefix ++ (token ∷ []))
 
   abbrev pub IsFault : Part → ℕ → Reason → Span → List Token → Span → Type 0
   IsFault n room syntax end old at = IsUnfit n room syntax end old at
@@ -91,6 +91,6 @@ module _ {Part : Type 0} {Value : Part → Type 0} (rule : (n : Part) → Rule V
 
   -- what a call answered that reads a part at the front of old, where so many tokens more may be opened
   abbrev pub Answers : {X : Type 0} → (n : Part) → (X → Value n) → ℕ → Span → List Token → List Token → Result X Stop → Type 0
-  Answers n view room end old new (Ok x) = IsFront n room old new (view x)
+  Answers n view room end old new (Ok x) = IsLongestPrefix n room old new (view x)
   Answers n view room end old new (Err Memory) = Unit {0}
   Answers n view room end old new (Err (Refused f)) = (f ≡ fault_of (reason_of f.kind) f.span) × IsFault n room (reason_of f.kind) end old f.span

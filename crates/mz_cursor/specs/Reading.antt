@@ -43,12 +43,12 @@ abbrev pub mapped : {A B : Type 0} → (A → B) → Read A → Read B
 mapped f o = o >>= λ x. Ok (f x.0, x.1)
 
 -- what was read before a list, and the list
-abbrev pub with_front : {A : Type 0} → List A → Read (List A) → Read (List A)
-with_front all o = mapped (λ xs. all ++ xs) o
+abbrev pub with_prefix : {A : Type 0} → List A → Read (List A) → Read (List A)
+with_prefix all o = mapped (λ xs. all ++ xs) o
 
 -- the elements behind x, where a separator tells whether more follow, and next reads those
 abbrev pub listed : {A : Type 0} → Reader Bool → Reader (List A) → A → Reader (List A)
-listed separator next x ts = separator ts >>= λ b. if b.0 then with_front (x ∷ []) (next b.1) else Ok (x ∷ [], b.1)
+listed separator next x ts = separator ts >>= λ b. if b.0 then with_prefix (x ∷ []) (next b.1) else Ok (x ∷ [], b.1)
 
 -- a symbol or a keyword, with its place
 abbrev pub symbol_at : Symbol → Reader Span

@@ -5,9 +5,9 @@ use Rattle.mz_lexer.specs.declared.token.Token.{Token}
 use Rattle.mz_lexer.specs.declared.token.Tok.{Tok}
 
 -- the token in front
-abbrev pub front : List Token → Option Token
-front [] = None
-front (t ∷ ts) = Some t
+abbrev pub first_token : List Token → Option Token
+first_token [] = None
+first_token (t ∷ ts) = Some t
 
 -- what the token in front is
 abbrev pub tok_at : List Token → Option Tok

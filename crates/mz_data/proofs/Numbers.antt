@@ -32,7 +32,7 @@ module _ (names : List (List ℕ)) where
   unfit_place turn text f (by_its_bytes h) = lexed_in turn h refl
   unfit_place turn text f (by_its_tokens tokens lexed h) =
       ap (λ (s : Span). s.file) h.place.place
-      ∙ token_place turn (end_of turn text) h.place.front h.place.rest (subst (λ ts. EachIn turn (map (lex names) ts)) h.place.split (lexed_in turn lexed.lexes refl)) (after_file (start_of turn) text)
+      ∙ token_place turn (end_of turn text) h.place.prefix h.place.rest (subst (λ ts. EachIn turn (map (lex names) ts)) h.place.split (lexed_in turn lexed.lexes refl)) (after_file (start_of turn) text)
 
   module _ (texts : Texts) where
     fault_place : (turn : ℕ) (name : List ℕ) (f : Fault) → FailsAsData names texts turn name f → f.span.file ≡ turn

@@ -10,7 +10,7 @@ use Rattle.mz_tree.specs.Data as pure
 use Rattle.mz_cursor.specs.Tokens.{tok_at, behind, place}
 use Rattle.mz_cursor.specs.Look.{is_sym}
 use Rattle.mz_cursor.specs.Rules.{syntax, give, refuse, look, pass, leave, part}
-use Rattle.mz_cursor.specs.Reading.{Read, stuck, ◌>>=◌, on, open_at, symbol_at, mapped, with_front, listed, step}
+use Rattle.mz_cursor.specs.Reading.{Read, stuck, ◌>>=◌, on, open_at, symbol_at, mapped, with_prefix, listed, step}
 use Rattle.mz_cursor.proofs.Laws
 use Rattle.mz_cursor.proofs.Steps.{itself, same_then, same_if, same_on, step_if, step_on, pass_if, enter_if, pass_on}
 use Rattle.mz_grammar.specs.Tests.{ident_of, ends_row}
@@ -134,8 +134,8 @@ cell_reads v room ts = pass_if reads {n = row} (is_sym SComma) refl _ (give (v �
     ∙ same_if (is_sym SComma (tok_at ts)) (step_if reads {n = row} (ends_row (tok_at (behind ts))) (give (v ∷ [])) _ room (behind ts)) refl
     ∙ go (is_sym SComma (tok_at ts)) (ends_row (tok_at (behind ts)))
   where
-    go : (a b : Bool) → (if a then (if b then Ok (v ∷ [], behind ts) else with_front (v ∷ []) (reads row room (behind ts))) else Ok (v ∷ [], ts))
-        ≡ ((if a then (if b then flag false (behind ts) else flag true (behind ts)) else flag false ts) >>= λ b. if b.0 then with_front (v ∷ []) (reads row room b.1) else Ok (v ∷ [], b.1))
+    go : (a b : Bool) → (if a then (if b then Ok (v ∷ [], behind ts) else with_prefix (v ∷ []) (reads row room (behind ts))) else Ok (v ∷ [], ts))
+        ≡ ((if a then (if b then flag false (behind ts) else flag true (behind ts)) else flag false ts) >>= λ b. if b.0 then with_prefix (v ∷ []) (reads row room b.1) else Ok (v ∷ [], b.1))
     go true true = refl
     go true false = refl
     go false b = refl
@@ -150,7 +150,7 @@ last_set_reads : (room : ℕ) (ts : List Token) → reads (index_sets 0) room ts
 unfolding step rule
 last_set_reads room ts = by_rule (index_sets 0) room ts ∙ pass_if reads {n = index_sets 0} (is_sym SComma) refl _ _ room ts
 
-set_and_more_reads : (d room : ℕ) (ts : List Token) → reads (index_sets (suc d)) room ts ≡ (reads set room ts >>= λ v. symbol_at SComma v.1 >>= λ c. with_front (v.0 ∷ []) (reads (index_sets d) room c.1))
+set_and_more_reads : (d room : ℕ) (ts : List Token) → reads (index_sets (suc d)) room ts ≡ (reads set room ts >>= λ v. symbol_at SComma v.1 >>= λ c. with_prefix (v.0 ∷ []) (reads (index_sets d) room c.1))
 unfolding step rule
 set_and_more_reads d room ts = by_rule (index_sets (suc d)) room ts ∙ same_then (reads set room ts) _ _ (λ v. symbol_reads (index_sets (suc d)) SComma _ room v.1)
 
@@ -158,7 +158,7 @@ set_and_more_reads d room ts = by_rule (index_sets (suc d)) room ts ∙ same_the
 pub index_sets_none : (d room : ℕ) (ts : List Token) → d ≡ 0 → reads (index_sets d) room ts ≡ (if is_sym SComma (tok_at ts) then Ok ([], behind ts) else Ok ([], ts))
 index_sets_none d room ts e = ap (λ k. reads (index_sets k) room ts) e ∙ last_set_reads room ts
 
-pub index_sets_more : (d room : ℕ) (ts : List Token) → 0 < d → reads (index_sets d) room ts ≡ (reads set room ts >>= λ v. symbol_at SComma v.1 >>= λ c. with_front (v.0 ∷ []) (reads (index_sets (d - 1)) room c.1))
+pub index_sets_more : (d room : ℕ) (ts : List Token) → 0 < d → reads (index_sets d) room ts ≡ (reads set room ts >>= λ v. symbol_at SComma v.1 >>= λ c. with_prefix (v.0 ∷ []) (reads (index_sets (d - 1)) room c.1))
 index_sets_more d room ts l = let e : d ≡ suc (d - 1) = omega arith in ap (λ k. reads (index_sets k) room ts) e ∙ set_and_more_reads (d - 1) room ts
 
 pub sized_reads : (d room : ℕ) (ts : List Token) → reads (sized d) room ts ≡ (reads (index_sets d) room ts >>= λ ss. brackets_at room ss.1 >>= λ vs. symbol_at SRParen vs.1 >>= λ c. Ok (pure.array_nd (pure.values ss.0) (pure.values vs.0), c.1))
@@ -200,7 +200,7 @@ unfolding step file_goes_on_at
 behind_item_reads d i room [] = refl
 behind_item_reads d i room (t ∷ ts) = step_if reads {n = file d} (is_sym SSemi (Some t.tok)) _ refuse room (t ∷ ts) ∙ go (is_sym SSemi (Some t.tok))
   where
-    go : (b : Bool) → (if b then with_front (i ∷ []) (reads (file d) room ts) else stuck syntax (t ∷ ts)) ≡ ((if b then Ok (true, ts) else stuck {A = Bool} syntax (t ∷ ts)) >>= λ b. if b.0 then with_front (i ∷ []) (reads (file d) room b.1) else Ok (i ∷ [], b.1))
+    go : (b : Bool) → (if b then with_prefix (i ∷ []) (reads (file d) room ts) else stuck syntax (t ∷ ts)) ≡ ((if b then Ok (true, ts) else stuck {A = Bool} syntax (t ∷ ts)) >>= λ b. if b.0 then with_prefix (i ∷ []) (reads (file d) room b.1) else Ok (i ∷ [], b.1))
     go true = refl
     go false = refl
 

@@ -18,7 +18,7 @@ use Rattle.mz_tree.specs.Data.{Given, values, lines, is_name}
 use Rattle.mz_cursor.specs.Rules.{Runs}
 use Rattle.mz_cursor.specs.Reading.{on}
 use Rattle.mz_cursor.specs.Look.{is_sym}
-use Rattle.mz_cursor.specs.Promise.{IsFront}
+use Rattle.mz_cursor.specs.Promise.{IsLongestPrefix}
 use Rattle.mz_cursor.proofs.TokenParts as Generic
 use Rattle.mz_grammar.specs.Tests.{ident_of, ends_row}
 use Rattle.mz_grammar.specs.Data as part
@@ -244,8 +244,8 @@ module _ (Named : Name → Type 0) (Placed : Span → Type 0) where
   file_keeps {d = d} r holds = Generic.kept Holds TokenHolds Placed rule all_kept r holds tt (all_kept (part.file d))
 
   -- the tokens of a whole file
-  whole_keeps : (d : Dimensions) (room : ℕ) (tokens : List Token) (is : List Given) → IsFront rule (part.file d) room tokens [] is → AllHold tokens → All Kept is
-  whole_keeps d room tokens is h holds = file_keeps h.reads (subst AllHold (h.split ∙ append-nil h.front) holds)
+  whole_keeps : (d : Dimensions) (room : ℕ) (tokens : List Token) (is : List Given) → IsLongestPrefix rule (part.file d) room tokens [] is → AllHold tokens → All Kept is
+  whole_keeps d room tokens is h holds = file_keeps h.reads (subst AllHold (h.split ∙ append-nil h.prefix) holds)
 
 -- Names of a table
 
@@ -267,7 +267,7 @@ named_tokens texts [] all = tt
 named_tokens texts (t ∷ ts) all = (named_tok texts t.tok (All-head (HasName texts) t ts all), tt, named_tokens texts ts (All-tail (HasName texts) t ts all))
 
 -- the names in the items of a whole file are of the table that its tokens' names are of
-pub whole_within : (texts : List (List ℕ)) (d : Dimensions) (room : ℕ) (tokens : List Token) (is : List Given) → IsFront rule (part.file d) room tokens [] is → All (HasName texts) tokens → All (IsGivenWithin (length texts)) is
+pub whole_within : (texts : List (List ℕ)) (d : Dimensions) (room : ℕ) (tokens : List Token) (is : List Given) → IsLongestPrefix rule (part.file d) room tokens [] is → All (HasName texts) tokens → All (IsGivenWithin (length texts)) is
 whole_within texts d room tokens is h all =
     All-weaker (Kept (λ n. n < length texts) Anywhere) (IsGivenWithin (length texts)) (λ g k. record { name = k.0; names = k.1 }) is
     (whole_keeps (λ n. n < length texts) Anywhere d room tokens is h (named_tokens texts tokens all))
@@ -292,7 +292,7 @@ placed_tokens number [] all = tt
 placed_tokens number (t ∷ ts) all = (any_tok number t.tok, All-head (λ t. t.span.file ≡ number) t ts all, placed_tokens number ts (All-tail (λ t. t.span.file ≡ number) t ts all))
 
 -- the places of the items of a whole file are in the file of its tokens
-pub whole_placed : (number : ℕ) (d : Dimensions) (room : ℕ) (tokens : List Token) (is : List Given) → IsFront rule (part.file d) room tokens [] is → All (λ t. t.span.file ≡ number) tokens → All (IsGivenIn number) is
+pub whole_placed : (number : ℕ) (d : Dimensions) (room : ℕ) (tokens : List Token) (is : List Given) → IsLongestPrefix rule (part.file d) room tokens [] is → All (λ t. t.span.file ≡ number) tokens → All (IsGivenIn number) is
 whole_placed number d room tokens is h all =
     All-weaker (Kept Any (λ s. s.file ≡ number)) (IsGivenIn number) (λ g k. record { name = k.2; value = k.3 }) is
     (whole_keeps Any (λ s. s.file ≡ number) d room tokens is h (placed_tokens number tokens all))

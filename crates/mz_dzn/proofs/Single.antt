@@ -13,7 +13,7 @@ use Rattle.mz_tree.specs.Data.{Given}
 use Rattle.mz_cursor.specs.Tokens.{place_or}
 use Rattle.mz_cursor.specs.Rules.{syntax}
 use Rattle.mz_cursor.specs.Reading.{Read, stuck}
-use Rattle.mz_cursor.specs.Promise.{IsUnfit, IsFront}
+use Rattle.mz_cursor.specs.Promise.{IsUnfit, IsLongestPrefix}
 use Rattle.mz_cursor.proofs.Laws as Laws
 use Rattle.mz_grammar.specs.Data.{rule, rank, width, reads, dimensions_of, file}
 use Rattle.mz_grammar.proofs.DataFalls.{low, falls}
@@ -53,12 +53,12 @@ module _ (names : List (List ℕ)) (tokens : List Token) where
   read_file items e = file_of items _ (outcome (file (dimensions_of names)) 120 tokens _ refl) e
 
   -- the same of the longest front that is one, with no token behind it
-  pub front_file : (items : List Given) → IsFront rule (file (dimensions_of names)) 120 tokens [] items → IsDataFile names tokens items
-  front_file items h = subst (λ ts. IsDataFile names ts items) (sym (h.split ∙ append-nil h.front)) h.reads
+  pub prefix_file : (items : List Given) → IsLongestPrefix rule (file (dimensions_of names)) 120 tokens [] items → IsDataFile names tokens items
+  prefix_file items h = subst (λ ts. IsDataFile names ts items) (sym (h.split ∙ append-nil h.prefix)) h.reads
 
   pub unfit_reads : (end at : Span) (h : IsUnfit rule (file (dimensions_of names)) 120 syntax end tokens at) → reads (file (dimensions_of names)) 120 tokens ≡ stuck syntax h.rest
   unfolding reads
-  unfit_reads end at h = ap (reads (file (dimensions_of names)) 120) h.split ∙ Laws.read_refuses rule rank width low falls (file (dimensions_of names)) 120 h.front h.rest syntax h.named
+  unfit_reads end at h = ap (reads (file (dimensions_of names)) 120) h.split ∙ Laws.read_refuses rule rank width low falls (file (dimensions_of names)) 120 h.prefix h.rest syntax h.named
 
   -- what stops so is refused there
   stuck_unfit : (end : Span) (rest : List Token) → reads (file (dimensions_of names)) 120 tokens ≡ stuck syntax rest → IsUnfit rule (file (dimensions_of names)) 120 syntax end tokens (place_or end rest)

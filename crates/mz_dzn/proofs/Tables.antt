@@ -16,7 +16,7 @@ use Rattle.mz_tree.specs.Data.{Given}
 use Rattle.mz_cursor.specs.Tokens.{tok_at, behind, place}
 use Rattle.mz_cursor.specs.Look.{is_sym}
 use Rattle.mz_cursor.specs.Rules.{syntax}
-use Rattle.mz_cursor.specs.Reading.{Read, stuck, ◌>>=◌, on, open_at, mapped, with_front, listed}
+use Rattle.mz_cursor.specs.Reading.{Read, stuck, ◌>>=◌, on, open_at, mapped, with_prefix, listed}
 use Rattle.mz_cursor.proofs.Steps.{same_if, same_on}
 use Rattle.mz_grammar.specs.Tests.{ident_of}
 use Rattle.mz_grammar.specs.Data.{Dimensions, Placed, dimensions_in, dimensions_of, reads, file, item, datum, named, sized, plain, range}
@@ -25,9 +25,9 @@ use Rattle.mz_dzn.proofs.Equations.{named_reads, datum_reads, item_reads, file_r
 use Rattle.mz_dzn.proofs.Answer.{Outcome, outcome}
 
 -- what holds of each element holds of those behind a front
-all_behind : {A : Type 0} (P : A → Type 0) (front rest : List A) → All P (front ++ rest) → All P rest
+all_behind : {A : Type 0} (P : A → Type 0) (prefix rest : List A) → All P (prefix ++ rest) → All P rest
 all_behind P [] rest all = all
-all_behind P (x ∷ front) rest all = all_behind P front rest (All-tail P x (front ++ rest) all)
+all_behind P (x ∷ prefix) rest all = all_behind P prefix rest (All-tail P x (prefix ++ rest) all)
 
 -- what two tables mean by the names of the tokens is the same
 module _ (d e : Dimensions) where
@@ -76,9 +76,9 @@ module _ (d e : Dimensions) where
   more_same k room i [] again below all = refl
   more_same k room i (u ∷ us) again below all = go (is_sym SSemi (Some u.tok))
     where
-      go : (b : Bool) → ((if b then Ok (true, us) else stuck {A = Bool} syntax (u ∷ us)) >>= λ c. if c.0 then with_front (i ∷ []) (reads (file d) room c.1) else Ok (i ∷ [], c.1))
-          ≡ ((if b then Ok (true, us) else stuck {A = Bool} syntax (u ∷ us)) >>= λ c. if c.0 then with_front (i ∷ []) (reads (file e) room c.1) else Ok (i ∷ [], c.1))
-      go true = ap (with_front (i ∷ [])) (again us (omega arith) (All-tail Agree u us all))
+      go : (b : Bool) → ((if b then Ok (true, us) else stuck {A = Bool} syntax (u ∷ us)) >>= λ c. if c.0 then with_prefix (i ∷ []) (reads (file d) room c.1) else Ok (i ∷ [], c.1))
+          ≡ ((if b then Ok (true, us) else stuck {A = Bool} syntax (u ∷ us)) >>= λ c. if c.0 then with_prefix (i ∷ []) (reads (file e) room c.1) else Ok (i ∷ [], c.1))
+      go true = ap (with_prefix (i ∷ [])) (again us (omega arith) (All-tail Agree u us all))
       go false = refl
 
   items_same : (k room : ℕ) (ts : List Token) (o : Read Given) → Outcome (item e) room ts o → ((vs : List Token) → length vs ≤ k → All Agree vs → reads (file d) room vs ≡ reads (file e) room vs) → length ts ≤ suc k → All Agree ts

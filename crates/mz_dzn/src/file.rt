@@ -133,7 +133,7 @@ fn item(alloc: Global, cur: &mut Cursor<'_>, names: &Names) -> Result<DataItem, 
 }
 
 /// All items, up to the end of the file.
-#[tactic(auto, using(crate::proofs::Equations::file_reads, mz_cursor::proofs::Steps::front_push, std::proofs::lemmas::List::map_push, mz_cursor::proofs::Steps::nothing_behind, mz_cursor::proofs::Steps::no_front))]
+#[tactic(auto, using(crate::proofs::Equations::file_reads, mz_cursor::proofs::Steps::prefix_push, std::proofs::lemmas::List::map_push, mz_cursor::proofs::Steps::nothing_behind, mz_cursor::proofs::Steps::no_prefix))]
 fn file(alloc: Global, cur: &mut Cursor<'_>, names: &Names) -> Result<Vec<DataItem>, Stop>
     ensures reads { Gives (λ v. map given v.items) cur.new.end cur.new.rest.now result (reads (file (dimensions_of names.now)) cur.old.room cur.old.rest.now) }
     ensures whole { OnOk result (cur.new.rest.now ≡ []) }

@@ -1,4 +1,4 @@
 pub mod Descents
 pub mod Loops
-pub mod Fronts
+pub mod Prefixes
 mod Climbs

@@ -14,8 +14,8 @@ use Rattle.mz_base.specs.declared.stop.Stop.{Stop}
 use Rattle.mz_base.specs.declared.stop.Stop.TheVariants.{Refused, Memory}
 use Rattle.mz_cursor.specs.Promise.{Gives}
 use Rattle.mz_cursor.specs.Rules.{syntax}
-use Rattle.mz_cursor.specs.Reading.{Read, mapped, with_front, on, stuck}
-use Rattle.mz_cursor.proofs.Steps.{front_front, front_more}
+use Rattle.mz_cursor.specs.Reading.{Read, mapped, with_prefix, on, stuck}
+use Rattle.mz_cursor.proofs.Steps.{prefix_prefix, prefix_more}
 use Rattle.mz_grammar.specs.Parts as parts
 use Rattle.mz_grammar.specs.Parts.{Operand, tree_of}
 use Rattle.mz_grammar.specs.Tests.{middle_of, tail_of}
@@ -36,25 +36,25 @@ pub branches_push : {X : Type 0} (f : X → Tree × Tree) (xs : List X) (x : X) 
 branches_push f xs x (Ok y) = ap (λ l. Ok ((l, y.0.1), y.1)) (ap (λ l. l ++ y.0.0) (map-append f xs (x ∷ [])) ∙ append_assoc (map f xs) (f x ∷ []) y.0.0)
 branches_push f xs x (Err e) = refl
 
-branches_front : (xs : List (Tree × Tree)) (x : Tree × Tree) (o : Read (List (Tree × Tree) × Maybe)) → with_branches (xs ++ (x ∷ [])) o ≡ with_branches xs (with_branches (x ∷ []) o)
-branches_front xs x (Ok y) = ap (λ l. Ok ((l, y.0.1), y.1)) (append_assoc xs (x ∷ []) y.0.0)
-branches_front xs x (Err e) = refl
+branches_prefix : (xs : List (Tree × Tree)) (x : Tree × Tree) (o : Read (List (Tree × Tree) × Maybe)) → with_branches (xs ++ (x ∷ [])) o ≡ with_branches xs (with_branches (x ∷ []) o)
+branches_prefix xs x (Ok y) = ap (λ l. Ok ((l, y.0.1), y.1)) (append_assoc xs (x ∷ []) y.0.0)
+branches_prefix xs x (Err e) = refl
 
 -- a branch more
 pub branches_more : (done : List (Tree × Tree)) (x : Tree × Tree) (room behind_skip after : ℕ) (rest mid next : List Token) (all : Read (List (Tree × Tree) × Maybe)) →
     with_branches done (reads parts.branches room rest) ≡ all → is_word KElseif (tok_at rest) ≡ true → mid ≡ behind rest → behind_skip ≡ room → after ≡ behind_skip →
     reads parts.branch behind_skip mid ≡ Ok (x, next) → with_branches (done ++ (x ∷ [])) (reads parts.branches after next) ≡ all
 branches_more done x room behind_skip after rest mid next all so_far is skipped same_room same_after sub =
-    rw (same_after, same_room) (branches_front done x (reads parts.branches room next)
+    rw (same_after, same_room) (branches_prefix done x (reads parts.branches room next)
     ∙ ap (λ o. with_branches done o) (sym (branches_reads room rest ∙ rw (is, rw (skipped, same_room) at sub) refl)) ∙ so_far)
 
 -- an operator more
 pub operators_more : (l : Level) (done : List (BinOp × Tree)) (op : BinOp) (x : Operand) (e : Tree) (room behind_skip after : ℕ) (rest mid next : List Token) (all : Read (List (BinOp × Tree))) →
-    with_front done (reads (parts.operators l) room rest) ≡ all → binary_of l (tok_at rest) ≡ Some op → mid ≡ behind rest → behind_skip ≡ room → after ≡ behind_skip →
-    reads (parts.operand l) behind_skip mid ≡ Ok (x, next) → e ≡ tree_of x → is_nonassociative l ≡ false → with_front (done ++ ((op, e) ∷ [])) (reads (parts.operators l) after next) ≡ all
+    with_prefix done (reads (parts.operators l) room rest) ≡ all → binary_of l (tok_at rest) ≡ Some op → mid ≡ behind rest → behind_skip ≡ room → after ≡ behind_skip →
+    reads (parts.operand l) behind_skip mid ≡ Ok (x, next) → e ≡ tree_of x → is_nonassociative l ≡ false → with_prefix (done ++ ((op, e) ∷ [])) (reads (parts.operators l) after next) ≡ all
 operators_more l done op x e room behind_skip after rest mid next all so_far is skipped same_room same_after sub same_tree many =
-    rw (same_after, same_room, same_tree) (front_more done (op, tree_of x) (reads (parts.operators l) room next)
-    ∙ ap (λ o. with_front done o) (sym (operators_reads l room rest ∙ rw (is, rw (skipped, same_room) at sub, many) refl)) ∙ so_far)
+    rw (same_after, same_room, same_tree) (prefix_more done (op, tree_of x) (reads (parts.operators l) room next)
+    ∙ ap (λ o. with_prefix done o) (sym (operators_reads l room rest ∙ rw (is, rw (skipped, same_room) at sub, many) refl)) ∙ so_far)
 
 -- the same reading, written another way
 pub gives_same : {X Y : Type 0} (view : X → Y) (end : Span) (rest : List Token) (result : Result X Stop) (r q : Read Y) → r ≡ q → Gives view end rest result q → Gives view end rest result r
@@ -64,17 +64,17 @@ gives_same view end rest (Err (Refused f)) r q e h = (e ∙ h.0, h.1)
 
 -- the last piece of a text
 pub text_last : (done : List Part) (e : Tree) (room : ℕ) (rest mid : List Token) → reads parts.expr room rest ≡ Ok (e, mid) → middle_of (tok_at mid) ≡ None →
-    with_front done (reads parts.text_rest room rest) ≡ on (tail_of (tok_at mid)) (stuck syntax mid) (λ n. Ok ((done ++ (pure.shown e ∷ [])) ++ (pure.plain n ∷ []), behind mid))
-text_last done e room rest mid sub is = ap (λ o. with_front done o) (text_rest_reads room rest ∙ rw (sub, is) refl) ∙ go (tail_of (tok_at mid))
+    with_prefix done (reads parts.text_rest room rest) ≡ on (tail_of (tok_at mid)) (stuck syntax mid) (λ n. Ok ((done ++ (pure.shown e ∷ [])) ++ (pure.plain n ∷ []), behind mid))
+text_last done e room rest mid sub is = ap (λ o. with_prefix done o) (text_rest_reads room rest ∙ rw (sub, is) refl) ∙ go (tail_of (tok_at mid))
   where
-    go : (o : Option ℕ) → with_front done (on o (stuck syntax mid) (λ n. Ok (pure.shown e ∷ (pure.plain n ∷ []), behind mid))) ≡ on o (stuck {A = List Part} syntax mid) (λ n. Ok ((done ++ (pure.shown e ∷ [])) ++ (pure.plain n ∷ []), behind mid))
+    go : (o : Option ℕ) → with_prefix done (on o (stuck syntax mid) (λ n. Ok (pure.shown e ∷ (pure.plain n ∷ []), behind mid))) ≡ on o (stuck {A = List Part} syntax mid) (λ n. Ok ((done ++ (pure.shown e ∷ [])) ++ (pure.plain n ∷ []), behind mid))
     go None = refl
     go (Some n) = ap (λ l. Ok (l, behind mid)) (sym (append_assoc done (pure.shown e ∷ []) (pure.plain n ∷ [])))
 
 -- an expression and a piece more
 pub text_more : (done : List Part) (e : Tree) (n room behind_expr after : ℕ) (rest mid next : List Token) (all : Read (List Part)) →
-    with_front done (reads parts.text_rest room rest) ≡ all → reads parts.expr room rest ≡ Ok (e, mid) → middle_of (tok_at mid) ≡ Some n → next ≡ behind mid → behind_expr ≡ room → after ≡ behind_expr →
-    with_front ((done ++ (pure.shown e ∷ [])) ++ (pure.plain n ∷ [])) (reads parts.text_rest after next) ≡ all
+    with_prefix done (reads parts.text_rest room rest) ≡ all → reads parts.expr room rest ≡ Ok (e, mid) → middle_of (tok_at mid) ≡ Some n → next ≡ behind mid → behind_expr ≡ room → after ≡ behind_expr →
+    with_prefix ((done ++ (pure.shown e ∷ [])) ++ (pure.plain n ∷ [])) (reads parts.text_rest after next) ≡ all
 text_more done e n room behind_expr after rest mid next all so_far sub is skipped same_room same_after =
-    rw (same_after, same_room, skipped, append_assoc) (sym (front_front done (pure.shown e ∷ (pure.plain n ∷ [])) (reads parts.text_rest room (behind mid)))
-    ∙ ap (λ o. with_front done o) (sym (text_rest_reads room rest ∙ rw (sub, is) refl)) ∙ so_far)
+    rw (same_after, same_room, skipped, append_assoc) (sym (prefix_prefix done (pure.shown e ∷ (pure.plain n ∷ [])) (reads parts.text_rest room (behind mid)))
+    ∙ ap (λ o. with_prefix done o) (sym (text_rest_reads room rest ∙ rw (sub, is) refl)) ∙ so_far)

@@ -1,7 +1,7 @@
 // Expressions, types and declarations, by descent.
 #![tactic(auto)]
 
-mod front;
 pub mod parser;
+mod prefix;
 
-pub use front::{anns, declaration, expression, marks, type_text};
+pub use prefix::{anns, declaration, expression, marks, type_text};

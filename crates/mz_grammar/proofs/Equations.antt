@@ -13,9 +13,9 @@ use Rattle.mz_tree.specs.Tree.{Name, Tree, Maybe, node, interp, choice, parts, b
 use Rattle.mz_cursor.specs.Tokens.{tok_at, behind, place}
 use Rattle.mz_cursor.specs.Look.{is_sym, is_word}
 use Rattle.mz_cursor.specs.Rules.{give, refuse, leave_out, pass, leave, part, syntax, left_out}
-use Rattle.mz_cursor.specs.Reading.{Read, stuck, on, open_at, symbol_at, word_at, mapped, with_front, listed, step, ◌>>=◌}
+use Rattle.mz_cursor.specs.Reading.{Read, stuck, on, open_at, symbol_at, word_at, mapped, with_prefix, listed, step, ◌>>=◌}
 use Rattle.mz_cursor.proofs.Laws
-use Rattle.mz_cursor.proofs.Steps.{itself, grouped, then_front, same_then, same_if, same_on, same_open, step_if, step_on, pass_if, enter_if, pass_on, enter_on}
+use Rattle.mz_cursor.proofs.Steps.{itself, grouped, then_prefix, same_then, same_if, same_on, same_open, step_if, step_on, pass_if, enter_if, pass_on, enter_on}
 use Rattle.mz_grammar.specs.declared.level.Level.{Level}
 use Rattle.mz_grammar.specs.declared.level.Level.TheVariants as level_is
 use Rattle.mz_grammar.specs.declared.list.Closing.{Closing}
@@ -96,7 +96,7 @@ operand_reads l room ts = by_rule (Parts.operand l) room ts ∙ step_on reads {n
     ∙ same_on (tighter_level l) _ _ (itself (reads Parts.unit room ts)) (λ k. itself (reads (Parts.level k) room ts))
 
 pub operators_reads : (l : Level) (room : ℕ) (ts : List Token) → reads (Parts.operators l) room ts ≡ on (binary_of l (tok_at ts)) (Ok ([], ts)) (λ op. reads (Parts.operand l) room (behind ts) >>= λ x.
-    if is_nonassociative l then Ok ((op, tree_of x.0) ∷ [], x.1) else with_front ((op, tree_of x.0) ∷ []) (reads (Parts.operators l) room x.1))
+    if is_nonassociative l then Ok ((op, tree_of x.0) ∷ [], x.1) else with_prefix ((op, tree_of x.0) ∷ []) (reads (Parts.operators l) room x.1))
 unfolding step rule
 operators_reads l room ts = by_rule (Parts.operators l) room ts
     ∙ pass_on reads {n = Parts.operators l} (binary_of l) refl (give []) _ room ts
@@ -203,7 +203,7 @@ unfolding step
 head_token_reads (Int z) room t us = refl
 head_token_reads (Text n) room t us = refl
 head_token_reads (TextHead n) zero t us = refl
-head_token_reads (TextHead n) (suc r) t us = then_front (plain n) (reads Parts.text_rest r us) (λ ps us. Ok (Parts.other t.span (node t.span (interp (parts ps))), us))
+head_token_reads (TextHead n) (suc r) t us = then_prefix (plain n) (reads Parts.text_rest r us) (λ ps us. Ok (Parts.other t.span (node t.span (interp (parts ps))), us))
 head_token_reads (TextMid n) room t us = refl
 head_token_reads (TextTail n) room t us = refl
 head_token_reads (Ident n) room t us = itself (reads (Parts.named n t.span) room us)

@@ -10,7 +10,7 @@ use Rattle.mz_tree.specs.Items.{satisfy, minimize, maximize, declare}
 use Rattle.mz_cursor.specs.Tokens.{tok_at, behind, place}
 use Rattle.mz_cursor.specs.Look.{is_sym, is_word}
 use Rattle.mz_cursor.specs.Rules.{give, refuse, leave_out, look, enter, leave, part, syntax, left_out}
-use Rattle.mz_cursor.specs.Reading.{Read, stuck, on, open_at, symbol_at, word_at, mapped, with_front, listed, step, ◌>>=◌}
+use Rattle.mz_cursor.specs.Reading.{Read, stuck, on, open_at, symbol_at, word_at, mapped, with_prefix, listed, step, ◌>>=◌}
 use Rattle.mz_cursor.proofs.Steps.{itself, same_then, same_if, same_on, same_open, step_if, step_on, pass_if, enter_if, pass_on}
 use Rattle.mz_grammar.specs.declared.level.Level.TheVariants as level_is
 use Rattle.mz_grammar.specs.declared.list.Closing.TheVariants.{Paren, Bracket, Brace}
@@ -222,7 +222,7 @@ case_names_reads room ts = by_rule Parts.case_names room ts ∙ pass_if reads {n
     go None = refl
     go (Some n) = behind_reads Parts.case_names Brace _ _ room (behind ts)
 
-pub file_reads : (room : ℕ) (ts : List Token) → reads Parts.file room ts ≡ on (tok_at ts) (Ok ([], ts)) (λ t. reads Parts.item room ts >>= λ i. with_front (i.0 ∷ []) (reads Parts.more_items room i.1))
+pub file_reads : (room : ℕ) (ts : List Token) → reads Parts.file room ts ≡ on (tok_at ts) (Ok ([], ts)) (λ t. reads Parts.item room ts >>= λ i. with_prefix (i.0 ∷ []) (reads Parts.more_items room i.1))
 unfolding step rule
 file_reads room ts = by_rule Parts.file room ts ∙ step_on reads {n = Parts.file} (tok_at ts) (give []) _ room ts
 

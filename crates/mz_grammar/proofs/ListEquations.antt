@@ -9,8 +9,8 @@ use Rattle.mz_tree.specs.Tree as pure
 use Rattle.mz_cursor.specs.Tokens.{tok_at, behind, place}
 use Rattle.mz_cursor.specs.Look.{is_sym, is_word}
 use Rattle.mz_cursor.specs.Rules.{give, refuse, leave_out, look, pass, part, syntax, left_out}
-use Rattle.mz_cursor.specs.Reading.{Read, stuck, on, word_at, mapped, with_front, listed, step, ◌>>=◌}
-use Rattle.mz_cursor.proofs.Steps.{then_front, listed_mapped, same_then, same_if, same_on, step_if, pass_if, pass_on}
+use Rattle.mz_cursor.specs.Reading.{Read, stuck, on, word_at, mapped, with_prefix, listed, step, ◌>>=◌}
+use Rattle.mz_cursor.proofs.Steps.{then_prefix, listed_mapped, same_then, same_if, same_on, step_if, pass_if, pass_on}
 use Rattle.mz_grammar.specs.declared.level.Level.TheVariants as level_is
 use Rattle.mz_grammar.specs.declared.list.Closing.{Closing}
 use Rattle.mz_grammar.specs.declared.list.Closing.TheVariants.{Bracket, Elements, Brace}
@@ -24,7 +24,7 @@ use Rattle.mz_grammar.proofs.Equations.{by_rule, word_reads, identifier_reads, b
 
 pub text_rest_reads : (room : ℕ) (ts : List Token) → reads Parts.text_rest room ts ≡ (reads Parts.expr room ts >>= λ e. on (middle_of (tok_at e.1))
     (on (tail_of (tok_at e.1)) (stuck syntax e.1) (λ n. Ok (shown e.0 ∷ (plain n ∷ []), behind e.1)))
-    (λ n. with_front (shown e.0 ∷ (plain n ∷ [])) (reads Parts.text_rest room (behind e.1))))
+    (λ n. with_prefix (shown e.0 ∷ (plain n ∷ [])) (reads Parts.text_rest room (behind e.1))))
 unfolding step rule
 text_rest_reads room ts = by_rule Parts.text_rest room ts ∙ same_then (reads Parts.expr room ts) _ _ (λ e.
     pass_on reads {n = Parts.text_rest} middle_of refl _ _ room e.1
@@ -77,7 +77,7 @@ pub rows_body_reads : (room : ℕ) (ts : List Token) → reads Parts.rows_body r
     then Ok ([], behind ts)
     else (if is_sym SBar (tok_at ts)
     then stuck left_out ts
-    else (reads Parts.row room ts >>= λ r. with_front (r.0 ∷ []) (reads Parts.more_rows room r.1))))
+    else (reads Parts.row room ts >>= λ r. with_prefix (r.0 ∷ []) (reads Parts.more_rows room r.1))))
 unfolding step rule
 rows_body_reads room ts = by_rule Parts.rows_body room ts ∙ pass_if reads {n = Parts.rows_body} (is_sym SRRows) refl _ _ room ts
     ∙ same_if (is_sym SRRows (tok_at ts)) refl (step_if reads {n = Parts.rows_body} (is_sym SBar (tok_at ts)) leave_out _ room ts)
@@ -87,37 +87,37 @@ pub more_rows_reads : (room : ℕ) (ts : List Token) → reads Parts.more_rows r
     else (if is_sym SBar (tok_at ts)
     then (if is_sym SRRows (tok_at (behind ts))
     then Ok ([], behind (behind ts))
-    else (reads Parts.row room (behind ts) >>= λ r. with_front (r.0 ∷ []) (reads Parts.more_rows room r.1)))
+    else (reads Parts.row room (behind ts) >>= λ r. with_prefix (r.0 ∷ []) (reads Parts.more_rows room r.1)))
     else stuck syntax ts))
 unfolding step rule
 more_rows_reads room ts = by_rule Parts.more_rows room ts ∙ pass_if reads {n = Parts.more_rows} (is_sym SRRows) refl _ _ room ts
     ∙ same_if (is_sym SRRows (tok_at ts)) refl (pass_if reads {n = Parts.more_rows} (is_sym SBar) refl _ refuse room ts
     ∙ same_if (is_sym SBar (tok_at ts)) (pass_if reads {n = Parts.more_rows} (is_sym SRRows) refl _ _ room (behind ts)) refl)
 
-pub row_reads : (room : ℕ) (ts : List Token) → reads Parts.row room ts ≡ (reads Parts.expr room ts >>= λ e. with_front (e.0 ∷ []) (reads Parts.cells room e.1))
+pub row_reads : (room : ℕ) (ts : List Token) → reads Parts.row room ts ≡ (reads Parts.expr room ts >>= λ e. with_prefix (e.0 ∷ []) (reads Parts.cells room e.1))
 unfolding step rule
 row_reads room ts = by_rule Parts.row room ts
 
 pub cells_reads : (room : ℕ) (ts : List Token) → reads Parts.cells room ts ≡ (if is_sym SComma (tok_at ts)
-    then (if ends_row (tok_at (behind ts)) then Ok ([], behind ts) else (reads Parts.expr room (behind ts) >>= λ e. with_front (e.0 ∷ []) (reads Parts.cells room e.1)))
+    then (if ends_row (tok_at (behind ts)) then Ok ([], behind ts) else (reads Parts.expr room (behind ts) >>= λ e. with_prefix (e.0 ∷ []) (reads Parts.cells room e.1)))
     else Ok ([], ts))
 unfolding step rule
 cells_reads room ts = by_rule Parts.cells room ts ∙ pass_if reads {n = Parts.cells} (is_sym SComma) refl _ _ room ts
     ∙ same_if (is_sym SComma (tok_at ts)) (step_if reads {n = Parts.cells} (ends_row (tok_at (behind ts))) (give []) _ room (behind ts)) refl
 
 pub more_names_reads : (room : ℕ) (ts : List Token) → reads Parts.more_names room ts ≡ (if is_sym SComma (tok_at ts)
-    then on (ident_of (tok_at (behind ts))) (Ok ([], behind ts)) (λ n. with_front ((n, place (behind ts)) ∷ []) (reads Parts.more_names room (behind (behind ts))))
+    then on (ident_of (tok_at (behind ts))) (Ok ([], behind ts)) (λ n. with_prefix ((n, place (behind ts)) ∷ []) (reads Parts.more_names room (behind (behind ts))))
     else Ok ([], ts))
 unfolding step rule
 more_names_reads room ts = by_rule Parts.more_names room ts ∙ pass_if reads {n = Parts.more_names} (is_sym SComma) refl _ _ room ts
     ∙ same_if (is_sym SComma (tok_at ts)) (pass_on reads {n = Parts.more_names} ident_of refl (give []) _ room (behind ts)) refl
 
-pub generator_reads : (room : ℕ) (ts : List Token) → reads Parts.generator room ts ≡ (ident_at ts >>= λ i. with_front (i.0 ∷ []) (reads Parts.more_names room i.1) >>= λ ns. word_at KIn ns.1 >>= λ p.
+pub generator_reads : (room : ℕ) (ts : List Token) → reads Parts.generator room ts ≡ (ident_at ts >>= λ i. with_prefix (i.0 ∷ []) (reads Parts.more_names room i.1) >>= λ ns. word_at KIn ns.1 >>= λ p.
     reads (Parts.level level_is.Union) room p.1 >>= λ x. reads Parts.filter room x.1 >>= λ w. Ok (generator ns.0 (tree_of x.0) w.0, w.1))
 unfolding step rule
 generator_reads room ts = by_rule Parts.generator room ts ∙ identifier_reads Parts.generator _ room ts
     ∙ same_then (ident_at ts) _ _ (λ i. same_then (reads Parts.more_names room i.1) _ _ (λ ns. word_reads Parts.generator KIn _ room ns.1)
-    ∙ then_front i.0 (reads Parts.more_names room i.1) (λ ns us. word_at KIn us >>= λ p. reads (Parts.level level_is.Union) room p.1 >>= λ x. reads Parts.filter room x.1 >>= λ w. Ok (generator ns (tree_of x.0) w.0, w.1)))
+    ∙ then_prefix i.0 (reads Parts.more_names room i.1) (λ ns us. word_at KIn us >>= λ p. reads (Parts.level level_is.Union) room p.1 >>= λ x. reads Parts.filter room x.1 >>= λ w. Ok (generator ns (tree_of x.0) w.0, w.1)))
 
 pub filter_reads : (room : ℕ) (ts : List Token) → reads Parts.filter room ts ≡ (if is_word KWhere (tok_at ts) then (reads Parts.expr room (behind ts) >>= λ e. Ok (just e.0, e.1)) else Ok (nothing, ts))
 unfolding step rule
@@ -147,8 +147,8 @@ let_separated l room ts = pass_if reads {n = Parts.let_items} (λ o. is_sym SCom
     ∙ same_if (is_sym SComma (tok_at ts) || is_sym SSemi (tok_at ts)) refl (pass_if reads {n = Parts.let_items} (is_sym SRBrace) refl _ refuse room ts)
     ∙ go (is_sym SComma (tok_at ts) || is_sym SSemi (tok_at ts)) (is_sym SRBrace (tok_at ts))
   where
-    go : (a b : Bool) → (if a then with_front (l ∷ []) (reads Parts.let_items room (behind ts)) else (if b then Ok (l ∷ [], behind ts) else stuck {A = List Let} syntax ts))
-        ≡ ((if a then Ok (true, behind ts) else (if b then Ok (false, behind ts) else stuck {A = Bool} syntax ts)) >>= λ b. if b.0 then with_front (l ∷ []) (reads Parts.let_items room b.1) else Ok (l ∷ [], b.1))
+    go : (a b : Bool) → (if a then with_prefix (l ∷ []) (reads Parts.let_items room (behind ts)) else (if b then Ok (l ∷ [], behind ts) else stuck {A = List Let} syntax ts))
+        ≡ ((if a then Ok (true, behind ts) else (if b then Ok (false, behind ts) else stuck {A = Bool} syntax ts)) >>= λ b. if b.0 then with_prefix (l ∷ []) (reads Parts.let_items room b.1) else Ok (l ∷ [], b.1))
     go true b = refl
     go false true = refl
     go false false = refl

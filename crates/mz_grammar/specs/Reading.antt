@@ -12,7 +12,7 @@ use Rattle.mz_tree.specs.Items.{ItemTree, include, declare, assign, constraint, 
 use Rattle.mz_cursor.specs.Tokens.{tok_at, behind, place}
 use Rattle.mz_cursor.specs.Look.{is_sym}
 use Rattle.mz_cursor.specs.Rules.{syntax, left_out}
-use Rattle.mz_cursor.specs.Reading.{Read, Reader, stuck, on, open_at, symbol_at, word_at, mapped, with_front, listed, read, ◌>>=◌}
+use Rattle.mz_cursor.specs.Reading.{Read, Reader, stuck, on, open_at, symbol_at, word_at, mapped, with_prefix, listed, read, ◌>>=◌}
 use Rattle.mz_grammar.specs.declared.level.Level.{Level}
 use Rattle.mz_grammar.specs.declared.level.Level.TheVariants as level_is
 use Rattle.mz_grammar.specs.declared.list.Closing.{Closing}

@@ -12,7 +12,7 @@ use Rattle.mz_tree.specs.Items.{ItemTree, include, declare, assign, constraint, 
 use Rattle.mz_cursor.specs.Tokens.{tok_at, behind, place}
 use Rattle.mz_cursor.specs.Look.{is_sym}
 use Rattle.mz_cursor.specs.Rules.{syntax, left_out}
-use Rattle.mz_cursor.specs.Reading.{Read, Reader, stuck, on, open_at, symbol_at, word_at, mapped, with_front, listed, read, ◌>>=◌}
+use Rattle.mz_cursor.specs.Reading.{Read, Reader, stuck, on, open_at, symbol_at, word_at, mapped, with_prefix, listed, read, ◌>>=◌}
 use Rattle.mz_grammar.specs.declared.level.Level.{Level}
 use Rattle.mz_grammar.specs.declared.level.Level.TheVariants as level_is
 use Rattle.mz_grammar.specs.declared.list.Closing.{Closing}
@@ -90,7 +90,7 @@ head_word_at _ room ts = stuck syntax ts
 abbrev pub head_at : Option Tok → ℕ → Reader Operand
 head_at (Some (Int z)) room ts = Ok (other (place ts) (node (place ts) (int z)), behind ts)
 head_at (Some (Text n)) room ts = Ok (other (place ts) (node (place ts) (text n)), behind ts)
-head_at (Some (TextHead n)) room ts = open_at room ts (λ r. mapped (λ ps. other (place ts) (node (place ts) (interp (parts ps)))) (with_front (plain n ∷ []) (reads Parts.text_rest r (behind ts))))
+head_at (Some (TextHead n)) room ts = open_at room ts (λ r. mapped (λ ps. other (place ts) (node (place ts) (interp (parts ps)))) (with_prefix (plain n ∷ []) (reads Parts.text_rest r (behind ts))))
 head_at (Some (Ident n)) room ts = reads (Parts.named n (place ts)) room (behind ts)
 head_at (Some (Word k)) room ts = head_word_at k room ts
 head_at (Some (Sym s)) room ts = head_symbol_at s room ts

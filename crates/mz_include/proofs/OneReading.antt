@@ -99,17 +99,17 @@ record Stops (end : Span) (tokens : List Token) (why : Reason) (at : Span) : Typ
   stops : reads file 120 tokens ≡ stuck why rest
   place : at ≡ place_or end rest
 
-stopped : (end : Span) (tokens front rest : List Token) (why : Reason) (at : Span) → tokens ≡ front ++ rest → Refuses rule file 120 (rule file) front why (tok_at rest) → at ≡ place_or end rest → Stops end tokens why at
-stopped end tokens front rest why at split h place = record {
+stopped : (end : Span) (tokens prefix rest : List Token) (why : Reason) (at : Span) → tokens ≡ prefix ++ rest → Refuses rule file 120 (rule file) prefix why (tok_at rest) → at ≡ place_or end rest → Stops end tokens why at
+stopped end tokens prefix rest why at split h place = record {
   rest = rest;
-  stops = ap (reads file 120) split ∙ Laws.read_refuses rule rank width low falls file 120 front rest why h;
+  stops = ap (reads file 120) split ∙ Laws.read_refuses rule rank width low falls file 120 prefix rest why h;
   place = place;
 }
 
 fault_stops : (end : Span) (tokens : List Token) (why : Reason) (at : Span) → IsFault rule file 120 why end tokens at → Stops end tokens why at
-fault_stops end tokens syntax at h = stopped end tokens h.front h.rest syntax at h.split h.named h.place
-fault_stops end tokens left_out at h = stopped end tokens h.front h.rest left_out at h.split h.named h.place
-fault_stops end tokens too_deep at h = stopped end tokens h.front (h.token ∷ h.rest) too_deep at h.split h.named h.place
+fault_stops end tokens syntax at h = stopped end tokens h.prefix h.rest syntax at h.split h.named h.place
+fault_stops end tokens left_out at h = stopped end tokens h.prefix h.rest left_out at h.split h.named h.place
+fault_stops end tokens too_deep at h = stopped end tokens h.prefix (h.token ∷ h.rest) too_deep at h.split h.named h.place
 
 -- tokens that are read aren't refused
 unread : {items : List ItemTree} {why : Reason} {rest : List Token} {o : Read (List ItemTree)} → Laws.Reaches rule rank width low falls 120 120 items [] o → o ≡ stuck why rest → ⊥

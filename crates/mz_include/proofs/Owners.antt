@@ -116,9 +116,9 @@ module _ (names : List (List ℕ)) (texts : Texts) (first : List ℕ) where
       ap (λ (s : Span). s.file) place ∙ token_place turn end ts rest (subst (λ us. EachIn turn (map (lex names) us)) split all) last
 
   fault_place : (turn : ℕ) (end : Span) (tokens : List Token) (why : Reason) (at : Span) → EachIn turn (map (lex names) tokens) → end.file ≡ turn → IsFault rule file 120 why end tokens at → at.file ≡ turn
-  fault_place turn end tokens syntax at all last h = split_place turn end tokens h.front h.rest at all last h.split h.place
-  fault_place turn end tokens left_out at all last h = split_place turn end tokens h.front h.rest at all last h.split h.place
-  fault_place turn end tokens too_deep at all last h = split_place turn end tokens h.front (h.token ∷ h.rest) at all last h.split h.place
+  fault_place turn end tokens syntax at all last h = split_place turn end tokens h.prefix h.rest at all last h.split h.place
+  fault_place turn end tokens left_out at all last h = split_place turn end tokens h.prefix h.rest at all last h.split h.place
+  fault_place turn end tokens too_deep at all last h = split_place turn end tokens h.prefix (h.token ∷ h.rest) at all last h.split h.place
 
   -- the fault of a text is in its file
   unparsed_place : (turn : ℕ) (text : List ℕ) (f : Fault) → IsUnparsed names turn text f → f.span.file ≡ turn

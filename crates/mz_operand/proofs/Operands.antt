@@ -15,10 +15,10 @@ related-member n s op.Member e h = refl
 related-member n s o e h = absurd (cc)
 
 -- the operand of the only operator is its last one
-pub chained-member : (n : Name) (s : Span) (ls front : List (BinOp × Expr)) (l : BinOp × Expr) → is_one_member (map link ls) ≡ true → ls ≡ front ++ (l ∷ []) → member n s (tree l.1) ≡ chained (name n s) (map link ls)
-chained-member n s [] front l h e = absurd (cc)
+pub chained-member : (n : Name) (s : Span) (ls prefix : List (BinOp × Expr)) (l : BinOp × Expr) → is_one_member (map link ls) ≡ true → ls ≡ prefix ++ (l ∷ []) → member n s (tree l.1) ≡ chained (name n s) (map link ls)
+chained-member n s [] prefix l h e = absurd (cc)
 chained-member n s (k ∷ []) [] l h e = let f : k ≡ l = cc in rw (← f) (related-member n s k.0 (tree k.1) h)
 chained-member n s (k ∷ []) (f ∷ []) l h e = absurd (cc)
-chained-member n s (k ∷ []) (f ∷ g ∷ front) l h e = absurd (cc)
-chained-member n s ((op.Member, a) ∷ m ∷ ls) front l h e = absurd (cc)
-chained-member n s ((o, a) ∷ m ∷ ls) front l h e = absurd (cc)
+chained-member n s (k ∷ []) (f ∷ g ∷ prefix) l h e = absurd (cc)
+chained-member n s ((op.Member, a) ∷ m ∷ ls) prefix l h e = absurd (cc)
+chained-member n s ((o, a) ∷ m ∷ ls) prefix l h e = absurd (cc)

@@ -10,8 +10,8 @@ use Rattle.mz_tree.specs.Items.{ItemTree}
 use Rattle.mz_cursor.specs.Tokens.{tok_at, behind}
 use Rattle.mz_cursor.specs.Look.{is_sym}
 use Rattle.mz_cursor.specs.Rules.{syntax}
-use Rattle.mz_cursor.specs.Reading.{Read, Reader, on, stuck, listed, with_front, ◌>>=◌}
-use Rattle.mz_cursor.proofs.Steps.{same_on, same_then, front_front}
+use Rattle.mz_cursor.specs.Reading.{Read, Reader, on, stuck, listed, with_prefix, ◌>>=◌}
+use Rattle.mz_cursor.proofs.Steps.{same_on, same_then, prefix_prefix}
 use Rattle.mz_grammar.specs.declared.list.Closing.TheVariants.{Paren}
 use Rattle.mz_grammar.specs.Parts
 use Rattle.mz_grammar.specs.Reading.{reads}
@@ -41,19 +41,19 @@ read_then : {A B : Type 0} (o : Read A) (x : A) (ts : List Token) (f : A × List
 read_then o x ts f e = ap (λ r. r >>= f) e
 
 -- what was read before, with one more element
-pub more_front : {A B : Type 0} (f : B → A) (xs ys : List B) (x : B) (o p : Read (List A)) → ys ≡ xs ++ (x ∷ []) → p ≡ with_front (f x ∷ []) o → with_front (map f ys) o ≡ with_front (map f xs) p
-more_front f xs ys x o p e h = ap (λ l. with_front l o) (ap (map f) e ∙ map-append f xs (x ∷ [])) ∙ sym (front_front (map f xs) (f x ∷ []) o) ∙ ap (λ r. with_front (map f xs) r) (sym h)
+pub more_prefix : {A B : Type 0} (f : B → A) (xs ys : List B) (x : B) (o p : Read (List A)) → ys ≡ xs ++ (x ∷ []) → p ≡ with_prefix (f x ∷ []) o → with_prefix (map f ys) o ≡ with_prefix (map f xs) p
+more_prefix f xs ys x o p e h = ap (λ l. with_prefix l o) (ap (map f) e ∙ map-append f xs (x ∷ [])) ∙ sym (prefix_prefix (map f xs) (f x ∷ []) o) ∙ ap (λ r. with_prefix (map f xs) r) (sym h)
 
 -- it is the last one
-pub last_front : {A B : Type 0} (f : B → A) (xs ys : List B) (x : B) (ts : List Token) (p : Read (List A)) → ys ≡ xs ++ (x ∷ []) → p ≡ Ok (f x ∷ [], ts) → with_front (map f xs) p ≡ Ok (map f ys, ts)
-last_front f xs ys x ts p e h = ap (λ r. with_front (map f xs) r) h ∙ ap (λ l. Ok (l, ts)) (sym (ap (map f) e ∙ map-append f xs (x ∷ [])))
+pub last_prefix : {A B : Type 0} (f : B → A) (xs ys : List B) (x : B) (ts : List Token) (p : Read (List A)) → ys ≡ xs ++ (x ∷ []) → p ≡ Ok (f x ∷ [], ts) → with_prefix (map f xs) p ≡ Ok (map f ys, ts)
+last_prefix f xs ys x ts p e h = ap (λ r. with_prefix (map f xs) r) h ∙ ap (λ l. Ok (l, ts)) (sym (ap (map f) e ∙ map-append f xs (x ∷ [])))
 
 -- nothing more follows
-pub front_alone : {A : Type 0} (xs : List A) (ts : List Token) (p : Read (List A)) → p ≡ Ok ([], ts) → with_front xs p ≡ Ok (xs, ts)
-front_alone xs ts p h = ap (λ r. with_front xs r) h ∙ ap (λ l. Ok (l, ts)) (append-nil xs)
+pub prefix_alone : {A : Type 0} (xs : List A) (ts : List Token) (p : Read (List A)) → p ≡ Ok ([], ts) → with_prefix xs p ≡ Ok (xs, ts)
+prefix_alone xs ts p h = ap (λ r. with_prefix xs r) h ∙ ap (λ l. Ok (l, ts)) (append-nil xs)
 
 -- behind an element, by what its separator says
-goes_on : {A : Type 0} (separator : Reader Bool) (next : Reader (List A)) (x : A) (ts us : List Token) (more : Bool) → separator ts ≡ Ok (more, us) → more ≡ true → listed separator next x ts ≡ with_front (x ∷ []) (next us)
+goes_on : {A : Type 0} (separator : Reader Bool) (next : Reader (List A)) (x : A) (ts us : List Token) (more : Bool) → separator ts ≡ Ok (more, us) → more ≡ true → listed separator next x ts ≡ with_prefix (x ∷ []) (next us)
 goes_on separator next x ts us more e h = read_then (separator ts) more us _ e ∙ passed more _ _ h
 
 ends : {A : Type 0} (separator : Reader Bool) (next : Reader (List A)) (x : A) (ts us : List Token) (more : Bool) → separator ts ≡ Ok (more, us) → more ≡ false → listed separator next x ts ≡ Ok (x ∷ [], us)
@@ -66,9 +66,9 @@ param_then : (room : ℕ) (ts us : List Token) (o : Option Tok) (closed : Bool) 
 param_then room ts us o closed d at test e h = param_list_reads room ts ∙ failed (is_sym SRParen (tok_at ts)) _ _ (sym (ap (is_sym SRParen) at) ∙ sym test ∙ e) ∙ read_then (reads Parts.param room ts) d us _ h
 
 pub param_more : (room r : ℕ) (ts us vs : List Token) (o : Option Tok) (closed more : Bool) (d : Declaration) → r ≡ room → o ≡ tok_at ts → closed ≡ is_sym SRParen o → closed ≡ false → reads Parts.param room ts ≡ Ok (d, us) → separator_at Paren us ≡ Ok (more, vs) → more ≡ true
-    → reads Parts.param_list room ts ≡ with_front (d ∷ []) (reads Parts.param_list r vs)
+    → reads Parts.param_list room ts ≡ with_prefix (d ∷ []) (reads Parts.param_list r vs)
 param_more room r ts us vs o closed more d same at test e h s m = param_then room ts us o closed d at test e h
-    ∙ goes_on (separator_at Paren) (reads Parts.param_list room) d us vs more s m ∙ ap (λ q. with_front (d ∷ []) (reads Parts.param_list q vs)) (sym same)
+    ∙ goes_on (separator_at Paren) (reads Parts.param_list room) d us vs more s m ∙ ap (λ q. with_prefix (d ∷ []) (reads Parts.param_list q vs)) (sym same)
 
 pub param_last : (room : ℕ) (ts us vs : List Token) (o : Option Tok) (closed more : Bool) (d : Declaration) → o ≡ tok_at ts → closed ≡ is_sym SRParen o → closed ≡ false → reads Parts.param room ts ≡ Ok (d, us) → separator_at Paren us ≡ Ok (more, vs) → more ≡ false
     → reads Parts.param_list room ts ≡ Ok (d ∷ [], vs)
@@ -85,23 +85,23 @@ no_case room ts vs o closed at test e rest = case_names_reads room ts ∙ passed
 -- The items of a file, each with the semicolon behind it
 
 -- the items behind one
-behind_item : (i : ItemTree) (room : ℕ) (ts : List Token) → with_front (i ∷ []) (reads Parts.more_items room ts) ≡ (semicolon_at ts >>= λ u. with_front (i ∷ []) (reads Parts.file room u.1))
-behind_item i room [] = ap (λ o. with_front (i ∷ []) o) (more_items_reads room [] ∙ sym (file_reads room []))
-behind_item i room (t ∷ us) = ap (λ o. with_front (i ∷ []) o) (more_items_reads room (t ∷ us)) ∙ by_symbol (is_sym SSemi (tok_at (t ∷ us)))
+behind_item : (i : ItemTree) (room : ℕ) (ts : List Token) → with_prefix (i ∷ []) (reads Parts.more_items room ts) ≡ (semicolon_at ts >>= λ u. with_prefix (i ∷ []) (reads Parts.file room u.1))
+behind_item i room [] = ap (λ o. with_prefix (i ∷ []) o) (more_items_reads room [] ∙ sym (file_reads room []))
+behind_item i room (t ∷ us) = ap (λ o. with_prefix (i ∷ []) o) (more_items_reads room (t ∷ us)) ∙ by_symbol (is_sym SSemi (tok_at (t ∷ us)))
   where
-    by_symbol : (b : Bool) → with_front (i ∷ []) (if b then reads Parts.file room us else stuck syntax (t ∷ us))
-        ≡ ((if b then Ok (tt, us) else stuck {A = Unit {0}} syntax (t ∷ us)) >>= λ u. with_front (i ∷ []) (reads Parts.file room u.1))
+    by_symbol : (b : Bool) → with_prefix (i ∷ []) (if b then reads Parts.file room us else stuck syntax (t ∷ us))
+        ≡ ((if b then Ok (tt, us) else stuck {A = Unit {0}} syntax (t ∷ us)) >>= λ u. with_prefix (i ∷ []) (reads Parts.file room u.1))
     by_symbol true = refl
     by_symbol false = refl
 
 -- a file is empty, or an item with its semicolon and a file
-pub items_reads : (room : ℕ) (ts : List Token) → reads Parts.file room ts ≡ on (tok_at ts) (Ok ([], ts)) (λ t. reads Parts.item room ts >>= λ i. semicolon_at i.1 >>= λ u. with_front (i.0 ∷ []) (reads Parts.file room u.1))
+pub items_reads : (room : ℕ) (ts : List Token) → reads Parts.file room ts ≡ on (tok_at ts) (Ok ([], ts)) (λ t. reads Parts.item room ts >>= λ i. semicolon_at i.1 >>= λ u. with_prefix (i.0 ∷ []) (reads Parts.file room u.1))
 items_reads room ts = file_reads room ts ∙ same_on (tok_at ts) _ _ refl (λ t. same_then (reads Parts.item room ts) _ _ (λ i. behind_item i.0 room i.1))
 
 pub item_more : (room r : ℕ) (ts us vs : List Token) (o : Option Tok) (some : Bool) (i : ItemTree) → r ≡ room → o ≡ tok_at ts → some ≡ is_some o → some ≡ true → reads Parts.item room ts ≡ Ok (i, us) → semicolon_at us ≡ Ok (tt, vs)
-    → reads Parts.file room ts ≡ with_front (i ∷ []) (reads Parts.file r vs)
+    → reads Parts.file room ts ≡ with_prefix (i ∷ []) (reads Parts.file r vs)
 item_more room r ts us vs o some i same at test e h s = items_reads room ts ∙ found (tok_at ts) _ _ (sym (ap is_some at) ∙ sym test ∙ e) ∙ read_then (reads Parts.item room ts) i us _ h
-    ∙ read_then (semicolon_at us) tt vs _ s ∙ ap (λ q. with_front (i ∷ []) (reads Parts.file q vs)) (sym same)
+    ∙ read_then (semicolon_at us) tt vs _ s ∙ ap (λ q. with_prefix (i ∷ []) (reads Parts.file q vs)) (sym same)
 
 pub no_item : (room : ℕ) (ts : List Token) (o : Option Tok) (some : Bool) → o ≡ tok_at ts → some ≡ is_some o → some ≡ false → reads Parts.file room ts ≡ Ok ([], ts)
 no_item room ts o some at test e = items_reads room ts ∙ missing (tok_at ts) _ (sym (ap is_some at) ∙ sym test ∙ e)

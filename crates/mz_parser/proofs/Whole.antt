@@ -9,7 +9,7 @@ use Rattle.mz_base.specs.declared.stop.Stop.TheVariants.{Refused, Memory}
 use Rattle.mz_lexer.specs.declared.token.Token.{Token}
 use Rattle.mz_tree.specs.declared.item.Item.{Item}
 use Rattle.mz_tree.specs.Items.{ItemTree, item, items_height}
-use Rattle.mz_cursor.specs.Promise.{Gives, IsFront}
+use Rattle.mz_cursor.specs.Promise.{Gives, IsLongestPrefix}
 use Rattle.mz_grammar.specs.Model.{rule}
 use Rattle.mz_grammar.specs.Parts
 use Rattle.mz_grammar.specs.Reading.{reads}
@@ -20,8 +20,8 @@ use Rattle.mz_syntax.proofs.ModelMeans.{models_derived}
 use Rattle.mz_parser.specs.Model.{IsModel, IsItems}
 
 -- a front behind which nothing stands is the whole file
-all_tokens : (tokens new : List Token) (is : List ItemTree) → new ≡ [] → IsFront rule Parts.file OPEN_LIMIT tokens new is → IsModel tokens is
-all_tokens tokens new is e f = subst (λ ts. IsModel ts is) (sym (f.split ∙ ap (λ l. f.front ++ l) e ∙ append-nil f.front)) f.reads
+all_tokens : (tokens new : List Token) (is : List ItemTree) → new ≡ [] → IsLongestPrefix rule Parts.file OPEN_LIMIT tokens new is → IsModel tokens is
+all_tokens tokens new is e f = subst (λ ts. IsModel ts is) (sym (f.split ∙ ap (λ l. f.prefix ++ l) e ∙ append-nil f.prefix)) f.reads
 
 -- the items that lie in memory
 abbrev trees : {Z : Type 0} → Vec Item Z → List ItemTree

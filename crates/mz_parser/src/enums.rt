@@ -61,7 +61,7 @@ fn unbraced(cur: &Cursor<'_>) -> Stop
 }
 
 /// The names of the cases up to the closing brace.
-#[tactic(auto, using(mz_grammar::proofs::ItemEquations::case_names_reads, mz_cursor::proofs::Steps::front_front, mz_cursor::proofs::Steps::no_front))]
+#[tactic(auto, using(mz_grammar::proofs::ItemEquations::case_names_reads, mz_cursor::proofs::Steps::prefix_prefix, mz_cursor::proofs::Steps::no_prefix))]
 fn case_names(alloc: Global, cur: &mut Cursor<'_>) -> Result<Vec<(Name, Span)>, Stop>
     ensures { Reads (λ v. v.items) (reads parts.case_names) cur.old cur.new result }
 {

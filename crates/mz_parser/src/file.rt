@@ -16,7 +16,7 @@ use mz_tree::Item;
 use std::alloc::Global;
 
 /// The items up to the end of the file.
-#[tactic(auto, using(crate::proofs::Lists::items_reads, mz_cursor::proofs::Steps::no_front))]
+#[tactic(auto, using(crate::proofs::Lists::items_reads, mz_cursor::proofs::Steps::no_prefix))]
 pub fn all_items(alloc: Global, cur: &mut Cursor<'_>) -> Result<Vec<Item>, Stop>
     ensures reads { Gives (λ v. map item v.items) cur.new.end cur.new.rest.now result (reads parts.file cur.old.room cur.old.rest.now) }
     ensures room { OnOk result (cur.new.room ≡ cur.old.room) }

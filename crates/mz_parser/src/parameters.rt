@@ -31,7 +31,7 @@ pub fn params(alloc: Global, cur: &mut Cursor<'_>) -> Result<Vec<Decl>, Stop>
 }
 
 /// Parameters up to the closing parenthesis.
-#[tactic(auto, using(mz_grammar::proofs::ItemEquations::param_list_reads, mz_cursor::proofs::Steps::no_front))]
+#[tactic(auto, using(mz_grammar::proofs::ItemEquations::param_list_reads, mz_cursor::proofs::Steps::no_prefix))]
 fn param_list(alloc: Global, cur: &mut Cursor<'_>) -> Result<Vec<Decl>, Stop>
     ensures { Reads (λ v. map declaration v.items) (reads parts.param_list) cur.old cur.new result }
 {

@@ -16,7 +16,7 @@ use Rattle.mz_cursor.specs.Tokens.{place, tok_at}
 use Rattle.mz_base.specs.declared.fault.Span.{Span}
 use Rattle.mz_cursor.specs.Look.{is_sym}
 use Rattle.mz_cursor.specs.Rules.{give, refuse, pass, enter}
-use Rattle.mz_cursor.specs.Promise.{IsWithin, IsFront}
+use Rattle.mz_cursor.specs.Promise.{IsWithin, IsLongestPrefix}
 use Rattle.mz_cursor.specs.Reading.{on}
 use Rattle.mz_grammar.specs.Tests.{ident_of, ends_row}
 use Rattle.mz_grammar.specs.Data.{Dimensions, dimensions_of, Place, Value, Ruled, rule, symbol, behind_element, file, item, datum, named, sized, index_sets, plains, rows, row, plain, range, set, bounds, ones, one, literal_of, negated_of}
@@ -222,5 +222,5 @@ positive names n m e = go (bytes_eq (text_of names n) (codes "array1d")) (bytes_
 pub data_files_derived : (names : List (List ℕ)) (room : ℕ) (tokens : List Token) (items : List Given) → IsWithin rule (file (dimensions_of names)) room tokens items → DerivesFile (dimensions_of names) room tokens items
 data_files_derived names room tokens items h = file_derived (dimensions_of names) (positive names) room tokens items h
 
-pub data_items_derived : (names : List (List ℕ)) (room : ℕ) (tokens : List Token) (items : List Given) → IsFront rule (file (dimensions_of names)) room tokens [] items → DerivesFile (dimensions_of names) room tokens items
-data_items_derived names room tokens items h = data_files_derived names room tokens items (subst (λ ts. IsWithin rule (file (dimensions_of names)) room ts items) (sym (h.split ∙ append-nil h.front)) h.reads)
+pub data_items_derived : (names : List (List ℕ)) (room : ℕ) (tokens : List Token) (items : List Given) → IsLongestPrefix rule (file (dimensions_of names)) room tokens [] items → DerivesFile (dimensions_of names) room tokens items
+data_items_derived names room tokens items h = data_files_derived names room tokens items (subst (λ ts. IsWithin rule (file (dimensions_of names)) room ts items) (sym (h.split ∙ append-nil h.prefix)) h.reads)

@@ -351,15 +351,15 @@ data_files_taken names room tokens items h = file_taken (dimensions_of names) ro
 -- So it isn't refused
 
 -- a file fails at none of its tokens
-no_failing : {d : Dimensions} {room : ℕ} {items : List Given} (front rest tokens : List Token) → tokens ≡ front ++ rest → FailsAt rule (file d) front rest → IsWithin rule (file d) room tokens items → ⊥
-no_failing {d = d} {room = room} {items = items} front [] tokens e fails h = fails items room (subst (λ ts. IsWithin rule (file d) room ts items) (e ∙ append-nil front) h)
-no_failing {d = d} {room = room} {items = items} front (t ∷ rest) tokens e fails h = fails (rest, items, room, subst (λ ts. IsWithin rule (file d) room ts items) (e ∙ sym (append_assoc front (t ∷ []) rest)) h)
+no_failing : {d : Dimensions} {room : ℕ} {items : List Given} (prefix rest tokens : List Token) → tokens ≡ prefix ++ rest → FailsAt rule (file d) prefix rest → IsWithin rule (file d) room tokens items → ⊥
+no_failing {d = d} {room = room} {items = items} prefix [] tokens e fails h = fails items room (subst (λ ts. IsWithin rule (file d) room ts items) (e ∙ append-nil prefix) h)
+no_failing {d = d} {room = room} {items = items} prefix (t ∷ rest) tokens e fails h = fails (rest, items, room, subst (λ ts. IsWithin rule (file d) room ts items) (e ∙ sym (append_assoc prefix (t ∷ []) rest)) h)
 
 pub none_refused : (names : List (List ℕ)) (room : ℕ) (tokens : List Token) (items : List Given) (why : Reason) (end at : Span) → DerivesFile (dimensions_of names) room tokens items → IsFault rule (file (dimensions_of names)) room why end tokens at → ⊥
-none_refused names room tokens items syntax end at h f = no_failing {d = dimensions_of names} {room = room} {items = items} f.front f.rest tokens f.split f.fails (data_files_taken names room tokens items h)
-none_refused names room tokens items left_out end at h f = no_failing {d = dimensions_of names} {room = room} {items = items} f.front f.rest tokens f.split f.fails (data_files_taken names room tokens items h)
+none_refused names room tokens items syntax end at h f = no_failing {d = dimensions_of names} {room = room} {items = items} f.prefix f.rest tokens f.split f.fails (data_files_taken names room tokens items h)
+none_refused names room tokens items left_out end at h f = no_failing {d = dimensions_of names} {room = room} {items = items} f.prefix f.rest tokens f.split f.fails (data_files_taken names room tokens items h)
 none_refused names room tokens items too_deep end at h f =
-    f.fails (f.rest, items, subst (λ ts. IsWithin rule (file (dimensions_of names)) room ts items) (f.split ∙ sym (append_assoc f.front (f.token ∷ []) f.rest)) (data_files_taken names room tokens items h))
+    f.fails (f.rest, items, subst (λ ts. IsWithin rule (file (dimensions_of names)) room ts items) (f.split ∙ sym (append_assoc f.prefix (f.token ∷ []) f.rest)) (data_files_taken names room tokens items h))
 
 pub one_derived : (names : List (List ℕ)) (k m : ℕ) (tokens : List Token) (items others : List Given) → DerivesFile (dimensions_of names) k tokens items → DerivesFile (dimensions_of names) m tokens others → items ≡ others
 one_derived names k m tokens items others h g = Laws.one_value rule rank width low falls (file (dimensions_of names)) k m tokens [] items others (data_files_taken names k tokens items h) (data_files_taken names m tokens others g)

@@ -318,4 +318,4 @@ all_blame Parts.let_item k whole ts w b = by_word whole k ts KConstraint _ _ (λ
 -- A model
 
 pub left_out_form : (room : ℕ) (tokens : List Token) (end at : Span) → IsFault rule Parts.file room left_out end tokens at → (rest : List Token) × (at ≡ place_or end rest) × IsLeftOut tokens rest
-left_out_form room tokens end at f = (f.rest, f.place, subst (λ ts. IsLeftOut ts f.rest) (sym f.split) (blame.blamed Claim Before IsLeftOut rule all_mean all_blame f.named refl (f.front ++ f.rest) f.rest refl ([], refl) (all_blame Parts.file room (f.front ++ f.rest) (f.front ++ f.rest) ([], refl) tt)))
+left_out_form room tokens end at f = (f.rest, f.place, subst (λ ts. IsLeftOut ts f.rest) (sym f.split) (blame.blamed Claim Before IsLeftOut rule all_mean all_blame f.named refl (f.prefix ++ f.rest) f.rest refl ([], refl) (all_blame Parts.file room (f.prefix ++ f.rest) (f.prefix ++ f.rest) ([], refl) tt)))

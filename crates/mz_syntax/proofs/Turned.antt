@@ -209,18 +209,18 @@ turned (more_args {a = a} {rest = rest} h d g) start ns gs w l e = more_step res
 -- of some arguments there is a generator at least
 last_filled : (ns : List (Name × Span)) (r : Role) → by_role ns r (λ ms. generators_behind ms []) ≡ Some [] → ⊥
 last_filled ns (waiting n s) e = no_some (sym (none_waits ns (n, s)) ∙ e)
-last_filled ns (bound ms t c) e = let r = given_by {g = generator (ns ++ ms) t c} (generators_behind [] []) e in absurd (no_front r.2)
+last_filled ns (bound ms t c) e = let r = given_by {g = generator (ns ++ ms) t c} (generators_behind [] []) e in absurd (no_prefix r.2)
   where
-    no_front : {A : Type 0} {x : A} {xs : List A} → x ∷ xs ≡ [] → ⊥
-    no_front e = absurd (cc)
+    no_prefix : {A : Type 0} {x : A} {xs : List A} → x ∷ xs ≡ [] → ⊥
+    no_prefix e = absurd (cc)
 last_filled ns unfit e = no_some e
 
 more_filled : (ns : List (Name × Span)) (r : Role) (rest : List Argument) → ((ms : List (Name × Span)) → generators_behind ms rest ≡ Some [] → ⊥) → by_role ns r (λ ms. generators_behind ms rest) ≡ Some [] → ⊥
 more_filled ns (waiting n s) rest again e = again (ns ++ ((n, s) ∷ [])) e
-more_filled ns (bound ms t c) rest again e = let r = given_by {g = generator (ns ++ ms) t c} (generators_behind [] rest) e in absurd (no_front r.2)
+more_filled ns (bound ms t c) rest again e = let r = given_by {g = generator (ns ++ ms) t c} (generators_behind [] rest) e in absurd (no_prefix r.2)
   where
-    no_front : {A : Type 0} {x : A} {xs : List A} → x ∷ xs ≡ [] → ⊥
-    no_front e = absurd (cc)
+    no_prefix : {A : Type 0} {x : A} {xs : List A} → x ∷ xs ≡ [] → ⊥
+    no_prefix e = absurd (cc)
 more_filled ns unfit rest again e = no_some e
 
 filled : (rest : List Argument) (ns : List (Name × Span)) (a : Argument) → generators_behind ns (a ∷ rest) ≡ Some [] → ⊥

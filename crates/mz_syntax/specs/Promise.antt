@@ -6,7 +6,7 @@ use Rattle.mz_tree.specs.Tree.{Name, Tree, Declaration, Written}
 use Rattle.mz_tree.specs.Data.{Given}
 use Rattle.mz_cursor.specs.Tokens.{place_or}
 use Rattle.mz_cursor.specs.Rules.{Reason, left_out}
-use Rattle.mz_cursor.specs.Promise.{IsWithin, IsFront, IsFault}
+use Rattle.mz_cursor.specs.Promise.{IsWithin, IsLongestPrefix, IsFault}
 use Rattle.mz_grammar.specs.Data.{Dimensions, dimensions_of, rule, file}
 use Rattle.mz_tree.specs.Items.{ItemTree}
 use Rattle.mz_grammar.specs.Parts as model_part
@@ -25,7 +25,7 @@ DataFilesAreDerived = (names : List (List ℕ)) (room : ℕ) (tokens : List Toke
 
 -- So it is where a whole file is read.
 abbrev pub DataItemsAreDerived : Type 0
-DataItemsAreDerived = (names : List (List ℕ)) (room : ℕ) (tokens : List Token) (items : List Given) → IsFront rule (file (dimensions_of names)) room tokens [] items → DerivesFile (dimensions_of names) room tokens items
+DataItemsAreDerived = (names : List (List ℕ)) (room : ℕ) (tokens : List Token) (items : List Given) → IsLongestPrefix rule (file (dimensions_of names)) room tokens [] items → DerivesFile (dimensions_of names) room tokens items
 
 -- The rules take all that the EBNF derives.
 abbrev pub DerivedDataFilesAreTaken : Type 0

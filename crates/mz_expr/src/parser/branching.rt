@@ -102,7 +102,7 @@ impl<F: Fn(Global, &mut Cursor<'_>, Entry) -> Result<Operand, Stop>> Descent<F> 
     }
 
     /// The items of a `let`, and the closing brace.
-    #[tactic(auto, using(mz_grammar::proofs::ListEquations::let_items_reads, mz_cursor::proofs::Steps::front_push, std::proofs::lemmas::List::map_push, mz_cursor::proofs::Steps::nothing_behind, mz_cursor::proofs::Steps::no_front))]
+    #[tactic(auto, using(mz_grammar::proofs::ListEquations::let_items_reads, mz_cursor::proofs::Steps::prefix_push, std::proofs::lemmas::List::map_push, mz_cursor::proofs::Steps::nothing_behind, mz_cursor::proofs::Steps::no_prefix))]
     fn let_items(&self, cur: &mut Cursor<'_>) -> Result<Vec<LetItem>, Stop>
         requires { MayRead self.now.room self.now.entry (F.pre self.now.reader) (F.post self.now.reader) cur.old }
         ensures { Reads (λ v. map let_of v.items) (reads parts.let_items) cur.old cur.new result }

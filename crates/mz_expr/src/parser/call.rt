@@ -4,7 +4,7 @@ ghost use Rattle.std.specs.Prelude.{◌≡◌, ◌<◌, length, map, true};
 ghost use Rattle.mz_cursor.specs.Tokens.{tok_at};
 ghost use Rattle.mz_cursor.specs.Look.{is_sym};
 ghost use Rattle.mz_cursor.specs.Reads.{Passes, Reads};
-ghost use Rattle.mz_cursor.specs.Reading.{mapped, with_front};
+ghost use Rattle.mz_cursor.specs.Reading.{mapped, with_prefix};
 ghost use Rattle.mz_grammar.specs.Parts as parts;
 ghost use Rattle.mz_grammar.specs.Reading.{reads};
 ghost use Rattle.mz_grammar.specs.Steps.{called_at, guarded_at, waited_at};
@@ -89,7 +89,7 @@ impl<F: Fn(Global, &mut Cursor<'_>, Entry) -> Result<Operand, Stop>> Descent<F> 
     }
 
     /// The arguments of a call, and the closing parenthesis.
-    #[tactic(auto, using(mz_grammar::proofs::Equations::arguments_reads, mz_cursor::proofs::Steps::front_push, std::proofs::lemmas::List::map_push, mz_cursor::proofs::Steps::nothing_behind, mz_cursor::proofs::Steps::no_front))]
+    #[tactic(auto, using(mz_grammar::proofs::Equations::arguments_reads, mz_cursor::proofs::Steps::prefix_push, std::proofs::lemmas::List::map_push, mz_cursor::proofs::Steps::nothing_behind, mz_cursor::proofs::Steps::no_prefix))]
     fn arguments(&self, cur: &mut Cursor<'_>) -> Result<Vec<Argument>, Stop>
         requires { MayRead self.now.room self.now.entry (F.pre self.now.reader) (F.post self.now.reader) cur.old }
         ensures { Reads (λ v. map argument v.items) (reads (parts.arguments Generators.Possible)) cur.old cur.new result }
@@ -132,7 +132,7 @@ impl<F: Fn(Global, &mut Cursor<'_>, Entry) -> Result<Operand, Stop>> Descent<F> 
     }
 
     /// An argument that makes the call one with generators, and the others, which must be generators.
-    #[tactic(auto, using(mz_cursor::proofs::Steps::front_push, std::proofs::lemmas::List::map_push, mz_cursor::proofs::Steps::nothing_behind))]
+    #[tactic(auto, using(mz_cursor::proofs::Steps::prefix_push, std::proofs::lemmas::List::map_push, mz_cursor::proofs::Steps::nothing_behind))]
     fn guarded(
         &self,
         cur: &mut Cursor<'_>,
@@ -140,7 +140,7 @@ impl<F: Fn(Global, &mut Cursor<'_>, Entry) -> Result<Operand, Stop>> Descent<F> 
         x: Argument,
     ) -> Result<Vec<Argument>, Stop>
         requires { MayRead self.now.room self.now.entry (F.pre self.now.reader) (F.post self.now.reader) cur.old }
-        ensures { Reads (λ v. map argument v.items) (λ room ts. with_front (map argument all.items) (guarded_at (argument x) room ts)) cur.old cur.new result }
+        ensures { Reads (λ v. map argument v.items) (λ room ts. with_prefix (map argument all.items) (guarded_at (argument x) room ts)) cur.old cur.new result }
     {
         let mut all = all;
         all.push(x)?;
@@ -151,10 +151,10 @@ impl<F: Fn(Global, &mut Cursor<'_>, Entry) -> Result<Operand, Stop>> Descent<F> 
     }
 
     /// Generators up to the closing parenthesis.
-    #[tactic(auto, using(mz_grammar::proofs::Equations::generators_reads, mz_cursor::proofs::Steps::front_push, std::proofs::lemmas::List::map_push, mz_cursor::proofs::Steps::nothing_behind, mz_cursor::proofs::Steps::mapped_front))]
+    #[tactic(auto, using(mz_grammar::proofs::Equations::generators_reads, mz_cursor::proofs::Steps::prefix_push, std::proofs::lemmas::List::map_push, mz_cursor::proofs::Steps::nothing_behind, mz_cursor::proofs::Steps::mapped_prefix))]
     fn strict(&self, cur: &mut Cursor<'_>, before: Vec<Argument>) -> Result<Vec<Argument>, Stop>
         requires { MayRead self.now.room self.now.entry (F.pre self.now.reader) (F.post self.now.reader) cur.old }
-        ensures { Reads (λ v. map argument v.items) (λ room ts. with_front (map argument before.items) (mapped (λ gs. map parts.strict gs) (reads (parts.generators Closing.Paren) room ts))) cur.old cur.new result }
+        ensures { Reads (λ v. map argument v.items) (λ room ts. with_prefix (map argument before.items) (mapped (λ gs. map parts.strict gs) (reads (parts.generators Closing.Paren) room ts))) cur.old cur.new result }
     {
         let mut all = before;
         while !is_sym(Symbol::SRParen, cur.tok()) {

@@ -5,7 +5,7 @@ ghost use Rattle.std.specs.Option.{option_map};
 ghost use Rattle.mz_tree.specs.Tree as pure;
 ghost use Rattle.mz_tree.specs.Views.{tree, generator};
 ghost use Rattle.mz_cursor.specs.Reads.{Passes, Reads};
-ghost use Rattle.mz_cursor.specs.Reading.{with_front};
+ghost use Rattle.mz_cursor.specs.Reading.{with_prefix};
 ghost use Rattle.mz_grammar.specs.Parts as parts;
 ghost use Rattle.mz_grammar.specs.Reading.{reads};
 ghost use Rattle.mz_grammar.specs.Steps.{generators_at};
@@ -54,7 +54,7 @@ impl<F: Fn(Global, &mut Cursor<'_>, Entry) -> Result<Operand, Stop>> Descent<F> 
     }
 
     /// Generators, one at least, and the closing token.
-    #[tactic(auto, using(mz_grammar::proofs::Equations::generators_reads, mz_cursor::proofs::Steps::front_push, std::proofs::lemmas::List::map_push, mz_cursor::proofs::Steps::nothing_behind, mz_cursor::proofs::Steps::no_front))]
+    #[tactic(auto, using(mz_grammar::proofs::Equations::generators_reads, mz_cursor::proofs::Steps::prefix_push, std::proofs::lemmas::List::map_push, mz_cursor::proofs::Steps::nothing_behind, mz_cursor::proofs::Steps::no_prefix))]
     pub fn generators(&self, cur: &mut Cursor<'_>, c: Closing) -> Result<Vec<Gen>, Stop>
         requires { MayRead self.now.room self.now.entry (F.pre self.now.reader) (F.post self.now.reader) cur.old }
         ensures { Reads (λ v. map generator v.items) (generators_at c) cur.old cur.new result }
@@ -75,13 +75,13 @@ impl<F: Fn(Global, &mut Cursor<'_>, Entry) -> Result<Operand, Stop>> Descent<F> 
 }
 
 /// Names, each behind a comma, behind those that were read.
-#[tactic(auto, using(mz_grammar::proofs::ListEquations::more_names_reads, mz_cursor::proofs::Steps::front_more, mz_cursor::proofs::Steps::nothing_behind))]
+#[tactic(auto, using(mz_grammar::proofs::ListEquations::more_names_reads, mz_cursor::proofs::Steps::prefix_more, mz_cursor::proofs::Steps::nothing_behind))]
 fn more_names(
     alloc: Global,
     cur: &mut Cursor<'_>,
     before: Vec<(Name, Span)>,
 ) -> Result<Vec<(Name, Span)>, Stop>
-    ensures { Passes (λ v. v.items) (λ room ts. with_front before.items (reads parts.more_names room ts)) cur.old cur.new result }
+    ensures { Passes (λ v. v.items) (λ room ts. with_prefix before.items (reads parts.more_names room ts)) cur.old cur.new result }
 {
     let mut all = before;
     while is_sym(Symbol::SComma, cur.tok()) {

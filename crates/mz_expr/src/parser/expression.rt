@@ -62,7 +62,7 @@ impl<F: Fn(Global, &mut Cursor<'_>, Entry) -> Result<Operand, Stop>> Descent<F> 
     }
 
     /// The operators of one level in a row, each with the operand behind it.
-    #[tactic(auto, using(mz_grammar::proofs::Equations::operators_reads, mz_cursor::proofs::Steps::front_push, std::proofs::lemmas::List::map_push, mz_cursor::proofs::Steps::nothing_behind, mz_cursor::proofs::Steps::no_front))]
+    #[tactic(auto, using(mz_grammar::proofs::Equations::operators_reads, mz_cursor::proofs::Steps::prefix_push, std::proofs::lemmas::List::map_push, mz_cursor::proofs::Steps::nothing_behind, mz_cursor::proofs::Steps::no_prefix))]
     fn operators(&self, cur: &mut Cursor<'_>, l: Level) -> Result<Vec<(BinOp, Expr)>, Stop>
         requires { MayBegin (Entry.Level l) self.now.room self.now.entry (F.pre self.now.reader) (F.post self.now.reader) cur.old }
         ensures { Passes (λ v. map link v.items) (reads (parts.operators l)) cur.old cur.new result }
@@ -129,7 +129,7 @@ impl<F: Fn(Global, &mut Cursor<'_>, Entry) -> Result<Operand, Stop>> Descent<F> 
     }
 
     /// The indices of an access, one at least, and the closing bracket.
-    #[tactic(auto, using(mz_grammar::proofs::Equations::indices_reads, mz_grammar::proofs::Equations::more_indices_reads, mz_cursor::proofs::Steps::front_push, std::proofs::lemmas::List::map_push, mz_cursor::proofs::Steps::nothing_behind, mz_cursor::proofs::Steps::no_front))]
+    #[tactic(auto, using(mz_grammar::proofs::Equations::indices_reads, mz_grammar::proofs::Equations::more_indices_reads, mz_cursor::proofs::Steps::prefix_push, std::proofs::lemmas::List::map_push, mz_cursor::proofs::Steps::nothing_behind, mz_cursor::proofs::Steps::no_prefix))]
     fn indices(&self, cur: &mut Cursor<'_>) -> Result<Vec<Expr>, Stop>
         requires { MayRead self.now.room self.now.entry (F.pre self.now.reader) (F.post self.now.reader) cur.old }
         ensures { Reads (λ v. map tree v.items) (reads parts.indices) cur.old cur.new result }

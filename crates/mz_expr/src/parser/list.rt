@@ -8,7 +8,7 @@ ghost use Rattle.mz_cursor.specs.Rules.{syntax};
 ghost use Rattle.mz_cursor.specs.Tokens.{tok_at, behind};
 ghost use Rattle.mz_grammar.specs.Tests.{tail_of};
 ghost use Rattle.mz_cursor.specs.Promise.{Gives};
-ghost use Rattle.mz_cursor.specs.Reading.{mapped, with_front, listed, on, stuck};
+ghost use Rattle.mz_cursor.specs.Reading.{mapped, with_prefix, listed, on, stuck};
 ghost use Rattle.mz_grammar.specs.Parts as parts;
 ghost use Rattle.mz_grammar.specs.Reading.{reads};
 ghost use Rattle.mz_grammar.specs.Steps.{separator_at};
@@ -28,14 +28,14 @@ use std::alloc::Global;
 
 impl<F: Fn(Global, &mut Cursor<'_>, Entry) -> Result<Operand, Stop>> Descent<F> {
     /// The rest of a text behind pieces that were read: expressions and pieces up to its last one.
-    #[tactic(auto, using(mz_grammar::proofs::ListEquations::text_rest_reads, mz_cursor::proofs::Steps::front_push, std::proofs::lemmas::List::map_push, mz_cursor::proofs::Steps::nothing_behind, mz_cursor::proofs::Steps::front_front))]
+    #[tactic(auto, using(mz_grammar::proofs::ListEquations::text_rest_reads, mz_cursor::proofs::Steps::prefix_push, std::proofs::lemmas::List::map_push, mz_cursor::proofs::Steps::nothing_behind, mz_cursor::proofs::Steps::prefix_prefix))]
     pub fn text_rest(
         &self,
         cur: &mut Cursor<'_>,
         before: Vec<TextPart>,
     ) -> Result<Vec<TextPart>, Stop>
         requires { MayRead self.now.room self.now.entry (F.pre self.now.reader) (F.post self.now.reader) cur.old }
-        ensures { Reads (λ v. map part v.items) (λ room ts. with_front (map part before.items) (reads parts.text_rest room ts)) cur.old cur.new result }
+        ensures { Reads (λ v. map part v.items) (λ room ts. with_prefix (map part before.items) (reads parts.text_rest room ts)) cur.old cur.new result }
     {
         let mut all = before;
         loop {
@@ -52,7 +52,7 @@ impl<F: Fn(Global, &mut Cursor<'_>, Entry) -> Result<Operand, Stop>> Descent<F> 
     }
 
     /// Elements up to the closing token, behind those that were read.
-    #[tactic(auto, using(mz_grammar::proofs::Equations::elements_reads, mz_cursor::proofs::Steps::front_push, std::proofs::lemmas::List::map_push, mz_cursor::proofs::Steps::nothing_behind))]
+    #[tactic(auto, using(mz_grammar::proofs::Equations::elements_reads, mz_cursor::proofs::Steps::prefix_push, std::proofs::lemmas::List::map_push, mz_cursor::proofs::Steps::nothing_behind))]
     fn elements(
         &self,
         cur: &mut Cursor<'_>,
@@ -60,7 +60,7 @@ impl<F: Fn(Global, &mut Cursor<'_>, Entry) -> Result<Operand, Stop>> Descent<F> 
         before: Vec<Expr>,
     ) -> Result<Vec<Expr>, Stop>
         requires { MayRead self.now.room self.now.entry (F.pre self.now.reader) (F.post self.now.reader) cur.old }
-        ensures { Reads (λ v. map tree v.items) (λ room ts. with_front (map tree before.items) (reads (parts.elements c) room ts)) cur.old cur.new result }
+        ensures { Reads (λ v. map tree v.items) (λ room ts. with_prefix (map tree before.items) (reads (parts.elements c) room ts)) cur.old cur.new result }
     {
         let mut all = before;
         while !closes(c, cur.tok()) {
@@ -75,7 +75,7 @@ impl<F: Fn(Global, &mut Cursor<'_>, Entry) -> Result<Operand, Stop>> Descent<F> 
     }
 
     /// An element that was read, and those behind it up to the closing token.
-    #[tactic(auto, using(mz_cursor::proofs::Steps::front_push, std::proofs::lemmas::List::map_push, mz_cursor::proofs::Steps::nothing_behind))]
+    #[tactic(auto, using(mz_cursor::proofs::Steps::prefix_push, std::proofs::lemmas::List::map_push, mz_cursor::proofs::Steps::nothing_behind))]
     fn elements_behind(&self, cur: &mut Cursor<'_>, c: Closing, e: Expr) -> Result<Vec<Expr>, Stop>
         requires { MayRead self.now.room self.now.entry (F.pre self.now.reader) (F.post self.now.reader) cur.old }
         ensures { Reads (λ v. map tree v.items) (λ room ts. listed (separator_at c) (reads (parts.elements c) room) (tree e) ts) cur.old cur.new result }
@@ -130,7 +130,7 @@ impl<F: Fn(Global, &mut Cursor<'_>, Entry) -> Result<Operand, Stop>> Descent<F> 
     }
 
     /// What stands between `[|` and `|]`, and the latter.
-    #[tactic(auto, using(mz_grammar::proofs::ListEquations::rows_body_reads, mz_cursor::proofs::Steps::front_push, std::proofs::lemmas::List::map_push, mz_cursor::proofs::Steps::nothing_behind))]
+    #[tactic(auto, using(mz_grammar::proofs::ListEquations::rows_body_reads, mz_cursor::proofs::Steps::prefix_push, std::proofs::lemmas::List::map_push, mz_cursor::proofs::Steps::nothing_behind))]
     pub fn rows_body(&self, cur: &mut Cursor<'_>) -> Result<Vec<Vec<Expr>>, Stop>
         requires { MayRead self.now.room self.now.entry (F.pre self.now.reader) (F.post self.now.reader) cur.old }
         ensures { Reads (λ v. map tree_row v.items) (reads parts.rows_body) cur.old cur.new result }
@@ -149,14 +149,14 @@ impl<F: Fn(Global, &mut Cursor<'_>, Entry) -> Result<Operand, Stop>> Descent<F> 
     }
 
     /// Rows, each behind a `|`, up to the `|]`, behind those that were read.
-    #[tactic(auto, using(mz_grammar::proofs::ListEquations::more_rows_reads, mz_cursor::proofs::Steps::front_push, std::proofs::lemmas::List::map_push, mz_cursor::proofs::Steps::nothing_behind))]
+    #[tactic(auto, using(mz_grammar::proofs::ListEquations::more_rows_reads, mz_cursor::proofs::Steps::prefix_push, std::proofs::lemmas::List::map_push, mz_cursor::proofs::Steps::nothing_behind))]
     fn more_rows(
         &self,
         cur: &mut Cursor<'_>,
         before: Vec<Vec<Expr>>,
     ) -> Result<Vec<Vec<Expr>>, Stop>
         requires { MayRead self.now.room self.now.entry (F.pre self.now.reader) (F.post self.now.reader) cur.old }
-        ensures { Reads (λ v. map tree_row v.items) (λ room ts. with_front (map tree_row before.items) (reads parts.more_rows room ts)) cur.old cur.new result }
+        ensures { Reads (λ v. map tree_row v.items) (λ room ts. with_prefix (map tree_row before.items) (reads parts.more_rows room ts)) cur.old cur.new result }
     {
         let mut all = before;
         while !is_sym(Symbol::SRRows, cur.tok()) {
@@ -176,7 +176,7 @@ impl<F: Fn(Global, &mut Cursor<'_>, Entry) -> Result<Operand, Stop>> Descent<F> 
     }
 
     /// A row.
-    #[tactic(auto, using(mz_grammar::proofs::ListEquations::row_reads, mz_cursor::proofs::Steps::front_push, std::proofs::lemmas::List::map_push, mz_cursor::proofs::Steps::nothing_behind))]
+    #[tactic(auto, using(mz_grammar::proofs::ListEquations::row_reads, mz_cursor::proofs::Steps::prefix_push, std::proofs::lemmas::List::map_push, mz_cursor::proofs::Steps::nothing_behind))]
     fn row(&self, cur: &mut Cursor<'_>) -> Result<Vec<Expr>, Stop>
         requires { MayRead self.now.room self.now.entry (F.pre self.now.reader) (F.post self.now.reader) cur.old }
         ensures { Reads (λ v. map tree v.items) (reads parts.row) cur.old cur.new result }
@@ -188,10 +188,10 @@ impl<F: Fn(Global, &mut Cursor<'_>, Entry) -> Result<Operand, Stop>> Descent<F> 
     }
 
     /// The elements of a row, each behind a comma, behind those that were read.
-    #[tactic(auto, using(mz_grammar::proofs::ListEquations::cells_reads, mz_cursor::proofs::Steps::front_push, std::proofs::lemmas::List::map_push, mz_cursor::proofs::Steps::nothing_behind))]
+    #[tactic(auto, using(mz_grammar::proofs::ListEquations::cells_reads, mz_cursor::proofs::Steps::prefix_push, std::proofs::lemmas::List::map_push, mz_cursor::proofs::Steps::nothing_behind))]
     fn cells(&self, cur: &mut Cursor<'_>, before: Vec<Expr>) -> Result<Vec<Expr>, Stop>
         requires { MayRead self.now.room self.now.entry (F.pre self.now.reader) (F.post self.now.reader) cur.old }
-        ensures { Passes (λ v. map tree v.items) (λ room ts. with_front (map tree before.items) (reads parts.cells room ts)) cur.old cur.new result }
+        ensures { Passes (λ v. map tree v.items) (λ room ts. with_prefix (map tree before.items) (reads parts.cells room ts)) cur.old cur.new result }
     {
         let mut all = before;
         while is_sym(Symbol::SComma, cur.tok()) {

@@ -63,7 +63,7 @@ impl<F: Fn(Global, &mut Cursor<'_>, Entry) -> Result<Operand, Stop>> Descent<F> 
     }
 
     /// At most six index types, and the closing bracket.
-    #[tactic(auto, using(mz_grammar::proofs::ItemEquations::index_types_more, mz_grammar::proofs::ItemEquations::index_types_none, mz_cursor::proofs::Steps::front_push, std::proofs::lemmas::List::map_push, mz_cursor::proofs::Steps::nothing_behind, mz_cursor::proofs::Steps::no_front))]
+    #[tactic(auto, using(mz_grammar::proofs::ItemEquations::index_types_more, mz_grammar::proofs::ItemEquations::index_types_none, mz_cursor::proofs::Steps::prefix_push, std::proofs::lemmas::List::map_push, mz_cursor::proofs::Steps::nothing_behind, mz_cursor::proofs::Steps::no_prefix))]
     fn index_types(&self, cur: &mut Cursor<'_>) -> Result<Vec<TypeBase>, Stop>
         requires { MayRead self.now.room self.now.entry (F.pre self.now.reader) (F.post self.now.reader) cur.old }
         ensures { Reads (λ v. map based v.items) (reads (parts.index_types 6)) cur.old cur.new result }

@@ -3,7 +3,7 @@ use Rattle.mz_lexer.specs.Lexemes.{after}
 use Rattle.mz_lexer.specs.Lexes.{IsFirstFault}
 use Rattle.mz_tree.specs.Data.{given}
 use Rattle.mz_dzn.specs.DataFile.{IsRefusedData}
-use Rattle.mz_dzn.proofs.Single.{front_file}
+use Rattle.mz_dzn.proofs.Single.{prefix_file}
 use Rattle.mz_include.specs.Parsing.{AreTokens}
 use Rattle.mz_include.proofs.FaultKinds.{stop_then}
 use Rattle.mz_data.specs.DataTexts.{IsUnfitText, by_its_bytes, by_its_tokens}
@@ -31,7 +31,7 @@ returns-clause-parsed c =
     record {
       tokens = tokens;
       lexed = record { lexes = rw c.as_slice.ensures.value c.in_ok-tokens.ensures.read; known = rw c.as_slice.ensures.value c.in_ok-tokens.ensures.named };
-      file = front_file names tokens (map given c.in_ok-data.data.items.items) c.in_ok-data.ensures.answers;
+      file = prefix_file names tokens (map given c.in_ok-data.data.items.items) c.in_ok-data.ensures.answers;
     }
 
 pub returns-clause-within : goal.returns-clause-within

@@ -1,14 +1,14 @@
 -- What was read so far, and then what the rest is read to, is what the whole is read to.
 use Rattle.std.proofs.Common.{◌≡◌, ◌≤◌, length, map}
 use Rattle.mz_tree.specs.Items.{item}
-use Rattle.mz_cursor.specs.Reading.{with_front}
+use Rattle.mz_cursor.specs.Reading.{with_prefix}
 use Rattle.mz_grammar.specs.Parts as parts
 use Rattle.mz_grammar.specs.Reading.{reads}
 use Rattle.mz_parser.proofs.file.all_items.Given as goal
 
 abbrev pub invariant-loop-alloc : goal.invariant-loop-alloc
 invariant-loop-alloc l = record {
-  reads : with_front (map item l.all.items) (reads parts.file l.cur.room l.cur.rest.now) ≡ reads parts.file l.fn.cur.room l.fn.cur.rest.now;
+  reads : with_prefix (map item l.all.items) (reads parts.file l.cur.room l.cur.rest.now) ≡ reads parts.file l.fn.cur.room l.fn.cur.rest.now;
   room : l.cur.room ≡ l.fn.cur.room;
   end : l.cur.end ≡ l.fn.cur.end;
   shorter : length l.cur.rest.now ≤ length l.fn.cur.rest.now;

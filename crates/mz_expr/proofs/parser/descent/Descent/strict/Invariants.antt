@@ -1,5 +1,5 @@
 use Rattle.std.proofs.Common.{◌≡◌, ◌≤◌, length, map}
-use Rattle.mz_cursor.specs.Reading.{mapped, with_front}
+use Rattle.mz_cursor.specs.Reading.{mapped, with_prefix}
 use Rattle.mz_grammar.specs.declared.list.Closing.TheVariants as closing
 use Rattle.mz_grammar.specs.Parts as parts
 use Rattle.mz_grammar.specs.Reading.{reads}
@@ -8,7 +8,7 @@ use Rattle.mz_expr.proofs.parser.descent.Descent.strict.Given as goal
 
 abbrev pub invariant-loop-cur : goal.invariant-loop-cur
 invariant-loop-cur g l = record {
-  reads : with_front (map argument l.all.items) (mapped (λ gs. map parts.strict gs) (reads (parts.generators closing.Paren) l.cur.room l.cur.rest.now)) ≡ with_front (map argument l.initial.all.items) (mapped (λ gs. map parts.strict gs) (reads (parts.generators closing.Paren) l.initial.cur.room l.initial.cur.rest.now));
+  reads : with_prefix (map argument l.all.items) (mapped (λ gs. map parts.strict gs) (reads (parts.generators closing.Paren) l.cur.room l.cur.rest.now)) ≡ with_prefix (map argument l.initial.all.items) (mapped (λ gs. map parts.strict gs) (reads (parts.generators closing.Paren) l.initial.cur.room l.initial.cur.rest.now));
   room : l.cur.room ≡ l.initial.cur.room;
   end : l.cur.end ≡ l.initial.cur.end;
   shorter : length l.cur.rest.now ≤ length l.initial.cur.rest.now;

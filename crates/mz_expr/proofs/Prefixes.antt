@@ -10,10 +10,10 @@ use Rattle.mz_grammar.specs.Parts.{Place, Value, annotations}
 use Rattle.mz_grammar.specs.Model.{rule}
 use Rattle.mz_grammar.specs.Reading.{reads}
 use Rattle.mz_grammar.proofs.Viability.{may_be_last, answers}
-use Rattle.mz_expr.specs.Front.{PassesAnnotations}
+use Rattle.mz_expr.specs.Prefix.{PassesAnnotations}
 
-pub front : {X : Type 0} (n : Place) (view : X → Value n) (room : ℕ) (end now : Span) (old new : List Token) (result : Result X Stop) → may_be_last n ≡ true → now ≡ end → Gives view now new result (reads n room old) → Answers rule n view room end old new result
-front n view room end now old new result may same g = answers n view room end old new result may (subst (λ e. Gives view e new result (reads n room old)) same g)
+pub prefix : {X : Type 0} (n : Place) (view : X → Value n) (room : ℕ) (end now : Span) (old new : List Token) (result : Result X Stop) → may_be_last n ≡ true → now ≡ end → Gives view now new result (reads n room old) → Answers rule n view room end old new result
+prefix n view room end now old new result may same g = answers n view room end old new result may (subst (λ e. Gives view e new result (reads n room old)) same g)
 
 pub passed : (room : ℕ) (end : Span) (old new : List Token) (result : Result Bool Stop) (b : Bool) → result ≡ Ok b → Answers rule annotations (λ x. x) room end old new result → PassesAnnotations room end old new (Ok tt)
 passed room end old new result b is h = go (subst (λ r. Answers rule annotations (λ x. x) room end old new r) is h)

@@ -5,7 +5,7 @@ ghost use Rattle.mz_tree.specs.Views.{tree, declaration, written};
 ghost use Rattle.mz_cursor.specs.Promise.{Answers};
 ghost use Rattle.mz_grammar.specs.Parts as parts;
 ghost use Rattle.mz_grammar.specs.Model.{rule};
-ghost use Rattle.mz_expr.specs.Front.{PassesAnnotations};
+ghost use Rattle.mz_expr.specs.Prefix.{PassesAnnotations};
 
 use crate::parser;
 use mz_base::Stop;
