@@ -36,15 +36,15 @@ pub meaning_none : (escaped : Bool) → meaning_from escaped [] ≡ []
 unfolding meaning_from
 meaning_none escaped = refl
 
-pub means_escape : (escaped : Bool) (bs front : List ℕ) (i : ℕ) → i < length bs → begins_escape escaped (get_or bs i 0) ≡ true → front ++ meaning_from true (drop (i + 1) bs) ≡ front ++ meaning_from escaped (drop i bs)
-means_escape escaped bs front i below is =
+pub means_escape : (escaped : Bool) (bs prefix : List ℕ) (i : ℕ) → i < length bs → begins_escape escaped (get_or bs i 0) ≡ true → prefix ++ meaning_from true (drop (i + 1) bs) ≡ prefix ++ meaning_from escaped (drop i bs)
+means_escape escaped bs prefix i below is =
     let step : meaning_from escaped (drop i bs) ≡ meaning_from true (drop (i + 1) bs) = rw (at_place bs i below) (meaning_cons escaped _ _ ∙ rw is refl) in
-    ap (λ us. front ++ us) (sym step)
+    ap (λ us. prefix ++ us) (sym step)
 
-pub means_byte : (escaped : Bool) (bs front : List ℕ) (i : ℕ) → i < length bs → begins_escape escaped (get_or bs i 0) ≡ false → (front ++ meant escaped (get_or bs i 0) ∷ []) ++ meaning_from false (drop (i + 1) bs) ≡ front ++ meaning_from escaped (drop i bs)
-means_byte escaped bs front i below isnt =
+pub means_byte : (escaped : Bool) (bs prefix : List ℕ) (i : ℕ) → i < length bs → begins_escape escaped (get_or bs i 0) ≡ false → (prefix ++ meant escaped (get_or bs i 0) ∷ []) ++ meaning_from false (drop (i + 1) bs) ≡ prefix ++ meaning_from escaped (drop i bs)
+means_byte escaped bs prefix i below isnt =
     let step : meaning_from escaped (drop i bs) ≡ meant escaped (get_or bs i 0) ∷ meaning_from false (drop (i + 1) bs) = rw (at_place bs i below) (meaning_cons escaped _ _ ∙ rw isnt refl) in
-    append_assoc front _ _ ∙ ap (λ us. front ++ us) (sym step)
+    append_assoc prefix _ _ ∙ ap (λ us. prefix ++ us) (sym step)
 
 -- the rest of a slice from a place on
 pub past : (n : ℕ) (bs : List ℕ) → take (length bs - n) (drop n bs) ≡ drop n bs
@@ -53,5 +53,5 @@ past n bs = between_to_end bs n (length bs) (omega arith)
 pub content_end : (escaped : Bool) (bs : List ℕ) (i : ℕ) → length bs ≤ i → content_from escaped (drop i bs) ≡ 0
 content_end escaped bs i le = rw (drop_all i bs le) (content_none escaped)
 
-pub meaning_end : (escaped : Bool) (bs front : List ℕ) (i : ℕ) → length bs ≤ i → front ++ meaning_from escaped (drop i bs) ≡ front
-meaning_end escaped bs front i le = rw (drop_all i bs le, meaning_none escaped) (append-nil front)
+pub meaning_end : (escaped : Bool) (bs prefix : List ℕ) (i : ℕ) → length bs ≤ i → prefix ++ meaning_from escaped (drop i bs) ≡ prefix
+meaning_end escaped bs prefix i le = rw (drop_all i bs le, meaning_none escaped) (append-nil prefix)

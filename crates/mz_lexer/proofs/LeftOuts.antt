@@ -7,21 +7,21 @@ use Rattle.std.proofs.lemmas.Bool.{false≢true}
 use Rattle.std.proofs.lemmas.Bool.Decides.{nat_tests, Decides-eqb}
 use Rattle.mz_base.specs.declared.kind.Kind.TheVariants.{LeftOut}
 use Rattle.mz_base.specs.declared.keyword.Keyword.{Keyword}
-use Rattle.mz_lexer.specs.Bytes.{front_byte, second_byte, is_blank, is_hex_digit, is_octal_digit, is_left_out_byte}
+use Rattle.mz_lexer.specs.Bytes.{first_byte, second_byte, is_blank, is_hex_digit, is_octal_digit, is_left_out_byte}
 use Rattle.mz_base.specs.Words.{is_letter, is_digit, is_word_byte}
 use Rattle.mz_base.specs.Keywords.{keyword_text, keyword_of}
 use Rattle.mz_lexer.specs.LeftOut.{is_left_out_keyword}
 use Rattle.mz_lexer.specs.StepsSymbols.{symbol_at}
 use Rattle.mz_lexer.specs.Numbers.{goes_on}
-use Rattle.mz_lexer.specs.Steps.{Front, refusal, front_of, keyword_or_name, number_front}
+use Rattle.mz_lexer.specs.Steps.{Prefix, refusal, prefix_of, keyword_or_name, number_prefix}
 use Rattle.mz_base.specs.Words.{is_word}
 use Rattle.mz_lexer.specs.Lexes.{are_digits, IsLeftOut, left_byte, left_slash, left_number, left_keyword}
 use Rattle.mz_lexer.proofs.Runs.{both, run_is}
 use Rattle.mz_lexer.proofs.Spellings.{keyword_found, keyword_is_word}
-use Rattle.mz_lexer.proofs.Fronts.{front_is_word, front_is_number, word_is, word_letters}
+use Rattle.mz_lexer.proofs.Prefixes.{prefix_is_word, prefix_is_number, word_is, word_letters}
 
 IsLeft : Bool → ℕ → List ℕ → Type 0
-IsLeft later b bs = front_of later (b ∷ bs) ≡ refusal LeftOut 0
+IsLeft later b bs = prefix_of later (b ∷ bs) ≡ refusal LeftOut 0
 
 other_byte : (b k : ℕ) → 128 ≤ b → k < 128 → nat_eq b k ≡ false
 other_byte b k high low = grind (arith, nat_tests)
@@ -35,14 +35,14 @@ high_symbol b c d high =
 high_tests : (b : ℕ) → 128 ≤ b → (is_blank b ≡ false) × (is_letter b ≡ false) × (is_digit b ≡ false) × (is_left_out_byte b ≡ true)
 high_tests b high = (grind (arith, nat_tests), grind (arith, nat_tests), grind (arith, nat_tests), grind (arith, nat_tests))
 
-high_left : (later : Bool) (b : ℕ) (bs : List ℕ) → 128 ≤ b → front_of later (b ∷ bs) ≡ refusal LeftOut 0
-unfolding front_of
+high_left : (later : Bool) (b : ℕ) (bs : List ℕ) → 128 ≤ b → prefix_of later (b ∷ bs) ≡ refusal LeftOut 0
+unfolding prefix_of
 high_left true b bs high =
     let t = high_tests b high in
-    rw (t.0, t.1, t.2, other_byte b 34 high (omega arith), other_byte b 41 high (omega arith), other_byte b 37 high (omega arith), other_byte b 47 high (omega arith), high_symbol b (front_byte bs) (second_byte bs) high, t.3) refl
+    rw (t.0, t.1, t.2, other_byte b 34 high (omega arith), other_byte b 41 high (omega arith), other_byte b 37 high (omega arith), other_byte b 47 high (omega arith), high_symbol b (first_byte bs) (second_byte bs) high, t.3) refl
 high_left false b bs high =
     let t = high_tests b high in
-    rw (t.0, t.1, t.2, other_byte b 34 high (omega arith), other_byte b 37 high (omega arith), other_byte b 47 high (omega arith), high_symbol b (front_byte bs) (second_byte bs) high, t.3) refl
+    rw (t.0, t.1, t.2, other_byte b 34 high (omega arith), other_byte b 37 high (omega arith), other_byte b 47 high (omega arith), high_symbol b (first_byte bs) (second_byte bs) high, t.3) refl
 
 pub data IsOneOf (b : ℕ) : Type 0 where
   quote : b ≡ 39 → IsOneOf b
@@ -68,21 +68,21 @@ one_of b is isnt = go (nat_eq b 39) (nat_le 128 b) (nat_eq b 126) (nat_eq b 36) 
     go false false false false false false z e f g h i j k is' = absurd (false≢true (sym isnt ∙ k ∙ is'))
 
 low_left : (later : Bool) (bs : List ℕ) → IsLeft later 39 bs × IsLeft later 126 bs × IsLeft later 36 bs × IsLeft later 96 bs × IsLeft later 95 bs
-unfolding front_of symbol_at IsLeft
+unfolding prefix_of symbol_at IsLeft
 low_left true bs = (refl, refl, refl, refl, refl)
 low_left false bs = (refl, refl, refl, refl, refl)
 
-byte_left : (later : Bool) (b : ℕ) (bs : List ℕ) → IsOneOf b → front_of later (b ∷ bs) ≡ refusal LeftOut 0
+byte_left : (later : Bool) (b : ℕ) (bs : List ℕ) → IsOneOf b → prefix_of later (b ∷ bs) ≡ refusal LeftOut 0
 unfolding IsLeft
-byte_left later b bs (quote e) = subst (λ x. front_of later (x ∷ bs) ≡ refusal LeftOut 0) (sym e) (low_left later bs).0
+byte_left later b bs (quote e) = subst (λ x. prefix_of later (x ∷ bs) ≡ refusal LeftOut 0) (sym e) (low_left later bs).0
 byte_left later b bs (high h) = high_left later b bs h
-byte_left later b bs (tilde e) = subst (λ x. front_of later (x ∷ bs) ≡ refusal LeftOut 0) (sym e) (low_left later bs).1
-byte_left later b bs (dollar e) = subst (λ x. front_of later (x ∷ bs) ≡ refusal LeftOut 0) (sym e) (low_left later bs).2
-byte_left later b bs (backquote e) = subst (λ x. front_of later (x ∷ bs) ≡ refusal LeftOut 0) (sym e) (low_left later bs).3
-byte_left later b bs (underscore e) = subst (λ x. front_of later (x ∷ bs) ≡ refusal LeftOut 0) (sym e) (low_left later bs).4
+byte_left later b bs (tilde e) = subst (λ x. prefix_of later (x ∷ bs) ≡ refusal LeftOut 0) (sym e) (low_left later bs).1
+byte_left later b bs (dollar e) = subst (λ x. prefix_of later (x ∷ bs) ≡ refusal LeftOut 0) (sym e) (low_left later bs).2
+byte_left later b bs (backquote e) = subst (λ x. prefix_of later (x ∷ bs) ≡ refusal LeftOut 0) (sym e) (low_left later bs).3
+byte_left later b bs (underscore e) = subst (λ x. prefix_of later (x ∷ bs) ≡ refusal LeftOut 0) (sym e) (low_left later bs).4
 
-slash_left : (later : Bool) (bs : List ℕ) → nat_eq (front_byte bs) 92 ≡ false → nat_eq (front_byte bs) 42 ≡ false → front_of later (47 ∷ bs) ≡ refusal LeftOut 0
-unfolding front_of symbol_at
+slash_left : (later : Bool) (bs : List ℕ) → nat_eq (first_byte bs) 92 ≡ false → nat_eq (first_byte bs) 42 ≡ false → prefix_of later (47 ∷ bs) ≡ refusal LeftOut 0
+unfolding prefix_of symbol_at
 slash_left true bs no_and no_comment = rw (no_comment, no_and) refl
 slash_left false bs no_and no_comment = rw (no_comment, no_and) refl
 
@@ -106,7 +106,7 @@ digit_other d k is isnt = go (nat_eq d k) refl
     go false e = refl
 
 -- behind the first of some decimal digits stands no other base's letter
-second_other : (d : ℕ) (ds bs : List ℕ) (k : ℕ) → list_all is_digit (d ∷ ds) ≡ true → is_digit k ≡ false → nat_eq (front_byte bs) k ≡ false → nat_eq (front_byte (ds ++ bs)) k ≡ false
+second_other : (d : ℕ) (ds bs : List ℕ) (k : ℕ) → list_all is_digit (d ∷ ds) ≡ true → is_digit k ≡ false → nat_eq (first_byte bs) k ≡ false → nat_eq (first_byte (ds ++ bs)) k ≡ false
 second_other d [] bs k all isnt no_k = no_k
 second_other d (e ∷ ds) bs k all isnt no_k = digit_other e k (both (is_digit e) (list_all is_digit ds) (both (is_digit d) (list_all is_digit (e ∷ ds)) all).1).0 isnt
 
@@ -114,21 +114,21 @@ no_base : (x y : Bool) (z : Bool) → y ≡ false → (x && (y && z)) ≡ false
 no_base true y z e = rw e refl
 no_base false y z e = refl
 
-number_left : (d : ℕ) (ds bs : List ℕ) → list_all is_digit (d ∷ ds) ≡ true → goes_on bs ≡ true → number_front ((d ∷ ds) ++ bs) ≡ refusal LeftOut 0
-unfolding number_front
+number_left : (d : ℕ) (ds bs : List ℕ) → list_all is_digit (d ∷ ds) ≡ true → goes_on bs ≡ true → number_prefix ((d ∷ ds) ++ bs) ≡ refusal LeftOut 0
+unfolding number_prefix
 number_left d ds bs all on =
-    let byte = point_or_letter (front_byte bs) _ _ on in
+    let byte = point_or_letter (first_byte bs) _ _ on in
     let len : prefix_len is_digit ((d ∷ ds) ++ bs) ≡ length (d ∷ ds) = run_is is_digit (d ∷ ds) bs all byte.0 in
     let rest : goes_on (drop (prefix_len is_digit ((d ∷ ds) ++ bs)) ((d ∷ ds) ++ bs)) ≡ true = ap (λ n. goes_on (drop n ((d ∷ ds) ++ bs))) len ∙ ap goes_on (drop_at (d ∷ ds) bs (length (d ∷ ds)) refl) ∙ on in
-    let no_hex : (nat_eq d 48 && (nat_eq (front_byte (ds ++ bs)) 120 && is_hex_digit (front_byte (drop 1 (ds ++ bs))))) ≡ false = no_base _ _ _ (second_other d ds bs 120 all refl byte.1) in
-    let no_octal : (nat_eq d 48 && (nat_eq (front_byte (ds ++ bs)) 111 && is_octal_digit (front_byte (drop 1 (ds ++ bs))))) ≡ false = no_base _ _ _ (second_other d ds bs 111 all refl byte.2) in
+    let no_hex : (nat_eq d 48 && (nat_eq (first_byte (ds ++ bs)) 120 && is_hex_digit (first_byte (drop 1 (ds ++ bs))))) ≡ false = no_base _ _ _ (second_other d ds bs 120 all refl byte.1) in
+    let no_octal : (nat_eq d 48 && (nat_eq (first_byte (ds ++ bs)) 111 && is_octal_digit (first_byte (drop 1 (ds ++ bs))))) ≡ false = no_base _ _ _ (second_other d ds bs 111 all refl byte.2) in
     rw (no_hex, no_octal, rest) refl
 
-digits_left : (later : Bool) (ds bs : List ℕ) → are_digits is_digit ds ≡ true → goes_on bs ≡ true → front_of later (ds ++ bs) ≡ refusal LeftOut 0
+digits_left : (later : Bool) (ds bs : List ℕ) → are_digits is_digit ds ≡ true → goes_on bs ≡ true → prefix_of later (ds ++ bs) ≡ refusal LeftOut 0
 digits_left later [] bs is on = cc
-digits_left later (d ∷ ds) bs is on = front_is_number later ((d ∷ ds) ++ bs) (both (is_digit d) (list_all is_digit ds) is).0 ∙ number_left d ds bs is on
+digits_left later (d ∷ ds) bs is on = prefix_is_number later ((d ∷ ds) ++ bs) (both (is_digit d) (list_all is_digit ds) is).0 ∙ number_left d ds bs is on
 
-word_left : (later : Bool) (w bs : List ℕ) (k : Keyword) → w ≡ keyword_text k → is_word w ≡ true → is_left_out_keyword k ≡ true → is_word_byte (front_byte bs) ≡ false → front_of later (w ++ bs) ≡ refusal LeftOut 0
+word_left : (later : Bool) (w bs : List ℕ) (k : Keyword) → w ≡ keyword_text k → is_word w ≡ true → is_left_out_keyword k ≡ true → is_word_byte (first_byte bs) ≡ false → prefix_of later (w ++ bs) ≡ refusal LeftOut 0
 word_left later [] bs k e is left stop = cc
 word_left later (b ∷ w) bs k e is left stop =
     let parts = word_letters b w is in
@@ -136,11 +136,11 @@ word_left later (b ∷ w) bs k e is left stop =
     let len : prefix_len is_word_byte (v ++ bs) ≡ length v = run_is is_word_byte v bs parts.1 stop in
     let run : take_while is_word_byte (v ++ bs) ≡ v = take_at v bs _ (sym len) in
     let found : keyword_of (take_while is_word_byte (v ++ bs)) ≡ Some k = ap keyword_of (run ∙ e) ∙ keyword_found k in
-    let P : Option Keyword → Front = λ o. keyword_or_name (take_while is_word_byte (v ++ bs)) (prefix_len is_word_byte (v ++ bs)) o in
-    front_is_word later (v ++ bs) parts.0 ∙ word_is (v ++ bs) ∙ ap P found ∙ rw left refl
+    let P : Option Keyword → Prefix = λ o. keyword_or_name (take_while is_word_byte (v ++ bs)) (prefix_len is_word_byte (v ++ bs)) o in
+    prefix_is_word later (v ++ bs) parts.0 ∙ word_is (v ++ bs) ∙ ap P found ∙ rw left refl
 
-pub left_front : {bs : List ℕ} → IsLeftOut bs → (later : Bool) → front_of later bs ≡ refusal LeftOut 0
-left_front (left_byte {b = b} bs is isnt) later = byte_left later b bs (one_of b is isnt)
-left_front (left_slash bs no_and no_comment) later = slash_left later bs no_and no_comment
-left_front (left_number ds bs is on) later = digits_left later ds bs is on
-left_front (left_keyword k bs left stop) later = word_left later (keyword_text k) bs k refl (keyword_is_word k) left stop
+pub left_prefix : {bs : List ℕ} → IsLeftOut bs → (later : Bool) → prefix_of later bs ≡ refusal LeftOut 0
+left_prefix (left_byte {b = b} bs is isnt) later = byte_left later b bs (one_of b is isnt)
+left_prefix (left_slash bs no_and no_comment) later = slash_left later bs no_and no_comment
+left_prefix (left_number ds bs is on) later = digits_left later ds bs is on
+left_prefix (left_keyword k bs left stop) later = word_left later (keyword_text k) bs k refl (keyword_is_word k) left stop

@@ -4,7 +4,7 @@ pub mod Contents
 pub mod Cuts
 pub mod Digits
 pub mod Exact
-pub mod Fronts
+pub mod Prefixes
 pub mod Identifiers
 pub mod LeftOuts
 pub mod Lexing

@@ -4,10 +4,10 @@ use Rattle.std.specs.List.{prefix_len, take_while, list_all}
 use Rattle.std.proofs.Math.Numerals.{one-add}
 use Rattle.std.proofs.lemmas.List.Sums.{take_while-cons}
 use Rattle.std.proofs.lemmas.Bool.{false≢true}
-use Rattle.mz_lexer.specs.Bytes.{front_byte}
+use Rattle.mz_lexer.specs.Bytes.{first_byte}
 
 -- the byte in front passes
-pub some_run : (p : ℕ → Bool) → p 0 ≡ false → (bs : List ℕ) → p (front_byte bs) ≡ true → 0 < prefix_len p bs
+pub some_run : (p : ℕ → Bool) → p 0 ≡ false → (bs : List ℕ) → p (first_byte bs) ≡ true → 0 < prefix_len p bs
 some_run p never [] is = absurd (false≢true (sym never ∙ is))
 some_run p never (b ∷ bs) is = let passes = ap (λ t. cond t (1 + prefix_len p bs) 0) is in omega (arith, passes)
 
@@ -28,15 +28,15 @@ pub all_of_run : (p : ℕ → Bool) (bs : List ℕ) → list_all p (take_while p
 all_of_run p [] = refl
 all_of_run p (b ∷ bs) = ap (list_all p) (take_while-cons p b bs) ∙ all_from_cons p b bs (all_of_run p bs)
 
-stops_cons : (p : ℕ → Bool) (b : ℕ) (bs : List ℕ) → p (front_byte (drop (prefix_len p bs) bs)) ≡ false → p (front_byte (drop (prefix_len p (b ∷ bs)) (b ∷ bs))) ≡ false
+stops_cons : (p : ℕ → Bool) (b : ℕ) (bs : List ℕ) → p (first_byte (drop (prefix_len p bs) bs)) ≡ false → p (first_byte (drop (prefix_len p (b ∷ bs)) (b ∷ bs))) ≡ false
 stops_cons p b bs rest = go (p b) refl
   where
-    go : (t : Bool) → p b ≡ t → p (front_byte (drop (cond t (1 + prefix_len p bs) 0) (b ∷ bs))) ≡ false
+    go : (t : Bool) → p b ≡ t → p (first_byte (drop (cond t (1 + prefix_len p bs) 0) (b ∷ bs))) ≡ false
     go true is = rw one-add rest
     go false is = is
 
 -- behind the run stands a byte that doesn't pass, or none
-pub stops_run : (p : ℕ → Bool) → p 0 ≡ false → (bs : List ℕ) → p (front_byte (drop (prefix_len p bs) bs)) ≡ false
+pub stops_run : (p : ℕ → Bool) → p 0 ≡ false → (bs : List ℕ) → p (first_byte (drop (prefix_len p bs) bs)) ≡ false
 stops_run p never [] = never
 stops_run p never (b ∷ bs) = stops_cons p b bs (stops_run p never bs)
 
@@ -49,7 +49,7 @@ run_holds p (b ∷ w) bs all =
     omega (arith, passes, run_holds p w bs parts.1)
 
 -- and are the run where no byte behind them passes
-pub run_is : (p : ℕ → Bool) (w bs : List ℕ) → list_all p w ≡ true → p (front_byte bs) ≡ false → prefix_len p (w ++ bs) ≡ length w
+pub run_is : (p : ℕ → Bool) (w bs : List ℕ) → list_all p w ≡ true → p (first_byte bs) ≡ false → prefix_len p (w ++ bs) ≡ length w
 run_is p [] [] all stop = refl
 run_is p [] (b ∷ bs) all stop = rw stop refl
 run_is p (b ∷ w) bs all stop =

@@ -9,7 +9,7 @@ use Rattle.mz_base.specs.declared.keyword.Keyword.TheVariants.{KAnn, KAnnotation
 use Rattle.mz_base.proofs.Choices.{pick}
 use Rattle.mz_lexer.specs.declared.token.Symbol.{Symbol}
 use Rattle.mz_lexer.specs.declared.token.Symbol.TheVariants.{SLParen, SRParen, SLBrack, SRBrack, SLBrace, SRBrace, SLRows, SRRows, SBar, SComma, SSemi, SColon, SColons, SDots, SEq, SEqEq, SNe, SLt, SLe, SGt, SGe, SRimp, SImp, SIff, SOr, SAnd, SPlus, SMinus, SStar, SCaret, SConcat, SAbsent}
-use Rattle.mz_lexer.specs.Bytes.{front_byte, second_byte, third_byte}
+use Rattle.mz_lexer.specs.Bytes.{first_byte, second_byte, third_byte}
 use Rattle.mz_base.specs.Keywords.{keyword_text, keyword_of, all_keywords}
 use Rattle.mz_lexer.specs.Symbols.{symbol_text}
 use Rattle.mz_lexer.specs.StepsSymbols.{symbol_at, less_at}
@@ -143,29 +143,29 @@ pub data IsFound (bs : List ℕ) : Option (Symbol × ℕ) → Type 0 where
 same_byte : (a k : ℕ) → nat_eq a k ≡ true → a ≡ k
 same_byte a k e = (Decides-eqb a k).0 e
 
-one_long : (bs : List ℕ) (k : ℕ) (s : Symbol) → symbol_text s ≡ k ∷ [] → 0 < k → front_byte bs ≡ k → IsFound bs (Some (s, 1))
+one_long : (bs : List ℕ) (k : ℕ) (s : Symbol) → symbol_text s ≡ k ∷ [] → 0 < k → first_byte bs ≡ k → IsFound bs (Some (s, 1))
 one_long [] k s text some e = absurd (omega arith)
 one_long (b ∷ bs) k s text some e = one_found (ap (λ x. x ∷ []) e ∙ sym text) (omega arith)
 
-two_long : (bs : List ℕ) (k j : ℕ) (s : Symbol) → symbol_text s ≡ k ∷ j ∷ [] → 0 < k → 0 < j → front_byte bs ≡ k → second_byte bs ≡ j → IsFound bs (Some (s, 2))
+two_long : (bs : List ℕ) (k j : ℕ) (s : Symbol) → symbol_text s ≡ k ∷ j ∷ [] → 0 < k → 0 < j → first_byte bs ≡ k → second_byte bs ≡ j → IsFound bs (Some (s, 2))
 two_long [] k j s text some more e f = absurd (omega arith)
 two_long (b ∷ []) k j s text some more e f = absurd (omega arith)
 two_long (b ∷ c ∷ bs) k j s text some more e f = one_found (ap (λ x. x ∷ c ∷ []) e ∙ ap (λ x. k ∷ x ∷ []) f ∙ sym text) (omega arith)
 
-three_long : (bs : List ℕ) (k j i : ℕ) (s : Symbol) → symbol_text s ≡ k ∷ j ∷ i ∷ [] → 0 < k → 0 < j → 0 < i → front_byte bs ≡ k → second_byte bs ≡ j → third_byte bs ≡ i → IsFound bs (Some (s, 3))
+three_long : (bs : List ℕ) (k j i : ℕ) (s : Symbol) → symbol_text s ≡ k ∷ j ∷ i ∷ [] → 0 < k → 0 < j → 0 < i → first_byte bs ≡ k → second_byte bs ≡ j → third_byte bs ≡ i → IsFound bs (Some (s, 3))
 three_long [] k j i s text some more most e f g = absurd (omega arith)
 three_long (b ∷ []) k j i s text some more most e f g = absurd (omega arith)
 three_long (b ∷ c ∷ []) k j i s text some more most e f g = absurd (omega arith)
 three_long (b ∷ c ∷ d ∷ bs) k j i s text some more most e f g = one_found (ap (λ x. x ∷ c ∷ d ∷ []) e ∙ ap (λ x. k ∷ x ∷ d ∷ []) f ∙ ap (λ x. k ∷ j ∷ x ∷ []) g ∙ sym text) (omega arith)
 
 module _ (bs : List ℕ) where
-  one : (k : ℕ) (s : Symbol) → symbol_text s ≡ k ∷ [] → 0 < k → nat_eq (front_byte bs) k ≡ true → IsFound bs (Some (s, 1))
+  one : (k : ℕ) (s : Symbol) → symbol_text s ≡ k ∷ [] → 0 < k → nat_eq (first_byte bs) k ≡ true → IsFound bs (Some (s, 1))
   one k s text some e = one_long bs k s text some (same_byte _ k e)
 
-  two : (k j : ℕ) (s : Symbol) (other : Option (Symbol × ℕ)) → symbol_text s ≡ k ∷ j ∷ [] → 0 < k → 0 < j → nat_eq (front_byte bs) k ≡ true → IsFound bs other → IsFound bs (cond (nat_eq (second_byte bs) j) (Some (s, 2)) other)
+  two : (k j : ℕ) (s : Symbol) (other : Option (Symbol × ℕ)) → symbol_text s ≡ k ∷ j ∷ [] → 0 < k → 0 < j → nat_eq (first_byte bs) k ≡ true → IsFound bs other → IsFound bs (cond (nat_eq (second_byte bs) j) (Some (s, 2)) other)
   two k j s other text some more e rest = pick (IsFound bs) (nat_eq (second_byte bs) j) _ _ (λ f. two_long bs k j s text some more (same_byte _ k e) (same_byte _ j f)) (λ _. rest)
 
-  less_found : nat_eq (front_byte bs) 60 ≡ true → IsFound bs (less_at (second_byte bs) (third_byte bs))
+  less_found : nat_eq (first_byte bs) 60 ≡ true → IsFound bs (less_at (second_byte bs) (third_byte bs))
   unfolding less_at
   less_found e = two 60 61 SLe _ refl (omega arith) (omega arith) e
       (pick (IsFound bs) (nat_eq (second_byte bs) 45) _ _
@@ -174,30 +174,30 @@ module _ (bs : List ℕ) where
       (λ _. two_long bs 60 45 SRimp refl (omega arith) (omega arith) (same_byte _ 60 e) (same_byte _ 45 f)))
       (λ _. two 60 62 SAbsent _ refl (omega arith) (omega arith) e (one 60 SLt refl (omega arith) e)))
 
-  pub symbol_is_found : IsFound bs (symbol_at (front_byte bs) (second_byte bs) (third_byte bs))
+  pub symbol_is_found : IsFound bs (symbol_at (first_byte bs) (second_byte bs) (third_byte bs))
   unfolding symbol_at
   symbol_is_found =
-      pick (IsFound bs) (nat_eq (front_byte bs) 40) _ _ (λ e. one 40 SLParen refl (omega arith) e) (λ _.
-      pick (IsFound bs) (nat_eq (front_byte bs) 41) _ _ (λ e. one 41 SRParen refl (omega arith) e) (λ _.
-      pick (IsFound bs) (nat_eq (front_byte bs) 91) _ _ (λ e. two 91 124 SLRows _ refl (omega arith) (omega arith) e (one 91 SLBrack refl (omega arith) e)) (λ _.
-      pick (IsFound bs) (nat_eq (front_byte bs) 93) _ _ (λ e. one 93 SRBrack refl (omega arith) e) (λ _.
-      pick (IsFound bs) (nat_eq (front_byte bs) 123) _ _ (λ e. one 123 SLBrace refl (omega arith) e) (λ _.
-      pick (IsFound bs) (nat_eq (front_byte bs) 125) _ _ (λ e. one 125 SRBrace refl (omega arith) e) (λ _.
-      pick (IsFound bs) (nat_eq (front_byte bs) 124) _ _ (λ e. two 124 93 SRRows _ refl (omega arith) (omega arith) e (one 124 SBar refl (omega arith) e)) (λ _.
-      pick (IsFound bs) (nat_eq (front_byte bs) 44) _ _ (λ e. one 44 SComma refl (omega arith) e) (λ _.
-      pick (IsFound bs) (nat_eq (front_byte bs) 59) _ _ (λ e. one 59 SSemi refl (omega arith) e) (λ _.
-      pick (IsFound bs) (nat_eq (front_byte bs) 58) _ _ (λ e. two 58 58 SColons _ refl (omega arith) (omega arith) e (one 58 SColon refl (omega arith) e)) (λ _.
-      pick (IsFound bs) (nat_eq (front_byte bs) 46) _ _ (λ e. two 46 46 SDots _ refl (omega arith) (omega arith) e none_found) (λ _.
-      pick (IsFound bs) (nat_eq (front_byte bs) 61) _ _ (λ e. two 61 61 SEqEq _ refl (omega arith) (omega arith) e (one 61 SEq refl (omega arith) e)) (λ _.
-      pick (IsFound bs) (nat_eq (front_byte bs) 33) _ _ (λ e. two 33 61 SNe _ refl (omega arith) (omega arith) e none_found) (λ _.
-      pick (IsFound bs) (nat_eq (front_byte bs) 60) _ _ (λ e. less_found e) (λ _.
-      pick (IsFound bs) (nat_eq (front_byte bs) 62) _ _ (λ e. two 62 61 SGe _ refl (omega arith) (omega arith) e (one 62 SGt refl (omega arith) e)) (λ _.
-      pick (IsFound bs) (nat_eq (front_byte bs) 45) _ _ (λ e. two 45 62 SImp _ refl (omega arith) (omega arith) e (one 45 SMinus refl (omega arith) e)) (λ _.
-      pick (IsFound bs) (nat_eq (front_byte bs) 92) _ _ (λ e. two 92 47 SOr _ refl (omega arith) (omega arith) e none_found) (λ _.
-      pick (IsFound bs) (nat_eq (front_byte bs) 47) _ _ (λ e. two 47 92 SAnd _ refl (omega arith) (omega arith) e none_found) (λ _.
-      pick (IsFound bs) (nat_eq (front_byte bs) 43) _ _ (λ e. two 43 43 SConcat _ refl (omega arith) (omega arith) e (one 43 SPlus refl (omega arith) e)) (λ _.
-      pick (IsFound bs) (nat_eq (front_byte bs) 42) _ _ (λ e. one 42 SStar refl (omega arith) e) (λ _.
-      pick (IsFound bs) (nat_eq (front_byte bs) 94) _ _ (λ e. one 94 SCaret refl (omega arith) e) (λ _.
+      pick (IsFound bs) (nat_eq (first_byte bs) 40) _ _ (λ e. one 40 SLParen refl (omega arith) e) (λ _.
+      pick (IsFound bs) (nat_eq (first_byte bs) 41) _ _ (λ e. one 41 SRParen refl (omega arith) e) (λ _.
+      pick (IsFound bs) (nat_eq (first_byte bs) 91) _ _ (λ e. two 91 124 SLRows _ refl (omega arith) (omega arith) e (one 91 SLBrack refl (omega arith) e)) (λ _.
+      pick (IsFound bs) (nat_eq (first_byte bs) 93) _ _ (λ e. one 93 SRBrack refl (omega arith) e) (λ _.
+      pick (IsFound bs) (nat_eq (first_byte bs) 123) _ _ (λ e. one 123 SLBrace refl (omega arith) e) (λ _.
+      pick (IsFound bs) (nat_eq (first_byte bs) 125) _ _ (λ e. one 125 SRBrace refl (omega arith) e) (λ _.
+      pick (IsFound bs) (nat_eq (first_byte bs) 124) _ _ (λ e. two 124 93 SRRows _ refl (omega arith) (omega arith) e (one 124 SBar refl (omega arith) e)) (λ _.
+      pick (IsFound bs) (nat_eq (first_byte bs) 44) _ _ (λ e. one 44 SComma refl (omega arith) e) (λ _.
+      pick (IsFound bs) (nat_eq (first_byte bs) 59) _ _ (λ e. one 59 SSemi refl (omega arith) e) (λ _.
+      pick (IsFound bs) (nat_eq (first_byte bs) 58) _ _ (λ e. two 58 58 SColons _ refl (omega arith) (omega arith) e (one 58 SColon refl (omega arith) e)) (λ _.
+      pick (IsFound bs) (nat_eq (first_byte bs) 46) _ _ (λ e. two 46 46 SDots _ refl (omega arith) (omega arith) e none_found) (λ _.
+      pick (IsFound bs) (nat_eq (first_byte bs) 61) _ _ (λ e. two 61 61 SEqEq _ refl (omega arith) (omega arith) e (one 61 SEq refl (omega arith) e)) (λ _.
+      pick (IsFound bs) (nat_eq (first_byte bs) 33) _ _ (λ e. two 33 61 SNe _ refl (omega arith) (omega arith) e none_found) (λ _.
+      pick (IsFound bs) (nat_eq (first_byte bs) 60) _ _ (λ e. less_found e) (λ _.
+      pick (IsFound bs) (nat_eq (first_byte bs) 62) _ _ (λ e. two 62 61 SGe _ refl (omega arith) (omega arith) e (one 62 SGt refl (omega arith) e)) (λ _.
+      pick (IsFound bs) (nat_eq (first_byte bs) 45) _ _ (λ e. two 45 62 SImp _ refl (omega arith) (omega arith) e (one 45 SMinus refl (omega arith) e)) (λ _.
+      pick (IsFound bs) (nat_eq (first_byte bs) 92) _ _ (λ e. two 92 47 SOr _ refl (omega arith) (omega arith) e none_found) (λ _.
+      pick (IsFound bs) (nat_eq (first_byte bs) 47) _ _ (λ e. two 47 92 SAnd _ refl (omega arith) (omega arith) e none_found) (λ _.
+      pick (IsFound bs) (nat_eq (first_byte bs) 43) _ _ (λ e. two 43 43 SConcat _ refl (omega arith) (omega arith) e (one 43 SPlus refl (omega arith) e)) (λ _.
+      pick (IsFound bs) (nat_eq (first_byte bs) 42) _ _ (λ e. one 42 SStar refl (omega arith) e) (λ _.
+      pick (IsFound bs) (nat_eq (first_byte bs) 94) _ _ (λ e. one 94 SCaret refl (omega arith) e) (λ _.
       none_found)))))))))))))))))))))
 
 -- a symbol that stands in front is found, or a longer one is
@@ -240,37 +240,37 @@ iff_is : less_at 45 62 ≡ Some (SIff, 3)
 unfolding less_at
 iff_is = refl
 
-pub symbol_is_covered : (t : Symbol) (after : List ℕ) → IsCovered t (symbol_at (front_byte (symbol_text t ++ after)) (second_byte (symbol_text t ++ after)) (third_byte (symbol_text t ++ after)))
+pub symbol_is_covered : (t : Symbol) (after : List ℕ) → IsCovered t (symbol_at (first_byte (symbol_text t ++ after)) (second_byte (symbol_text t ++ after)) (third_byte (symbol_text t ++ after)))
 unfolding symbol_at
 symbol_is_covered SLParen after = itself SLParen 1 refl
 symbol_is_covered SRParen after = itself SRParen 1 refl
-symbol_is_covered SLBrack after = at_second SLBrack SLRows (nat_eq (front_byte after) 124) refl
+symbol_is_covered SLBrack after = at_second SLBrack SLRows (nat_eq (first_byte after) 124) refl
 symbol_is_covered SRBrack after = itself SRBrack 1 refl
 symbol_is_covered SLBrace after = itself SLBrace 1 refl
 symbol_is_covered SRBrace after = itself SRBrace 1 refl
 symbol_is_covered SLRows after = itself SLRows 2 refl
 symbol_is_covered SRRows after = itself SRRows 2 refl
-symbol_is_covered SBar after = at_second SBar SRRows (nat_eq (front_byte after) 93) refl
+symbol_is_covered SBar after = at_second SBar SRRows (nat_eq (first_byte after) 93) refl
 symbol_is_covered SComma after = itself SComma 1 refl
 symbol_is_covered SSemi after = itself SSemi 1 refl
-symbol_is_covered SColon after = at_second SColon SColons (nat_eq (front_byte after) 58) refl
+symbol_is_covered SColon after = at_second SColon SColons (nat_eq (first_byte after) 58) refl
 symbol_is_covered SColons after = itself SColons 2 refl
 symbol_is_covered SDots after = itself SDots 2 refl
-symbol_is_covered SEq after = at_second SEq SEqEq (nat_eq (front_byte after) 61) refl
+symbol_is_covered SEq after = at_second SEq SEqEq (nat_eq (first_byte after) 61) refl
 symbol_is_covered SEqEq after = itself SEqEq 2 refl
 symbol_is_covered SNe after = itself SNe 2 refl
-symbol_is_covered SLt after = less_covered (front_byte after) (second_byte after)
-symbol_is_covered SLe after = less_two SLe 61 (front_byte after) (le_is _) refl
-symbol_is_covered SGt after = at_second SGt SGe (nat_eq (front_byte after) 61) refl
+symbol_is_covered SLt after = less_covered (first_byte after) (second_byte after)
+symbol_is_covered SLe after = less_two SLe 61 (first_byte after) (le_is _) refl
+symbol_is_covered SGt after = at_second SGt SGe (nat_eq (first_byte after) 61) refl
 symbol_is_covered SGe after = itself SGe 2 refl
-symbol_is_covered SRimp after = arrow_covered (front_byte after)
+symbol_is_covered SRimp after = arrow_covered (first_byte after)
 symbol_is_covered SImp after = itself SImp 2 refl
 symbol_is_covered SIff after = subst (IsCovered SIff) (sym iff_is) (itself SIff 3 refl)
 symbol_is_covered SOr after = itself SOr 2 refl
 symbol_is_covered SAnd after = itself SAnd 2 refl
-symbol_is_covered SPlus after = at_second SPlus SConcat (nat_eq (front_byte after) 43) refl
-symbol_is_covered SMinus after = at_second SMinus SImp (nat_eq (front_byte after) 62) refl
+symbol_is_covered SPlus after = at_second SPlus SConcat (nat_eq (first_byte after) 43) refl
+symbol_is_covered SMinus after = at_second SMinus SImp (nat_eq (first_byte after) 62) refl
 symbol_is_covered SStar after = itself SStar 1 refl
 symbol_is_covered SCaret after = itself SCaret 1 refl
 symbol_is_covered SConcat after = itself SConcat 2 refl
-symbol_is_covered SAbsent after = less_two SAbsent 62 (front_byte after) (absent_is _) refl
+symbol_is_covered SAbsent after = less_two SAbsent 62 (first_byte after) (absent_is _) refl

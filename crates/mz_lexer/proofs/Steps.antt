@@ -11,7 +11,7 @@ use Rattle.mz_lexer.specs.declared.token.Tok.{Tok}
 use Rattle.mz_lexer.specs.declared.token.Tok.TheVariants as tok
 use Rattle.mz_lexer.specs.declared.token.Token.{Token}
 use Rattle.mz_lexer.specs.Lexemes.{fault, Lexeme, ident, text, text_head, text_mid, text_tail, Lex, begins_piece, passed, after, opens_behind, Outcome, with_token}
-use Rattle.mz_lexer.specs.Steps.{gap, token, refusal, front_of, front_then, outcome_behind, outcome_at, outcome_of}
+use Rattle.mz_lexer.specs.Steps.{gap, token, refusal, prefix_of, prefix_then, outcome_behind, outcome_at, outcome_of}
 use Rattle.mz_base.specs.Faults.{start_of}
 use Rattle.mz_lexer.specs.Views.{lexeme, lex, IsNamed, HasName}
 
@@ -36,32 +36,32 @@ behind_drop zero opens at bs = sym (at_is opens at bs)
 behind_drop (suc n) opens at [] = behind_end (suc n) opens at ∙ sym (outcome_end opens at)
 behind_drop (suc n) opens at (b ∷ bs) = behind_more n opens at b bs ∙ behind_drop n opens (passed at b) bs
 
-at_front : (opens : List Opening) (at : Span) (b : ℕ) (bs : List ℕ) → outcome_at opens at (b ∷ bs) ≡ front_then opens at (b ∷ bs) (front_of (begins_piece opens) (b ∷ bs)) (λ more os. outcome_behind more os (passed at b) bs)
+at_prefix : (opens : List Opening) (at : Span) (b : ℕ) (bs : List ℕ) → outcome_at opens at (b ∷ bs) ≡ prefix_then opens at (b ∷ bs) (prefix_of (begins_piece opens) (b ∷ bs)) (λ more os. outcome_behind more os (passed at b) bs)
 unfolding outcome_at outcome_behind
-at_front opens at b bs = refl
+at_prefix opens at b bs = refl
 
 less_one : (n : ℕ) (opens : List Opening) (at : Span) (b : ℕ) (bs : List ℕ) → 0 < n → outcome_behind (n - 1) opens (passed at b) bs ≡ outcome_at opens (after at (take n (b ∷ bs))) (drop n (b ∷ bs))
 less_one zero opens at b bs some = absurd (omega arith)
 less_one (suc n) opens at b bs some = rw sub-one (behind_drop n opens (passed at b) bs)
 
 -- a blank or a comment stands in front
-pub step_gap : (opens : List Opening) (at : Span) (bs : List ℕ) (n : ℕ) → 0 < length bs → 0 < n → front_of (begins_piece opens) bs ≡ gap n → outcome_at opens at bs ≡ outcome_at opens (after at (take n bs)) (drop n bs)
+pub step_gap : (opens : List Opening) (at : Span) (bs : List ℕ) (n : ℕ) → 0 < length bs → 0 < n → prefix_of (begins_piece opens) bs ≡ gap n → outcome_at opens at bs ≡ outcome_at opens (after at (take n bs)) (drop n bs)
 step_gap opens at [] n some long is = absurd (omega arith)
 step_gap opens at (b ∷ bs) n some long is =
-    at_front opens at b bs ∙ ap (λ f. front_then opens at (b ∷ bs) f (λ more os. outcome_behind more os (passed at b) bs)) is ∙ less_one n opens at b bs long
+    at_prefix opens at b bs ∙ ap (λ f. prefix_then opens at (b ∷ bs) f (λ more os. outcome_behind more os (passed at b) bs)) is ∙ less_one n opens at b bs long
 
 -- a token stands in front
-pub step_token : (opens : List Opening) (at : Span) (bs : List ℕ) (x : Lexeme) (n : ℕ) → 0 < length bs → 0 < n → front_of (begins_piece opens) bs ≡ token x n → outcome_at opens at bs ≡ with_token (record { lexeme = x; span = at; len = n }) (outcome_at (opens_behind x opens) (after at (take n bs)) (drop n bs))
+pub step_token : (opens : List Opening) (at : Span) (bs : List ℕ) (x : Lexeme) (n : ℕ) → 0 < length bs → 0 < n → prefix_of (begins_piece opens) bs ≡ token x n → outcome_at opens at bs ≡ with_token (record { lexeme = x; span = at; len = n }) (outcome_at (opens_behind x opens) (after at (take n bs)) (drop n bs))
 step_token opens at [] x n some long is = absurd (omega arith)
 step_token opens at (b ∷ bs) x n some long is =
-    at_front opens at b bs ∙ ap (λ f. front_then opens at (b ∷ bs) f (λ more os. outcome_behind more os (passed at b) bs)) is
+    at_prefix opens at b bs ∙ ap (λ f. prefix_then opens at (b ∷ bs) f (λ more os. outcome_behind more os (passed at b) bs)) is
     ∙ ap (with_token (record { lexeme = x; span = at; len = n })) (less_one n (opens_behind x opens) at b bs long)
 
 -- a fault stands in front
-pub step_fault : (opens : List Opening) (at : Span) (bs : List ℕ) (kind : Kind) (n : ℕ) → 0 < length bs → front_of (begins_piece opens) bs ≡ refusal kind n → outcome_at opens at bs ≡ Err (fault kind (after at (take n bs)))
+pub step_fault : (opens : List Opening) (at : Span) (bs : List ℕ) (kind : Kind) (n : ℕ) → 0 < length bs → prefix_of (begins_piece opens) bs ≡ refusal kind n → outcome_at opens at bs ≡ Err (fault kind (after at (take n bs)))
 step_fault opens at [] kind n some is = absurd (omega arith)
 step_fault opens at (b ∷ bs) kind n some is =
-    at_front opens at b bs ∙ ap (λ f. front_then opens at (b ∷ bs) f (λ more os. outcome_behind more os (passed at b) bs)) is
+    at_prefix opens at b bs ∙ ap (λ f. prefix_then opens at (b ∷ bs) f (λ more os. outcome_behind more os (passed at b) bs)) is
 
 -- tokens in front of an outcome
 abbrev pub with_tokens : List Lex → Outcome → Outcome
@@ -120,10 +120,10 @@ module _ (before now : List (List ℕ)) (ts : List Token) (opens : List Opening)
   seen_now : with_tokens (map (lex now) ts) (outcome_at opens at bs) ≡ whole
   seen_now = ap (λ ls. with_tokens ls (outcome_at opens at bs)) (all_seen_later before now grows ts named) ∙ reads
 
-  pub reads_gap : (n : ℕ) → 0 < n → front_of (begins_piece opens) bs ≡ gap n → with_tokens (map (lex now) ts) (outcome_at opens (after at (take n bs)) (drop n bs)) ≡ whole
+  pub reads_gap : (n : ℕ) → 0 < n → prefix_of (begins_piece opens) bs ≡ gap n → with_tokens (map (lex now) ts) (outcome_at opens (after at (take n bs)) (drop n bs)) ≡ whole
   reads_gap n long is = ap (with_tokens (map (lex now) ts)) (sym (step_gap opens at bs n some long is)) ∙ seen_now
 
-  pub reads_token : (t : Token) (n : ℕ) → t.span ≡ at → t.len ≡ n → 0 < n → front_of (begins_piece opens) bs ≡ token (lexeme now t.tok) n → with_tokens (map (lex now) (ts ++ t ∷ [])) (outcome_at (opens_behind (lexeme now t.tok) opens) (after at (take n bs)) (drop n bs)) ≡ whole
+  pub reads_token : (t : Token) (n : ℕ) → t.span ≡ at → t.len ≡ n → 0 < n → prefix_of (begins_piece opens) bs ≡ token (lexeme now t.tok) n → with_tokens (map (lex now) (ts ++ t ∷ [])) (outcome_at (opens_behind (lexeme now t.tok) opens) (after at (take n bs)) (drop n bs)) ≡ whole
   reads_token t n span len long is =
       let rest : Outcome = outcome_at (opens_behind (lexeme now t.tok) opens) (after at (take n bs)) (drop n bs) in
       let l : Lex = record { lexeme = lexeme now t.tok; span = at; len = n } in
@@ -132,7 +132,7 @@ module _ (before now : List (List ℕ)) (ts : List Token) (opens : List Opening)
       ∙ ap (λ x. with_tokens (map (lex now) ts) (with_token x rest)) same
       ∙ ap (with_tokens (map (lex now) ts)) (sym (step_token opens at bs (lexeme now t.tok) n some long is)) ∙ seen_now
 
-  pub reads_fault : (kind : Kind) (n : ℕ) → front_of (begins_piece opens) bs ≡ refusal kind n → Err (fault kind (after at (take n bs))) ≡ whole
+  pub reads_fault : (kind : Kind) (n : ℕ) → prefix_of (begins_piece opens) bs ≡ refusal kind n → Err (fault kind (after at (take n bs))) ≡ whole
   reads_fault kind n is = ap (with_tokens (map (lex now) ts)) (sym (step_fault opens at bs kind n some is)) ∙ seen_now
 
 -- everything is read

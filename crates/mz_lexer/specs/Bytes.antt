@@ -3,20 +3,20 @@ use Rattle.std.specs.Prelude.{ℕ, List, [], ◌∷◌, Bool, ◌||◌, nat_eq, 
 use Rattle.mz_base.specs.Words.{is_between, is_digit}
 
 -- the byte in front, 0 where there is none
-abbrev pub front_byte : List ℕ → ℕ
-front_byte [] = 0
-front_byte (b ∷ bs) = b
+abbrev pub first_byte : List ℕ → ℕ
+first_byte [] = 0
+first_byte (b ∷ bs) = b
 
 -- the second and the third byte, 0 where there is none
 abbrev pub second_byte : List ℕ → ℕ
-second_byte bs = front_byte (drop 1 bs)
+second_byte bs = first_byte (drop 1 bs)
 
 abbrev pub third_byte : List ℕ → ℕ
-third_byte bs = front_byte (drop 2 bs)
+third_byte bs = first_byte (drop 2 bs)
 
 -- b is the byte of a text of one byte
 abbrev pub is_byte : List ℕ → ℕ → Bool
-is_byte text b = nat_eq b (front_byte text)
+is_byte text b = nat_eq b (first_byte text)
 
 -- the bytes that a definition names
 abbrev pub quote : ℕ

@@ -14,7 +14,7 @@ use Rattle.mz_lexer.specs.declared.token.Symbol.{Symbol}
 use Rattle.mz_lexer.specs.declared.token.Symbol.TheVariants.{SLParen, SRParen}
 use Rattle.mz_lexer.specs.declared.opening.Opening.{Opening}
 use Rattle.mz_lexer.specs.declared.opening.Opening.TheVariants as opening
-use Rattle.mz_lexer.specs.Bytes.{is_byte, quote, backslash, front_byte, second_byte, third_byte, is_blank, is_newline, is_hex_digit, is_octal_digit, is_left_out_byte}
+use Rattle.mz_lexer.specs.Bytes.{is_byte, quote, backslash, first_byte, second_byte, third_byte, is_blank, is_newline, is_hex_digit, is_octal_digit, is_left_out_byte}
 use Rattle.mz_base.specs.Words.{is_letter, is_digit, is_word_byte}
 use Rattle.mz_base.specs.Keywords.{keyword_of}
 use Rattle.mz_lexer.specs.LeftOut.{is_left_out_keyword}

@@ -10,7 +10,7 @@ use Rattle.mz_base.specs.declared.keyword.Keyword.{Keyword}
 use Rattle.mz_lexer.specs.declared.token.Symbol.{Symbol}
 use Rattle.mz_lexer.specs.declared.token.Symbol.TheVariants.{SRParen}
 use Rattle.mz_lexer.specs.declared.opening.Opening.{Opening}
-use Rattle.mz_lexer.specs.Bytes.{is_byte, newline, quote, backslash, front_byte, is_blank, is_newline, is_hex_digit, is_octal_digit, is_left_out_byte}
+use Rattle.mz_lexer.specs.Bytes.{is_byte, newline, quote, backslash, first_byte, is_blank, is_newline, is_hex_digit, is_octal_digit, is_left_out_byte}
 use Rattle.mz_base.specs.Words.{is_letter, is_digit, is_word_byte}
 use Rattle.mz_base.specs.Keywords.{keyword_text}
 use Rattle.mz_lexer.specs.LeftOut.{is_left_out_keyword}
@@ -67,10 +67,10 @@ IsLongest later w rest = (v behind : List ℕ) (x : Lexeme) → v ++ behind ≡ 
 pub data IsLeftOut : List ℕ → Type 0 where
   left_byte : {b : ℕ} (bs : List ℕ) → is_left_out_byte b ≡ true → is_byte (codes "/") b ≡ false → IsLeftOut (b ∷ bs)
   -- a `/` that is no `/\` and begins no comment
-  left_slash : (bs : List ℕ) → nat_eq (front_byte bs) backslash ≡ false → is_byte (codes "*") (front_byte bs) ≡ false
+  left_slash : (bs : List ℕ) → nat_eq (first_byte bs) backslash ≡ false → is_byte (codes "*") (first_byte bs) ≡ false
       → IsLeftOut (codes "/" ++ bs)
   left_number : (ds bs : List ℕ) → are_digits is_digit ds ≡ true → goes_on bs ≡ true → IsLeftOut (ds ++ bs)
-  left_keyword : (k : Keyword) (bs : List ℕ) → is_left_out_keyword k ≡ true → is_word_byte (front_byte bs) ≡ false
+  left_keyword : (k : Keyword) (bs : List ℕ) → is_left_out_keyword k ≡ true → is_word_byte (first_byte bs) ≡ false
       → IsLeftOut (keyword_text k ++ bs)
 
 -- a comment with this between its ends
@@ -87,10 +87,10 @@ opens_piece later b = if nat_eq b quote then true else later && is_byte (codes "
 
 -- no blank, comment, token or piece of a text begins here, and no form that is left out by name
 pub record NothingBegins (later : Bool) (bs : List ℕ) : Type 0 where
-  pub no_blank : is_blank (front_byte bs) ≡ false
-  pub no_line : is_byte (codes "%") (front_byte bs) ≡ false
+  pub no_blank : is_blank (first_byte bs) ≡ false
+  pub no_line : is_byte (codes "%") (first_byte bs) ≡ false
   pub no_comment : (c behind : List ℕ) → comment c ++ behind ≡ bs → ⊥
-  pub no_piece : opens_piece later (front_byte bs) ≡ false
+  pub no_piece : opens_piece later (first_byte bs) ≡ false
   pub no_token : (v behind : List ℕ) (x : Lexeme) → v ++ behind ≡ bs → Spells later v x → ⊥
   pub no_left_out : IsLeftOut bs → ⊥
 
@@ -98,7 +98,7 @@ pub record NothingBegins (later : Bool) (bs : List ℕ) : Type 0 where
 pub data IsStuck : List ℕ → Type 0 where
   at_the_end : IsStuck []
   at_newline : (bs : List ℕ) → IsStuck (newline ∷ bs)
-  at_backslash : (bs : List ℕ) → is_escape (front_byte bs) ≡ false → is_byte (codes "(") (front_byte bs) ≡ false → IsStuck (backslash ∷ bs)
+  at_backslash : (bs : List ℕ) → is_escape (first_byte bs) ≡ false → is_byte (codes "(") (first_byte bs) ≡ false → IsStuck (backslash ∷ bs)
   at_no_character : {bs : List ℕ} → ((n : ℕ) → 0 < n → IsUtf8 (take n bs) → ⊥) → IsStuck bs
 
 -- a newline or the end of the file

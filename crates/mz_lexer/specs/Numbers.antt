@@ -2,7 +2,7 @@
 use Rattle.std.specs.Prelude.{ℕ, ◌+◌, ◌*◌, List, [], ◌∷◌, Bool, ◌&&◌, ◌||◌, nat_abs, codes}
 use Rattle.mz_base.specs.declared.limit.TheConstants.{INTEGER_LIMIT}
 use Rattle.std.specs.Char.{digit_value}
-use Rattle.mz_lexer.specs.Bytes.{is_byte, front_byte, second_byte, third_byte}
+use Rattle.mz_lexer.specs.Bytes.{is_byte, first_byte, second_byte, third_byte}
 use Rattle.mz_base.specs.Words.{is_digit}
 
 -- the greatest number of a literal
@@ -27,5 +27,5 @@ is_sign b = is_byte (codes "+") b || is_byte (codes "-") b
 -- behind decimal digits: a fraction or an exponent stands in front
 abbrev pub goes_on : List ℕ → Bool
 goes_on bs =
-    (is_byte (codes ".") (front_byte bs) && is_digit (second_byte bs))
-    || (is_exponent_letter (front_byte bs) && (is_digit (second_byte bs) || (is_sign (second_byte bs) && is_digit (third_byte bs))))
+    (is_byte (codes ".") (first_byte bs) && is_digit (second_byte bs))
+    || (is_exponent_letter (first_byte bs) && (is_digit (second_byte bs) || (is_sign (second_byte bs) && is_digit (third_byte bs))))

@@ -15,7 +15,7 @@ use Rattle.mz_lexer.specs.declared.token.Symbol.{Symbol}
 use Rattle.mz_lexer.specs.declared.token.Symbol.TheVariants.{SLParen, SRParen}
 use Rattle.mz_lexer.specs.declared.opening.Opening.{Opening}
 use Rattle.mz_lexer.specs.declared.opening.Opening.TheVariants as opening
-use Rattle.mz_lexer.specs.Bytes.{is_byte, quote, backslash, front_byte, second_byte, third_byte, is_blank, is_newline, is_hex_digit, is_octal_digit, is_left_out_byte}
+use Rattle.mz_lexer.specs.Bytes.{is_byte, quote, backslash, first_byte, second_byte, third_byte, is_blank, is_newline, is_hex_digit, is_octal_digit, is_left_out_byte}
 use Rattle.mz_base.specs.Words.{is_letter, is_digit, is_word_byte}
 use Rattle.mz_base.specs.Keywords.{keyword_of}
 use Rattle.mz_lexer.specs.LeftOut.{is_left_out_keyword}
@@ -25,56 +25,56 @@ use Rattle.mz_lexer.specs.Texts.{content_len, meaning}
 use Rattle.mz_lexer.specs.Lexemes.{Lexeme, word, sym, ident, int, text, text_head, text_mid, text_tail, Lex, begins_piece, passed, after, fault, opens_behind, Outcome, with_token}
 
 -- what stands in front of some bytes
-pub data Front : Type 0 where
+pub data Prefix : Type 0 where
   -- a blank or a comment, of so many bytes
-  gap : ℕ → Front
+  gap : ℕ → Prefix
   -- a token of so many bytes
-  token : Lexeme → ℕ → Front
+  token : Lexeme → ℕ → Prefix
   -- a fault behind so many bytes
-  refusal : Kind → ℕ → Front
+  refusal : Kind → ℕ → Prefix
 
-abbrev pub keyword_or_name : List ℕ → ℕ → Option Keyword → Front
+abbrev pub keyword_or_name : List ℕ → ℕ → Option Keyword → Prefix
 keyword_or_name w n None = token (ident w) n
 keyword_or_name w n (Some k) = if is_left_out_keyword k then refusal LeftOut 0 else token (word k) n
 
 -- the longest word in front of bytes that begin with a letter
-unfoldable pub word_front : List ℕ → Front
-word_front bs = keyword_or_name (take_while is_word_byte bs) (prefix_len is_word_byte bs) (keyword_of (take_while is_word_byte bs))
+unfoldable pub word_prefix : List ℕ → Prefix
+word_prefix bs = keyword_or_name (take_while is_word_byte bs) (prefix_len is_word_byte bs) (keyword_of (take_while is_word_byte bs))
 
 -- a literal of a base, with its length
-abbrev pub literal : ℕ → List ℕ → ℕ → Front
+abbrev pub literal : ℕ → List ℕ → ℕ → Prefix
 literal base ds n = if nat_le (number_of base ds) limit then token (int (pos (number_of base ds))) n else refusal Bounds 0
 
 -- the longest literal in front of bytes that begin with a digit
-unfoldable pub number_front : List ℕ → Front
-number_front bs =
-    if is_byte (codes "0") (front_byte bs) && (is_byte (codes "x") (second_byte bs) && is_hex_digit (third_byte bs))
+unfoldable pub number_prefix : List ℕ → Prefix
+number_prefix bs =
+    if is_byte (codes "0") (first_byte bs) && (is_byte (codes "x") (second_byte bs) && is_hex_digit (third_byte bs))
     then literal 16 (take_while is_hex_digit (drop 2 bs)) (2 + prefix_len is_hex_digit (drop 2 bs)) else
-    if is_byte (codes "0") (front_byte bs) && (is_byte (codes "o") (second_byte bs) && is_octal_digit (third_byte bs))
+    if is_byte (codes "0") (first_byte bs) && (is_byte (codes "o") (second_byte bs) && is_octal_digit (third_byte bs))
     then literal 8 (take_while is_octal_digit (drop 2 bs)) (2 + prefix_len is_octal_digit (drop 2 bs)) else
     if goes_on (drop (prefix_len is_digit bs) bs) then refusal LeftOut 0
     else literal 10 (take_while is_digit bs) (prefix_len is_digit bs)
 
 -- the piece of a text by its end: the flag says that it isn't the first, n is the length of its content
-abbrev pub piece_end : Bool → List ℕ → ℕ → List ℕ → Front
+abbrev pub piece_end : Bool → List ℕ → ℕ → List ℕ → Prefix
 piece_end later value n bs =
-    if nat_eq (front_byte bs) quote then token (if later then text_tail value else text value) (n + 2) else
-    if nat_eq (front_byte bs) backslash && is_byte (codes "(") (second_byte bs) then token (if later then text_mid value else text_head value) (n + 3)
+    if nat_eq (first_byte bs) quote then token (if later then text_tail value else text value) (n + 2) else
+    if nat_eq (first_byte bs) backslash && is_byte (codes "(") (second_byte bs) then token (if later then text_mid value else text_head value) (n + 3)
     else refusal Lexical (n + 1)
 
 -- the piece of a text with this content in front of these bytes
-abbrev pub piece_of : Bool → List ℕ → ℕ → List ℕ → Front
+abbrev pub piece_of : Bool → List ℕ → ℕ → List ℕ → Prefix
 piece_of later content n bs =
     if nat_eq (utf8_valid_len content) n then piece_end later (meaning content) n bs
     else refusal Lexical (utf8_valid_len content + 1)
 
 -- the piece of a text behind the quote or the parenthesis that begins it
-unfoldable pub piece_front : Bool → List ℕ → Front
-piece_front later bs = piece_of later (take (content_len bs) bs) (content_len bs) (drop (content_len bs) bs)
+unfoldable pub piece_prefix : Bool → List ℕ → Prefix
+piece_prefix later bs = piece_of later (take (content_len bs) bs) (content_len bs) (drop (content_len bs) bs)
 
 -- `*/` stands in front
 abbrev pub ends_comment : List ℕ → Bool
-ends_comment bs = is_byte (codes "*") (front_byte bs) && is_byte (codes "/") (second_byte bs)
+ends_comment bs = is_byte (codes "*") (first_byte bs) && is_byte (codes "/") (second_byte bs)
 
 -- how many bytes there are up to the end of a comment, if it has one
 unfoldable pub comment_len : List ℕ → Option ℕ
@@ -82,37 +82,37 @@ comment_len [] = None
 comment_len (b ∷ bs) = if ends_comment (b ∷ bs) then Some 2 else option_map suc (comment_len bs)
 
 -- a comment behind its first two bytes
-abbrev pub comment_of : Option ℕ → Front
+abbrev pub comment_of : Option ℕ → Prefix
 comment_of None = refusal Lexical 0
 comment_of (Some n) = gap (n + 2)
 
-abbrev pub symbol_or_fault : ℕ → Option (Symbol × ℕ) → Front
+abbrev pub symbol_or_fault : ℕ → Option (Symbol × ℕ) → Prefix
 symbol_or_fault b (Some s) = token (sym s.0) s.1
 symbol_or_fault b None = if is_left_out_byte b then refusal LeftOut 0 else refusal Lexical 0
 
 -- what stands in front of some bytes; the flag says that a `)` begins a piece of a text
-unfoldable pub front_of : Bool → List ℕ → Front
-front_of later bs =
-    if is_blank (front_byte bs) then gap 1 else
-    if is_letter (front_byte bs) then word_front bs else
-    if is_digit (front_byte bs) then number_front bs else
-    if nat_eq (front_byte bs) quote then piece_front false (drop 1 bs) else
-    if later && is_byte (codes ")") (front_byte bs) then piece_front true (drop 1 bs) else
-    if is_byte (codes "%") (front_byte bs) then gap (1 + prefix_len (λ b. not (is_newline b)) (drop 1 bs)) else
-    if is_byte (codes "/") (front_byte bs) && is_byte (codes "*") (second_byte bs) then comment_of (comment_len (drop 2 bs))
-    else symbol_or_fault (front_byte bs) (symbol_at (front_byte bs) (second_byte bs) (third_byte bs))
+unfoldable pub prefix_of : Bool → List ℕ → Prefix
+prefix_of later bs =
+    if is_blank (first_byte bs) then gap 1 else
+    if is_letter (first_byte bs) then word_prefix bs else
+    if is_digit (first_byte bs) then number_prefix bs else
+    if nat_eq (first_byte bs) quote then piece_prefix false (drop 1 bs) else
+    if later && is_byte (codes ")") (first_byte bs) then piece_prefix true (drop 1 bs) else
+    if is_byte (codes "%") (first_byte bs) then gap (1 + prefix_len (λ b. not (is_newline b)) (drop 1 bs)) else
+    if is_byte (codes "/") (first_byte bs) && is_byte (codes "*") (second_byte bs) then comment_of (comment_len (drop 2 bs))
+    else symbol_or_fault (first_byte bs) (symbol_at (first_byte bs) (second_byte bs) (third_byte bs))
 
 -- the rest is given by how many bytes of it belong to what stands in front, and by what is open
-abbrev pub front_then : List Opening → Span → List ℕ → Front → (ℕ → List Opening → Outcome) → Outcome
-front_then opens at bs (gap n) rest = rest (n - 1) opens
-front_then opens at bs (token x n) rest = with_token (record { lexeme = x; span = at; len = n }) (rest (n - 1) (opens_behind x opens))
-front_then opens at bs (refusal kind n) rest = Err (fault kind (after at (take n bs)))
+abbrev pub prefix_then : List Opening → Span → List ℕ → Prefix → (ℕ → List Opening → Outcome) → Outcome
+prefix_then opens at bs (gap n) rest = rest (n - 1) opens
+prefix_then opens at bs (token x n) rest = with_token (record { lexeme = x; span = at; len = n }) (rest (n - 1) (opens_behind x opens))
+prefix_then opens at bs (refusal kind n) rest = Err (fault kind (after at (take n bs)))
 
 -- the outcome behind the first bytes, so many, which belong to what stands before
 unfoldable pub outcome_behind : ℕ → List Opening → Span → List ℕ → Outcome
 outcome_behind more opens at [] = Ok []
 outcome_behind (suc more) opens at (b ∷ bs) = outcome_behind more opens (passed at b) bs
-outcome_behind zero opens at (b ∷ bs) = front_then opens at (b ∷ bs) (front_of (begins_piece opens) (b ∷ bs)) (λ more opens'. outcome_behind more opens' (passed at b) bs)
+outcome_behind zero opens at (b ∷ bs) = prefix_then opens at (b ∷ bs) (prefix_of (begins_piece opens) (b ∷ bs)) (λ more opens'. outcome_behind more opens' (passed at b) bs)
 
 -- the outcome of bytes at a place, where this is open
 unfoldable pub outcome_at : List Opening → Span → List ℕ → Outcome

@@ -1,6 +1,6 @@
 -- The pieces of texts.
 use Rattle.std.specs.Prelude.{ℕ, suc, List, [], ◌∷◌, Bool, true, false, ◌&&◌, ◌||◌, not, nat_eq, codes, Option, Some, None, if◌then◌else◌}
-use Rattle.mz_lexer.specs.Bytes.{is_byte, newline, quote, backslash, front_byte, second_byte}
+use Rattle.mz_lexer.specs.Bytes.{is_byte, newline, quote, backslash, first_byte, second_byte}
 
 -- a byte of a text that stands for itself: no newline, no quote and no backslash
 abbrev pub is_plain : ℕ → Bool
@@ -18,8 +18,8 @@ escape_value b = if is_byte (codes "n") b then newline else if is_byte (codes "t
 abbrev pub content_step : Bool → List ℕ → Option Bool
 content_step true bs = Some false
 content_step false bs =
-    if is_plain (front_byte bs) then Some false else
-    if nat_eq (front_byte bs) backslash && is_escape (second_byte bs) then Some true else None
+    if is_plain (first_byte bs) then Some false else
+    if nat_eq (first_byte bs) backslash && is_escape (second_byte bs) then Some true else None
 
 abbrev pub one_more : Option Bool → (Bool → ℕ) → ℕ
 one_more None rest = 0

@@ -4,10 +4,10 @@ use Rattle.mz_base.specs.Names.{text_of}
 use Rattle.mz_lexer.specs.declared.token.Tok.{Tok}
 use Rattle.mz_lexer.specs.declared.token.Tok.TheVariants as tok
 use Rattle.mz_lexer.specs.declared.token.Token.{Token}
-use Rattle.mz_lexer.specs.declared.found.Front.{Front as CodeFront}
-use Rattle.mz_lexer.specs.declared.found.Front.TheVariants as shown
+use Rattle.mz_lexer.specs.declared.found.Prefix.{Prefix as CodePrefix}
+use Rattle.mz_lexer.specs.declared.found.Prefix.TheVariants as shown
 use Rattle.mz_lexer.specs.Lexemes.{Lexeme, word, sym, ident, int, text, text_head, text_mid, text_tail, Lex}
-use Rattle.mz_lexer.specs.Steps.{Front, gap, token, refusal}
+use Rattle.mz_lexer.specs.Steps.{Prefix, gap, token, refusal}
 
 -- what a token is, where its name is one of this table
 abbrev pub lexeme : List (List ℕ) → Tok → Lexeme
@@ -39,19 +39,19 @@ abbrev pub HasName : List (List ℕ) → Token → Type 0
 HasName names t = IsNamed names t.tok
 
 -- what stands in front
-abbrev pub front : List (List ℕ) → CodeFront → Front
-front names (shown.Gap n) = gap n
-front names (shown.Token t n) = token (lexeme names t) n
-front names (shown.Refusal kind n) = refusal kind n
+abbrev pub prefix : List (List ℕ) → CodePrefix → Prefix
+prefix names (shown.Gap n) = gap n
+prefix names (shown.Token t n) = token (lexeme names t) n
+prefix names (shown.Refusal kind n) = refusal kind n
 
 -- the name of the token in front, if it has one, is one of this table
-abbrev pub IsFrontNamed : List (List ℕ) → CodeFront → Type 0
-IsFrontNamed names (shown.Gap n) = Unit {0}
-IsFrontNamed names (shown.Token t n) = IsNamed names t
-IsFrontNamed names (shown.Refusal kind n) = Unit {0}
+abbrev pub IsPrefixNamed : List (List ℕ) → CodePrefix → Type 0
+IsPrefixNamed names (shown.Gap n) = Unit {0}
+IsPrefixNamed names (shown.Token t n) = IsNamed names t
+IsPrefixNamed names (shown.Refusal kind n) = Unit {0}
 
 -- what stands in front of so many bytes has a length, and isn't longer
-abbrev pub Fits : ℕ → CodeFront → Type 0
+abbrev pub Fits : ℕ → CodePrefix → Type 0
 Fits all (shown.Gap n) = (0 < n) × (n ≤ all)
 Fits all (shown.Token t n) = (0 < n) × (n ≤ all)
 Fits all (shown.Refusal kind n) = n ≤ all

@@ -2,14 +2,14 @@
 
 ghost use Rattle.std.specs.Prelude.{◌≡◌, ◌≤◌, ◌<◌, not, length};
 ghost use Rattle.std.specs.List.{prefix_len};
-ghost use Rattle.mz_lexer.specs.Bytes.{front_byte, second_byte, third_byte, is_blank, is_newline, is_hex_digit, is_octal_digit, is_left_out_byte};
+ghost use Rattle.mz_lexer.specs.Bytes.{first_byte, second_byte, third_byte, is_blank, is_newline, is_hex_digit, is_octal_digit, is_left_out_byte};
 ghost use Rattle.mz_base.specs.Words.{is_letter, is_digit, is_word_byte};
 
 use mz_base::{is_digit, is_word_byte};
 
 /// The byte in front, 0 where there is none.
-pub fn front_byte(bytes: &[u8]) -> u8
-    ensures value { result ≡ front_byte bytes.now }
+pub fn first_byte(bytes: &[u8]) -> u8
+    ensures value { result ≡ first_byte bytes.now }
     ensures long { 0 < result → 1 ≤ length bytes.now }
 {
     match bytes {
@@ -24,7 +24,7 @@ pub fn second_byte(bytes: &[u8]) -> u8
     ensures long { 0 < result → 2 ≤ length bytes.now }
 {
     match bytes {
-        [_, rest @ ..] => front_byte(rest),
+        [_, rest @ ..] => first_byte(rest),
         [] => 0,
     }
 }

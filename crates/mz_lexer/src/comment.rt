@@ -2,16 +2,16 @@
 
 ghost use Rattle.std.specs.Prelude.{◌≡◌, ◌≤◌, length, IfSome, IsTrue};
 ghost use Rattle.mz_lexer.specs.Steps.{ends_comment, comment_len};
-ghost use Rattle.mz_lexer.specs.Bytes.{front_byte, second_byte};
+ghost use Rattle.mz_lexer.specs.Bytes.{first_byte, second_byte};
 
-use crate::byte::{front_byte, second_byte};
+use crate::byte::{first_byte, second_byte};
 
 /// Whether `*/` stands in front.
 fn ends_comment(bytes: &[u8]) -> bool
     ensures value { result ≡ ends_comment bytes.now }
     ensures long { IsTrue result → 2 ≤ length bytes.now }
 {
-    front_byte(bytes) == b'*' && second_byte(bytes) == b'/'
+    first_byte(bytes) == b'*' && second_byte(bytes) == b'/'
 }
 
 /// How many bytes there are up to and with the next `*/`. None where there is no such end.

@@ -3,7 +3,7 @@
 ghost use Rattle.std.specs.Prelude.{◌≡◌, ◌≤◌, length, IfOk, drop};
 ghost use Rattle.mz_lexer.specs.Texts.{is_plain, is_escape, escape_value, content_step, content_len, begins_escape, meant, meaning};
 
-use crate::byte::{front_byte, second_byte};
+use crate::byte::{first_byte, second_byte};
 use std::alloc::{AllocError, Global};
 
 /// Whether a byte of a text stands for itself.
@@ -36,7 +36,7 @@ fn escape_value(byte: u8) -> u8
 fn content_step(escaped: bool, bytes: &[u8]) -> Option<bool>
     ensures { result ≡ content_step escaped bytes.now }
 {
-    let first = front_byte(bytes);
+    let first = first_byte(bytes);
     if escaped || is_plain(first) {
         Some(false)
     } else if first == b'\\' && is_escape(second_byte(bytes)) {

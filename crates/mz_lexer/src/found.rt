@@ -5,7 +5,7 @@ use mz_base::Kind;
 
 /// What stands in front of some bytes. Lengths are in bytes.
 #[derive(Clone, Copy, Debug)]
-pub enum Front {
+pub enum Prefix {
     /// A blank or a comment, with its length.
     Gap(usize),
     /// A token with its length.

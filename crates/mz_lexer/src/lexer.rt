@@ -8,10 +8,10 @@ ghost use Rattle.mz_lexer.specs.Lexes.{Lexes, IsFirstFault};
 ghost use Rattle.mz_lexer.specs.Views.{lex, HasName};
 ghost use Rattle.mz_base.specs.Faults.{IfRefused};
 
-use crate::found::Front;
-use crate::front::front_of;
+use crate::found::Prefix;
 use crate::opening::Opens;
 use crate::place::after;
+use crate::prefix::prefix_of;
 use crate::token::Token;
 use mz_base::{FILE_LIMIT, Fault, INTEGER_LIMIT, Kind, Names, Span, Stop};
 use std::alloc::Global;
@@ -81,16 +81,16 @@ pub fn tokens(alloc: Global, bytes: &[u8], file: u64, names: &mut Names) -> Resu
     let mut tokens = Vec::new(alloc);
     while !cursor.rest.is_empty() {
         let later = opens.begins_piece();
-        match front_of(alloc, later, cursor.rest, names)? {
-            Front::Refusal(kind, len) => {
+        match prefix_of(alloc, later, cursor.rest, names)? {
+            Prefix::Refusal(kind, len) => {
                 let fault = cursor.fault(kind, len);
                 return Err(Stop::Refused(fault));
             }
-            Front::Gap(len) => {
+            Prefix::Gap(len) => {
                 cursor.pass(len);
                 continue;
             }
-            Front::Token(tok, len) => {
+            Prefix::Token(tok, len) => {
                 opens.pass(&tok)?;
                 let token = Token {
                     tok,

@@ -5,7 +5,6 @@ mod byte;
 mod comment;
 mod content;
 mod found;
-mod front;
 mod law;
 mod left_out;
 mod lexer;
@@ -13,6 +12,7 @@ mod number;
 mod opening;
 mod piece;
 mod place;
+mod prefix;
 mod symbol;
 mod token;
 

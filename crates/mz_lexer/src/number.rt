@@ -4,16 +4,16 @@ ghost use Rattle.std.specs.Prelude.{ℕ, List, true, IsTrue, nat_eq, ◌&&◌, �
 ghost use Rattle.std.specs.Char.{digit_value};
 ghost use Rattle.std.specs.List.{prefix_len, take_while};
 ghost use Rattle.mz_base.specs.Words.{is_digit};
-ghost use Rattle.mz_lexer.specs.Bytes.{is_hex_digit, is_octal_digit, front_byte, second_byte, third_byte};
+ghost use Rattle.mz_lexer.specs.Bytes.{is_hex_digit, is_octal_digit, first_byte, second_byte, third_byte};
 ghost use Rattle.mz_lexer.specs.Numbers.{limit, number_of, goes_on, is_exponent_letter, is_sign};
-ghost use Rattle.mz_lexer.specs.Steps.{literal, number_front};
-ghost use Rattle.mz_lexer.specs.Views.{front, IsFrontNamed, Fits};
+ghost use Rattle.mz_lexer.specs.Steps.{literal, number_prefix};
+ghost use Rattle.mz_lexer.specs.Views.{prefix, IsPrefixNamed, Fits};
 
 use crate::byte::{
-    digits_len, front_byte, hex_digits_len, is_hex_digit, is_octal_digit, octal_digits_len,
+    digits_len, first_byte, hex_digits_len, is_hex_digit, is_octal_digit, octal_digits_len,
     second_byte, third_byte,
 };
-use crate::found::Front;
+use crate::found::Prefix;
 use crate::token::Tok;
 use mz_base::{INTEGER_LIMIT, Kind, is_digit};
 
@@ -51,16 +51,16 @@ fn number_of(base: u64, digits: &[u8]) -> Option<u64>
 }
 
 /// A literal of some digits, with its length.
-fn literal(base: u64, digits: &[u8], len: usize) -> Front
+fn literal(base: u64, digits: &[u8], len: usize) -> Prefix
     requires some { 0 < base }
     requires small { base ≤ 16 }
-    ensures shown { (names : List (List ℕ)) → front names result ≡ literal base digits.now len }
-    ensures named { (names : List (List ℕ)) → IsFrontNamed names result }
+    ensures shown { (names : List (List ℕ)) → prefix names result ≡ literal base digits.now len }
+    ensures named { (names : List (List ℕ)) → IsPrefixNamed names result }
     ensures fits { (all : ℕ) → 0 < len → len ≤ all → Fits all result }
 {
     match number_of(base, digits) {
-        Some(value) => Front::Token(Tok::Int(value as i64), len),
-        None => Front::Refusal(Kind::Bounds, 0),
+        Some(value) => Prefix::Token(Tok::Int(value as i64), len),
+        None => Prefix::Refusal(Kind::Bounds, 0),
     }
 }
 
@@ -68,7 +68,7 @@ fn literal(base: u64, digits: &[u8], len: usize) -> Front
 fn goes_on(bytes: &[u8]) -> bool
     ensures { result ≡ goes_on bytes.now }
 {
-    let first = front_byte(bytes);
+    let first = first_byte(bytes);
     let second = second_byte(bytes);
     (first == b'.' && is_digit(second))
         || ((first == b'e' || first == b'E')
@@ -78,18 +78,18 @@ fn goes_on(bytes: &[u8]) -> bool
 
 /// Whether `0`, this letter and a digit of its base stand in front.
 fn is_prefixed(bytes: &[u8], letter: u8, third_is_digit: bool) -> bool
-    ensures value { result ≡ (nat_eq (front_byte bytes.now) 48 && (nat_eq (second_byte bytes.now) letter && third_is_digit)) }
+    ensures value { result ≡ (nat_eq (first_byte bytes.now) 48 && (nat_eq (second_byte bytes.now) letter && third_is_digit)) }
     ensures long { IsTrue result → 0 < letter → 2 ≤ length bytes.now }
 {
-    front_byte(bytes) == b'0' && (second_byte(bytes) == letter && third_is_digit)
+    first_byte(bytes) == b'0' && (second_byte(bytes) == letter && third_is_digit)
 }
 
 /// The longest literal in front of bytes that begin with a digit.
-#[tactic(auto, unfolding(crate::specs::Steps::number_front))]
-pub fn number_front(bytes: &[u8]) -> Front
-    requires { is_digit (front_byte bytes.now) ≡ true }
-    ensures shown { (names : List (List ℕ)) → front names result ≡ number_front bytes.now }
-    ensures named { (names : List (List ℕ)) → IsFrontNamed names result }
+#[tactic(auto, unfolding(crate::specs::Steps::number_prefix))]
+pub fn number_prefix(bytes: &[u8]) -> Prefix
+    requires { is_digit (first_byte bytes.now) ≡ true }
+    ensures shown { (names : List (List ℕ)) → prefix names result ≡ number_prefix bytes.now }
+    ensures named { (names : List (List ℕ)) → IsPrefixNamed names result }
     ensures fits { Fits (length bytes.now) result }
 {
     if is_prefixed(bytes, b'x', is_hex_digit(third_byte(bytes))) {
@@ -104,7 +104,7 @@ pub fn number_front(bytes: &[u8]) -> Front
     }
     let len = digits_len(bytes);
     if goes_on(&bytes[len..]) {
-        return Front::Refusal(Kind::LeftOut, 0);
+        return Prefix::Refusal(Kind::LeftOut, 0);
     }
     literal(10, &bytes[..len], len)
 }

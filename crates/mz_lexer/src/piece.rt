@@ -2,13 +2,13 @@
 
 ghost use Rattle.std.specs.Prelude.{◌≡◌, ◌+◌, ◌<◌, ◌≤◌, ◌^◌, length, true, IfOk};
 ghost use Rattle.mz_base.specs.Names.{Grows};
-ghost use Rattle.mz_lexer.specs.Steps.{piece_end, piece_of, piece_front};
+ghost use Rattle.mz_lexer.specs.Steps.{piece_end, piece_of, piece_prefix};
 ghost use Rattle.mz_lexer.specs.Texts.{meaning, content_len};
-ghost use Rattle.mz_lexer.specs.Views.{front, lexeme, IsNamed, IsFrontNamed, Fits};
+ghost use Rattle.mz_lexer.specs.Views.{prefix, lexeme, IsNamed, IsPrefixNamed, Fits};
 
-use crate::byte::{front_byte, second_byte};
+use crate::byte::{first_byte, second_byte};
 use crate::content::{content_len, meaning};
-use crate::found::Front;
+use crate::found::Prefix;
 use crate::token::Tok;
 use mz_base::{Kind, Memory, Names};
 use std::alloc::Global;
@@ -21,29 +21,29 @@ fn piece_end(
     len: usize,
     after: &[u8],
     names: &mut Names,
-) -> Result<Front, Memory>
+) -> Result<Prefix, Memory>
     requires { len + length after.now < 2 ^ 63 }
-    ensures shown { IfOk result (λ f. front names.new f ≡ piece_end later value.now len after.now) }
-    ensures named { IfOk result (λ f. IsFrontNamed names.new f) }
+    ensures shown { IfOk result (λ f. prefix names.new f ≡ piece_end later value.now len after.now) }
+    ensures named { IfOk result (λ f. IsPrefixNamed names.new f) }
     ensures fits { IfOk result (λ f. Fits (1 + (len + length after.now)) f) }
     ensures grows { Grows names.old names.new }
 {
-    let first = front_byte(after);
+    let first = first_byte(after);
     if first == b'"' {
         let name = names.intern(value)?;
         if later {
-            return Ok(Front::Token(Tok::TextTail(name), len + 2));
+            return Ok(Prefix::Token(Tok::TextTail(name), len + 2));
         }
-        return Ok(Front::Token(Tok::Text(name), len + 2));
+        return Ok(Prefix::Token(Tok::Text(name), len + 2));
     }
     if first == b'\\' && second_byte(after) == b'(' {
         let name = names.intern(value)?;
         if later {
-            return Ok(Front::Token(Tok::TextMid(name), len + 3));
+            return Ok(Prefix::Token(Tok::TextMid(name), len + 3));
         }
-        return Ok(Front::Token(Tok::TextHead(name), len + 3));
+        return Ok(Prefix::Token(Tok::TextHead(name), len + 3));
     }
-    Ok(Front::Refusal(Kind::Lexical, len + 1))
+    Ok(Prefix::Refusal(Kind::Lexical, len + 1))
 }
 
 /// The piece of a text behind its content, which is UTF-8.
@@ -53,10 +53,10 @@ fn meant_piece(
     content: &str,
     after: &[u8],
     names: &mut Names,
-) -> Result<Front, Memory>
+) -> Result<Prefix, Memory>
     requires { length content.now + length after.now < 2 ^ 63 }
-    ensures shown { IfOk result (λ f. front names.new f ≡ piece_end later (meaning content.now) (length content.now) after.now) }
-    ensures named { IfOk result (λ f. IsFrontNamed names.new f) }
+    ensures shown { IfOk result (λ f. prefix names.new f ≡ piece_end later (meaning content.now) (length content.now) after.now) }
+    ensures named { IfOk result (λ f. IsPrefixNamed names.new f) }
     ensures fits { IfOk result (λ f. Fits (1 + (length content.now + length after.now)) f) }
     ensures grows { Grows names.old names.new }
 {
@@ -68,22 +68,22 @@ fn meant_piece(
 }
 
 /// The piece of a text behind the quote or the parenthesis that begins it.
-#[tactic(auto, unfolding(crate::specs::Steps::piece_front))]
-pub fn piece_front(
+#[tactic(auto, unfolding(crate::specs::Steps::piece_prefix))]
+pub fn piece_prefix(
     alloc: Global,
     later: bool,
     bytes: &[u8],
     names: &mut Names,
-) -> Result<Front, Memory>
+) -> Result<Prefix, Memory>
     requires { length bytes.now < 2 ^ 62 }
-    ensures shown { IfOk result (λ f. front names.new f ≡ piece_front later bytes.now) }
-    ensures named { IfOk result (λ f. IsFrontNamed names.new f) }
+    ensures shown { IfOk result (λ f. prefix names.new f ≡ piece_prefix later bytes.now) }
+    ensures named { IfOk result (λ f. IsPrefixNamed names.new f) }
     ensures fits { IfOk result (λ f. Fits (1 + length bytes.now) f) }
     ensures grows { Grows names.old names.new }
 {
     let len = content_len(bytes);
     match from_utf8(&bytes[..len]) {
         Ok(content) => meant_piece(alloc, later, content, &bytes[len..], names),
-        Err(fault) => Ok(Front::Refusal(Kind::Lexical, fault.valid_up_to() + 1)),
+        Err(fault) => Ok(Prefix::Refusal(Kind::Lexical, fault.valid_up_to() + 1)),
     }
 }

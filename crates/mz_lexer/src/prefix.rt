@@ -3,20 +3,20 @@
 ghost use Rattle.std.specs.Prelude.{ℕ, List, ◌≡◌, ◌+◌, ◌<◌, ◌≤◌, ◌^◌, length, true, IfOk, IfSome};
 ghost use Rattle.std.specs.List.{list_all};
 ghost use Rattle.mz_base.specs.Names.{Grows};
-ghost use Rattle.mz_lexer.specs.Bytes.{front_byte, second_byte, third_byte};
+ghost use Rattle.mz_lexer.specs.Bytes.{first_byte, second_byte, third_byte};
 ghost use Rattle.mz_base.specs.Words.{is_letter, is_word_byte};
-ghost use Rattle.mz_lexer.specs.Steps.{word_front, symbol_or_fault, comment_len, comment_of, front_of};
+ghost use Rattle.mz_lexer.specs.Steps.{word_prefix, symbol_or_fault, comment_len, comment_of, prefix_of};
 ghost use Rattle.mz_lexer.specs.StepsSymbols.{symbol_at};
-ghost use Rattle.mz_lexer.specs.Views.{front, IsFrontNamed, Fits};
+ghost use Rattle.mz_lexer.specs.Views.{prefix, IsPrefixNamed, Fits};
 
 use crate::byte::{
-    front_byte, is_blank, is_left_out_byte, line_len, second_byte, third_byte, word_len,
+    first_byte, is_blank, is_left_out_byte, line_len, second_byte, third_byte, word_len,
 };
 use crate::comment::comment_len;
-use crate::found::Front;
+use crate::found::Prefix;
 use crate::left_out::is_left_out;
-use crate::number::number_front;
-use crate::piece::piece_front;
+use crate::number::number_prefix;
+use crate::piece::piece_prefix;
 use crate::symbol::symbol_at;
 use crate::token::Tok;
 use mz_base::{Kind, Memory, Names, is_digit, is_letter, keyword_of};
@@ -35,11 +35,11 @@ fn word_text(word: &[u8]) -> &str
 }
 
 /// The longest word in front of bytes that begin with a letter.
-#[tactic(auto, unfolding(crate::specs::Steps::word_front))]
-fn word_front(bytes: &[u8], names: &mut Names) -> Result<Front, Memory>
-    requires { is_letter (front_byte bytes.now) ≡ true }
-    ensures shown { IfOk result (λ f. front names.new f ≡ word_front bytes.now) }
-    ensures named { IfOk result (λ f. IsFrontNamed names.new f) }
+#[tactic(auto, unfolding(crate::specs::Steps::word_prefix))]
+fn word_prefix(bytes: &[u8], names: &mut Names) -> Result<Prefix, Memory>
+    requires { is_letter (first_byte bytes.now) ≡ true }
+    ensures shown { IfOk result (λ f. prefix names.new f ≡ word_prefix bytes.now) }
+    ensures named { IfOk result (λ f. IsPrefixNamed names.new f) }
     ensures fits { IfOk result (λ f. Fits (length bytes.now) f) }
     ensures grows { Grows names.old names.new }
 {
@@ -48,86 +48,86 @@ fn word_front(bytes: &[u8], names: &mut Names) -> Result<Front, Memory>
     match keyword_of(word) {
         Some(keyword) => {
             if is_left_out(keyword) {
-                Ok(Front::Refusal(Kind::LeftOut, 0))
+                Ok(Prefix::Refusal(Kind::LeftOut, 0))
             } else {
-                Ok(Front::Token(Tok::Word(keyword), len))
+                Ok(Prefix::Token(Tok::Word(keyword), len))
             }
         }
         None => {
             let name = names.intern(word_text(word))?;
-            Ok(Front::Token(Tok::Ident(name), len))
+            Ok(Prefix::Token(Tok::Ident(name), len))
         }
     }
 }
 
 /// The longest symbol in front, or the fault that stands there.
-fn symbol_front(bytes: &[u8]) -> Front
+fn symbol_prefix(bytes: &[u8]) -> Prefix
     requires { 0 < length bytes.now }
-    ensures shown { (names : List (List ℕ)) → front names result ≡ symbol_or_fault (front_byte bytes.now) (symbol_at (front_byte bytes.now) (second_byte bytes.now) (third_byte bytes.now)) }
-    ensures named { (names : List (List ℕ)) → IsFrontNamed names result }
+    ensures shown { (names : List (List ℕ)) → prefix names result ≡ symbol_or_fault (first_byte bytes.now) (symbol_at (first_byte bytes.now) (second_byte bytes.now) (third_byte bytes.now)) }
+    ensures named { (names : List (List ℕ)) → IsPrefixNamed names result }
     ensures fits { Fits (length bytes.now) result }
 {
-    let first = front_byte(bytes);
+    let first = first_byte(bytes);
     match symbol_at(first, second_byte(bytes), third_byte(bytes)) {
-        Some((symbol, len)) => Front::Token(Tok::Sym(symbol), len),
+        Some((symbol, len)) => Prefix::Token(Tok::Sym(symbol), len),
         None => {
             if is_left_out_byte(first) {
-                Front::Refusal(Kind::LeftOut, 0)
+                Prefix::Refusal(Kind::LeftOut, 0)
             } else {
-                Front::Refusal(Kind::Lexical, 0)
+                Prefix::Refusal(Kind::Lexical, 0)
             }
         }
     }
 }
 
 /// A comment between `/*` and `*/`, behind its first two bytes.
-fn comment_front(bytes: &[u8]) -> Front
-    ensures shown { (names : List (List ℕ)) → front names result ≡ comment_of (comment_len bytes.now) }
-    ensures named { (names : List (List ℕ)) → IsFrontNamed names result }
+fn comment_prefix(bytes: &[u8]) -> Prefix
+    ensures shown { (names : List (List ℕ)) → prefix names result ≡ comment_of (comment_len bytes.now) }
+    ensures named { (names : List (List ℕ)) → IsPrefixNamed names result }
     ensures fits { Fits (length bytes.now + 2) result }
 {
     match comment_len(bytes) {
-        Some(len) => Front::Gap(len + 2),
-        None => Front::Refusal(Kind::Lexical, 0),
+        Some(len) => Prefix::Gap(len + 2),
+        None => Prefix::Refusal(Kind::Lexical, 0),
     }
 }
 
 /// What stands in front of some bytes, where `later` says that a `)` begins a piece of a text.
-#[tactic(auto, unfolding(crate::specs::Steps::front_of))]
-pub fn front_of(
+#[tactic(auto, unfolding(crate::specs::Steps::prefix_of))]
+pub fn prefix_of(
     alloc: Global,
     later: bool,
     bytes: &[u8],
     names: &mut Names,
-) -> Result<Front, Memory>
+) -> Result<Prefix, Memory>
     requires some { 0 < length bytes.now }
     requires few { length bytes.now < 2 ^ 62 }
-    ensures shown { IfOk result (λ f. front names.new f ≡ front_of later bytes.now) }
-    ensures named { IfOk result (λ f. IsFrontNamed names.new f) }
+    ensures shown { IfOk result (λ f. prefix names.new f ≡ prefix_of later bytes.now) }
+    ensures named { IfOk result (λ f. IsPrefixNamed names.new f) }
     ensures fits { IfOk result (λ f. Fits (length bytes.now) f) }
     ensures grows { Grows names.old names.new }
 {
-    let first = front_byte(bytes);
+    let first = first_byte(bytes);
     if is_blank(first) {
-        return Ok(Front::Gap(1));
+        return Ok(Prefix::Gap(1));
     }
     if is_letter(first) {
-        return word_front(bytes, names);
+        return word_prefix(bytes, names);
     }
     if is_digit(first) {
-        return Ok(number_front(bytes));
+        return Ok(number_prefix(bytes));
     }
     if first == b'"' {
-        return piece_front(alloc, false, &bytes[1..], names);
+        return piece_prefix(alloc, false, &bytes[1..], names);
     }
     if later && first == b')' {
-        return piece_front(alloc, true, &bytes[1..], names);
+        return piece_prefix(alloc, true, &bytes[1..], names);
     }
     if first == b'%' {
-        return Ok(Front::Gap(1 + line_len(&bytes[1..])));
+        return Ok(Prefix::Gap(1 + line_len(&bytes[1..])));
     }
     if first == b'/' && second_byte(bytes) == b'*' {
-        return Ok(comment_front(&bytes[2..]));
+        return Ok(comment_prefix(&bytes[2..]));
     }
-    Ok(symbol_front(bytes))
+    Ok(symbol_prefix(bytes))
 }

@@ -2,7 +2,7 @@ use Rattle.std.proofs.Common.{◌<◌, length, refl, arith}
 use Rattle.std.specs.List.{prefix_len}
 use Rattle.mz_base.specs.Words.{is_digit}
 use Rattle.mz_lexer.proofs.Runs.{some_run}
-use Rattle.mz_lexer.proofs.number.number_front.Goals as goal
+use Rattle.mz_lexer.proofs.number.number_prefix.Goals as goal
 
 pub returns-clause-fits : goal.returns-clause-fits
 returns-clause-fits c =
