@@ -5,7 +5,7 @@ use Rattle.mz_core.specs.declared.tree.CoreStep.{CoreStep}
 use Rattle.mz_core.specs.Coercions.{PathLink}
 use Rattle.mz_core.specs.TreeViews.{step}
 use Rattle.mz_meaning.specs.Chains.{Operator, level_of, chain_level, same_level, operators_at, with_left}
-use Rattle.mz_chains.specs.Fronts.{left_of_step}
+use Rattle.mz_chains.specs.Innermosts.{left_of_step}
 
 pub no_level : (l : ℕ) (ss : List CoreStep) → length ss < 1 → false ≡ same_level l (map step ss)
 no_level l [] h = refl

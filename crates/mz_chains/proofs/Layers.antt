@@ -19,11 +19,11 @@ use Rattle.mz_meaning.specs.Cells.{Cell}
 use Rattle.mz_meaning.specs.Coerced.{coerced_type}
 use Rattle.mz_meaning.specs.Forms.{World, coerced_once, coerced_by}
 use Rattle.mz_meaning.specs.Chains as chains
-use Rattle.mz_meaning.specs.Chains.{same_level, fronted, coerced_front, back_of, backed, with_right, operators_at}
-use Rattle.mz_chains.specs.declared.types.Front.{Front}
-use Rattle.mz_chains.specs.Fronts.{front_of, front_by, back_by, part_front, last_with}
+use Rattle.mz_meaning.specs.Chains.{same_level, with_innermost, coerced_innermost, back_of, backed, with_right, operators_at}
+use Rattle.mz_chains.specs.declared.types.Innermost.{Innermost}
+use Rattle.mz_chains.specs.Innermosts.{innermost_of, innermost_by, back_by, part_innermost, last_with}
 use Rattle.mz_chains.proofs.Runs.{coerced_last, coerced_type_last}
-use Rattle.mz_chains.proofs.Fronts.{front_of_tree, back_of_tree, coerced_last_with, backed_apart}
+use Rattle.mz_chains.proofs.Innermosts.{innermost_of_tree, back_of_tree, coerced_last_with, backed_apart}
 
 -- ---- a coercion
 
@@ -72,27 +72,27 @@ is_some_if : {A : Type 0} (t : Bool) (x : A) → t ≡ is_some (if t then Some x
 is_some_if true x = refl
 is_some_if false x = refl
 
-front_of_coerce : (l : ℕ) (e part : Core) (k : Coercion) (b : Box Core Global) → e.form ≡ forms.Coerce k b → part ≡ b.value → chains.front_of l (tree e) ≡ option_map (coerced_front (k, plain_type e.ty)) (chains.front_of l (tree part))
-front_of_coerce l e part k b h p =
-    front_of_tree l e
-    ∙ ap (front_by l e.span (plain_type e.ty)) (coerce_layer e part k b h p)
+innermost_of_coerce : (l : ℕ) (e part : Core) (k : Coercion) (b : Box Core Global) → e.form ≡ forms.Coerce k b → part ≡ b.value → chains.innermost_of l (tree e) ≡ option_map (coerced_innermost (k, plain_type e.ty)) (chains.innermost_of l (tree part))
+innermost_of_coerce l e part k b h p =
+    innermost_of_tree l e
+    ∙ ap (innermost_by l e.span (plain_type e.ty)) (coerce_layer e part k b h p)
 
-pub is_front_of_coerce : (l : ℕ) (e part : Core) (k : Coercion) (b : Box Core Global) → e.form ≡ forms.Coerce k b → part ≡ b.value → is_some (chains.front_of l (tree part)) ≡ is_some (chains.front_of l (tree e))
-is_front_of_coerce l e part k b h p =
-    is_some_mapped (coerced_front (k, plain_type e.ty)) (chains.front_of l (tree part))
-    ∙ ap (λ o. is_some o) (sym (front_of_coerce l e part k b h p))
+pub is_innermost_of_coerce : (l : ℕ) (e part : Core) (k : Coercion) (b : Box Core Global) → e.form ≡ forms.Coerce k b → part ≡ b.value → is_some (chains.innermost_of l (tree part)) ≡ is_some (chains.innermost_of l (tree e))
+is_innermost_of_coerce l e part k b h p =
+    is_some_mapped (coerced_innermost (k, plain_type e.ty)) (chains.innermost_of l (tree part))
+    ∙ ap (λ o. is_some o) (sym (innermost_of_coerce l e part k b h p))
 
 -- one coercion more round an operand
-more_links : (ls : List PathLink) (l : PathLink) (o : Option Front) → option_map (coerced_front l) (part_front ls o) ≡ part_front (ls ++ (l ∷ [])) o
+more_links : (ls : List PathLink) (l : PathLink) (o : Option Innermost) → option_map (coerced_innermost l) (part_innermost ls o) ≡ part_innermost (ls ++ (l ∷ [])) o
 more_links ls l None = refl
 more_links ls l (Some f) = refl
 
-pub front_coerced : (l : ℕ) (e part : Core) (k : Coercion) (b : Box Core Global) (o : Option Front) → e.form ≡ forms.Coerce k b → part ≡ b.value → chains.front_of l (tree part) ≡ part_front (root_coercions (tree part)) o → chains.front_of l (tree e) ≡ part_front (root_coercions (tree e)) o
-front_coerced l e part k b o h p is =
-    front_of_coerce l e part k b h p
-    ∙ ap (option_map (coerced_front (k, plain_type e.ty))) is
+pub innermost_coerced : (l : ℕ) (e part : Core) (k : Coercion) (b : Box Core Global) (o : Option Innermost) → e.form ≡ forms.Coerce k b → part ≡ b.value → chains.innermost_of l (tree part) ≡ part_innermost (root_coercions (tree part)) o → chains.innermost_of l (tree e) ≡ part_innermost (root_coercions (tree e)) o
+innermost_coerced l e part k b o h p is =
+    innermost_of_coerce l e part k b h p
+    ∙ ap (option_map (coerced_innermost (k, plain_type e.ty))) is
     ∙ more_links (root_coercions (tree part)) (k, plain_type e.ty) o
-    ∙ ap (λ ls. part_front ls o) (sym (coercions_of_coerce e part k b h p))
+    ∙ ap (λ ls. part_innermost ls o) (sym (coercions_of_coerce e part k b h p))
 
 chain_layer : (e first : Core) (b : Box Core Global) (v : Vec CoreStep Global) (all : List CoreStep) → e.form ≡ forms.Chain b v → first ≡ b.value → all ≡ v.items → form_layer (out-CoreForm e.form) ≡ chain_form (tree first) (map step all)
 chain_layer e first b v all h p q =
@@ -108,41 +108,41 @@ coercions_of_chain e b v h =
     ∙ ap (coercions_in (plain_type e.ty)) (forms.outs-Chain b v)
 
 -- a chain of this level, if it is one
-abbrev front_if : ℕ → Span → List trees.Step → trees.Tree → Bool → Option chains.Front
-front_if l at ss e t = if t then Some (fronted at ss e (chains.front_of l e)) else None
+abbrev innermost_if : ℕ → Span → List trees.Step → trees.Tree → Bool → Option chains.Innermost
+innermost_if l at ss e t = if t then Some (with_innermost at ss e (chains.innermost_of l e)) else None
 
-front_of_chain : (l : ℕ) (e first : Core) (b : Box Core Global) (v : Vec CoreStep Global) (all : List CoreStep) → e.form ≡ forms.Chain b v → first ≡ b.value → all ≡ v.items → chains.front_of l (tree e) ≡ front_if l e.span (map step all) (tree first) (same_level l (map step all))
-front_of_chain l e first b v all h p q =
-    front_of_tree l e
-    ∙ ap (front_by l e.span (plain_type e.ty)) (chain_layer e first b v all h p q)
+innermost_of_chain : (l : ℕ) (e first : Core) (b : Box Core Global) (v : Vec CoreStep Global) (all : List CoreStep) → e.form ≡ forms.Chain b v → first ≡ b.value → all ≡ v.items → chains.innermost_of l (tree e) ≡ innermost_if l e.span (map step all) (tree first) (same_level l (map step all))
+innermost_of_chain l e first b v all h p q =
+    innermost_of_tree l e
+    ∙ ap (innermost_by l e.span (plain_type e.ty)) (chain_layer e first b v all h p q)
 
-pub is_front_of_chain : (l : ℕ) (e : Core) (b : Box Core Global) (v : Vec CoreStep Global) (all : List CoreStep) → e.form ≡ forms.Chain b v → all ≡ v.items → same_level l (map step all) ≡ is_some (chains.front_of l (tree e))
-is_front_of_chain l e b v all h q =
-    is_some_if (same_level l (map step all)) (fronted e.span (map step all) (tree b.value) (chains.front_of l (tree b.value)))
-    ∙ ap (λ o. is_some o) (sym (front_of_chain l e b.value b v all h refl q))
+pub is_innermost_of_chain : (l : ℕ) (e : Core) (b : Box Core Global) (v : Vec CoreStep Global) (all : List CoreStep) → e.form ≡ forms.Chain b v → all ≡ v.items → same_level l (map step all) ≡ is_some (chains.innermost_of l (tree e))
+is_innermost_of_chain l e b v all h q =
+    is_some_if (same_level l (map step all)) (with_innermost e.span (map step all) (tree b.value) (chains.innermost_of l (tree b.value)))
+    ∙ ap (λ o. is_some o) (sym (innermost_of_chain l e b.value b v all h refl q))
 
 -- no chain of the level
-pub no_front_of_chain : (l : ℕ) (e : Core) (b : Box Core Global) (v : Vec CoreStep Global) (all : List CoreStep) → e.form ≡ forms.Chain b v → all ≡ v.items → same_level l (map step all) ≡ false → chains.front_of l (tree e) ≡ None
-no_front_of_chain l e b v all h q other =
-    front_of_chain l e b.value b v all h refl q
-    ∙ ap (front_if l e.span (map step all) (tree b.value)) other
+pub no_innermost_of_chain : (l : ℕ) (e : Core) (b : Box Core Global) (v : Vec CoreStep Global) (all : List CoreStep) → e.form ≡ forms.Chain b v → all ≡ v.items → same_level l (map step all) ≡ false → chains.innermost_of l (tree e) ≡ None
+no_innermost_of_chain l e b v all h q other =
+    innermost_of_chain l e b.value b v all h refl q
+    ∙ ap (innermost_if l e.span (map step all) (tree b.value)) other
 
-abbrev front_made : chains.Front → Option chains.Front
-front_made g = Some g
+abbrev innermost_made : chains.Innermost → Option chains.Innermost
+innermost_made g = Some g
 
 -- one of the level, with its own first operand
-pub front_chained : (l : ℕ) (e first again : Core) (b : Box Core Global) (v : Vec CoreStep Global) (all : List CoreStep) (part : Option Front) (f : Front) → e.form ≡ forms.Chain b v → first ≡ b.value → again ≡ b.value → all ≡ v.items → same_level l (map step all) ≡ true → chains.front_of l (tree first) ≡ part_front (root_coercions (tree first)) part → front_of f ≡ fronted e.span (map step all) (tree again) (part_front (root_coercions (tree again)) part) → chains.front_of l (tree e) ≡ part_front (root_coercions (tree e)) (Some f)
-front_chained l e first again b v all part f h p p2 q same is made =
-    front_of_chain l e first b v all h p q
-    ∙ ap (front_if l e.span (map step all) (tree first)) same
-    ∙ ap (λ o. front_made (fronted e.span (map step all) (tree first) o)) is
-    ∙ ap (λ x. front_made (fronted e.span (map step all) (tree x) (part_front (root_coercions (tree x)) part))) (p ∙ sym p2)
-    ∙ ap front_made (sym made)
-    ∙ ap (λ ls. part_front ls (Some f)) (sym (coercions_of_chain e b v h))
+pub innermost_chained : (l : ℕ) (e first again : Core) (b : Box Core Global) (v : Vec CoreStep Global) (all : List CoreStep) (part : Option Innermost) (f : Innermost) → e.form ≡ forms.Chain b v → first ≡ b.value → again ≡ b.value → all ≡ v.items → same_level l (map step all) ≡ true → chains.innermost_of l (tree first) ≡ part_innermost (root_coercions (tree first)) part → innermost_of f ≡ with_innermost e.span (map step all) (tree again) (part_innermost (root_coercions (tree again)) part) → chains.innermost_of l (tree e) ≡ part_innermost (root_coercions (tree e)) (Some f)
+innermost_chained l e first again b v all part f h p p2 q same is made =
+    innermost_of_chain l e first b v all h p q
+    ∙ ap (innermost_if l e.span (map step all) (tree first)) same
+    ∙ ap (λ o. innermost_made (with_innermost e.span (map step all) (tree first) o)) is
+    ∙ ap (λ x. innermost_made (with_innermost e.span (map step all) (tree x) (part_innermost (root_coercions (tree x)) part))) (p ∙ sym p2)
+    ∙ ap innermost_made (sym made)
+    ∙ ap (λ ls. part_innermost ls (Some f)) (sym (coercions_of_chain e b v h))
 
 -- ---- a last operand of `++`
 
-back_of_coerce : (e part : Core) (k : Coercion) (b : Box Core Global) → e.form ≡ forms.Coerce k b → part ≡ b.value → back_of (tree e) ≡ option_map (coerced_front (k, plain_type e.ty)) (back_of (tree part))
+back_of_coerce : (e part : Core) (k : Coercion) (b : Box Core Global) → e.form ≡ forms.Coerce k b → part ≡ b.value → back_of (tree e) ≡ option_map (coerced_innermost (k, plain_type e.ty)) (back_of (tree part))
 back_of_coerce e part k b h p =
     back_of_tree e
     ∙ ap (back_by e.span (plain_type e.ty)) (coerce_layer e part k b h p)
@@ -152,7 +152,7 @@ last_coerced at s ls e part k b h p =
     sym (ap (last_with at s ls) (back_of_coerce e part k b h p)
     ∙ coerced_last_with at s ls (k, plain_type e.ty) (back_of (tree part)))
 
-abbrev back_if : Span → trees.Tree → List trees.Step → Bool → Option chains.Front
+abbrev back_if : Span → trees.Tree → List trees.Step → Bool → Option chains.Innermost
 back_if at e ss t = if t then Some (record { first = e; operators = backed at (steps ss); links = [] }) else None
 
 back_of_chain : (e first : Core) (b : Box Core Global) (v : Vec CoreStep Global) (all : List CoreStep) → e.form ≡ forms.Chain b v → first ≡ b.value → all ≡ v.items → back_of (tree e) ≡ back_if e.span (tree first) (map step all) (same_level 12 (map step all))

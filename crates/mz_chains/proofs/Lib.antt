@@ -1,4 +1,4 @@
-pub mod Fronts
+pub mod Innermosts
 pub mod Heads
 pub mod LastLinks
 pub mod Layers

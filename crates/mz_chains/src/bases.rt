@@ -6,7 +6,7 @@ ghost use Rattle.mz_core.specs.TreeViews.{tree};
 ghost use Rattle.mz_meaning.specs.Coerced.{coerced_type};
 ghost use Rattle.mz_meaning.specs.Chains.{operand_base};
 ghost use Rattle.mz_chains.specs.Links.{links_round};
-ghost use Rattle.mz_chains.specs.Fronts.{operator_of};
+ghost use Rattle.mz_chains.specs.Innermosts.{operator_of};
 
 use crate::types::Operator;
 use mz_core::{Base, Core, CoreForm};

@@ -5,12 +5,12 @@ ghost use Rattle.std.specs.Prelude.{◌≡◌, ◌++◌, ◌∷◌, [], IfOk, No
 ghost use Rattle.mz_core.specs.Tree.{root_coercions, steps};
 ghost use Rattle.mz_core.specs.TreeViews.{tree, step};
 ghost use Rattle.mz_meaning.specs.Chains as chains;
-ghost use Rattle.mz_meaning.specs.Chains.{operators_at, with_left, with_right, fronted, backed, back_of, chained};
+ghost use Rattle.mz_meaning.specs.Chains.{operators_at, with_left, with_right, with_innermost, backed, back_of, chained};
 ghost use Rattle.mz_chains.specs.Links.{links_round};
-ghost use Rattle.mz_chains.specs.Fronts.{operator_of, front_of, part_front, left_of_step, with_links, last_with};
+ghost use Rattle.mz_chains.specs.Innermosts.{operator_of, innermost_of, part_innermost, left_of_step, with_links, last_with};
 
 use crate::levels::{chain_level, is_appended, same_level};
-use crate::types::{Front, Operator};
+use crate::types::{Innermost, Operator};
 use mz_base::Span;
 use mz_core::{Core, CoreForm, CoreStep};
 use std::alloc::{AllocError, Global};
@@ -77,58 +77,62 @@ fn with_operators<'a>(
 }
 
 // a chain whose first operand is no chain of the level
-fn plain_front<'a>(
+fn plain_innermost<'a>(
     alloc: Global,
     at: Span,
     first: &'a Core,
     all: &'a [CoreStep],
-) -> Result<Front<'a>, AllocError>
-    ensures { IfOk result (λ r. front_of r ≡ fronted at (map step all.now) (tree first.now) None) }
+) -> Result<Innermost<'a>, AllocError>
+    ensures { IfOk result (λ r. innermost_of r ≡ with_innermost at (map step all.now) (tree first.now) None) }
 {
     let operators = with_plain(Vec::new(alloc), at, all)?;
-    Ok(Front { first, operators })
+    Ok(Innermost { first, operators })
 }
 
 // a chain behind the operators of its first operand, round which are the coercions of `first`
-fn more_front<'a>(
-    part: Front<'a>,
+fn more_innermost<'a>(
+    part: Innermost<'a>,
     at: Span,
     first: &'a Core,
     all: &'a [CoreStep],
-) -> Result<Front<'a>, AllocError>
-    ensures { IfOk result (λ r. front_of r ≡ fronted at (map step all.now) (tree first.now) (Some (with_links (root_coercions (tree first.now)) (front_of part.entry)))) }
+) -> Result<Innermost<'a>, AllocError>
+    ensures { IfOk result (λ r. innermost_of r ≡ with_innermost at (map step all.now) (tree first.now) (Some (with_links (root_coercions (tree first.now)) (innermost_of part.entry)))) }
 {
-    let Front {
+    let Innermost {
         first: innermost,
         operators,
     } = part;
     let operators = with_operators(operators, at, Some(first), all)?;
-    Ok(Front {
+    Ok(Innermost {
         first: innermost,
         operators,
     })
 }
 
 // a chain with its first operand, which may be a chain of the level too
-fn joined_front<'a>(
+fn joined_innermost<'a>(
     alloc: Global,
-    part: Option<Front<'a>>,
+    part: Option<Innermost<'a>>,
     at: Span,
     first: &'a Core,
     all: &'a [CoreStep],
-) -> Result<Front<'a>, AllocError>
-    ensures { IfOk result (λ r. front_of r ≡ fronted at (map step all.now) (tree first.now) (part_front (root_coercions (tree first.now)) part.entry)) }
+) -> Result<Innermost<'a>, AllocError>
+    ensures { IfOk result (λ r. innermost_of r ≡ with_innermost at (map step all.now) (tree first.now) (part_innermost (root_coercions (tree first.now)) part.entry)) }
 {
     match part {
-        None => plain_front(alloc, at, first, all),
-        Some(f) => more_front(f, at, first, all),
+        None => plain_innermost(alloc, at, first, all),
+        Some(f) => more_innermost(f, at, first, all),
     }
 }
 
 // an operand that is a chain of the level below its coercions
-#[tactic(auto, using(crate::proofs::Fronts::front_of_tree, crate::proofs::Layers::no_front_of_chain))]
-fn front_under<'a>(alloc: Global, l: u64, e: &'a Core) -> Result<Option<Front<'a>>, AllocError>
-    ensures { IfOk result (λ o. chains.front_of l (tree e.now) ≡ part_front (root_coercions (tree e.now)) o) }
+#[tactic(auto, using(crate::proofs::Innermosts::innermost_of_tree, crate::proofs::Layers::no_innermost_of_chain))]
+fn innermost_under<'a>(
+    alloc: Global,
+    l: u64,
+    e: &'a Core,
+) -> Result<Option<Innermost<'a>>, AllocError>
+    ensures { IfOk result (λ o. chains.innermost_of l (tree e.now) ≡ part_innermost (root_coercions (tree e.now)) o) }
 {
     match &e.form {
         CoreForm::Chain(first, all) => {
@@ -136,12 +140,12 @@ fn front_under<'a>(alloc: Global, l: u64, e: &'a Core) -> Result<Option<Front<'a
             if !same_level(l, steps) {
                 return Ok(None);
             }
-            let part = front_under(alloc, l, first)?;
-            let f = joined_front(alloc, part, e.span, first, steps)?;
+            let part = innermost_under(alloc, l, first)?;
+            let f = joined_innermost(alloc, part, e.span, first, steps)?;
             Ok(Some(f))
         }
         CoreForm::Coerce(_, part) => {
-            let o = front_under(alloc, l, part)?;
+            let o = innermost_under(alloc, l, part)?;
             Ok(o)
         }
         _ => Ok(None),
@@ -149,17 +153,17 @@ fn front_under<'a>(alloc: Global, l: u64, e: &'a Core) -> Result<Option<Front<'a
 }
 
 // a chain with its first operand, if that is one of the level too
-fn with_front<'a>(
+fn whole_chain<'a>(
     alloc: Global,
     l: u64,
     at: Span,
     first: &'a Core,
     all: &'a [CoreStep],
-) -> Result<Front<'a>, AllocError>
-    ensures { IfOk result (λ f. front_of f ≡ fronted at (map step all.now) (tree first.now) (chains.front_of l (tree first.now))) }
+) -> Result<Innermost<'a>, AllocError>
+    ensures { IfOk result (λ f. innermost_of f ≡ with_innermost at (map step all.now) (tree first.now) (chains.innermost_of l (tree first.now))) }
 {
-    let part = front_under(alloc, l, first)?;
-    let f = joined_front(alloc, part, at, first, all)?;
+    let part = innermost_under(alloc, l, first)?;
+    let f = joined_innermost(alloc, part, at, first, all)?;
     Ok(f)
 }
 
@@ -206,7 +210,7 @@ fn with_one<'a>(
 }
 
 // the last operator, whose operand below some coercions is `e`
-#[tactic(auto, using(crate::proofs::Fronts::back_of_tree))]
+#[tactic(auto, using(crate::proofs::Innermosts::back_of_tree))]
 fn with_last<'a>(
     all: Vec<Operator<'a>>,
     at: Span,
@@ -258,16 +262,16 @@ fn with_back<'a>(
     Ok(ended)
 }
 
-fn back_front<'a>(
+fn back_innermost<'a>(
     alloc: Global,
     at: Span,
     first: &'a Core,
     all: &'a [CoreStep],
-) -> Result<Front<'a>, AllocError>
-    ensures { IfOk result (λ f. front_of f ≡ record { first = tree first.now; operators = backed at (steps (map step all.now)); links = [] }) }
+) -> Result<Innermost<'a>, AllocError>
+    ensures { IfOk result (λ f. innermost_of f ≡ record { first = tree first.now; operators = backed at (steps (map step all.now)); links = [] }) }
 {
     let operators = with_back(alloc, at, all)?;
-    Ok(Front { first, operators })
+    Ok(Innermost { first, operators })
 }
 
 /// All operators of a chain, with its innermost first operand.
@@ -276,14 +280,14 @@ pub fn all_operators<'a>(
     at: Span,
     first: &'a Core,
     all: &'a [CoreStep],
-) -> Result<Front<'a>, AllocError>
-    ensures { IfOk result (λ f. front_of f ≡ chained at (tree first.now) (map step all.now)) }
+) -> Result<Innermost<'a>, AllocError>
+    ensures { IfOk result (λ f. innermost_of f ≡ chained at (tree first.now) (map step all.now)) }
 {
     if is_appended(all) {
-        let f = back_front(alloc, at, first, all)?;
+        let f = back_innermost(alloc, at, first, all)?;
         Ok(f)
     } else {
-        let f = with_front(alloc, chain_level(all), at, first, all)?;
+        let f = whole_chain(alloc, chain_level(all), at, first, all)?;
         Ok(f)
     }
 }

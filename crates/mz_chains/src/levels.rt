@@ -75,20 +75,20 @@ pub fn is_appended(all: &[CoreStep]) -> bool
 }
 
 // whether an operand is a chain of the level of these operators
-#[tactic(auto, using(crate::proofs::Fronts::front_of_tree))]
-fn is_front(e: &Core, all: &[CoreStep]) -> bool
-    ensures { result ≡ is_some (chains.front_of (chain_level (map step all.now)) (tree e.now)) }
+#[tactic(auto, using(crate::proofs::Innermosts::innermost_of_tree))]
+fn is_chain_of_level(e: &Core, all: &[CoreStep]) -> bool
+    ensures { result ≡ is_some (chains.innermost_of (chain_level (map step all.now)) (tree e.now)) }
 {
     match &e.form {
         CoreForm::Chain(_, inner) => same_level(chain_level(all), inner.as_slice()),
-        CoreForm::Coerce(_, part) => is_front(part, all),
+        CoreForm::Coerce(_, part) => is_chain_of_level(part, all),
         _ => false,
     }
 }
 
 /// Whether the first operand of a chain with these operators is a chain of their level.
-pub fn has_front(first: &Core, all: &[CoreStep]) -> bool
-    ensures { result ≡ is_some (chains.front_of (chain_level (map step all.now)) (tree first.now)) }
+pub fn has_innermost(first: &Core, all: &[CoreStep]) -> bool
+    ensures { result ≡ is_some (chains.innermost_of (chain_level (map step all.now)) (tree first.now)) }
 {
-    is_front(first, all)
+    is_chain_of_level(first, all)
 }

@@ -9,6 +9,6 @@ mod types;
 
 pub use bases::{base_of, operand_base};
 pub use chains::all_operators;
-pub use levels::{has_front, is_appended};
+pub use levels::{has_innermost, is_appended};
 pub use nodes::{coerce_both, finished, inner, is_uncoerced, place_of};
-pub use types::{Front, Operator};
+pub use types::{Innermost, Operator};

@@ -16,7 +16,7 @@ pub struct Operator<'a> {
 
 /// A chain's innermost first operand, and its operators in order.
 #[derive(Drop)]
-pub struct Front<'a> {
+pub struct Innermost<'a> {
     pub first: &'a Core,
     pub operators: Vec<Operator<'a>>,
 }

@@ -19,7 +19,7 @@ use Rattle.mz_operations.specs.RowBounds.{row_bounds}
 use Rattle.mz_operations.specs.Values.{value}
 use Rattle.mz_meaning.specs.Runs.{spend}
 use Rattle.mz_meaning.specs.Cells.{Cell, Par, Var, Unshaped, Mode, Given, Env, held, value_of, is_par, all_par, is_true, is_bool, is_truth, no_bounds, to_var, sealed, widened, risen, typed}
-use Rattle.mz_meaning.specs.Chains.{before, right_in, operand_base, front_of, chain_level}
+use Rattle.mz_meaning.specs.Chains.{before, right_in, operand_base, innermost_of, chain_level}
 use Rattle.mz_meaning.specs.Coerced.{coerced, coercion_work, recast}
 use Rattle.mz_meaning.specs.Contexts.{Context, within_links}
 use Rattle.mz_meaning.specs.Evaluation.{eval}
@@ -241,13 +241,13 @@ pub compared_is : (names : ℕ → Named) (t : PlainType) (d : Tree) (s : Step) 
 compared_is names t d s h =
     let o = and_parts (is_var_truth t) (is_step d s && are_operands names d s) h in
     let p = and_parts (is_step d s) (are_operands names d s) o.1 in
-    let q = and_parts (is_comparison s.row && is_var_truth s.ty) (is_int (operand_base s) && is_none (front_of (chain_level (s ∷ [])) d)) p.0 in
+    let q = and_parts (is_comparison s.row && is_var_truth s.ty) (is_int (operand_base s) && is_none (innermost_of (chain_level (s ∷ [])) d)) p.0 in
     let r = and_parts (is_comparison s.row) (is_var_truth s.ty) q.0 in
     let u = and_parts ((all_keep s.left && all_keep s.right) && (is_operand names d && is_operand names s.operand)) (is_name names d || is_name names s.operand) p.1 in
     let k = and_parts (all_keep s.left && all_keep s.right) (is_operand names d && is_operand names s.operand) u.0 in
     let i = and_parts (all_keep s.left) (all_keep s.right) k.0 in
     let j = and_parts (is_operand names d) (is_operand names s.operand) k.1 in
-    record { node = o.0; row = r.0; ty = r.1; base = int_is (operand_base s) (and_parts (is_int (operand_base s)) (is_none (front_of (chain_level (s ∷ [])) d)) q.1).0; left = i.0; right = i.1; first = j.0; second = j.1; name = u.1 }
+    record { node = o.0; row = r.0; ty = r.1; base = int_is (operand_base s) (and_parts (is_int (operand_base s)) (is_none (innermost_of (chain_level (s ∷ [])) d)) q.1).0; left = i.0; right = i.1; first = j.0; second = j.1; name = u.1 }
 
 not_all : (p q : Bool) → (p ≡ false) → (p && q) ≡ false
 not_all p q h = ap (λ p. p && q) h

@@ -23,7 +23,7 @@ use Rattle.mz_operations.specs.declared.row.Row.TheVariants.{Scalar}
 use Rattle.mz_operations.specs.declared.row.ScalarRow.TheVariants.{Logic}
 use Rattle.mz_meaning.specs.Runs.{Run, then_do, give, spend}
 use Rattle.mz_meaning.specs.Cells.{Cell, Par, Var, Unshaped, Mode, Env, value_of, is_par, is_true, is_bool, is_truth, sealed, widened, risen, typed}
-use Rattle.mz_meaning.specs.Chains.{Operator, Front, chained, before, right_in, operand_base}
+use Rattle.mz_meaning.specs.Chains.{Operator, Innermost, chained, before, right_in, operand_base}
 use Rattle.mz_meaning.specs.Coerced.{recast}
 use Rattle.mz_meaning.specs.Contexts.{Context}
 use Rattle.mz_meaning.specs.Evaluation.{eval}
@@ -192,7 +192,7 @@ operators_give w go g ctx env place left (o ∷ os) h i =
 typed_roots : (m : Mode) (t : PlainType) (r : Rooted) → t.var ≡ false → IsRooted r → AreRoots r.roots (typed m false t r.cell)
 typed_roots m t r h i = record { par = typed_par m t r.cell h i.par; each = i.each; told = typed_holds m t r.cell h i.par ∙ i.told }
 
-chain_gives : (w : World) (go : Roots) → GivesRoots w go → (ctx : Context) (env : Env) (t : PlainType) (f : Front) → are_ands t f ≡ true → Gives IsRooted (root_chain w go ctx env t f)
+chain_gives : (w : World) (go : Roots) → GivesRoots w go → (ctx : Context) (env : Env) (t : PlainType) (f : Innermost) → are_ands t f ≡ true → Gives IsRooted (root_chain w go ctx env t f)
 chain_gives w go g ctx env t f h =
     let p = and_parts (is_par_truth t && is_plain_truth f.first) (list_all (λ o. is_and o.step) f.operators) h in
     let q = and_parts (is_par_truth t) (is_plain_truth f.first) p.0 in
@@ -204,13 +204,13 @@ alone_gives : (m : Run Cell) → Gives (λ c. is_par c ≡ true) m → Gives IsR
 alone_gives m h = from {P = λ c. is_par c ≡ true} h (λ c i. given (one_is c i))
 
 -- an expression, where it is a written conjunction or not
-joined_gives : (w : World) (go : Roots) → GivesRoots w go → (m : Run Cell) → Gives (λ c. is_par c ≡ true) m → (ctx : Context) (env : Env) (t : PlainType) (f : Front) (b : Bool) → (b ≡ true → are_ands t f ≡ true) → Gives IsRooted (rooted w go m ctx env t (if b then Some f else None))
+joined_gives : (w : World) (go : Roots) → GivesRoots w go → (m : Run Cell) → Gives (λ c. is_par c ≡ true) m → (ctx : Context) (env : Env) (t : PlainType) (f : Innermost) (b : Bool) → (b ≡ true → are_ands t f ≡ true) → Gives IsRooted (rooted w go m ctx env t (if b then Some f else None))
 joined_gives w go g m p ctx env t f true h = chain_gives w go g ctx env t f (h refl)
 joined_gives w go g m p ctx env t f false h = alone_gives m p
 
 tree_gives : (w : World) (go : Roots) → GivesRoots w go → (m : Run Cell) → Gives (λ c. is_par c ≡ true) m → (ctx : Context) (env : Env) (e : Tree) → Gives IsRooted (rooted w go m ctx env (type_of e) (conjunction e))
 tree_gives w go g m p ctx env (tree.node at t (tree.chain a ss)) =
-    let f : Front = chained at a (all_steps ss) in
+    let f : Innermost = chained at a (all_steps ss) in
     joined_gives w go g m p ctx env t f (is_conjunction t (all_steps ss) f) (λ h. (and_parts (begins_and (all_steps ss)) (are_ands t f) h).1)
 tree_gives w go g m p ctx env (tree.node at t form) = alone_gives m p
 

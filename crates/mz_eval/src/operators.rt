@@ -4,19 +4,19 @@ ghost use Rattle.std.specs.Prelude.{[], map, None, true, false};
 ghost use Rattle.mz_core.specs.TreeViews.{tree, step};
 ghost use Rattle.mz_meaning.specs.Runs.{loop};
 ghost use Rattle.mz_meaning.specs.Contexts.{Untested};
-ghost use Rattle.mz_meaning.specs.Chains.{fronted, chained};
+ghost use Rattle.mz_meaning.specs.Chains.{with_innermost, chained};
 ghost use Rattle.mz_meaning.specs.Forms.{chain, chain_by, operators, append_operand};
 ghost use Rattle.mz_meaning.specs.Evaluation.{eval};
 ghost use Rattle.mz_cells.specs.Views.{cell_of};
 ghost use Rattle.mz_frames.specs.Runs.{Meets, at_work};
 ghost use Rattle.mz_frames.specs.Views.{world_of, env_of};
-ghost use Rattle.mz_chains.specs.Fronts.{operator_of, front_of};
+ghost use Rattle.mz_chains.specs.Innermosts.{operator_of, innermost_of};
 ghost use Rattle.mz_steps.specs.Operators.{operator_step, appended_of};
 
 use crate::forms::eval_expression;
 use mz_base::{Span, Stop};
 use mz_cells::Known;
-use mz_chains::{Front, Operator, all_operators, has_front, is_appended, place_of};
+use mz_chains::{Innermost, Operator, all_operators, has_innermost, is_appended, place_of};
 use mz_core::{Core, CoreStep};
 use mz_frames::{Scope, World};
 use mz_steps::{Appended, append_operand, appended_nodes, nothing_appended, operated_on, prepared};
@@ -39,8 +39,8 @@ pub(crate) fn eval_chain(
     if is_appended(all) {
         return eval_appended(alloc, world, first, all, at, scope, left, work);
     }
-    if has_front(first, all) {
-        return eval_fronted(alloc, world, first, all, at, scope, left, work);
+    if has_innermost(first, all) {
+        return eval_with_innermost(alloc, world, first, all, at, scope, left, work);
     }
     eval_plain(alloc, world, first, all, at, scope, left, work)
 }
@@ -58,7 +58,7 @@ fn eval_plain(
     left: u64,
     work: &mut u64,
 ) -> Result<Known, Stop>
-    ensures { Meets cell_of result work.new (chain_by (world_of world.now) (eval (world_of world.now) left) Untested (env_of world.now scope.now) false (fronted at (map step all.now) (tree first.now) None) (at_work work.old)) }
+    ensures { Meets cell_of result work.new (chain_by (world_of world.now) (eval (world_of world.now) left) Untested (env_of world.now scope.now) false (with_innermost at (map step all.now) (tree first.now) None) (at_work work.old)) }
 {
     let mut cell = eval_expression(alloc, world, first, scope, left, work)?;
     let mut place = place_of(first);
@@ -113,7 +113,7 @@ fn eval_operator(
 
 // With the operators of the first operand.
 #[cycle(forms)]
-fn eval_fronted(
+fn eval_with_innermost(
     alloc: Global,
     world: &World,
     first: &Core,
@@ -126,19 +126,19 @@ fn eval_fronted(
     ensures { Meets cell_of result work.new (chain_by (world_of world.now) (eval (world_of world.now) left) Untested (env_of world.now scope.now) false (chained at (tree first.now) (map step all.now)) (at_work work.old)) }
 {
     let f = all_operators(alloc, at, &*first, &*all)?;
-    eval_front(alloc, world, &f, scope, left, work)
+    eval_innermost(alloc, world, &f, scope, left, work)
 }
 
 #[cycle(forms)]
-fn eval_front(
+fn eval_innermost(
     alloc: Global,
     world: &World,
-    f: &Front,
+    f: &Innermost,
     scope: &Scope,
     left: u64,
     work: &mut u64,
 ) -> Result<Known, Stop>
-    ensures { Meets cell_of result work.new (chain_by (world_of world.now) (eval (world_of world.now) left) Untested (env_of world.now scope.now) false (front_of f.now) (at_work work.old)) }
+    ensures { Meets cell_of result work.new (chain_by (world_of world.now) (eval (world_of world.now) left) Untested (env_of world.now scope.now) false (innermost_of f.now) (at_work work.old)) }
 {
     let cell = eval_expression(alloc, world, f.first, scope, left, work)?;
     let place = place_of(f.first);
@@ -190,12 +190,12 @@ fn eval_appended(
 fn eval_back(
     alloc: Global,
     world: &World,
-    f: &Front,
+    f: &Innermost,
     scope: &Scope,
     left: u64,
     work: &mut u64,
 ) -> Result<Known, Stop>
-    ensures { Meets cell_of result work.new (chain_by (world_of world.now) (eval (world_of world.now) left) Untested (env_of world.now scope.now) true (front_of f.now) (at_work work.old)) }
+    ensures { Meets cell_of result work.new (chain_by (world_of world.now) (eval (world_of world.now) left) Untested (env_of world.now scope.now) true (innermost_of f.now) (at_work work.old)) }
 {
     let cell = eval_expression(alloc, world, f.first, scope, left, work)?;
     let place = place_of(f.first);

@@ -7,10 +7,10 @@ use Rattle.mz_core.specs.Coercions.{PathLink}
 use Rattle.mz_core.specs.Program.{Function}
 use Rattle.mz_core.specs.Tree.{Tree, Shape, Trees, Maybe, Maybes, Rows, Branches, Steps, Gens, Items, Step, Gen, Decl, Item, declares, constrains, maybe, steps, if_tree, all_trees, all_maybes, all_rows, all_branches, all_steps, all_gens, all_items, shape_of, inner_tree, inner_under}
 use Rattle.mz_core.specs.Tree as tree
-use Rattle.mz_meaning.specs.Chains.{Front, operators_at, with_left, fronted, coerced_front, front_of, front_in, last_backed, a_step_of, back_of, back_in, backed, chained, same_level, chain_level}
+use Rattle.mz_meaning.specs.Chains.{Innermost, operators_at, with_left, with_innermost, coerced_innermost, innermost_of, innermost_in, last_backed, a_step_of, back_of, back_in, backed, chained, same_level, chain_level}
 use Rattle.mz_meaning.specs.Solutions.{Each}
 use Rattle.mz_independence.specs.FreeLocals.{free_in, free_in_form, free_in_maybe, free_in_trees, free_in_maybes, free_in_rows, free_in_branches, free_in_steps, free_in_gens, free_in_value, free_in_items, free_if, free_in_decl, free_in_function}
-use Rattle.mz_independence.specs.Ties.{Tie, Equal, Untesting, Strict, Without, Allows, AllowsTree, AllowsIf, AllowsStep, AllowsOperator, AllowsFront, AllowsGen, AllowsBranch, AllowsValue, AllowsItem, AllowsDecl, AllowsFunction, AllowsFound}
+use Rattle.mz_independence.specs.Ties.{Tie, Equal, Untesting, Strict, Without, Allows, AllowsTree, AllowsIf, AllowsStep, AllowsOperator, AllowsInnermost, AllowsGen, AllowsBranch, AllowsValue, AllowsItem, AllowsDecl, AllowsFunction, AllowsFound}
 
 -- ---- lists of places
 
@@ -139,47 +139,47 @@ with_left_allows : (t : Tie) (ls : List PathLink) (ss : List Step) → Each (All
 with_left_allows t ls [] h = tt
 with_left_allows t ls (s ∷ ss) h = h
 
-abbrev AllowsFrontIf : Tie → Option Front → Type 0
-AllowsFrontIf t None = Unit {0}
-AllowsFrontIf t (Some f) = AllowsFront t f
+abbrev AllowsInnermostIf : Tie → Option Innermost → Type 0
+AllowsInnermostIf t None = Unit {0}
+AllowsInnermostIf t (Some f) = AllowsInnermost t f
 
-front_if : (t : Tie) (b : Bool) (f : Front) → AllowsFront t f → AllowsFrontIf t (if b then Some f else None)
-front_if t true f h = h
-front_if t false f h = tt
+innermost_if : (t : Tie) (b : Bool) (f : Innermost) → AllowsInnermost t f → AllowsInnermostIf t (if b then Some f else None)
+innermost_if t true f h = h
+innermost_if t false f h = tt
 
-coerced_allows : (t : Tie) (l : PathLink) (f : Option Front) → AllowsFrontIf t f → AllowsFrontIf t (option_map (coerced_front l) f)
+coerced_allows : (t : Tie) (l : PathLink) (f : Option Innermost) → AllowsInnermostIf t f → AllowsInnermostIf t (option_map (coerced_innermost l) f)
 coerced_allows t l None h = tt
 coerced_allows t l (Some f) h = record { head = h.head; tail = h.tail }
 
-fronted_allows : (t : Tie) (at : Span) (ss : List Step) (e : Tree) (f : Option Front) → Allows t (free_in e) → Each (AllowsStep t) ss → AllowsFrontIf t f → AllowsFront t (fronted at ss e f)
-fronted_allows t at ss e None h k i = record { head = h; tail = operators_allow t at ss k }
-fronted_allows t at ss e (Some f) h k i = record { head = i.head; tail = each_append (AllowsOperator t) f.operators (operators_at at (with_left f.links ss)) i.tail (operators_allow t at (with_left f.links ss) (with_left_allows t f.links ss k)) }
+with_innermost_allows : (t : Tie) (at : Span) (ss : List Step) (e : Tree) (f : Option Innermost) → Allows t (free_in e) → Each (AllowsStep t) ss → AllowsInnermostIf t f → AllowsInnermost t (with_innermost at ss e f)
+with_innermost_allows t at ss e None h k i = record { head = h; tail = operators_allow t at ss k }
+with_innermost_allows t at ss e (Some f) h k i = record { head = i.head; tail = each_append (AllowsOperator t) f.operators (operators_at at (with_left f.links ss)) i.tail (operators_allow t at (with_left f.links ss) (with_left_allows t f.links ss k)) }
 
 mutual
-  unfolding free_in free_in_form front_of front_in
+  unfolding free_in free_in_form innermost_of innermost_in
 
-  front_allows : (t : Tie) (l : ℕ) (e : Tree) → Allows t (free_in e) → AllowsFrontIf t (front_of l e)
-  front_allows t l (tree.node at ty form) h = front_in_allows t l at ty form h
+  innermost_allows : (t : Tie) (l : ℕ) (e : Tree) → Allows t (free_in e) → AllowsInnermostIf t (innermost_of l e)
+  innermost_allows t l (tree.node at ty form) h = innermost_in_allows t l at ty form h
 
-  front_in_allows : (t : Tie) (l : ℕ) (at : Span) (ty : PlainType) (form : Shape) → Allows t (free_in_form form) → AllowsFrontIf t (front_in l at ty form)
-  front_in_allows t l at ty (tree.chain e ss) h =
+  innermost_in_allows : (t : Tie) (l : ℕ) (at : Span) (ty : PlainType) (form : Shape) → Allows t (free_in_form form) → AllowsInnermostIf t (innermost_in l at ty form)
+  innermost_in_allows t l at ty (tree.chain e ss) h =
       let k = allows_left t (free_in e) (free_in_steps ss) h in
-      front_if t (same_level l (all_steps ss)) (fronted at (all_steps ss) e (front_of l e)) (fronted_allows t at (all_steps ss) e (front_of l e) k (steps_allow t ss (allows_right t (free_in e) (free_in_steps ss) h)) (front_allows t l e k))
-  front_in_allows t l at ty (tree.coerce c e) h = coerced_allows t (c, ty) (front_of l e) (front_allows t l e h)
-  front_in_allows t l at ty form h = tt
+      innermost_if t (same_level l (all_steps ss)) (with_innermost at (all_steps ss) e (innermost_of l e)) (with_innermost_allows t at (all_steps ss) e (innermost_of l e) k (steps_allow t ss (allows_right t (free_in e) (free_in_steps ss) h)) (innermost_allows t l e k))
+  innermost_in_allows t l at ty (tree.coerce c e) h = coerced_allows t (c, ty) (innermost_of l e) (innermost_allows t l e h)
+  innermost_in_allows t l at ty form h = tt
 
-last_allows : (t : Tie) (at : Span) (s : Step) (f : Option Front) → AllowsStep t s → AllowsFrontIf t f → Each (AllowsOperator t) (last_backed at s f)
+last_allows : (t : Tie) (at : Span) (s : Step) (f : Option Innermost) → AllowsStep t s → AllowsInnermostIf t f → Each (AllowsOperator t) (last_backed at s f)
 last_allows t at s None h k = (h, tt)
 last_allows t at s (Some f) h k = (k.head, k.tail)
 
 mutual
   unfolding free_in free_in_form free_in_steps back_of back_in backed
 
-  back_allows : (t : Tie) (e : Tree) → Allows t (free_in e) → AllowsFrontIf t (back_of e)
+  back_allows : (t : Tie) (e : Tree) → Allows t (free_in e) → AllowsInnermostIf t (back_of e)
   back_allows t (tree.node at ty form) h = back_in_allows t at ty form h
 
-  back_in_allows : (t : Tie) (at : Span) (ty : PlainType) (form : Shape) → Allows t (free_in_form form) → AllowsFrontIf t (back_in at ty form)
-  back_in_allows t at ty (tree.chain e ss) h = front_if t (same_level 12 (all_steps ss)) (record { first = e; operators = backed at ss; links = [] }) (record { head = allows_left t (free_in e) (free_in_steps ss) h; tail = backed_allows t at ss (allows_right t (free_in e) (free_in_steps ss) h) })
+  back_in_allows : (t : Tie) (at : Span) (ty : PlainType) (form : Shape) → Allows t (free_in_form form) → AllowsInnermostIf t (back_in at ty form)
+  back_in_allows t at ty (tree.chain e ss) h = innermost_if t (same_level 12 (all_steps ss)) (record { first = e; operators = backed at ss; links = [] }) (record { head = allows_left t (free_in e) (free_in_steps ss) h; tail = backed_allows t at ss (allows_right t (free_in e) (free_in_steps ss) h) })
   back_in_allows t at ty (tree.coerce c e) h = coerced_allows t (c, ty) (back_of e) (back_allows t e h)
   back_in_allows t at ty form h = tt
 
@@ -193,15 +193,15 @@ unfolding free_in_steps
 steps_back t [] h = allows_none t
 steps_back t (s ∷ ss) h = allows_both t (free_in s.operand) (free_in_steps (steps ss)) h.0 (steps_back t ss h.1)
 
-chained_by : (t : Tie) (b : Bool) (f g : Front) → AllowsFront t f → AllowsFront t g → AllowsFront t (if b then f else g)
+chained_by : (t : Tie) (b : Bool) (f g : Innermost) → AllowsInnermost t f → AllowsInnermost t g → AllowsInnermost t (if b then f else g)
 chained_by t true f g h k = h
 chained_by t false f g h k = k
 
-pub chained_allows : (t : Tie) (at : Span) (e : Tree) (ss : List Step) → Allows t (free_in e) → Each (AllowsStep t) ss → AllowsFront t (chained at e ss)
+pub chained_allows : (t : Tie) (at : Span) (e : Tree) (ss : List Step) → Allows t (free_in e) → Each (AllowsStep t) ss → AllowsInnermost t (chained at e ss)
 chained_allows t at e ss h k =
-    chained_by t (same_level 12 ss) (record { first = e; operators = backed at (steps ss); links = [] }) (fronted at ss e (front_of (chain_level ss) e))
+    chained_by t (same_level 12 ss) (record { first = e; operators = backed at (steps ss); links = [] }) (with_innermost at ss e (innermost_of (chain_level ss) e))
     (record { head = h; tail = backed_allows t at (steps ss) (steps_back t ss k) })
-    (fronted_allows t at ss e (front_of (chain_level ss) e) h k (front_allows t (chain_level ss) e h))
+    (with_innermost_allows t at ss e (innermost_of (chain_level ss) e) h k (innermost_allows t (chain_level ss) e h))
 
 -- ---- declarations and functions
 

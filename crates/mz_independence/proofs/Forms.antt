@@ -12,13 +12,13 @@ use Rattle.mz_meaning.specs.Coerced.{coerced}
 use Rattle.mz_meaning.specs.Operations.{row_at}
 use Rattle.mz_meaning.specs.Arrays.{line_cell, access_cell}
 use Rattle.mz_meaning.specs.Contexts.{Context, Untested, Other, elsewhere, within_links}
-use Rattle.mz_meaning.specs.Chains.{Operator, Front, chained, same_level, before, right_in, operand_base}
+use Rattle.mz_meaning.specs.Chains.{Operator, Innermost, chained, same_level, before, right_in, operand_base}
 use Rattle.mz_meaning.specs.Forms as forms
 use Rattle.mz_meaning.specs.Forms.{World, Eval, Appended, done, handed}
 use Rattle.mz_meaning.specs.Solutions.{Each}
 use Rattle.mz_independence.specs.FreeLocals.{free_in}
 use Rattle.mz_independence.specs.Outlines.{outline, outlines, outline_rows, outline_branch, outline_placed, outline_left, outline_appended, blank_world, HasOutlines}
-use Rattle.mz_independence.specs.Ties.{Tie, Equal, Untesting, Strict, Without, Ties, HasOutline, HasNotes, Allows, AllowsTree, AllowsIf, AllowsStep, AllowsOperator, AllowsFront, AllowsBranch, EvalHasOutline}
+use Rattle.mz_independence.specs.Ties.{Tie, Equal, Untesting, Strict, Without, Ties, HasOutline, HasNotes, Allows, AllowsTree, AllowsIf, AllowsStep, AllowsOperator, AllowsInnermost, AllowsBranch, EvalHasOutline}
 use Rattle.mz_independence.proofs.Joins.{then_outlined, give_outlined, when_outlined, at_same, same, spend_outlined, spend_same, loop_outlined, loop_over_outlines, loop_each_outlined, weigh_outlined}
 use Rattle.mz_independence.proofs.Cells.{test_outline, push_outline, coerced_outline, work_outline}
 use Rattle.mz_independence.proofs.Allowed.{chained_allows}
@@ -88,12 +88,12 @@ append_node_outlined w top right p =
     then_outlined _ (coerced_by_outlined w top right.0 p.0.step.right right.1)
     (λ b. then_outlined _ (operated_outlined w top p.0.at p.0.step.ty p.0.step.row (operand_base p.0.step) (p.1 ∷ b ∷ [])) (λ next. give_outlined refl))
 
-appended_outlined : {t : Tie} {n : Bool} {w : World} {top : Env} {go go' : Eval} → EvalHasOutline t n w top go go' → {c d : Context} → Ties t c d → {env env' : Env} → HasOutlines env env' → (f : Front) → AllowsFront t f → (first : Cell) → HasOutline t n outline (forms.appended w go c env f first) (forms.appended (blank_world n w top) go' d env' f (outline first))
+appended_outlined : {t : Tie} {n : Bool} {w : World} {top : Env} {go go' : Eval} → EvalHasOutline t n w top go go' → {c d : Context} → Ties t c d → {env env' : Env} → HasOutlines env env' → (f : Innermost) → AllowsInnermost t f → (first : Cell) → HasOutline t n outline (forms.appended w go c env f first) (forms.appended (blank_world n w top) go' d env' f (outline first))
 appended_outlined {t = t} {n = n} {w = w} {top = top} {go = go} {go' = go'} g {c = c} {d = d} h {env = env} {env' = env'} i f z first =
     then_outlined _ (loop_each_outlined (AllowsOperator t) (forms.append_operand w go c env) (forms.append_operand (blank_world n w top) go' d env') (append_operand_outlined g h i) (record { lefts = []; place = place_of f.first; last = first }) f.operators z.tail)
     (λ x. then_outlined _ (loop_over_outlines outline_left (forms.append_node w) (forms.append_node (blank_world n w top)) (append_node_outlined w top) (x.place, x.last) x.lefts) (λ r. give_outlined refl))
 
-chain_by_outlined : {t : Tie} {n : Bool} {w : World} {top : Env} {go go' : Eval} → EvalHasOutline t n w top go go' → {c d : Context} → Ties t c d → {env env' : Env} → HasOutlines env env' → (b : Bool) (f : Front) → AllowsFront t f → HasOutline t n outline (forms.chain_by w go c env b f) (forms.chain_by (blank_world n w top) go' d env' b f)
+chain_by_outlined : {t : Tie} {n : Bool} {w : World} {top : Env} {go go' : Eval} → EvalHasOutline t n w top go go' → {c d : Context} → Ties t c d → {env env' : Env} → HasOutlines env env' → (b : Bool) (f : Innermost) → AllowsInnermost t f → HasOutline t n outline (forms.chain_by w go c env b f) (forms.chain_by (blank_world n w top) go' d env' b f)
 chain_by_outlined g h i true f z = then_outlined _ (g.by h f.first z.head i) (λ x. appended_outlined g h i f z x)
 chain_by_outlined g h i false f z = then_outlined _ (g.by (ties_before f.operators h) f.first z.head i) (λ x. operators_outlined g h i (place_of f.first) x f.operators z.tail)
 

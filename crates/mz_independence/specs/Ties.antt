@@ -8,7 +8,7 @@ use Rattle.mz_core.specs.Tree.{Tree, Step, Gen, Decl, DeclaredType, Item, declar
 use Rattle.mz_meaning.specs.Runs.{Run, State, Answer, Out, Stopped}
 use Rattle.mz_meaning.specs.Cells.{Mode, Blank, Given, Env}
 use Rattle.mz_meaning.specs.Contexts.{Context, Untested, Other}
-use Rattle.mz_meaning.specs.Chains.{Operator, Front}
+use Rattle.mz_meaning.specs.Chains.{Operator, Innermost}
 use Rattle.mz_meaning.specs.Forms.{World, Eval}
 use Rattle.mz_meaning.specs.Comprehensions.{Presence, Made, Rest}
 use Rattle.mz_meaning.specs.Solutions.{Each}
@@ -106,7 +106,7 @@ AllowsStep t s = Allows t (free_in s.operand)
 abbrev pub AllowsOperator : Tie → Operator → Type 0
 AllowsOperator t o = Allows t (free_in o.step.operand)
 
-pub record AllowsFront (t : Tie) (f : Front) : Type 0 where
+pub record AllowsInnermost (t : Tie) (f : Innermost) : Type 0 where
   pub head : Allows t (free_in f.first)
   pub tail : Each (AllowsOperator t) f.operators
 

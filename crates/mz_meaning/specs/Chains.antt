@@ -1,4 +1,4 @@
--- Chains of binary operators of one level. A chain of k operators is k nodes with one nesting, whose operands have one more; parentheses and coercions don't end it. So the operators of a chain that stands as the first operand belong to it: here they are put in front. For `++` it is the last operand that decides.
+-- Chains of binary operators of one level. A chain of k operators is k nodes with one nesting, whose operands have one more; parentheses and coercions don't end it. So the operators of a chain that stands as the first operand belong to it: here they come first. For `++` it is the last operand that decides.
 use Rattle.std.specs.Prelude.{ℕ, Bool, true, false, ◌||◌, List, [], ◌∷◌, ◌++◌, map, nat_eq, Option, Some, None, slice_get, if◌then◌else◌}
 use Rattle.std.specs.Option.{option_map}
 use Rattle.mz_base.specs.declared.fault.Span.{Span}
@@ -50,7 +50,7 @@ abbrev pub operators_at : Span → List Step → List Operator
 operators_at at ss = map (λ s. record { at = at; step = s }) ss
 
 -- ---- a first operand that is a chain of the level: its own first operand, its operators, and the coercions round it
-pub record Front : Type 0 where
+pub record Innermost : Type 0 where
   pub first : Tree
   pub operators : List Operator
   pub links : List PathLink
@@ -60,28 +60,28 @@ abbrev pub with_left : List PathLink → List Step → List Step
 with_left ls [] = []
 with_left ls (s ∷ ss) = record { row = s.row; ty = s.ty; left = ls ++ s.left; right = s.right; operand = s.operand } ∷ ss
 
-abbrev pub fronted : Span → List Step → Tree → Option Front → Front
-fronted at ss e None = record { first = e; operators = operators_at at ss; links = [] }
-fronted at ss e (Some f) = record { first = f.first; operators = f.operators ++ operators_at at (with_left f.links ss); links = [] }
+abbrev pub with_innermost : Span → List Step → Tree → Option Innermost → Innermost
+with_innermost at ss e None = record { first = e; operators = operators_at at ss; links = [] }
+with_innermost at ss e (Some f) = record { first = f.first; operators = f.operators ++ operators_at at (with_left f.links ss); links = [] }
 
-abbrev pub coerced_front : PathLink → Front → Front
-coerced_front l f = record { first = f.first; operators = f.operators; links = f.links ++ l ∷ [] }
+abbrev pub coerced_innermost : PathLink → Innermost → Innermost
+coerced_innermost l f = record { first = f.first; operators = f.operators; links = f.links ++ l ∷ [] }
 
 unfoldable mutual
-  pub front_of : ℕ → Tree → Option Front
-  front_of l (node at t form) = front_in l at t form
+  pub innermost_of : ℕ → Tree → Option Innermost
+  innermost_of l (node at t form) = innermost_in l at t form
 
-  pub front_in : ℕ → Span → PlainType → Shape → Option Front
-  front_in l at t (chain e ss) = if same_level l (all_steps ss) then Some (fronted at (all_steps ss) e (front_of l e)) else None
-  front_in l at t (coerce c e) = option_map (coerced_front (c, t)) (front_of l e)
-  front_in l at t form = None
+  pub innermost_in : ℕ → Span → PlainType → Shape → Option Innermost
+  innermost_in l at t (chain e ss) = if same_level l (all_steps ss) then Some (with_innermost at (all_steps ss) e (innermost_of l e)) else None
+  innermost_in l at t (coerce c e) = option_map (coerced_innermost (c, t)) (innermost_of l e)
+  innermost_in l at t form = None
 
 -- ---- for `++`: a last operand that is such a chain: its own first operand, its operators, and the coercions round it
 
 abbrev pub with_right : List PathLink → Tree → Step → Step
 with_right ls e s = record { row = s.row; ty = s.ty; left = s.left; right = ls ++ s.right; operand = e }
 
-abbrev pub last_backed : Span → Step → Option Front → List Operator
+abbrev pub last_backed : Span → Step → Option Innermost → List Operator
 last_backed at s None = record { at = at; step = s } ∷ []
 last_backed at s (Some f) = record { at = at; step = with_right f.links f.first s } ∷ f.operators
 
@@ -89,12 +89,12 @@ abbrev pub a_step_of : ℕ → PlainType → List PathLink → List PathLink →
 a_step_of r t l m e = record { row = r; ty = t; left = l; right = m; operand = e }
 
 unfoldable mutual
-  pub back_of : Tree → Option Front
+  pub back_of : Tree → Option Innermost
   back_of (node at t form) = back_in at t form
 
-  pub back_in : Span → PlainType → Shape → Option Front
+  pub back_in : Span → PlainType → Shape → Option Innermost
   back_in at t (chain e ss) = if same_level 12 (all_steps ss) then Some (record { first = e; operators = backed at ss; links = [] }) else None
-  back_in at t (coerce c e) = option_map (coerced_front (c, t)) (back_of e)
+  back_in at t (coerce c e) = option_map (coerced_innermost (c, t)) (back_of e)
   back_in at t form = None
 
   -- the operators of a chain at a place, with those of a chain that is its last operand
@@ -105,11 +105,11 @@ unfoldable mutual
 
 -- ---- all operators of a chain, with the innermost first operand
 
-abbrev pub chained : Span → Tree → List Step → Front
+abbrev pub chained : Span → Tree → List Step → Innermost
 chained at e ss =
     if same_level 12 ss
     then record { first = e; operators = backed at (steps ss); links = [] }
-    else fronted at ss e (front_of (chain_level ss) e)
+    else with_innermost at ss e (innermost_of (chain_level ss) e)
 
 -- ---- the operators' contexts
 

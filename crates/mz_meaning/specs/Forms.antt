@@ -17,7 +17,7 @@ use Rattle.mz_meaning.specs.Coerced.{coerced, coercion_work}
 use Rattle.mz_meaning.specs.Operations.{row_at, row_cost, row_cell}
 use Rattle.mz_meaning.specs.Arrays.{line_cell, table_cell, set_cell, access_cell, choice_cell}
 use Rattle.mz_meaning.specs.Contexts.{Context, Untested, Positive, Other, elsewhere, elsewhere_if, closes}
-use Rattle.mz_meaning.specs.Chains.{Operator, Front, chained, same_level, before, right_in, closed_by, operand_base}
+use Rattle.mz_meaning.specs.Chains.{Operator, Innermost, chained, same_level, before, right_in, closed_by, operand_base}
 
 -- WHAT STAYS THE SAME IN A RUN: the program's functions, the names of its enums' cases and its texts; the budget; the range of a free `int`, from -n to n; the cells of top-level names; and the mode
 pub record World : Type 0 where
@@ -136,13 +136,13 @@ append_node w right p = do
   next ← operated w p.0.at p.0.step.ty p.0.step.row (operand_base p.0.step) (p.1 ∷ b ∷ [])
   give (p.0.at, next)
 
-abbrev pub appended : World → Eval → Context → Env → Front → Cell → Run Cell
+abbrev pub appended : World → Eval → Context → Env → Innermost → Cell → Run Cell
 appended w go ctx env f first = do
   x ← loop (append_operand w go ctx env) (record { lefts = []; place = place_of f.first; last = first }) f.operators
   r ← loop (append_node w) (x.place, x.last) x.lefts
   give r.1
 
-abbrev pub chain_by : World → Eval → Context → Env → Bool → Front → Run Cell
+abbrev pub chain_by : World → Eval → Context → Env → Bool → Innermost → Run Cell
 chain_by w go ctx env true f = go ctx f.first env >>= appended w go ctx env f
 chain_by w go ctx env false f = go (before ctx f.operators) f.first env >>= λ left. operators w go ctx env (place_of f.first) left f.operators
 

@@ -8,7 +8,7 @@ use Rattle.mz_core.specs.Tree as tree
 use Rattle.mz_meaning.specs.Runs.{Run, State, Answer, Out, Stopped, then_do, give}
 use Rattle.mz_meaning.specs.Cells.{Cell, Env, typed}
 use Rattle.mz_meaning.specs.Contexts.{Context, Untested, Positive, Other}
-use Rattle.mz_meaning.specs.Chains.{Operator, level_table, level_of, chain_level, same_level, front_of, fronted, backed, before, right_in, operand_base, a_step_of}
+use Rattle.mz_meaning.specs.Chains.{Operator, level_table, level_of, chain_level, same_level, innermost_of, with_innermost, backed, before, right_in, operand_base, a_step_of}
 use Rattle.mz_meaning.specs.Forms.{World, Eval, coerced_by, operated, operators, operand_place, chain, chain_by}
 use Rattle.mz_meaning.specs.Evaluation.{eval}
 use Rattle.mz_meaning.specs.Walk.{levels}
@@ -64,10 +64,10 @@ before_none Other = refl
 abbrev one_operator : Span → Step → List Operator
 one_operator at s = record { at = at; step = s } ∷ []
 
-chain_is : (w : World) (go : Eval) (c : Context) (a : Tree) (s : Step) (at : Span) (env : Env) (q : State) → same_level 12 (s ∷ []) ≡ false → front_of (chain_level (s ∷ [])) a ≡ None → chain w go c a (s ∷ []) at env q ≡ then_do (go (before c (one_operator at s)) a env q) (λ left. operators w go c env (place_of a) left (one_operator at s))
+chain_is : (w : World) (go : Eval) (c : Context) (a : Tree) (s : Step) (at : Span) (env : Env) (q : State) → same_level 12 (s ∷ []) ≡ false → innermost_of (chain_level (s ∷ [])) a ≡ None → chain w go c a (s ∷ []) at env q ≡ then_do (go (before c (one_operator at s)) a env q) (λ left. operators w go c env (place_of a) left (one_operator at s))
 chain_is w go c a s at env q h k =
-    ap (λ b. chain_by w go c env b (if b then record { first = a; operators = backed at (tree.steps (s ∷ [])); links = [] } else fronted at (s ∷ []) a (front_of (chain_level (s ∷ [])) a)) q) h
-    ∙ ap (λ f. chain_by w go c env false (fronted at (s ∷ []) a f) q) k
+    ap (λ b. chain_by w go c env b (if b then record { first = a; operators = backed at (tree.steps (s ∷ [])); links = [] } else with_innermost at (s ∷ []) a (innermost_of (chain_level (s ∷ [])) a)) q) h
+    ∙ ap (λ f. chain_by w go c env false (with_innermost at (s ∷ []) a f) q) k
 
 -- from the operands on
 operators_are : (w : World) (k : ℕ) (c : Context) (at : Span) (t : PlainType) (a : Tree) (s : Step) (env : Env) (q : State) → then_do (then_do (eval w (suc k) (before c (one_operator at s)) a env q) (λ left. operators w (eval w (suc k)) c env (place_of a) left (one_operator at s))) (λ x. give (typed w.mode false t x)) ≡ then_do (compare w (suc k) c at t a s env q) (λ p. give (posted_cell p))
@@ -116,11 +116,11 @@ comparison_is : (w : World) (k : ℕ) (c : Context) (at : Span) (t : PlainType) 
 unfolding eval
 comparison_is w k c at t a r u l m b env s h =
     let step : Step = a_step_of r u l m b in
-    let row = and_first (is_comparison r && is_var_truth u) (is_int (operand_base step) && is_none (front_of (chain_level (step ∷ [])) a)) h in
-    let ends = and_second (is_comparison r && is_var_truth u) (is_int (operand_base step) && is_none (front_of (chain_level (step ∷ [])) a)) h in
-    let front : front_of (chain_level (step ∷ [])) a ≡ None = none_is (front_of (chain_level (step ∷ [])) a) (and_second (is_int (operand_base step)) (is_none (front_of (chain_level (step ∷ [])) a)) ends) in
+    let row = and_first (is_comparison r && is_var_truth u) (is_int (operand_base step) && is_none (innermost_of (chain_level (step ∷ [])) a)) h in
+    let ends = and_second (is_comparison r && is_var_truth u) (is_int (operand_base step) && is_none (innermost_of (chain_level (step ∷ [])) a)) h in
+    let innermost : innermost_of (chain_level (step ∷ [])) a ≡ None = none_is (innermost_of (chain_level (step ∷ [])) a) (and_second (is_int (operand_base step)) (is_none (innermost_of (chain_level (step ∷ [])) a)) ends) in
     ap (λ v. then_do (chain w (eval w (suc k)) v a (step ∷ []) at env s) (λ x. give (typed w.mode false t x))) (within_none c)
-    ∙ (ap (λ v. then_do v (λ x. give (typed w.mode false t x))) (chain_is w (eval w (suc k)) c a step at env s (comparison_level r (and_first (is_comparison r) (is_var_truth u) row)) front)
+    ∙ (ap (λ v. then_do v (λ x. give (typed w.mode false t x))) (chain_is w (eval w (suc k)) c a step at env s (comparison_level r (and_first (is_comparison r) (is_var_truth u) row)) innermost)
     ∙ operators_are w k c at t a step env s)
 
 compared_is : (names : ℕ → Named) (w : World) (c : Context) (env : Env) (e : Tree) (s : State) → is_compared names e ≡ true → eval w levels c e env s ≡ then_do (post_comparison w c env e s) (λ p. give (posted_cell p))

@@ -8,7 +8,7 @@ use Rattle.mz_core.specs.Tree as tree
 use Rattle.mz_meaning.specs.Runs.{Run, then_do, give}
 use Rattle.mz_meaning.specs.Cells.{Cell, Mode, Blank, Env}
 use Rattle.mz_meaning.specs.Contexts.{Context, within_links}
-use Rattle.mz_meaning.specs.Chains.{Operator, Front, chained, before, right_in, operand_base, a_step_of}
+use Rattle.mz_meaning.specs.Chains.{Operator, Innermost, chained, before, right_in, operand_base, a_step_of}
 use Rattle.mz_meaning.specs.Forms.{World, operand_place}
 use Rattle.mz_meaning.specs.Unbounded.{first_unbounded}
 use Rattle.mz_meaning.specs.Evaluation.{eval}
@@ -16,7 +16,7 @@ use Rattle.mz_meaning.specs.Solutions.{Each}
 use Rattle.mz_meaning.specs.Walk.{Limits, Assignment, Declared, names_env, world_at, declare, ordered, levels}
 use Rattle.mz_independence.specs.FreeLocals.{free_in, free_in_form, free_in_steps}
 use Rattle.mz_independence.specs.Outlines.{outline, outlines, outline_all_declared, blank_world, HasOutlines}
-use Rattle.mz_independence.specs.Ties.{Without, Ties, HasOutline, AllowsTree, AllowsStep, AllowsOperator, AllowsFront, AllowsDecl, EvalHasOutline}
+use Rattle.mz_independence.specs.Ties.{Without, Ties, HasOutline, AllowsTree, AllowsStep, AllowsOperator, AllowsInnermost, AllowsDecl, EvalHasOutline}
 use Rattle.mz_independence.proofs.Joins.{then_outlined, give_outlined, loop_each_outlined}
 use Rattle.mz_independence.proofs.Cells.{typed_outline}
 use Rattle.mz_independence.proofs.Rows.{operated_outlined}
@@ -95,7 +95,7 @@ root_operators_outlined w top n g c d {env = env} {env' = env'} i at left (o ∷
     subst (λ rs. HasOutline Without false outline_rooted (root_operators w (roots w n) c env o.at (record { roots = left.roots ++ r.roots; cell = next }) os) (root_operators (blank_world false w top) (roots (blank_world false w top) n) d env' o.at (record { roots = rs; cell = outline next }) os)) (sym (outlines_joined left.roots r.roots))
     (root_operators_outlined w top n g c d i o.at (record { roots = left.roots ++ r.roots; cell = next }) os z.1)))))
 
-root_chain_outlined : (w : World) (top : Env) (n : ℕ) → HasRoots w top n → (c d : Context) {env env' : Env} → HasOutlines env env' → (t : PlainType) (f : Front) → AllowsFront Without f → HasOutline Without false outline_rooted (root_chain w (roots w n) c env t f) (root_chain (blank_world false w top) (roots (blank_world false w top) n) d env' t f)
+root_chain_outlined : (w : World) (top : Env) (n : ℕ) → HasRoots w top n → (c d : Context) {env env' : Env} → HasOutlines env env' → (t : PlainType) (f : Innermost) → AllowsInnermost Without f → HasOutline Without false outline_rooted (root_chain w (roots w n) c env t f) (root_chain (blank_world false w top) (roots (blank_world false w top) n) d env' t f)
 root_chain_outlined w top n g c d i t f z =
     then_outlined _ (g.by (before c f.operators) (before d f.operators) f.first z.head i) (λ left.
     then_outlined _ (root_operators_outlined w top n g c d i (place_of f.first) left f.operators z.tail) (λ r.
@@ -104,7 +104,7 @@ root_chain_outlined w top n g c d i t f z =
 one_outlined : {m blank : Run Cell} → HasOutline Without false outline m blank → HasOutline Without false outline_rooted (λ s. then_do (m s) (λ c. give (one_root c))) (λ s. then_do (blank s) (λ c. give (one_root c)))
 one_outlined h = then_outlined _ h (λ c. give_outlined refl)
 
-rooted_outlined : (w : World) (top : Env) (n : ℕ) → HasRoots w top n → (c d : Context) {env env' : Env} → HasOutlines env env' → (t : PlainType) (b : Bool) (f : Front) → AllowsFront Without f → {m blank : Run Cell} → HasOutline Without false outline m blank → HasOutline Without false outline_rooted (rooted w (roots w n) m c env t (if b then Some f else None)) (rooted (blank_world false w top) (roots (blank_world false w top) n) blank d env' t (if b then Some f else None))
+rooted_outlined : (w : World) (top : Env) (n : ℕ) → HasRoots w top n → (c d : Context) {env env' : Env} → HasOutlines env env' → (t : PlainType) (b : Bool) (f : Innermost) → AllowsInnermost Without f → {m blank : Run Cell} → HasOutline Without false outline m blank → HasOutline Without false outline_rooted (rooted w (roots w n) m c env t (if b then Some f else None)) (rooted (blank_world false w top) (roots (blank_world false w top) n) blank d env' t (if b then Some f else None))
 rooted_outlined w top n g c d i t true f z h = root_chain_outlined w top n g c d i t f z
 rooted_outlined w top n g c d i t false f z h = one_outlined h
 
@@ -113,13 +113,13 @@ unfolding free_in_steps
 each_step_has_none tree.no_steps h = tt
 each_step_has_none (tree.a_step r t l m e ss) h = (allows_left Without (free_in e) (free_in_steps ss) h, each_step_has_none ss (allows_right Without (free_in e) (free_in_steps ss) h))
 
-front_has_none : (at : Span) (a : Tree) (ss : Steps) → free_in_form (tree.chain a ss) ≡ [] → AllowsFront Without (chained at a (all_steps ss))
+innermost_has_none : (at : Span) (a : Tree) (ss : Steps) → free_in_form (tree.chain a ss) ≡ [] → AllowsInnermost Without (chained at a (all_steps ss))
 unfolding free_in_form
-front_has_none at a ss h = chained_allows Without at a (all_steps ss) (allows_left Without (free_in a) (free_in_steps ss) h) (each_step_has_none ss (allows_right Without (free_in a) (free_in_steps ss) h))
+innermost_has_none at a ss h = chained_allows Without at a (all_steps ss) (allows_left Without (free_in a) (free_in_steps ss) h) (each_step_has_none ss (allows_right Without (free_in a) (free_in_steps ss) h))
 
 chain_outlined : (w : World) (top : Env) (n : ℕ) → HasRoots w top n → Evaluates w top (suc n) → (c d : Context) (at : Span) (t : PlainType) (form : Shape) → free_in_form form ≡ [] → {env env' : Env} → HasOutlines env env' → HasOutline Without false outline_rooted (rooted w (roots w n) (eval w (suc n) c (tree.node at t form) env) c env t (conjunction (tree.node at t form))) (rooted (blank_world false w top) (roots (blank_world false w top) n) (eval (blank_world false w top) (suc n) d (tree.node at t form) env') d env' t (conjunction (tree.node at t form)))
 unfolding free_in
-chain_outlined w top n g k c d at t (tree.chain a ss) h i = rooted_outlined w top n g c d i t (is_conjunction t (all_steps ss) (chained at a (all_steps ss))) (chained at a (all_steps ss)) (front_has_none at a ss h) (k.by (any_contexts c d) (tree.node at t (tree.chain a ss)) h i)
+chain_outlined w top n g k c d at t (tree.chain a ss) h i = rooted_outlined w top n g c d i t (is_conjunction t (all_steps ss) (chained at a (all_steps ss))) (chained at a (all_steps ss)) (innermost_has_none at a ss h) (k.by (any_contexts c d) (tree.node at t (tree.chain a ss)) h i)
 chain_outlined w top n g k c d at t form h i = one_outlined (k.by (any_contexts c d) (tree.node at t form) h i)
 
 node_outlined : (w : World) (top : Env) (n : ℕ) → HasRoots w top n → Evaluates w top (suc n) → (c d : Context) (e : Tree) → free_in e ≡ [] → {env env' : Env} → HasOutlines env env' → HasOutline Without false outline_rooted (rooted w (roots w n) (eval w (suc n) c e env) c env (type_of e) (conjunction e)) (rooted (blank_world false w top) (roots (blank_world false w top) n) (eval (blank_world false w top) (suc n) d e env') d env' (type_of e) (conjunction e))

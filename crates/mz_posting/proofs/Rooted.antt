@@ -8,7 +8,7 @@ use Rattle.mz_core.specs.Tree as tree
 use Rattle.mz_meaning.specs.Runs.{Run, State, Answer, Out, Stopped, then_do, give}
 use Rattle.mz_meaning.specs.Cells.{Cell, Env, typed}
 use Rattle.mz_meaning.specs.Contexts.{Context}
-use Rattle.mz_meaning.specs.Chains.{Operator, Front, level_table, level_of, same_level, chained, before, right_in, operand_base}
+use Rattle.mz_meaning.specs.Chains.{Operator, Innermost, level_table, level_of, same_level, chained, before, right_in, operand_base}
 use Rattle.mz_meaning.specs.Forms.{World, Eval, coerced_by, operated, operators, operand_place, chain, chain_by}
 use Rattle.mz_meaning.specs.Evaluation.{eval}
 use Rattle.mz_posting.specs.Roots.{Rooted, Roots, one_root, begins_and, are_ands, is_conjunction, conjunction, root_operators, root_chain, rooted, roots}
@@ -69,7 +69,7 @@ operators_rooted w go rs k c env at left (o ∷ os) s = first (λ r z. operators
     first g (Stopped f) = refl
 
 -- a conjunction's cell, with its type
-chain_rooted : (w : World) (go : Eval) (rs : Roots) → KeepsCells go rs → (c : Context) (env : Env) (t : PlainType) (f : Front) (s : State) → then_do (chain_by w go c env false f s) (λ x. give (typed w.mode false t x)) ≡ then_do (root_chain w rs c env t f s) (λ r. give r.cell)
+chain_rooted : (w : World) (go : Eval) (rs : Roots) → KeepsCells go rs → (c : Context) (env : Env) (t : PlainType) (f : Innermost) (s : State) → then_do (chain_by w go c env false f s) (λ x. give (typed w.mode false t x)) ≡ then_do (root_chain w rs c env t f s) (λ r. give r.cell)
 chain_rooted w go rs k c env t f s =
     ap (λ v. then_do (then_do v (λ left. operators w go c env (place_of f.first) left f.operators)) (λ x. give (typed w.mode false t x))) (k (before c f.operators) f.first env s)
     ∙ first (rs (before c f.operators) f.first env s)
@@ -92,7 +92,7 @@ conjunction_rooted : (w : World) (n : ℕ) → KeepsCells (eval w n) (roots w n)
 unfolding eval
 conjunction_rooted w n k c env at t a ss s false e = one_is (eval w (suc n) c (tree.node at t (tree.chain a ss)) env) s
 conjunction_rooted w n k c env at t a ss s true e =
-    let f : Front = chained at a (all_steps ss) in
+    let f : Innermost = chained at a (all_steps ss) in
     let level = (and_parts (begins_and (all_steps ss)) (are_ands t f) e).0 in
     ap (λ d. then_do (chain w (eval w n) d a (all_steps ss) at env s) (λ x. give (typed w.mode false t x))) (within_none c)
     ∙ (ap (λ b. then_do (chain_by w (eval w n) c env b f s) (λ x. give (typed w.mode false t x))) (no_append (all_steps ss) level)

@@ -8,7 +8,7 @@ use Rattle.mz_core.specs.Tree.{Tree, Step, node, chain, all_steps, type_of, plac
 use Rattle.mz_meaning.specs.Runs.{Run, ◌>>=◌, give}
 use Rattle.mz_meaning.specs.Cells.{Cell, Env, is_truth, typed}
 use Rattle.mz_meaning.specs.Contexts.{Context}
-use Rattle.mz_meaning.specs.Chains.{Operator, Front, chained, before, right_in, operand_base}
+use Rattle.mz_meaning.specs.Chains.{Operator, Innermost, chained, before, right_in, operand_base}
 use Rattle.mz_meaning.specs.Forms.{World, coerced_by, operated, operand_place}
 use Rattle.mz_meaning.specs.Evaluation.{eval}
 
@@ -29,7 +29,7 @@ is_plain_truth e = is_par_truth (type_of (inner_tree e)) && no_links (root_coerc
 abbrev pub is_and : Step → Bool
 is_and s = (nat_eq s.row 5 && is_par_truth s.ty) && ((no_links s.left && no_links s.right) && is_plain_truth s.operand)
 
-abbrev pub are_ands : PlainType → Front → Bool
+abbrev pub are_ands : PlainType → Innermost → Bool
 are_ands t f = (is_par_truth t && is_plain_truth f.first) && list_all (λ o. is_and o.step) f.operators
 
 -- the first operator of a node
@@ -37,14 +37,14 @@ abbrev pub begins_and : List Step → Bool
 begins_and [] = false
 begins_and (s ∷ ss) = nat_eq s.row 5
 
-abbrev pub is_conjunction : PlainType → List Step → Front → Bool
+abbrev pub is_conjunction : PlainType → List Step → Innermost → Bool
 is_conjunction t ss f = begins_and ss && are_ands t f
 
-abbrev pub joined : PlainType → List Step → Front → Option Front
+abbrev pub joined : PlainType → List Step → Innermost → Option Innermost
 joined t ss f = if is_conjunction t ss f then Some f else None
 
 -- the operators of a written conjunction with its first operand
-abbrev pub conjunction : Tree → Option Front
+abbrev pub conjunction : Tree → Option Innermost
 conjunction (node at t (chain a ss)) = joined t (all_steps ss) (chained at a (all_steps ss))
 conjunction e = None
 
@@ -70,13 +70,13 @@ root_operators w go ctx env at left (o ∷ os) = do
   root_operators w go ctx env o.at (record { roots = left.roots ++ right.roots; cell = next }) os
 
 -- a conjunction of this type
-abbrev pub root_chain : World → Roots → Context → Env → PlainType → Front → Run Rooted
+abbrev pub root_chain : World → Roots → Context → Env → PlainType → Innermost → Run Rooted
 root_chain w go ctx env t f = do
   left ← go (before ctx f.operators) f.first env
   r ← root_operators w go ctx env (place_of f.first) left f.operators
   give (record { roots = r.roots; cell = typed w.mode false t r.cell })
 
-abbrev pub rooted : World → Roots → Run Cell → Context → Env → PlainType → Option Front → Run Rooted
+abbrev pub rooted : World → Roots → Run Cell → Context → Env → PlainType → Option Innermost → Run Rooted
 rooted w go whole ctx env t (Some f) = root_chain w go ctx env t f
 rooted w go whole ctx env t None = whole >>= λ c. give (one_root c)
 

@@ -14,14 +14,14 @@ use Rattle.mz_core.proofs.TreeLaws.{place_of_tree, type_of_tree, layer_tree}
 use Rattle.mz_meaning.specs.Runs.{Run, State, Answer, Out, Stopped, then_do, give}
 use Rattle.mz_meaning.specs.Cells.{Cell, Env, typed}
 use Rattle.mz_meaning.specs.Contexts.{Untested}
-use Rattle.mz_meaning.specs.Chains.{Operator, Front, operand_base}
+use Rattle.mz_meaning.specs.Chains.{Operator, Innermost, operand_base}
 use Rattle.mz_meaning.specs.Forms.{World, coerced_by, operated, operand_place}
 use Rattle.mz_meaning.specs.Evaluation.{eval}
 use Rattle.mz_chains.specs.Links.{links_round}
 use Rattle.mz_chains.proofs.Layers.{coercions_of_coerce}
 use Rattle.mz_chains.proofs.Runs.{then_again}
 use Rattle.mz_posting.specs.Roots.{no_links, Rooted, Roots, conjunction, rooted, roots, one_root, root_chain, root_operators}
-use Rattle.mz_roots.specs.Steps.{conjunction_by, root_operator, root_front}
+use Rattle.mz_roots.specs.Steps.{conjunction_by, root_operator, root_innermost}
 
 -- ---- a written conjunction by its node
 
@@ -84,7 +84,7 @@ operators_next w go env at left o os s =
 abbrev typed_root : World → PlainType → Rooted → Run Rooted
 typed_root w t r = give (record { roots = r.roots; cell = typed w.mode false t r.cell })
 
-pub chain_is : (w : World) (go : Roots) (env : Env) (t : PlainType) (f : Front) (s : State) → root_chain w go Untested env t f s ≡ then_do (root_front w go env f s) (typed_root w t)
+pub chain_is : (w : World) (go : Roots) (env : Env) (t : PlainType) (f : Innermost) (s : State) → root_chain w go Untested env t f s ≡ then_do (root_innermost w go env f s) (typed_root w t)
 chain_is w go env t f s = sym (then_again (go Untested f.first env s) (λ left. root_operators w go Untested env (place_of f.first) left f.operators) (typed_root w t))
 
 -- ---- levels
@@ -99,7 +99,7 @@ unfolding roots
 roots_whole w zero e env s h = refl
 roots_whole w (suc n) e env s h = ap (λ o. rooted w (roots w n) (eval w (suc n) Untested e env) Untested env (type_of e) o s) h
 
-more : (w : World) (n : ℕ) (e : Tree) (f : Front) (env : Env) (s : State) → (n ≡ 0 → ⊥) → conjunction e ≡ Some f → roots w n Untested e env s ≡ root_chain w (roots w (n - 1)) Untested env (type_of e) f s
+more : (w : World) (n : ℕ) (e : Tree) (f : Innermost) (env : Env) (s : State) → (n ≡ 0 → ⊥) → conjunction e ≡ Some f → roots w n Untested e env s ≡ root_chain w (roots w (n - 1)) Untested env (type_of e) f s
 unfolding roots
 more w zero e f env s h c = absurd (h refl)
 more w (suc n) e f env s h c =
@@ -107,5 +107,5 @@ more w (suc n) e f env s h c =
     ap (λ o. rooted w (roots w n) (eval w (suc n) Untested e env) Untested env (type_of e) o s) c
     ∙ ap (λ m. root_chain w (roots w m) Untested env (type_of e) f s) less
 
-pub roots_more : (w : World) (n : ℕ) (e : Core) (f : Front) (env : Env) (s : State) → (n ≡ 0 → ⊥) → conjunction (tree e) ≡ Some f → roots w n Untested (tree e) env s ≡ root_chain w (roots w (n - 1)) Untested env (plain_type e.ty) f s
+pub roots_more : (w : World) (n : ℕ) (e : Core) (f : Innermost) (env : Env) (s : State) → (n ≡ 0 → ⊥) → conjunction (tree e) ≡ Some f → roots w n Untested (tree e) env s ≡ root_chain w (roots w (n - 1)) Untested env (plain_type e.ty) f s
 roots_more w n e f env s h c = more w n (tree e) f env s h c ∙ ap (λ t. root_chain w (roots w (n - 1)) Untested env t f s) (type_of_tree e)

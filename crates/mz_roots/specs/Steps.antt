@@ -6,7 +6,7 @@ use Rattle.mz_core.specs.Tree.{Layer, chain_form, place_of}
 use Rattle.mz_meaning.specs.Runs.{Run, ◌>>=◌, give}
 use Rattle.mz_meaning.specs.Cells.{Env}
 use Rattle.mz_meaning.specs.Contexts.{Untested}
-use Rattle.mz_meaning.specs.Chains.{Operator, Front, chained}
+use Rattle.mz_meaning.specs.Chains.{Operator, Innermost, chained}
 use Rattle.mz_meaning.specs.Forms.{World, coerced_by}
 use Rattle.mz_cells.specs.Views.{cell_of, cells_of}
 use Rattle.mz_steps.specs.Operators.{operated_on}
@@ -19,7 +19,7 @@ abbrev pub rooted_of : Rooted → roots.Rooted
 rooted_of r = record { roots = cells_of r.roots.items; cell = cell_of r.cell }
 
 -- a conjunction by the layer of its node
-abbrev pub conjunction_by : Span → PlainType → Layer → Option Front
+abbrev pub conjunction_by : Span → PlainType → Layer → Option Innermost
 conjunction_by at t (chain_form a ss) = joined t ss (chained at a ss)
 conjunction_by at t form = None
 
@@ -32,7 +32,7 @@ root_operator w go env at left o = do
   give (record { roots = left.roots ++ right.roots; cell = next })
 
 -- the first operand and the operators
-abbrev pub root_front : World → Roots → Env → Front → Run roots.Rooted
-root_front w go env f = do
+abbrev pub root_innermost : World → Roots → Env → Innermost → Run roots.Rooted
+root_innermost w go env f = do
   left ← go Untested f.first env
   root_operators w go Untested env (place_of f.first) left f.operators

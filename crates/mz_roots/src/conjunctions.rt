@@ -9,14 +9,14 @@ ghost use Rattle.mz_core.specs.Tree.{root_coercions, type_of};
 ghost use Rattle.mz_core.specs.TreeViews.{tree, step, form_layer};
 ghost use Rattle.mz_core.specs.declared.tree.CoreForm.TheViews.{out-CoreForm};
 ghost use Rattle.mz_meaning.specs.Chains.{chained};
-ghost use Rattle.mz_chains.specs.Fronts.{operator_of, front_of};
+ghost use Rattle.mz_chains.specs.Innermosts.{operator_of, innermost_of};
 ghost use Rattle.mz_chains.specs.Links.{links_round};
 ghost use Rattle.mz_posting.specs.Roots.{is_par_truth, no_links, is_plain_truth, is_and, are_ands, begins_and, joined, conjunction};
 ghost use Rattle.mz_roots.specs.Steps.{conjunction_by};
 
 use mz_base::Span;
 use mz_cells::is_truth;
-use mz_chains::{Front, Operator, all_operators, inner};
+use mz_chains::{Innermost, Operator, all_operators, inner};
 use mz_core::{Coercion, Core, CoreForm, CoreStep, TypeInst};
 use std::alloc::{AllocError, Global};
 
@@ -118,8 +118,8 @@ fn are_all(all: &[Operator]) -> bool
     true
 }
 
-fn are_ands(ty: &TypeInst, f: &Front) -> bool
-    ensures { result ≡ are_ands (plain_type ty.now) (front_of f.now) }
+fn are_ands(ty: &TypeInst, f: &Innermost) -> bool
+    ensures { result ≡ are_ands (plain_type ty.now) (innermost_of f.now) }
 {
     (is_par_truth(ty) && is_plain_truth(f.first)) && are_all(&f.operators)
 }
@@ -135,8 +135,8 @@ fn begins_and(all: &[CoreStep]) -> bool
 
 // ---- conjunctions
 
-fn kept<'a>(ty: &TypeInst, f: Front<'a>) -> Option<Front<'a>>
-    ensures { option_map front_of result ≡ if are_ands (plain_type ty.now) (front_of f.entry) then Some (front_of f.entry) else None }
+fn kept<'a>(ty: &TypeInst, f: Innermost<'a>) -> Option<Innermost<'a>>
+    ensures { option_map innermost_of result ≡ if are_ands (plain_type ty.now) (innermost_of f.entry) then Some (innermost_of f.entry) else None }
 {
     if are_ands(ty, &f) { Some(f) } else { None }
 }
@@ -147,8 +147,8 @@ fn joined<'a>(
     at: Span,
     first: &'a Core,
     all: &'a [CoreStep],
-) -> Result<Option<Front<'a>>, AllocError>
-    ensures { IfOk result (λ o. option_map front_of o ≡ joined (plain_type ty.now) (map step all.now) (chained at (tree first.now) (map step all.now))) }
+) -> Result<Option<Innermost<'a>>, AllocError>
+    ensures { IfOk result (λ o. option_map innermost_of o ≡ joined (plain_type ty.now) (map step all.now) (chained at (tree first.now) (map step all.now))) }
 {
     if !begins_and(all) {
         return Ok(None);
@@ -162,8 +162,8 @@ fn conjunction_by<'a>(
     ty: &TypeInst,
     at: Span,
     form: &'a CoreForm,
-) -> Result<Option<Front<'a>>, AllocError>
-    ensures { IfOk result (λ o. option_map front_of o ≡ conjunction_by at (plain_type ty.now) (form_layer (out-CoreForm form.now))) }
+) -> Result<Option<Innermost<'a>>, AllocError>
+    ensures { IfOk result (λ o. option_map innermost_of o ≡ conjunction_by at (plain_type ty.now) (form_layer (out-CoreForm form.now))) }
 {
     match form {
         CoreForm::Chain(first, all) => joined(alloc, ty, at, first, all),
@@ -173,8 +173,11 @@ fn conjunction_by<'a>(
 
 /// The operators of a written conjunction, with its first operand; none of another expression.
 #[tactic(auto, using(crate::proofs::Walking::conjunction_is))]
-pub(crate) fn conjunction<'a>(alloc: Global, e: &'a Core) -> Result<Option<Front<'a>>, AllocError>
-    ensures { IfOk result (λ o. option_map front_of o ≡ conjunction (tree e.now)) }
+pub(crate) fn conjunction<'a>(
+    alloc: Global,
+    e: &'a Core,
+) -> Result<Option<Innermost<'a>>, AllocError>
+    ensures { IfOk result (λ o. option_map innermost_of o ≡ conjunction (tree e.now)) }
 {
     let found = conjunction_by(alloc, &e.ty, e.span, &e.form)?;
     Ok(found)

@@ -3,7 +3,7 @@
 ghost use Rattle.std.specs.Prelude.{◌+◌, ◌≤◌, IfOk};
 ghost use Rattle.mz_meaning.specs.Forms.{coerced_by};
 ghost use Rattle.mz_cells.specs.Views.{cell_of};
-ghost use Rattle.mz_chains.specs.Fronts.{operator_of};
+ghost use Rattle.mz_chains.specs.Innermosts.{operator_of};
 ghost use Rattle.mz_steps.specs.Operators.{operated_on};
 ghost use Rattle.mz_frames.specs.Runs.{Meets, at_work};
 ghost use Rattle.mz_frames.specs.Views.{world_of};

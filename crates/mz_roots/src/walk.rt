@@ -8,19 +8,19 @@ ghost use Rattle.mz_meaning.specs.Cells.{Bare, typed};
 ghost use Rattle.mz_meaning.specs.Contexts.{Untested};
 ghost use Rattle.mz_meaning.specs.Evaluation.{eval};
 ghost use Rattle.mz_cells.specs.Views.{cell_of, cells_of};
-ghost use Rattle.mz_chains.specs.Fronts.{operator_of, front_of};
+ghost use Rattle.mz_chains.specs.Innermosts.{operator_of, innermost_of};
 ghost use Rattle.mz_frames.specs.Runs.{Meets, at_work};
 ghost use Rattle.mz_frames.specs.Views.{env_cells, world_of};
 ghost use Rattle.mz_posting.specs.Roots as roots;
 ghost use Rattle.mz_posting.specs.Roots.{conjunction, one_root, root_chain, root_operators};
-ghost use Rattle.mz_roots.specs.Steps.{rooted_of, root_operator, root_front};
+ghost use Rattle.mz_roots.specs.Steps.{rooted_of, root_operator, root_innermost};
 
 use crate::conjunctions::conjunction;
 use crate::operators::{coerced, operated};
 use crate::types::Rooted;
 use mz_base::{Span, Stop};
 use mz_cells::{Known, share, typed};
-use mz_chains::{Front, Operator, place_of};
+use mz_chains::{Innermost, Operator, place_of};
 use mz_core::{Core, TypeInst};
 use mz_eval::evaluated;
 use mz_frames::World;
@@ -117,15 +117,15 @@ fn root_operators(
 
 // the operands of a conjunction, below which so many levels of nesting are left
 #[cycle(walk)]
-fn root_front(
+fn root_innermost(
     alloc: Global,
     world: &World,
-    f: &Front,
+    f: &Innermost,
     left: u64,
     work: &mut u64,
 ) -> Result<Rooted, Stop>
     requires { work.old ≤ world.now.budget + 1 }
-    ensures answer { Meets rooted_of result work.new (root_front (world_of world.now) (roots.roots (world_of world.now) left) (env_cells world.now.env.now) (front_of f.now) (at_work work.old)) }
+    ensures answer { Meets rooted_of result work.new (root_innermost (world_of world.now) (roots.roots (world_of world.now) left) (env_cells world.now.env.now) (innermost_of f.now) (at_work work.old)) }
     ensures within { IfOk result (λ _. work.new ≤ world.now.budget + 1) }
 {
     let x = roots(alloc, world, f.first, left, work)?;
@@ -138,15 +138,15 @@ fn root_chain(
     alloc: Global,
     world: &World,
     ty: &TypeInst,
-    f: &Front,
+    f: &Innermost,
     left: u64,
     work: &mut u64,
 ) -> Result<Rooted, Stop>
     requires { work.old ≤ world.now.budget + 1 }
-    ensures answer { Meets rooted_of result work.new (root_chain (world_of world.now) (roots.roots (world_of world.now) left) Untested (env_cells world.now.env.now) (plain_type ty.now) (front_of f.now) (at_work work.old)) }
+    ensures answer { Meets rooted_of result work.new (root_chain (world_of world.now) (roots.roots (world_of world.now) left) Untested (env_cells world.now.env.now) (plain_type ty.now) (innermost_of f.now) (at_work work.old)) }
     ensures within { IfOk result (λ _. work.new ≤ world.now.budget + 1) }
 {
-    let x = root_front(alloc, world, f, left, work)?;
+    let x = root_innermost(alloc, world, f, left, work)?;
     Ok(with_type(alloc, ty, x)?)
 }
 
@@ -157,11 +157,11 @@ fn conjoined(
     alloc: Global,
     world: &World,
     e: &Core,
-    f: &Front,
+    f: &Innermost,
     left: u64,
     work: &mut u64,
 ) -> Result<Rooted, Stop>
-    requires found { conjunction (tree e.now) ≡ Some (front_of f.now) }
+    requires found { conjunction (tree e.now) ≡ Some (innermost_of f.now) }
     requires within { work.old ≤ world.now.budget + 1 }
     ensures answer { Meets rooted_of result work.new (roots.roots (world_of world.now) left Untested (tree e.now) (env_cells world.now.env.now) (at_work work.old)) }
     ensures within { IfOk result (λ _. work.new ≤ world.now.budget + 1) }

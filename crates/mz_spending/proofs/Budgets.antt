@@ -31,7 +31,7 @@ use Rattle.mz_meaning.specs.Operations as operations
 use Rattle.mz_meaning.specs.Arrays as arrays
 use Rattle.mz_meaning.specs.Arrays.{Want, Anything, Missing, Within}
 use Rattle.mz_meaning.specs.Contexts.{Untested}
-use Rattle.mz_meaning.specs.Chains.{Operator, Front, chained, same_level, operand_base}
+use Rattle.mz_meaning.specs.Chains.{Operator, Innermost, chained, same_level, operand_base}
 use Rattle.mz_meaning.specs.Forms as forms
 use Rattle.mz_meaning.specs.Forms.{World, Eval}
 use Rattle.mz_meaning.specs.Comprehensions as comps
@@ -158,10 +158,10 @@ append_operand_well w go g env x o = then_well (coerced_well w x.place o.step.le
 append_node_well : (w : World) (right : Span × Cell) (p : Operator × Cell) → Keeps w.budget (forms.append_node w right p)
 append_node_well w right p = then_well (coerced_well w right.0 p.0.step.right right.1) (λ b. then_well (operated_well w p.0.at p.0.step.ty p.0.step.row (operand_base p.0.step) (p.1 ∷ b ∷ [])) (λ next. give_well _))
 
-appended_well : (w : World) (go : Eval) → IsEvaluator w.budget go → (env : Env) (f : Front) (first : Cell) → Keeps w.budget (forms.appended w go Untested env f first)
+appended_well : (w : World) (go : Eval) → IsEvaluator w.budget go → (env : Env) (f : Innermost) (first : Cell) → Keeps w.budget (forms.appended w go Untested env f first)
 appended_well w go g env f first = then_well (loop_well (forms.append_operand w go Untested env) (append_operand_well w go g env) _ f.operators) (λ x. then_well (loop_well (forms.append_node w) (append_node_well w) _ x.lefts) (λ r. give_well _))
 
-chain_by_well : (w : World) (go : Eval) → IsEvaluator w.budget go → (env : Env) (t : Bool) (f : Front) → Keeps w.budget (forms.chain_by w go Untested env t f)
+chain_by_well : (w : World) (go : Eval) → IsEvaluator w.budget go → (env : Env) (t : Bool) (f : Innermost) → Keeps w.budget (forms.chain_by w go Untested env t f)
 chain_by_well w go g env true f = then_well (g.by f.first env) (λ c. appended_well w go g env f c)
 chain_by_well w go g env false f = then_well (g.by f.first env) (λ c. operators_well w go g env (place_of f.first) c f.operators)
 

@@ -16,7 +16,7 @@ use Rattle.mz_meaning.specs.Lets.{index_wants, want, all_have_sets}
 use Rattle.mz_meaning.specs.Calls.{argument_suits}
 use Rattle.mz_meaning.specs.Comprehensions.{Rest, Made, Element, Presence, names, both_occur}
 use Rattle.mz_chains.specs.declared.types.Operator.{Operator}
-use Rattle.mz_chains.specs.Fronts.{operator_of}
+use Rattle.mz_chains.specs.Innermosts.{operator_of}
 use Rattle.mz_steps.specs.declared.types.Appended.{Appended}
 
 -- ---- one operator: its left operand's coercions, its right operand with its coercions, its node

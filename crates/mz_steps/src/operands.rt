@@ -9,7 +9,7 @@ ghost use Rattle.mz_meaning.specs.Forms.{coerced_by, operated, append_node};
 ghost use Rattle.mz_cells.specs.Views.{cell_of};
 ghost use Rattle.mz_frames.specs.Runs.{Meets, at_work};
 ghost use Rattle.mz_frames.specs.Views.{world_of};
-ghost use Rattle.mz_chains.specs.Fronts.{operator_of};
+ghost use Rattle.mz_chains.specs.Innermosts.{operator_of};
 ghost use Rattle.mz_steps.specs.Operators.{operated_on, placed, appended_of, left_of, lefts_of};
 
 use crate::rows::operated_two;

@@ -18,7 +18,7 @@ use Rattle.mz_core.specs.TreeViews.{tree, step, form_layer, inner_in}
 use Rattle.mz_core.specs.Paths.{path_links}
 use Rattle.mz_core.proofs.TreeLaws.{layer_tree, type_of_tree, inner_tree_is}
 use Rattle.mz_meaning.specs.Coerced.{coerced_type}
-use Rattle.mz_meaning.specs.Chains.{front_of, level_of, operand_base, a_step_of}
+use Rattle.mz_meaning.specs.Chains.{innermost_of, level_of, operand_base, a_step_of}
 use Rattle.mz_unbuilt.specs.Variables.{Named, is_int}
 use Rattle.mz_unbuilt.specs.Comparisons.{keeps, all_keep, stays_par, is_par_constraint, is_par_integer, is_name, is_name_of, is_operand, is_comparison, is_var_truth, is_step, are_operands, is_compared}
 use Rattle.mz_unbuilt.specs.StepsComparisons as steps
@@ -106,11 +106,11 @@ step_is : (a : Tree) (s : Step) → steps.is_step a s ≡ is_step a s
 unfolding steps.is_step steps.operand_base inner_layer
 step_is a s = by (is_comparison s.row) refl
   where
-    by : (c : Bool) → is_comparison s.row ≡ c → whole s (is_comparison s.row) (not (is_chain_in (layer (shape_of (inner_tree a))))) ≡ whole s (is_comparison s.row) (is_none (front_of (level_of s.row) a))
+    by : (c : Bool) → is_comparison s.row ≡ c → whole s (is_comparison s.row) (not (is_chain_in (layer (shape_of (inner_tree a))))) ≡ whole s (is_comparison s.row) (is_none (innermost_of (level_of s.row) a))
     by true p = ap (whole s (is_comparison s.row)) (no_chain_of (level_of s.row) a (comparison_level s.row p))
     by false p =
         ap (λ c. whole s c (not (is_chain_in (layer (shape_of (inner_tree a)))))) p
-        ∙ ap (λ c. whole s c (is_none (front_of (level_of s.row) a))) (sym p)
+        ∙ ap (λ c. whole s c (is_none (innermost_of (level_of s.row) a))) (sym p)
 
 compared_are : (names : ℕ → Named) (a : Tree) (s : Step) → are_compared names a (s ∷ []) ≡ is_step a s && are_operands names a s
 unfolding are_compared

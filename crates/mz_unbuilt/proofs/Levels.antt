@@ -7,7 +7,7 @@ use Rattle.std.proofs.lemmas.Bool.Decides.{nat_tests}
 use Rattle.mz_core.specs.declared.tree.CoreStep.{CoreStep}
 use Rattle.mz_core.specs.Tree.{Tree, node, chain, coerce, layer, shape_of, inner_tree, all_steps}
 use Rattle.mz_core.specs.TreeViews.{step}
-use Rattle.mz_meaning.specs.Chains.{level_table, level_or, level_of, is_append, same_level, front_of, fronted, coerced_front}
+use Rattle.mz_meaning.specs.Chains.{level_table, level_or, level_of, is_append, same_level, innermost_of, with_innermost, coerced_innermost}
 use Rattle.mz_unbuilt.specs.Comparisons.{is_comparison}
 use Rattle.mz_unbuilt.specs.StepsComparisons.{is_chain_in}
 
@@ -92,11 +92,11 @@ none_if : {A : Type 0} (t : Bool) (x : A) → is_none (if t then Some x else Non
 none_if true x = refl
 none_if false x = refl
 
-no_front : (t : Tree) → is_none (front_of 5 t) ≡ not (is_chain_in (layer (shape_of (inner_tree t))))
-unfolding front_of
-no_front (node at t (chain e ss)) = none_if (same_level 5 (all_steps ss)) (fronted at (all_steps ss) e (front_of 5 e))
-no_front (node at t (coerce c e)) = none_mapped (coerced_front (c, t)) (front_of 5 e) ∙ no_front e
-no_front (node at t f) = refl
+no_innermost : (t : Tree) → is_none (innermost_of 5 t) ≡ not (is_chain_in (layer (shape_of (inner_tree t))))
+unfolding innermost_of
+no_innermost (node at t (chain e ss)) = none_if (same_level 5 (all_steps ss)) (with_innermost at (all_steps ss) e (innermost_of 5 e))
+no_innermost (node at t (coerce c e)) = none_mapped (coerced_innermost (c, t)) (innermost_of 5 e) ∙ no_innermost e
+no_innermost (node at t f) = refl
 
-pub no_chain_of : (l : ℕ) (t : Tree) → l ≡ 5 → not (is_chain_in (layer (shape_of (inner_tree t)))) ≡ is_none (front_of l t)
-no_chain_of l t h = sym (ap (λ k. is_none (front_of k t)) h ∙ no_front t)
+pub no_chain_of : (l : ℕ) (t : Tree) → l ≡ 5 → not (is_chain_in (layer (shape_of (inner_tree t)))) ≡ is_none (innermost_of l t)
+no_chain_of l t h = sym (ap (λ k. is_none (innermost_of k t)) h ∙ no_innermost t)

@@ -7,7 +7,7 @@ use Rattle.mz_core.specs.Coercions.{PathLink}
 use Rattle.mz_core.specs.Types.{PlainType}
 use Rattle.mz_core.specs.Tree.{Tree, Shape, Step, node, chain, a_step, no_steps, slot, type_of, shape_of, inner_tree, root_coercions}
 use Rattle.mz_meaning.specs.Cells.{is_truth}
-use Rattle.mz_meaning.specs.Chains.{front_of, chain_level, operand_base, a_step_of}
+use Rattle.mz_meaning.specs.Chains.{innermost_of, chain_level, operand_base, a_step_of}
 use Rattle.mz_unbuilt.specs.Variables.{Named, is_int, is_integer, is_built_variable}
 
 -- ---- coercions that leave an integer as it is: to var, and to an option
@@ -51,7 +51,7 @@ is_var_truth t = t.var && is_truth t
 
 -- an operator over integers, whose first operand doesn't end in an operator of its level, which is no integer
 abbrev pub is_step : Tree → Step → Bool
-is_step a s = (is_comparison s.row && is_var_truth s.ty) && (is_int (operand_base s) && is_none (front_of (chain_level (s ∷ [])) a))
+is_step a s = (is_comparison s.row && is_var_truth s.ty) && (is_int (operand_base s) && is_none (innermost_of (chain_level (s ∷ [])) a))
 
 -- two operands, one of which is a name at least
 abbrev pub are_operands : (ℕ → Named) → Tree → Step → Bool

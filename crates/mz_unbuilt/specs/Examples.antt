@@ -9,7 +9,7 @@ use Rattle.mz_core.specs.Program.{Function, PlainProgram, Goal, satisfy, minimiz
 use Rattle.mz_core.specs.Tree.{Tree, Decl, Step, declares}
 use Rattle.mz_core.specs.Tree as tree
 use Rattle.mz_meaning.specs.Operations.{row_table}
-use Rattle.mz_meaning.specs.Chains.{level_table, front_of}
+use Rattle.mz_meaning.specs.Chains.{level_table, innermost_of}
 use Rattle.mz_meaning.specs.RowNumbers as op
 use Rattle.mz_meaning.specs.Written.{col, scalar, int, var_int, bool, var_bool, opt_int, var_opt_int, ints, var_ints, list_of, num, lit, slot, fun, call, chain, bin, choose, let_in, range, plain, within, decl, function, by_zero}
 use Rattle.mz_unbuilt.specs.Places.{first_place}
@@ -76,7 +76,7 @@ pub record Constraints : Type 0 where
   pub earlier_one : first_of (with_x (bin 25 var_bool (above 25) op.both (above 34) ∷ lit 50 true ∷ bin 60 var_bool (above 60) op.both (above 70) ∷ [])) ≡ at 25
 
 pub constraints : Constraints
-unfolding first_place places_in named_in unbuilt_in is_keyword row_table level_table front_of
+unfolding first_place places_in named_in unbuilt_in is_keyword row_table level_table innermost_of
 constraints = record { above_three = refl; unlike_itself = refl; undefined = refl; par = refl; conjunction = refl; coerced_bool = refl; optional = refl; with_case = refl; chosen = refl; predicate = refl; test = refl; bound = refl; earlier_one = refl }
 
 abbrev declared : Decl → PlainProgram
@@ -99,7 +99,7 @@ pub record Declarations : Type 0 where
   pub named : first_of (whole [] (x ∷ decl 20 2 (plain int) (Some (fun 24 int 71 (x_at 27 ∷ []))) ∷ []) (0 ∷ 1 ∷ []) [] satisfy []) ≡ at 27
 
 pub declarations : Declarations
-unfolding first_place places_in named_in unbuilt_in is_keyword row_table level_table front_of
+unfolding first_place places_in named_in unbuilt_in is_keyword row_table level_table innermost_of
 declarations = record { any_int = refl; of_none = refl; constant = refl; with_value = refl; of_enum = refl; option = refl; array = refl; set = refl; named = refl }
 
 -- functions that nothing calls, objectives and output items
@@ -127,5 +127,5 @@ pub record Others : Type 0 where
   pub output_global : first_of (with_output (fun 43 var_bool 92 [])) ≡ at 43
 
 pub others : Others
-unfolding first_place places_in named_in unbuilt_in is_keyword row_table level_table front_of
+unfolding first_place places_in named_in unbuilt_in is_keyword row_table level_table innermost_of
 others = record { minimized = refl; minimized_name = refl; body_name = refl; body_local = refl; body_global = refl; output_name = refl; output_local = refl; output_global = refl }

@@ -15,7 +15,7 @@ use Rattle.mz_frames.specs.Runs.{at_work}
 use Rattle.mz_frames.specs.Views.{world_of, env_of}
 use Rattle.mz_chains.proofs.Runs.{meets_is, meets_err}
 use Rattle.mz_eval.proofs.OneLevel.{eval_end, eval_more, finish}
-use Rattle.mz_eval.proofs.Chains.{chain_is, no_front}
+use Rattle.mz_eval.proofs.Chains.{chain_is, no_innermost}
 use Rattle.mz_eval.specs.PlainCalls.{called_on}
 use Rattle.mz_eval.proofs.PlainCalls.{called_next, plain_call}
 use Rattle.mz_eval.proofs.+forms.Goals as goal
@@ -48,18 +48,18 @@ operators::eval_chain-returns-then-is_appended t c =
     (chain_is w (eval w c.args.left) (env_of c.args.world.now c.args.scope.now) c.args.at (tree c.args.first.now) (map step c.args.all.now) (at_work c.args.work.now) c.is_appended.result true c.is_appended.ensures c.if-is_appended.true)
     c.eval_appended.ensures
 
-pub operators::eval_chain-returns-then-has_front : goal.operators::eval_chain-returns-then-has_front
-operators::eval_chain-returns-then-has_front t c =
+pub operators::eval_chain-returns-then-has_innermost : goal.operators::eval_chain-returns-then-has_innermost
+operators::eval_chain-returns-then-has_innermost t c =
     let w = world_of c.args.world.now in
-    meets_is cell_of c.eval_fronted.result c.eval_fronted.new.work _ _
+    meets_is cell_of c.eval_with_innermost.result c.eval_with_innermost.new.work _ _
     (chain_is w (eval w c.args.left) (env_of c.args.world.now c.args.scope.now) c.args.at (tree c.args.first.now) (map step c.args.all.now) (at_work c.args.work.now) c.is_appended.result _ c.is_appended.ensures c.if-is_appended.false)
-    c.eval_fronted.ensures
+    c.eval_with_innermost.ensures
 
 pub operators::eval_chain-returns : goal.operators::eval_chain-returns
 operators::eval_chain-returns t c =
     let w = world_of c.args.world.now in
     meets_is cell_of c.eval_plain.result c.eval_plain.new.work _ _
-    (no_front w (eval w c.args.left) (env_of c.args.world.now c.args.scope.now) c.args.at (tree c.args.first.now) (map step c.args.all.now) (at_work c.args.work.now) c.is_appended.result c.has_front.result c.is_appended.ensures c.if-is_appended.false c.has_front.ensures c.if-has_front.false)
+    (no_innermost w (eval w c.args.left) (env_of c.args.world.now c.args.scope.now) c.args.at (tree c.args.first.now) (map step c.args.all.now) (at_work c.args.work.now) c.is_appended.result c.has_innermost.result c.is_appended.ensures c.if-is_appended.false c.has_innermost.ensures c.if-has_innermost.false)
     c.eval_plain.ensures
 
 pub forms::eval_access-returns : goal.forms::eval_access-returns

@@ -5,7 +5,7 @@ use Rattle.mz_core.specs.TreeViews.{tree, gen, branch, step, item, decl}
 use Rattle.mz_meaning.specs.Runs.{loop}
 use Rattle.mz_meaning.specs.Cells.{Bare}
 use Rattle.mz_meaning.specs.Contexts.{Untested}
-use Rattle.mz_meaning.specs.Chains.{fronted, operators_at}
+use Rattle.mz_meaning.specs.Chains.{with_innermost, operators_at}
 use Rattle.mz_meaning.specs.Forms.{part, parts, row_of_parts, chain_by, operators, append_operand, branches}
 use Rattle.mz_meaning.specs.Comprehensions.{where_, generators, added}
 use Rattle.mz_meaning.specs.Lets.{let_item, nothing_bound, index_wants, one_index}
@@ -17,7 +17,7 @@ use Rattle.mz_declared.specs.Wants.{wants_of}
 use Rattle.mz_frames.specs.Runs.{at_work}
 use Rattle.mz_frames.specs.Views.{world_of, env_of, env_cells}
 use Rattle.mz_steps.specs.Views.{names_of, made_of, turns_left}
-use Rattle.mz_chains.specs.Fronts.{operator_of}
+use Rattle.mz_chains.specs.Innermosts.{operator_of}
 use Rattle.mz_steps.specs.Operators.{appended_of, turn}
 use Rattle.mz_eval.proofs.+forms.Given as goal
 
@@ -69,11 +69,11 @@ decreases-operators::eval_plain l = 2 ^ 140 * l.left + 3
 abbrev pub decreases-operators::eval_operators : goal.decreases-operators::eval_operators
 decreases-operators::eval_operators l = 2 ^ 140 * l.left + 2
 
-abbrev pub decreases-operators::eval_front : goal.decreases-operators::eval_front
-decreases-operators::eval_front l = 2 ^ 140 * l.left + 3
+abbrev pub decreases-operators::eval_innermost : goal.decreases-operators::eval_innermost
+decreases-operators::eval_innermost l = 2 ^ 140 * l.left + 3
 
-abbrev pub decreases-operators::eval_fronted : goal.decreases-operators::eval_fronted
-decreases-operators::eval_fronted l = 2 ^ 140 * l.left + 4
+abbrev pub decreases-operators::eval_with_innermost : goal.decreases-operators::eval_with_innermost
+decreases-operators::eval_with_innermost l = 2 ^ 140 * l.left + 4
 
 abbrev pub decreases-operators::eval_operand : goal.decreases-operators::eval_operand
 decreases-operators::eval_operand l = 2 ^ 140 * l.left + 1
@@ -230,7 +230,7 @@ invariant-forms::eval_rows-loop-row l =
 
 abbrev pub invariant-operators::eval_plain-loop-s : goal.invariant-operators::eval_plain-loop-s
 invariant-operators::eval_plain-loop-s l =
-    chain_by (world_of l.world) (eval (world_of l.world) l.left) Untested (env_of l.world l.scope) false (fronted l.at (map step l.all) (tree l.first) None) (at_work l.fn.work)
+    chain_by (world_of l.world) (eval (world_of l.world) l.left) Untested (env_of l.world l.scope) false (with_innermost l.at (map step l.all) (tree l.first) None) (at_work l.fn.work)
     ≡ operators (world_of l.world) (eval (world_of l.world) l.left) Untested (env_of l.world l.scope) l.place (cell_of l.cell) (operators_at l.at (map step (drop l.s-index l.all))) (at_work l.work)
 
 abbrev pub invariant-operators::eval_operators-loop-o : goal.invariant-operators::eval_operators-loop-o

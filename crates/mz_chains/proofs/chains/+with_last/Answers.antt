@@ -2,7 +2,7 @@ use Rattle.std.proofs.Common.{◌≡◌, ◌∙◌, ◌-◌, ◌++◌, false, le
 use Rattle.mz_core.specs.Tree.{root_coercions}
 use Rattle.mz_core.specs.TreeViews.{tree, step}
 use Rattle.mz_meaning.specs.Chains.{same_level}
-use Rattle.mz_chains.specs.Fronts.{operator_of}
+use Rattle.mz_chains.specs.Innermosts.{operator_of}
 use Rattle.mz_chains.proofs.Heads.{list_by_last, no_level}
 use Rattle.mz_chains.proofs.Layers.{last_of_chain, last_of_other, last_coerced, other_end}
 use Rattle.mz_chains.proofs.chains.+with_last.Goals as goal

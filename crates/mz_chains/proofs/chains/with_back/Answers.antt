@@ -1,6 +1,6 @@
 use Rattle.std.proofs.Common.{◌-◌, length, map, take, refl, ap}
-use Rattle.mz_chains.specs.Fronts.{operator_of}
-use Rattle.mz_chains.proofs.Fronts.{backed_made, backed_none}
+use Rattle.mz_chains.specs.Innermosts.{operator_of}
+use Rattle.mz_chains.proofs.Innermosts.{backed_made, backed_none}
 use Rattle.mz_chains.proofs.Heads.{list_by_last}
 use Rattle.mz_chains.proofs.chains.with_back.Goals as goal
 

@@ -1,7 +1,7 @@
 use Rattle.std.proofs.Common.{◌≡◌, ◌++◌, drop, map}
 use Rattle.mz_core.specs.TreeViews.{step}
 use Rattle.mz_meaning.specs.Chains.{operators_at}
-use Rattle.mz_chains.specs.Fronts.{operator_of}
+use Rattle.mz_chains.specs.Innermosts.{operator_of}
 use Rattle.mz_chains.proofs.chains.with_plain.Given as goal
 
 abbrev pub invariant-loop-s : goal.invariant-loop-s

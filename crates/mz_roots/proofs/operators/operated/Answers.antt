@@ -1,5 +1,5 @@
 use Rattle.mz_cells.specs.Views.{cell_of}
-use Rattle.mz_chains.specs.Fronts.{operator_of}
+use Rattle.mz_chains.specs.Innermosts.{operator_of}
 use Rattle.mz_frames.specs.Views.{world_of}
 use Rattle.mz_roots.proofs.Budgets.{operated_within}
 use Rattle.mz_roots.proofs.operators.operated.Goals as goal

@@ -2,7 +2,7 @@ use Rattle.std.proofs.Common.{◌≡◌, ◌≤◌, ◌+◌, ◌*◌, drop, map}
 use Rattle.mz_meaning.specs.Contexts.{Untested}
 use Rattle.mz_frames.specs.Runs.{at_work}
 use Rattle.mz_frames.specs.Views.{world_of, env_cells}
-use Rattle.mz_chains.specs.Fronts.{operator_of}
+use Rattle.mz_chains.specs.Innermosts.{operator_of}
 use Rattle.mz_posting.specs.Roots.{roots, root_operators}
 use Rattle.mz_roots.specs.Steps.{rooted_of}
 use Rattle.mz_roots.proofs.walk.+walk.Given as goal
@@ -16,8 +16,8 @@ decreases-conjoined l = 6 * l.left + 5
 abbrev pub decreases-root_chain : goal.decreases-root_chain
 decreases-root_chain l = 6 * l.left + 10
 
-abbrev pub decreases-root_front : goal.decreases-root_front
-decreases-root_front l = 6 * l.left + 9
+abbrev pub decreases-root_innermost : goal.decreases-root_innermost
+decreases-root_innermost l = 6 * l.left + 9
 
 abbrev pub decreases-root_operators : goal.decreases-root_operators
 decreases-root_operators l = 6 * l.left + 8

@@ -12,29 +12,29 @@ use Rattle.mz_core.specs.Tree as trees
 use Rattle.mz_core.specs.Tree.{Tree, Steps, layer, shape_of, place_of, type_of, steps, all_steps, root_coercions, node, chain, coerce}
 use Rattle.mz_core.specs.TreeViews.{tree, step, form_layer}
 use Rattle.mz_core.proofs.TreeLaws.{place_of_tree, type_of_tree, layer_tree}
-use Rattle.mz_meaning.specs.Chains.{Front, Operator, front_of, front_in, back_of, back_in, backed, same_level, coerced_front, with_left, with_right, last_backed, operators_at}
+use Rattle.mz_meaning.specs.Chains.{Innermost, Operator, innermost_of, innermost_in, back_of, back_in, backed, same_level, coerced_innermost, with_left, with_right, last_backed, operators_at}
 use Rattle.mz_core.specs.declared.types.Coercion.{Coercion}
-use Rattle.mz_chains.specs.Fronts.{front_by, back_by, last_with}
+use Rattle.mz_chains.specs.Innermosts.{innermost_by, back_by, last_with}
 
-front_of_layer : (l : ℕ) (t : Tree) → front_of l t ≡ front_by l (place_of t) (type_of t) (layer (shape_of t))
-unfolding front_of front_in
-front_of_layer l (node at t (chain e ss)) = refl
-front_of_layer l (node at t (coerce c e)) = refl
-front_of_layer l (node at t f) = refl
+innermost_of_layer : (l : ℕ) (t : Tree) → innermost_of l t ≡ innermost_by l (place_of t) (type_of t) (layer (shape_of t))
+unfolding innermost_of innermost_in
+innermost_of_layer l (node at t (chain e ss)) = refl
+innermost_of_layer l (node at t (coerce c e)) = refl
+innermost_of_layer l (node at t f) = refl
 
-pub front_of_tree : (l : ℕ) (e : Core) → front_of l (tree e) ≡ front_by l e.span (plain_type e.ty) (form_layer (out-CoreForm e.form))
-front_of_tree l e =
-    front_of_layer l (tree e)
-    ∙ ap (λ p. front_by l p (type_of (tree e)) (layer (shape_of (tree e)))) (place_of_tree e)
-    ∙ ap (λ t. front_by l e.span t (layer (shape_of (tree e)))) (type_of_tree e)
-    ∙ ap (front_by l e.span (plain_type e.ty)) (layer_tree e)
+pub innermost_of_tree : (l : ℕ) (e : Core) → innermost_of l (tree e) ≡ innermost_by l e.span (plain_type e.ty) (form_layer (out-CoreForm e.form))
+innermost_of_tree l e =
+    innermost_of_layer l (tree e)
+    ∙ ap (λ p. innermost_by l p (type_of (tree e)) (layer (shape_of (tree e)))) (place_of_tree e)
+    ∙ ap (λ t. innermost_by l e.span t (layer (shape_of (tree e)))) (type_of_tree e)
+    ∙ ap (innermost_by l e.span (plain_type e.ty)) (layer_tree e)
 
 steps_again : (ss : Steps) → steps (all_steps ss) ≡ ss
 steps_again trees.no_steps = refl
 steps_again (trees.a_step r t l m e ss) = ap (trees.a_step r t l m e) (steps_again ss)
 
 -- a chain of `++`, if it is one
-abbrev back_with : Bool → Tree → Span → Steps → Option Front
+abbrev back_with : Bool → Tree → Span → Steps → Option Innermost
 back_with b e at ss = if b then Some (record { first = e; operators = backed at ss; links = [] }) else None
 
 back_of_layer : (t : Tree) → back_of t ≡ back_by (place_of t) (type_of t) (layer (shape_of t))
@@ -54,16 +54,16 @@ pub with_none : (ss : List trees.Step) → with_left [] ss ≡ ss
 with_none [] = refl
 with_none (s ∷ ss) = refl
 
-pub coerced_last_with : (at : Span) (s : trees.Step) (ls : List PathLink) (l : PathLink) (o : Option Front) → last_with at s ls (option_map (coerced_front l) o) ≡ last_with at s ls o
+pub coerced_last_with : (at : Span) (s : trees.Step) (ls : List PathLink) (l : PathLink) (o : Option Innermost) → last_with at s ls (option_map (coerced_innermost l) o) ≡ last_with at s ls o
 coerced_last_with at s ls l None = refl
 coerced_last_with at s ls l (Some f) = refl
 
 -- the coercions of a last operand that is a chain are those round it
-abbrev links_of : Tree → Option Front → Type 0
+abbrev links_of : Tree → Option Innermost → Type 0
 links_of t None = Unit {0}
 links_of t (Some f) = f.links ≡ root_coercions t
 
-coerced_links : (at : Span) (t : PlainType) (c : Coercion) (e : Tree) (o : Option Front) → links_of e o → links_of (node at t (coerce c e)) (option_map (coerced_front (c, t)) o)
+coerced_links : (at : Span) (t : PlainType) (c : Coercion) (e : Tree) (o : Option Innermost) → links_of e o → links_of (node at t (coerce c e)) (option_map (coerced_innermost (c, t)) o)
 coerced_links at t c e None h = tt
 coerced_links at t c e (Some f) h = ap (λ ls. ls ++ ((c, t) ∷ [])) h
 
@@ -77,10 +77,10 @@ back_links (node at t (chain e ss)) = chain_links at t e ss (same_level 12 (all_
 back_links (node at t (coerce c e)) = coerced_links at t c e (back_of e) (back_links e)
 back_links (node at t f) = tt
 
-abbrev last_at : Span → trees.Step → Front → List PathLink → List Operator
+abbrev last_at : Span → trees.Step → Innermost → List PathLink → List Operator
 last_at at s f ls = record { at = at; step = with_right ls f.first s } ∷ f.operators
 
-last_by : (at : Span) (s : trees.Step) (t : Tree) (o : Option Front) → links_of t o → last_backed at s o ≡ last_with at s (root_coercions t) o
+last_by : (at : Span) (s : trees.Step) (t : Tree) (o : Option Innermost) → links_of t o → last_backed at s o ≡ last_with at s (root_coercions t) o
 last_by at s t None h = refl
 last_by at s t (Some f) h = ap (last_at at s f) h
 
