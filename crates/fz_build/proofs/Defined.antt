@@ -125,12 +125,12 @@ module _ (p : Program) (name : RowName) (inputs : List Argument) (domain : Domai
 
 -- a solution is one of the old program, and the result
 record Parts (p : Program) (name : RowName) (inputs : List Argument) (f : Values) : Type 0 where
-  pub front : Values
+  pub prefix : Values
   pub last : Value
-  pub is : front ++ last ∷ [] ≡ f
-  pub as_many : length front ≡ length p.vars
-  pub solves : FlatSolves p front
-  pub result : result_given name (map (argument_value front) inputs) ≡ Some last
+  pub is : prefix ++ last ∷ [] ≡ f
+  pub as_many : length prefix ≡ length p.vars
+  pub solves : FlatSolves p prefix
+  pub result : result_given name (map (argument_value prefix) inputs) ≡ Some last
 
 module _ (p : Program) (name : RowName) (inputs : List Argument) (domain : Domain) (m : MayDefine p name inputs domain) (w : WellFormed p) where
   abbrev Grown : Program
@@ -139,19 +139,19 @@ module _ (p : Program) (name : RowName) (inputs : List Argument) (domain : Domai
   parts : (f : Values) → FlatSolves Grown f → Parts p name inputs f
   parts f s =
       let t = split p.vars (defined_variable p domain) f s.domains in
-      let l : length t.front ≡ length p.vars = domains_length p.vars t.front t.domains in
-      let rows : AllByRecursion (RowHolds (t.front ++ t.last ∷ [])) (p.rows ++ defining name inputs (length p.vars) ∷ []) = subst (λ g. AllByRecursion (RowHolds g) (p.rows ++ defining name inputs (length p.vars) ∷ [])) (sym t.is) s.rows in
+      let l : length t.prefix ≡ length p.vars = domains_length p.vars t.prefix t.domains in
+      let rows : AllByRecursion (RowHolds (t.prefix ++ t.last ∷ [])) (p.rows ++ defining name inputs (length p.vars) ∷ []) = subst (λ g. AllByRecursion (RowHolds g) (p.rows ++ defining name inputs (length p.vars) ∷ [])) (sym t.is) s.rows in
       record {
-        front = t.front;
+        prefix = t.prefix;
         last = t.last;
         is = t.is;
         as_many = l;
-        solves = record { domains = t.domains; rows = rows_before p.vars t.front (t.last ∷ []) l p.rows w.parts.rows (each_before (RowHolds (t.front ++ t.last ∷ [])) p.rows (defining name inputs (length p.vars)) rows) };
-        result = result_is p name inputs domain m t.front t.last l t.inside (each_last (RowHolds (t.front ++ t.last ∷ [])) p.rows (defining name inputs (length p.vars)) rows);
+        solves = record { domains = t.domains; rows = rows_before p.vars t.prefix (t.last ∷ []) l p.rows w.parts.rows (each_before (RowHolds (t.prefix ++ t.last ∷ [])) p.rows (defining name inputs (length p.vars)) rows) };
+        result = result_is p name inputs domain m t.prefix t.last l t.inside (each_last (RowHolds (t.prefix ++ t.last ∷ [])) p.rows (defining name inputs (length p.vars)) rows);
       }
 
-  first_part : (f : Values) (q : Parts p name inputs f) → take (length p.vars) f ≡ q.front
-  first_part f q = ap (take (length p.vars)) (sym q.is) ∙ take_at q.front (q.last ∷ []) (length p.vars) q.as_many
+  first_part : (f : Values) (q : Parts p name inputs f) → take (length p.vars) f ≡ q.prefix
+  first_part f q = ap (take (length p.vars)) (sym q.is) ∙ take_at q.prefix (q.last ∷ []) (length p.vars) q.as_many
 
   down : (f : Values) → FlatSolves Grown f → FlatSolves p (take (length p.vars) f)
   down f s = let q = parts f s in subst (FlatSolves p) (sym (first_part f q)) q.solves
@@ -174,15 +174,15 @@ module _ (p : Program) (name : RowName) (inputs : List Argument) (domain : Domai
   only f g s t e =
       let q = parts f s in
       let r = parts g t in
-      let same : q.front ≡ r.front = sym (first_part f q) ∙ e ∙ first_part g r in
+      let same : q.prefix ≡ r.prefix = sym (first_part f q) ∙ e ∙ first_part g r in
       let last : q.last ≡ r.last = same_some q.last r.last (sym q.result ∙ ap (λ h. result_given name (map (argument_value h) inputs)) same ∙ r.result) in
       sym q.is ∙ ap₂ (λ h x. h ++ x ∷ []) same last ∙ r.is
 
   value : (f : Values) → FlatSolves Grown f → result_given name (map (argument_value f) inputs) ≡ Some (plain_value f (var (length p.vars)))
   value f s =
       let q = parts f s in
-      let here : result_given name (map (argument_value (q.front ++ q.last ∷ [])) inputs) ≡ Some (plain_value (q.front ++ q.last ∷ []) (var (length p.vars))) =
-      ap (result_given name) (all_given_over q.front (q.last ∷ []) (length p.vars) q.as_many inputs m.over) ∙ q.result ∙ ap (λ v. Some v) (sym (last_is (length p.vars) q.front q.last q.as_many)) in
+      let here : result_given name (map (argument_value (q.prefix ++ q.last ∷ [])) inputs) ≡ Some (plain_value (q.prefix ++ q.last ∷ []) (var (length p.vars))) =
+      ap (result_given name) (all_given_over q.prefix (q.last ∷ []) (length p.vars) q.as_many inputs m.over) ∙ q.result ∙ ap (λ v. Some v) (sym (last_is (length p.vars) q.prefix q.last q.as_many)) in
       subst (λ h. result_given name (map (argument_value h) inputs) ≡ Some (plain_value h (var (length p.vars)))) q.is here
 
   pub defined : Defines p Grown name inputs domain (one (var (length p.vars)))

@@ -52,20 +52,20 @@ domains_push (w ∷ vs) v (y ∷ f) x h i = (h.0, domains_push vs v f x h.1 i)
 
 -- values for a variable more are values for the others, and one for it
 pub record Split (vs : List Variable) (v : Variable) (f : Values) : Type 0 where
-  pub front : Values
+  pub prefix : Values
   pub last : Value
-  pub is : front ++ last ∷ [] ≡ f
-  pub domains : AreInDomains vs front
+  pub is : prefix ++ last ∷ [] ≡ f
+  pub domains : AreInDomains vs prefix
   pub inside : IsInDomain v.domain last
 
 pub split : (vs : List Variable) (v : Variable) (f : Values) → AreInDomains (vs ++ v ∷ []) f → Split vs v f
 split [] v [] h = absurd h
-split [] v (x ∷ []) h = record { front = []; last = x; is = refl; domains = tt; inside = h.0 }
+split [] v (x ∷ []) h = record { prefix = []; last = x; is = refl; domains = tt; inside = h.0 }
 split [] v (x ∷ y ∷ f) h = absurd (h.1)
 split (w ∷ vs) v [] h = absurd h
 split (w ∷ vs) v (x ∷ f) h =
     let s = split vs v f h.1 in
-    record { front = x ∷ s.front; last = s.last; is = ap (λ g. x ∷ g) s.is; domains = (h.0, s.domains); inside = s.inside }
+    record { prefix = x ∷ s.prefix; last = s.last; is = ap (λ g. x ∷ g) s.is; domains = (h.0, s.domains); inside = s.inside }
 
 -- ---- the last argument is what the others give
 

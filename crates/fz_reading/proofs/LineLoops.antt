@@ -5,17 +5,17 @@ use Rattle.std.proofs.lemmas.List.{append-nil}
 use Rattle.soln_items.specs.Items.{Read, ◌>>=◌}
 use Rattle.fz_reading.specs.Tokens.{behind}
 use Rattle.fz_reading.specs.Lines.{lines_at, add_first}
-use Rattle.fz_reading.proofs.PartLoops.{with_front, begins}
+use Rattle.fz_reading.proofs.PartLoops.{with_prefix, begins}
 
-joined_front : {A : Type 0} (front : List A) (x : A) (r : Read (List A)) → with_front (front ++ x ∷ []) r ≡ with_front front (r >>= λ xs. Some (add_first x xs))
-joined_front front x None = refl
-joined_front front x (Some r) = rw append_assoc refl
+joined_prefix : {A : Type 0} (prefix : List A) (x : A) (r : Read (List A)) → with_prefix (prefix ++ x ∷ []) r ≡ with_prefix prefix (r >>= λ xs. Some (add_first x xs))
+joined_prefix prefix x None = refl
+joined_prefix prefix x (Some r) = rw append_assoc refl
 
 -- nothing is read yet
-pub begins_at : {A : Type 0} (head : List ℕ) (part : List ℕ → Read A) (start : List ℕ) (front : List A) → front ≡ [] → with_front front (lines_at head part (length start - 0) start) ≡ lines_at head part (length start) start
-begins_at head part start front none =
+pub begins_at : {A : Type 0} (head : List ℕ) (part : List ℕ → Read A) (start : List ℕ) (prefix : List A) → prefix ≡ [] → with_prefix prefix (lines_at head part (length start - 0) start) ≡ lines_at head part (length start) start
+begins_at head part start prefix none =
     let turns : length start - 0 ≡ length start = omega arith in
-    ap (λ xs. with_front xs (lines_at head part (length start - 0) start)) none ∙ begins (lines_at head part (length start - 0) start) ∙ ap (λ k. lines_at head part k start) turns
+    ap (λ xs. with_prefix xs (lines_at head part (length start - 0) start)) none ∙ begins (lines_at head part (length start - 0) start) ∙ ap (λ k. lines_at head part k start) turns
 
 pub stop_at : {A : Type 0} (head : List ℕ) (part : List ℕ → Read A) (most : ℕ) (at : List ℕ) → behind head at ≡ None → lines_at head part most at ≡ Some ([], at)
 unfolding lines_at
@@ -36,25 +36,25 @@ unfolding lines_at
 no_turn head part zero at none = refl
 no_turn head part (suc most) at none = absurd (omega arith)
 
-only_front : {A : Type 0} (front : List A) (at : List ℕ) → with_front front (Some ([], at)) ≡ Some (front, at)
-only_front front at = rw (append-nil front) refl
+only_prefix : {A : Type 0} (prefix : List A) (at : List ℕ) → with_prefix prefix (Some ([], at)) ≡ Some (prefix, at)
+only_prefix prefix at = rw (append-nil prefix) refl
 
 -- no such line stands next
-pub stops : {A : Type 0} (head : List ℕ) (part : List ℕ → Read A) (front : List A) (n i : ℕ) (at : List ℕ) (whole : Read (List A)) → with_front front (lines_at head part (n - i) at) ≡ whole → behind head at ≡ None → whole ≡ Some (front, at)
-stops head part front n i at whole so_far e = sym so_far ∙ ap (with_front front) (stop_at head part (n - i) at e) ∙ only_front front at
+pub stops : {A : Type 0} (head : List ℕ) (part : List ℕ → Read A) (prefix : List A) (n i : ℕ) (at : List ℕ) (whole : Read (List A)) → with_prefix prefix (lines_at head part (n - i) at) ≡ whole → behind head at ≡ None → whole ≡ Some (prefix, at)
+stops head part prefix n i at whole so_far e = sym so_far ∙ ap (with_prefix prefix) (stop_at head part (n - i) at e) ∙ only_prefix prefix at
 
 -- the line isn't read
-pub fails : {A : Type 0} (head : List ℕ) (part : List ℕ → Read A) (front : List A) (n i : ℕ) (at inside : List ℕ) (whole : Read (List A)) → i < n → with_front front (lines_at head part (n - i) at) ≡ whole → behind head at ≡ Some inside → part inside ≡ None → whole ≡ None
-fails head part front n i at inside whole below so_far goes e = sym so_far ∙ ap (with_front front) (none_at head part (n - i) at inside (omega arith) goes e)
+pub fails : {A : Type 0} (head : List ℕ) (part : List ℕ → Read A) (prefix : List A) (n i : ℕ) (at inside : List ℕ) (whole : Read (List A)) → i < n → with_prefix prefix (lines_at head part (n - i) at) ≡ whole → behind head at ≡ Some inside → part inside ≡ None → whole ≡ None
+fails head part prefix n i at inside whole below so_far goes e = sym so_far ∙ ap (with_prefix prefix) (none_at head part (n - i) at inside (omega arith) goes e)
 
 -- it is read
-pub goes_on : {A : Type 0} (head : List ℕ) (part : List ℕ → Read A) (front : List A) (n i : ℕ) (at inside next : List ℕ) (x : A) (whole : Read (List A)) → i < n → with_front front (lines_at head part (n - i) at) ≡ whole → behind head at ≡ Some inside → part inside ≡ Some (x, next) → with_front (front ++ x ∷ []) (lines_at head part (n - (i + 1)) next) ≡ whole
-goes_on head part front n i at inside next x whole below so_far goes e =
+pub goes_on : {A : Type 0} (head : List ℕ) (part : List ℕ → Read A) (prefix : List A) (n i : ℕ) (at inside next : List ℕ) (x : A) (whole : Read (List A)) → i < n → with_prefix prefix (lines_at head part (n - i) at) ≡ whole → behind head at ≡ Some inside → part inside ≡ Some (x, next) → with_prefix (prefix ++ x ∷ []) (lines_at head part (n - (i + 1)) next) ≡ whole
+goes_on head part prefix n i at inside next x whole below so_far goes e =
     let turns : suc (n - (i + 1)) ≡ n - i = omega arith in
-    joined_front front x (lines_at head part (n - (i + 1)) next)
-    ∙ ap (with_front front) (sym (more_at head part (n - (i + 1)) at inside next x goes e))
-    ∙ ap (λ k. with_front front (lines_at head part k at)) turns ∙ so_far
+    joined_prefix prefix x (lines_at head part (n - (i + 1)) next)
+    ∙ ap (with_prefix prefix) (sym (more_at head part (n - (i + 1)) at inside next x goes e))
+    ∙ ap (λ k. with_prefix prefix (lines_at head part k at)) turns ∙ so_far
 
 -- no turn is left
-pub runs_out : {A : Type 0} (head : List ℕ) (part : List ℕ → Read A) (front : List A) (n i : ℕ) (at : List ℕ) (whole : Read (List A)) → n ≤ i → with_front front (lines_at head part (n - i) at) ≡ whole → whole ≡ Some (front, at)
-runs_out head part front n i at whole all so_far = sym so_far ∙ ap (with_front front) (no_turn head part (n - i) at (omega arith)) ∙ only_front front at
+pub runs_out : {A : Type 0} (head : List ℕ) (part : List ℕ → Read A) (prefix : List A) (n i : ℕ) (at : List ℕ) (whole : Read (List A)) → n ≤ i → with_prefix prefix (lines_at head part (n - i) at) ≡ whole → whole ≡ Some (prefix, at)
+runs_out head part prefix n i at whole all so_far = sym so_far ∙ ap (with_prefix prefix) (no_turn head part (n - i) at (omega arith)) ∙ only_prefix prefix at

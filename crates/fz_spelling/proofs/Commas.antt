@@ -37,10 +37,10 @@ pub numbers_more : (first : Range) (rest : List Range) (i : ℕ) (d : Range) →
 unfolding elements
 numbers_more first rest i d h =
     let r = get_or rest i d in
-    let front = numbers_from (first.0 +ℤ pos 1) (nat_abs (first.1 -ℤ first.0)) in
+    let prefix = numbers_from (first.0 +ℤ pos 1) (nat_abs (first.1 -ℤ first.0)) in
     let more = ap (λ t. numbers (elements first ++ t)) (pieces_more elements rest i d h) in
     let grouped = ap numbers (sym (append_assoc (elements first) (flat_map elements (take i rest)) (elements r))) in
-    more ∙ grouped ∙ numbers-append first.0 (front ++ flat_map elements (take i rest)) r.0 (numbers_from (r.0 +ℤ pos 1) (nat_abs (r.1 -ℤ r.0)))
+    more ∙ grouped ∙ numbers-append first.0 (prefix ++ flat_map elements (take i rest)) r.0 (numbers_from (r.0 +ℤ pos 1) (nat_abs (r.1 -ℤ r.0)))
 
 abbrev pub after : ℤ → ℤ → List ℕ
 after n hi = each_after_comma signed_decimal (numbers_from (n +ℤ pos 1) (nat_abs (hi -ℤ n)))

@@ -24,7 +24,7 @@ use Rattle.fz_reading.specs.Lists.{filled_at, closed_at}
 use Rattle.fz_reading.specs.Arguments.{argument_at, place_at}
 use Rattle.fz_reading.specs.Lines.{array_item_at, array_name_at, defined_at, definition_at, domain_at, from_colon, goal_at, integers_at, is_no_colon, mark_at, marked_at, objective_at, optimum_at, row_at, row_name_at, row_named, satisfy_at, set_of_at, undefined_at, variable_at}
 use Rattle.fz_spelling.specs.Spelling.{argument_list, argument_text, commas, definition, domain_text, element_by, element_of, element_text, goal_line, hull, hull_text, interval, label_at, mark, set}
-use Rattle.fz_text.proofs.Prefixes.{all_append, both, decimal_has_no_colon, drop_front, first_is, other_byte, name_again, not_behind, run_is, signed_has_no_colon, word_is}
+use Rattle.fz_text.proofs.Prefixes.{all_append, both, decimal_has_no_colon, drop_prefix, first_is, other_byte, name_again, not_behind, run_is, signed_has_no_colon, word_is}
 use Rattle.fz_text.proofs.PartsAgain.{Again, either, filled_again, none_again, pieces, some_again, stop_is_no_digit, stop_is_no_name_byte}
 use Rattle.fz_text.proofs.SetsAgain.{is_set_byte, one_in_limit, range_again, set_again, set_first, zero_in_limit}
 use Rattle.fz_program.proofs.Sets.{literal_in}
@@ -350,7 +350,7 @@ head_has_no_colon vs a = all_append is_no_colon (decimal (length a.items)) (code
 
 from_head : (vs : List Variable) (a : ArrayItem) (bs : List ℕ) → from_colon (head_of vs a ++ (codes ": " ++ bs)) ≡ codes ": " ++ bs
 unfolding from_colon
-from_head vs a bs = rw (run_is is_no_colon (head_of vs a) (codes ": " ++ bs) (head_has_no_colon vs a) refl) (drop_front (head_of vs a) (codes ": " ++ bs))
+from_head vs a bs = rw (run_is is_no_colon (head_of vs a) (codes ": " ++ bs) (head_has_no_colon vs a) refl) (drop_prefix (head_of vs a) (codes ": " ++ bs))
 
 output_array : (bs : List ℕ) → behind (codes " :: output_array([") (codes " :: output_array([" ++ bs) ≡ Some bs
 unfolding behind

@@ -45,13 +45,13 @@ run_is p (b ∷ w) bs all stop =
     let parts = both (p b) (list_all p w) all in
     ap (λ t. cond t (1 + prefix_len p (w ++ bs)) 0) parts.0 ∙ omega (arith, run_is p w bs parts.1 stop)
 
-pub take_front : (w bs : List ℕ) → take (length w) (w ++ bs) ≡ w
-take_front [] bs = refl
-take_front (b ∷ w) bs = ap (λ v. b ∷ v) (take_front w bs)
+pub take_prefix : (w bs : List ℕ) → take (length w) (w ++ bs) ≡ w
+take_prefix [] bs = refl
+take_prefix (b ∷ w) bs = ap (λ v. b ∷ v) (take_prefix w bs)
 
-pub drop_front : (w bs : List ℕ) → drop (length w) (w ++ bs) ≡ bs
-drop_front [] bs = refl
-drop_front (b ∷ w) bs = drop_front w bs
+pub drop_prefix : (w bs : List ℕ) → drop (length w) (w ++ bs) ≡ bs
+drop_prefix [] bs = refl
+drop_prefix (b ∷ w) bs = drop_prefix w bs
 
 all_push : (p : ℕ → Bool) (ds : List ℕ) (d : ℕ) → list_all p ds ≡ true → p d ≡ true → list_all p (ds ++ d ∷ []) ≡ true
 all_push p [] d all e = rw e refl
@@ -98,7 +98,7 @@ digits_again n rest small stop =
     let is = numeral n wide in
     let run = run_is is_digit (decimal n) rest is.digits stop in
     let some : nat_eq (length (decimal n)) 0 ≡ false = some_is (length (decimal n)) is.some in
-    rw run (rw some (rw (take_front (decimal n) rest, drop_front (decimal n) rest, is.value small) refl))
+    rw run (rw some (rw (take_prefix (decimal n) rest, drop_prefix (decimal n) rest, is.value small) refl))
 
 pub first_digit : (ds rest : List ℕ) → list_all is_digit ds ≡ true → 0 < length ds → is_digit (first_byte (ds ++ rest)) ≡ true
 first_digit [] rest all some = absurd (omega arith)
@@ -181,4 +181,4 @@ unfolding name_at
 name_again w rest e stop =
     let is = word_is w e in
     let run = run_is is_name_byte w rest is.1 stop in
-    rw run (rw (first_is w rest e) (rw is.0 (rw (take_front w rest, drop_front w rest) refl)))
+    rw run (rw (first_is w rest e) (rw is.0 (rw (take_prefix w rest, drop_prefix w rest) refl)))

@@ -1,14 +1,14 @@
 -- What writing a program answers.
 use Rattle.std.specs.Prelude.{◌≡◌, ◌≤◌, ℕ, List}
 use Rattle.mz_io.specs.Counts.{Rose}
-use Rattle.mz_io.specs.Sink.{Held, SinkCounts, Adds, AddsFront}
+use Rattle.mz_io.specs.Sink.{Held, SinkCounts, Adds, AddsPrefix}
 use Rattle.fz_text.specs.declared.writer.Wrote.{Wrote}
 use Rattle.fz_text.specs.declared.writer.Wrote.TheVariants.{All, Failed, Memory}
 
 -- what an answer says of the bytes held: the text went out, a front of it may have, or none did
 abbrev pub Writes : Held → Held → List ℕ → Wrote → Type 0
 Writes old new text All = Adds old new text
-Writes old new text Failed = AddsFront old new text
+Writes old new text Failed = AddsPrefix old new text
 Writes old new text Memory = new ≡ old
 
 -- an answer Failed raises the sink's faults, and no other does

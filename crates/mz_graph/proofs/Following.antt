@@ -2,13 +2,13 @@
 use Rattle.std.proofs.Common.{◌≡◌, ℕ, ◌+◌, ◌-◌, ◌<◌, ◌≤◌, inl, inr, List, [], ◌∷◌, ap, sym, ◌∙◌, subst, arith, length, take}
 use Rattle.mz_graph.specs.Graph.{Graph, Path, arrived, onward}
 use Rattle.mz_graph.specs.declared.search.Visit.TheVariants.{OnPath, Numbered}
-use Rattle.mz_graph.specs.StepsSearch.{Trail, visit_of, at, IsCovered, by_number, by_path, by_work, by_hand, Tail, AreParts, Holds, AllReach, BeginsPath, IsFront}
+use Rattle.mz_graph.specs.StepsSearch.{Trail, visit_of, at, IsCovered, by_number, by_path, by_work, by_hand, Tail, AreParts, Holds, AllReach, BeginsPath, IsPrefix}
 use Rattle.mz_graph.proofs.Membership.{below_or_not}
 use Rattle.mz_graph.proofs.Visits.{onto, front}
 
 -- the last edge is taken in hand
 
-fewer_tails : (g : Graph) (path work ws starts floors : List ℕ) → AreParts g path work starts floors → IsFront ws work → 0 < length starts → at floors (length starts - 1) ≤ length ws → AreParts g path ws starts floors
+fewer_tails : (g : Graph) (path work ws starts floors : List ℕ) → AreParts g path work starts floors → IsPrefix ws work → 0 < length starts → at floors (length starts - 1) ≤ length ws → AreParts g path ws starts floors
 fewer_tails g path work ws starts floors was f some low = record {
   paired = was.paired;
   tails = λ k h. let o = f.one in subst (λ z. Tail g path starts floors k z) (sym (f.same k h)) (was.tails k (omega (arith, h, o)));
@@ -22,7 +22,7 @@ fewer_tails g path work ws starts floors was f some low = record {
   begins = was.begins;
 }
 
-pub in_hand : (g : Graph) (t : Trail) (ws : List ℕ) → Holds g [] t → IsFront ws t.work → 0 < length t.starts → at t.floors (length t.starts - 1) ≤ length ws → Holds g (at t.work (length ws) ∷ []) (record t { work = ws })
+pub in_hand : (g : Graph) (t : Trail) (ws : List ℕ) → Holds g [] t → IsPrefix ws t.work → 0 < length t.starts → at t.floors (length t.starts - 1) ≤ length ws → Holds g (at t.work (length ws) ∷ []) (record t { work = ws })
 in_hand g t ws h f some low = record {
   path = h.path;
   parts = fewer_tails g t.path t.work ws t.starts t.floors h.parts f some low;
@@ -86,7 +86,7 @@ to_last g t y p h is some low = record {
 
 -- it leads before the last component: the last two become one
 
-module _ (g : Graph) (t : Trail) (ss fs : List ℕ) (sf : IsFront ss t.starts) (ff : IsFront fs t.floors) where
+module _ (g : Graph) (t : Trail) (ss fs : List ℕ) (sf : IsPrefix ss t.starts) (ff : IsPrefix fs t.floors) where
   merged_parts : (p : ℕ) → AreParts g t.path t.work t.starts t.floors → ((q : ℕ) → q < length t.path → Path g (at t.path q) (at t.path p)) → p < length t.path → p < at t.starts (length ss) → AreParts g t.path t.work ss fs
   merged_parts p was reach inside above =
       let so = sf.one in

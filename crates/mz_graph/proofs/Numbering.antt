@@ -6,7 +6,7 @@ use Rattle.mz_graph.specs.Graph.{Graph, IsIn, IsGraph, Edge, Path, AreComponents
 use Rattle.mz_graph.specs.declared.search.Visit.{Visit}
 use Rattle.mz_graph.specs.declared.search.Visit.TheVariants.{Unvisited, OnPath, Numbered}
 use Rattle.mz_graph.specs.StepsTurns.{AreBelow}
-use Rattle.mz_graph.specs.StepsSearch.{Trail, visit_of, at, IsCovered, by_number, by_path, by_work, by_hand, Holds, unvisited, left, StayVisited, IsFront, AreNumberedFrom, AreNumbered, number, AreVisits}
+use Rattle.mz_graph.specs.StepsSearch.{Trail, visit_of, at, IsCovered, by_number, by_path, by_work, by_hand, Holds, unvisited, left, StayVisited, IsPrefix, AreNumberedFrom, AreNumbered, number, AreVisits}
 use Rattle.mz_graph.proofs.Membership.{below_or_not, same_or_not, in_or_not, in_front, in_back, old_or_last, in_at, place_of}
 use Rattle.mz_graph.proofs.Visits.{onto, path_is_visited, number_is_visited, path_or_number, one_place, one_number, visit_kept, visit_now, visit_within, front}
 
@@ -46,7 +46,7 @@ module _ (g : Graph) (t : Trail) (vs : List Visit) (start : ℕ) (h : Holds g []
     | inr l ↦ let r = h.path.placed x q e in inr (one_number c t.count (sym f ∙ gets_number x q e l), record { place = q; from = l; within = r.within; is = r.is })
   ]
 
-  pub settled : (ss fs path : List ℕ) → IsFront ss t.starts → IsFront fs t.floors → start ≡ at t.starts (length ss) → length t.work ≤ at t.floors (length ss) → length path ≡ start → ((q : ℕ) → q < start → at path q ≡ at t.path q) → Holds g [] (record { visits = vs; path = path; work = t.work; starts = ss; floors = fs; count = t.count + 1 })
+  pub settled : (ss fs path : List ℕ) → IsPrefix ss t.starts → IsPrefix fs t.floors → start ≡ at t.starts (length ss) → length t.work ≤ at t.floors (length ss) → length path ≡ start → ((q : ℕ) → q < start → at path q ≡ at t.path q) → Holds g [] (record { visits = vs; path = path; work = t.work; starts = ss; floors = fs; count = t.count + 1 })
   settled ss fs path sf ff begins idle cut same =
       let so = sf.one in
       let fo = ff.one in

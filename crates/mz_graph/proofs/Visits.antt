@@ -6,7 +6,7 @@ use Rattle.std.proofs.Math.Seq.{take-length}
 use Rattle.mz_graph.specs.Graph.{Graph, Path, arrived, onward}
 use Rattle.mz_graph.specs.declared.search.Visit.{Visit}
 use Rattle.mz_graph.specs.declared.search.Visit.TheVariants.{Unvisited, OnPath, Numbered}
-use Rattle.mz_graph.specs.StepsSearch.{visit_of, at, IsFront, StayVisited}
+use Rattle.mz_graph.specs.StepsSearch.{visit_of, at, IsPrefix, StayVisited}
 use Rattle.mz_graph.proofs.Membership.{same_or_not}
 
 pub onto : {g : Graph} {x y z : ℕ} → Path g x y → Path g y z → Path g x z
@@ -53,14 +53,14 @@ stay_visited vs x v n h y e = elim (same_or_not y x) [
   | inr o ↦ sym (visit_kept vs x y v o) ∙ e
 ]
 
-front_taken : (xs : List ℕ) → 0 < length xs → IsFront (take (length xs - 1) xs) xs
+front_taken : (xs : List ℕ) → 0 < length xs → IsPrefix (take (length xs - 1) xs) xs
 front_taken xs h = record {
   one = let e = length-take-le (length xs - 1) xs (omega arith) in omega (arith, e, h);
   same = λ i l. let e = length-take-le (length xs - 1) xs (omega arith) in get_or-take (length xs - 1) xs i 0 (omega (arith, l, e));
 }
 
-pub front : (xs ys : List ℕ) → ys ≡ take (length xs - 1) xs → 0 < length xs → IsFront ys xs
-front xs ys e h = subst (λ z. IsFront z xs) (sym e) (front_taken xs h)
+pub front : (xs ys : List ℕ) → ys ≡ take (length xs - 1) xs → 0 < length xs → IsPrefix ys xs
+front xs ys e h = subst (λ z. IsPrefix z xs) (sym e) (front_taken xs h)
 
 pub tail_slice : (xs ys : List ℕ) (b : ℕ) → ys ≡ xs → take (length ys - b) (drop b ys) ≡ drop b xs
 tail_slice xs ys b e =

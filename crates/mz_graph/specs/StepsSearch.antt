@@ -125,7 +125,7 @@ entered g x t = record {
 }
 
 -- the list without its last item
-pub record IsFront (xs ys : List ℕ) : Type 0 where
+pub record IsPrefix (xs ys : List ℕ) : Type 0 where
   pub one : length xs + 1 ≡ length ys
   pub same : (i : ℕ) → i < length xs → at xs i ≡ at ys i
 

@@ -19,16 +19,16 @@ Adds None new piece = new ≡ None
 Adds (Some old) new piece = new ≡ Some (old ++ piece)
 
 -- the bytes held are those before and a front of the piece, where they are told
-pub record AddsFront (old new : Held) (piece : List ℕ) : Type 0 where
-  pub front : List ℕ
+pub record AddsPrefix (old new : Held) (piece : List ℕ) : Type 0 where
+  pub prefix : List ℕ
   pub back : List ℕ
-  pub whole : piece ≡ front ++ back
-  pub adds : Adds old new front
+  pub whole : piece ≡ prefix ++ back
+  pub adds : Adds old new prefix
 
 -- what an answer says of the bytes held
 abbrev pub Puts : Held → Held → List ℕ → Sent → Type 0
 Puts old new piece All = Adds old new piece
-Puts old new piece Failed = AddsFront old new piece
+Puts old new piece Failed = AddsPrefix old new piece
 Puts old new piece Memory = new ≡ old
 
 -- the one count that an answer raises

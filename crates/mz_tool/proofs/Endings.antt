@@ -51,7 +51,7 @@ use Rattle.mz_tool.specs.declared.compile.End.TheVariants as end
 use Rattle.mz_tool.specs.declared.status.Status.{Status}
 use Rattle.mz_tool.specs.declared.status.Status.TheVariants as status
 use Rattle.mz_tool.specs.Words.{settings_in, IsUsage}
-use Rattle.mz_tool.specs.Headline.{limits_of, Compiled, Compiles, Writes, WritesFront}
+use Rattle.mz_tool.specs.Headline.{limits_of, Compiled, Compiles, Writes, WritesPrefix}
 use Rattle.mz_tool.specs.Status.{not_built_at, GoesThrough, IsStopped, not_built, by_evaluation, IsRefusal, a_file_fails, a_test_fails, not_compiled, ByDistinctNames, IsOwner, OnDone, OnWriteFault, IfRefused, CountsFiles, CountsOut, IsToldModel, AreToldFiles, Completes, IsDoneOrMemory}
 use Rattle.mz_tool.specs.StepsCompiling.{status_of, file_of, IsWritten, IsFinished, Stops, IsRefusedAs, by_a_test, as_stopped, IsLeft, unread, Ends, IsNamedEnd}
 
@@ -251,7 +251,7 @@ module _ (table : List Name) (distinct : AreDistinct table) (texts : Texts) (a :
   done_writes end.WriteFault ended = tt
   done_writes end.Memory ended = tt
 
-  pub cut_short : (e : End) → Ends table texts a old new e → OnWriteFault (status_of e) (ByDistinctNames (λ t. WritesFront t texts a old new))
+  pub cut_short : (e : End) → Ends table texts a old new e → OnWriteFault (status_of e) (ByDistinctNames (λ t. WritesPrefix t texts a old new))
   cut_short end.Done ended = tt
   cut_short (end.Refused f n) ended = tt
   cut_short end.ReadFault ended = tt

@@ -5,7 +5,7 @@ use Rattle.std.proofs.lemmas.List.Concat.{flat_map-append}
 use Rattle.std.specs.Prelude.{Some, None, ◌⊎◌, codes}
 use Rattle.std.specs.List.{flat_map}
 use Rattle.mz_io.specs.Counts.{Rose}
-use Rattle.mz_io.specs.Sink.{Held, SinkCounts, Adds, AddsFront}
+use Rattle.mz_io.specs.Sink.{Held, SinkCounts, Adds, AddsPrefix}
 use Rattle.mz_tool.specs.Status.{Notes}
 
 pub adds_nothing : (h : Held) → Adds h h []
@@ -21,25 +21,25 @@ pieces_whole f xs i d below =
     ap (flat_map f) (sym (take-append-drop i xs)) ∙ flat_map-append f (take i xs) (drop i xs) ∙ ap (λ ys. flat_map f (take i xs) ++ ys) (rw (add-one, drop-cons xs i d below) refl)
 
 -- a piece that failed or wanted memory cuts what was to go out
-pub cut_short : (old mid new : Held) (before after : SinkCounts) (done piece rest line : List ℕ) → line ≡ done ++ (piece ++ rest) → Adds old mid done → AddsFront mid new piece → Rose before.faults after.faults ⊎ Rose before.shortages after.shortages → Notes old new before after line
-cut_short old mid new before after done piece rest line is adds front rose = record {
-  front = done ++ front.front;
-  back = front.back ++ rest;
-  whole = is ∙ ap (λ xs. done ++ (xs ++ rest)) front.whole ∙ ap (λ xs. done ++ xs) (append_assoc front.front front.back rest) ∙ sym (append_assoc done front.front (front.back ++ rest));
-  adds = adds_more old mid new done front.front adds front.adds;
+pub cut_short : (old mid new : Held) (before after : SinkCounts) (done piece rest line : List ℕ) → line ≡ done ++ (piece ++ rest) → Adds old mid done → AddsPrefix mid new piece → Rose before.faults after.faults ⊎ Rose before.shortages after.shortages → Notes old new before after line
+cut_short old mid new before after done piece rest line is adds prefix rose = record {
+  prefix = done ++ prefix.prefix;
+  back = prefix.back ++ rest;
+  whole = is ∙ ap (λ xs. done ++ (xs ++ rest)) prefix.whole ∙ ap (λ xs. done ++ xs) (append_assoc prefix.prefix prefix.back rest) ∙ sym (append_assoc done prefix.prefix (prefix.back ++ rest));
+  adds = adds_more old mid new done prefix.prefix adds prefix.adds;
   cut = inr rose;
 }
 
 pub all_out : (old new : Held) (before after : SinkCounts) (line : List ℕ) → Adds old new line → Notes old new before after line
-all_out old new before after line adds = record { front = line; back = []; whole = sym (append-nil line); adds = adds; cut = inl refl }
+all_out old new before after line adds = record { prefix = line; back = []; whole = sym (append-nil line); adds = adds; cut = inl refl }
 
-pub front_nothing : (h : Held) (piece : List ℕ) → AddsFront h h piece
-front_nothing h piece = record { front = []; back = piece; whole = refl; adds = adds_nothing h }
+pub prefix_nothing : (h : Held) (piece : List ℕ) → AddsPrefix h h piece
+prefix_nothing h piece = record { prefix = []; back = piece; whole = refl; adds = adds_nothing h }
 
 -- the same where the piece wanted memory
 pub cut_before : (old mid new : Held) (before after : SinkCounts) (done piece rest line : List ℕ) → line ≡ done ++ (piece ++ rest) → Adds old mid done → new ≡ mid → Rose before.faults after.faults ⊎ Rose before.shortages after.shortages → Notes old new before after line
 cut_before old mid new before after done piece rest line is adds same rose =
-    cut_short old mid new before after done piece rest line is adds (rw same (front_nothing mid piece)) rose
+    cut_short old mid new before after done piece rest line is adds (rw same (prefix_nothing mid piece)) rose
 
 -- the pieces of a refusal's line, joined
 pub joined : (file line col kind gap number : List ℕ) →

@@ -2,7 +2,7 @@
 -- model's solutions and no others.
 use Rattle.std.specs.Prelude.{◌≡◌, ℕ, List}
 use Rattle.mz_io.specs.Files.{Texts}
-use Rattle.mz_io.specs.Sink.{Held, Adds, AddsFront}
+use Rattle.mz_io.specs.Sink.{Held, Adds, AddsPrefix}
 use Rattle.mz_tree.specs.Data.{Given}
 use Rattle.mz_include.specs.Naming.{File}
 use Rattle.mz_data.specs.WithData.{IsSourcesWithData}
@@ -42,9 +42,9 @@ Leaves (compile s) old new written = Adds old new written
 Leaves (check s) old new written = new ≡ old
 
 -- a prefix of the bytes goes after those held; `check` writes nothing
-abbrev pub LeavesFront : Asked → Held → Held → List ℕ → Type 0
-LeavesFront (compile s) old new written = AddsFront old new written
-LeavesFront (check s) old new written = ⊥
+abbrev pub LeavesPrefix : Asked → Held → Held → List ℕ → Type 0
+LeavesPrefix (compile s) old new written = AddsPrefix old new written
+LeavesPrefix (check s) old new written = ⊥
 
 -- the model that is asked for is typed and compiled, and the bytes are left so
 pub record Writes (table : List Name) (texts : Texts) (a : Asked) (old new : Held) : Type 0 where
@@ -52,7 +52,7 @@ pub record Writes (table : List Name) (texts : Texts) (a : Asked) (old new : Hel
   pub compiles : Compiles table texts (settings_in a) written
   pub leaves : Leaves a old new written
 
-pub record WritesFront (table : List Name) (texts : Texts) (a : Asked) (old new : Held) : Type 0 where
+pub record WritesPrefix (table : List Name) (texts : Texts) (a : Asked) (old new : Held) : Type 0 where
   pub written : List ℕ
   pub compiles : Compiles table texts (settings_in a) written
-  pub leaves : LeavesFront a old new written
+  pub leaves : LeavesPrefix a old new written

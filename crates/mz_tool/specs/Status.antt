@@ -52,10 +52,10 @@ line_of file Memory = codes "mzc: out of memory\n"
 
 -- a prefix of the line was added to the bytes held: all of it, or a put failed or ran out of memory
 pub record Notes (old new : Held) (before after : SinkCounts) (line : List ℕ) : Type 0 where
-  pub front : List ℕ
+  pub prefix : List ℕ
   pub back : List ℕ
-  pub whole : line ≡ front ++ back
-  pub adds : Adds old new front
+  pub whole : line ≡ prefix ++ back
+  pub adds : Adds old new prefix
   pub cut : (back ≡ []) ⊎ (Rose before.faults after.faults ⊎ Rose before.shortages after.shortages)
 
 -- what a run leaves in its notes, where a refusal names this file

@@ -5,7 +5,7 @@ use Rattle.mz_base.specs.declared.stop.Stop.{Stop}
 use Rattle.mz_base.specs.declared.stop.Stop.TheVariants as stop
 use Rattle.mz_base.specs.Names.{text_of}
 use Rattle.mz_io.specs.Files.{Texts}
-use Rattle.mz_io.specs.Sink.{Held, Adds, AddsFront}
+use Rattle.mz_io.specs.Sink.{Held, Adds, AddsPrefix}
 use Rattle.mz_tree.specs.Data.{Given}
 use Rattle.mz_include.specs.Naming.{File}
 use Rattle.mz_include.specs.declared.end.GatherEnd.{GatherEnd}
@@ -23,7 +23,7 @@ use Rattle.mz_tool.specs.declared.compile.End.TheVariants as end
 use Rattle.mz_tool.specs.declared.status.Status.{Status}
 use Rattle.mz_tool.specs.declared.status.Status.TheVariants as status
 use Rattle.mz_tool.specs.Words.{settings_in}
-use Rattle.mz_tool.specs.Headline.{limits_of, Compiled, Leaves, LeavesFront, Writes, WritesFront}
+use Rattle.mz_tool.specs.Headline.{limits_of, Compiled, Leaves, LeavesPrefix, Writes, WritesPrefix}
 use Rattle.mz_tool.specs.Status.{IsStopped, IsRefusal}
 
 -- the answer, without the file
@@ -46,7 +46,7 @@ data_names table read = map (text_of table) read.data_files.items
 -- what writing a program leaves
 abbrev pub IsWritten : Program → Held → Held → End → Type 0
 IsWritten p old new end.Done = Adds old new (spelling p)
-IsWritten p old new end.WriteFault = AddsFront old new (spelling p)
+IsWritten p old new end.WriteFault = AddsPrefix old new (spelling p)
 IsWritten p old new end.Memory = new ≡ old
 IsWritten p old new _ = ⊥
 
@@ -71,7 +71,7 @@ abbrev pub IsLeft : Asked → List Name → List File → List Name → List Giv
 IsLeft a table files data_files items old new end.Done = (written : List ℕ) × Compiled (limits_of (settings_in a)) table files items written × Leaves a old new written
 IsLeft a table files data_files items old new (end.Refused f n) = (new ≡ old) × IsRefusedAs (limits_of (settings_in a)) table files data_files items f × (text_of table n ≡ file_name files data_files f.span.file)
 IsLeft a table files data_files items old new end.ReadFault = ⊥
-IsLeft a table files data_files items old new end.WriteFault = (written : List ℕ) × Compiled (limits_of (settings_in a)) table files items written × LeavesFront a old new written
+IsLeft a table files data_files items old new end.WriteFault = (written : List ℕ) × Compiled (limits_of (settings_in a)) table files items written × LeavesPrefix a old new written
 IsLeft a table files data_files items old new end.Memory = new ≡ old
 
 -- how it ended, where the files weren't all read
@@ -85,7 +85,7 @@ abbrev pub Ends : List Name → Texts → Asked → Held → Held → End → Ty
 Ends table texts a old new end.Done = Writes table texts a old new
 Ends table texts a old new (end.Refused f n) = (new ≡ old) × IsRefusal table texts (settings_in a) f (text_of table n)
 Ends table texts a old new end.ReadFault = new ≡ old
-Ends table texts a old new end.WriteFault = WritesFront table texts a old new
+Ends table texts a old new end.WriteFault = WritesPrefix table texts a old new
 Ends table texts a old new end.Memory = new ≡ old
 
 -- a refusal's file is one of the table

@@ -5,7 +5,7 @@ ghost use Rattle.mz_io.specs.Counts.{Rose};
 ghost use Rattle.mz_command.specs.Found.{text_of};
 ghost use Rattle.mz_words.specs.Requests.{AskedWithinLimits, asked, request_of};
 ghost use Rattle.mz_tool.specs.Words.{settings_in, IsUsage, OnCheck};
-ghost use Rattle.mz_tool.specs.Headline.{Writes, WritesFront};
+ghost use Rattle.mz_tool.specs.Headline.{Writes, WritesPrefix};
 ghost use Rattle.mz_tool.specs.StepsCompiling.{file_of, IsNamedEnd};
 ghost use Rattle.mz_tool.specs.Status.{OnDone, IfRefused, OnReadFault, OnWriteFault, OnNothingWritten, IsRefusal, ByDistinctNames, CountsFiles, CountsOut, IsComplete, IsNoted};
 
@@ -47,7 +47,7 @@ fn answer<F: Files, S: Sink, E: Sink>(
     ensures complete { IsComplete (F.texts files.old) (Some (request_of request.now))
         (F.counts files.old) (F.counts files.new) (S.counts out.old) (S.counts out.new) result }
     ensures cut_short { OnWriteFault result (ByDistinctNames (λ table.
-        WritesFront table (F.texts files.old) (request_of request.now) (S.held out.old) (S.held out.new))) }
+        WritesPrefix table (F.texts files.old) (request_of request.now) (S.held out.old) (S.held out.new))) }
     ensures untouched { OnNothingWritten result (S.held out.new ≡ S.held out.old) }
     ensures silent { OnCheck (Some (request_of request.now)) (out.new ≡ out.old) }
     ensures texts { F.texts files.new ≡ F.texts files.old }
@@ -115,7 +115,7 @@ pub fn run<F: Files, I: Source, S: Sink, E: Sink>(
 
     // What an answer other than Done leaves, and what is noted. After `check` the output is as it was, whatever the answer.
     ensures cut_short { OnWriteFault result (IsSomeAnd (asked (text_of words.now.items)) (λ a. ByDistinctNames (λ table.
-        WritesFront table (F.texts files.old) a (S.held out.old) (S.held out.new)))) }
+        WritesPrefix table (F.texts files.old) a (S.held out.old) (S.held out.new)))) }
     ensures untouched { OnNothingWritten result (S.held out.new ≡ S.held out.old) }
     ensures silent { OnCheck (asked (text_of words.now.items)) (out.new ≡ out.old) }
     ensures texts { F.texts files.new ≡ F.texts files.old }

@@ -16,8 +16,8 @@ use Rattle.soln_items.specs.Forms.{Form}
 use Rattle.soln_reader.specs.Blocks.{Given, put_in, put, optional, optional_all, solved, solution, nothing_for, nothing_given}
 
 abbrev pub with_all : List Content → Option (List Content) → Option (List Content)
-with_all front None = None
-with_all front (Some xs) = Some (front ++ xs)
+with_all prefix None = None
+with_all prefix (Some xs) = Some (prefix ++ xs)
 
 pub with_none : (r : Option (List Content)) → with_all [] r ≡ r
 with_none None = refl
@@ -26,9 +26,9 @@ with_none (Some r) = refl
 pub get_or_same : {X : Type 0} (xs : List X) (k : ℕ) (d : X) → k < length xs → get_or xs k d ≡ get_or xs k (get_or xs k d)
 get_or_same xs k d below = get_or_default xs k d (get_or xs k d) below
 
-joined : (front : List Content) (x : Content) (r : Option (List Content)) → with_all (front ++ x ∷ []) r ≡ with_all front (r >>= λ xs. Some (x ∷ xs))
-joined front x None = refl
-joined front x (Some r) = rw append_assoc refl
+joined : (prefix : List Content) (x : Content) (r : Option (List Content)) → with_all (prefix ++ x ∷ []) r ≡ with_all prefix (r >>= λ xs. Some (x ∷ xs))
+joined prefix x None = refl
+joined prefix x (Some r) = rw append_assoc refl
 
 -- options
 
@@ -40,18 +40,18 @@ optional_none : (d : List Range) (ds : List (List Range)) (o : Content) (os : Li
 unfolding optional_all
 optional_none d ds o os x xs e = rw e refl
 
-pub optional_step : {X : Type 0} (f : X → Content) (ds : List (List Range)) (os xs : List X) (k : ℕ) (d : List Range) (o x : X) (front more : List Content) (y : Content) (whole : Option (List Content)) → k < length ds → k < length os → k < length xs → d ≡ get_or ds k d → o ≡ get_or os k o → x ≡ get_or xs k x → optional d (f o) (f x) ≡ Some y → more ≡ front ++ y ∷ [] → with_all front (optional_all (drop k ds) (drop k (map f os)) (drop k (map f xs))) ≡ whole → with_all more (optional_all (drop (k + 1) ds) (drop (k + 1) (map f os)) (drop (k + 1) (map f xs))) ≡ whole
-optional_step f ds os xs k d o x front more y whole bd bo bx id io ix e pushed so_far =
+pub optional_step : {X : Type 0} (f : X → Content) (ds : List (List Range)) (os xs : List X) (k : ℕ) (d : List Range) (o x : X) (prefix more : List Content) (y : Content) (whole : Option (List Content)) → k < length ds → k < length os → k < length xs → d ≡ get_or ds k d → o ≡ get_or os k o → x ≡ get_or xs k x → optional d (f o) (f x) ≡ Some y → more ≡ prefix ++ y ∷ [] → with_all prefix (optional_all (drop k ds) (drop k (map f os)) (drop k (map f xs))) ≡ whole → with_all more (optional_all (drop (k + 1) ds) (drop (k + 1) (map f os)) (drop (k + 1) (map f xs))) ≡ whole
+optional_step f ds os xs k d o x prefix more y whole bd bo bx id io ix e pushed so_far =
     let rest = optional_all (drop (k + 1) ds) (drop (k + 1) (map f os)) (drop (k + 1) (map f xs)) in
-    ap (λ zs. with_all zs rest) pushed ∙ joined front y rest
-    ∙ ap (with_all front) (sym (optional_some d (drop (k + 1) ds) (f o) (drop (k + 1) (map f os)) (f x) (drop (k + 1) (map f xs)) y e))
-    ∙ ap (λ es. with_all front (optional_all es (f o ∷ drop (k + 1) (map f os)) (f x ∷ drop (k + 1) (map f xs)))) (sym (cut ds k d bd id))
-    ∙ ap (λ es. with_all front (optional_all (drop k ds) es (f x ∷ drop (k + 1) (map f xs)))) (sym (cut_map f os k o bo io))
-    ∙ ap (λ es. with_all front (optional_all (drop k ds) (drop k (map f os)) es)) (sym (cut_map f xs k x bx ix)) ∙ so_far
+    ap (λ zs. with_all zs rest) pushed ∙ joined prefix y rest
+    ∙ ap (with_all prefix) (sym (optional_some d (drop (k + 1) ds) (f o) (drop (k + 1) (map f os)) (f x) (drop (k + 1) (map f xs)) y e))
+    ∙ ap (λ es. with_all prefix (optional_all es (f o ∷ drop (k + 1) (map f os)) (f x ∷ drop (k + 1) (map f xs)))) (sym (cut ds k d bd id))
+    ∙ ap (λ es. with_all prefix (optional_all (drop k ds) es (f x ∷ drop (k + 1) (map f xs)))) (sym (cut_map f os k o bo io))
+    ∙ ap (λ es. with_all prefix (optional_all (drop k ds) (drop k (map f os)) es)) (sym (cut_map f xs k x bx ix)) ∙ so_far
 
-pub optional_fails : {X : Type 0} (f : X → Content) (ds : List (List Range)) (os xs : List X) (k : ℕ) (d : List Range) (o x : X) (front : List Content) (whole : Option (List Content)) → k < length ds → k < length os → k < length xs → d ≡ get_or ds k d → o ≡ get_or os k o → x ≡ get_or xs k x → with_all front (optional_all (drop k ds) (drop k (map f os)) (drop k (map f xs))) ≡ whole → optional d (f o) (f x) ≡ None → whole ≡ None
-optional_fails f ds os xs k d o x front whole bd bo bx id io ix so_far e =
-    sym so_far ∙ ap (with_all front) (ap (λ es. optional_all es (drop k (map f os)) (drop k (map f xs))) (cut ds k d bd id)
+pub optional_fails : {X : Type 0} (f : X → Content) (ds : List (List Range)) (os xs : List X) (k : ℕ) (d : List Range) (o x : X) (prefix : List Content) (whole : Option (List Content)) → k < length ds → k < length os → k < length xs → d ≡ get_or ds k d → o ≡ get_or os k o → x ≡ get_or xs k x → with_all prefix (optional_all (drop k ds) (drop k (map f os)) (drop k (map f xs))) ≡ whole → optional d (f o) (f x) ≡ None → whole ≡ None
+optional_fails f ds os xs k d o x prefix whole bd bo bx id io ix so_far e =
+    sym so_far ∙ ap (with_all prefix) (ap (λ es. optional_all es (drop k (map f os)) (drop k (map f xs))) (cut ds k d bd id)
     ∙ ap (λ es. optional_all (d ∷ drop (k + 1) ds) es (drop k (map f xs))) (cut_map f os k o bo io)
     ∙ ap (λ es. optional_all (d ∷ drop (k + 1) ds) (f o ∷ drop (k + 1) (map f os)) es) (cut_map f xs k x bx ix)
     ∙ optional_none d (drop (k + 1) ds) (f o) (drop (k + 1) (map f os)) (f x) (drop (k + 1) (map f xs)) e)
@@ -84,17 +84,17 @@ solution_nil : (gs : List Given) → solution [] gs ≡ Some []
 unfolding solution
 solution_nil gs = refl
 
-pub solution_step : {X Y : Type 0} (f : X → Form) (h : Y → Given) (ss : List X) (gs : List Y) (k : ℕ) (s : X) (g : Y) (front more : List Content) (x : Content) (whole : Option (List Content)) → k < length ss → k < length gs → s ≡ get_or ss k s → g ≡ get_or gs k g → solved (f s) (h g) ≡ Some x → more ≡ front ++ x ∷ [] → with_all front (solution (drop k (map f ss)) (drop k (map h gs))) ≡ whole → with_all more (solution (drop (k + 1) (map f ss)) (drop (k + 1) (map h gs))) ≡ whole
-solution_step f h ss gs k s g front more x whole bs bg is ig e pushed so_far =
+pub solution_step : {X Y : Type 0} (f : X → Form) (h : Y → Given) (ss : List X) (gs : List Y) (k : ℕ) (s : X) (g : Y) (prefix more : List Content) (x : Content) (whole : Option (List Content)) → k < length ss → k < length gs → s ≡ get_or ss k s → g ≡ get_or gs k g → solved (f s) (h g) ≡ Some x → more ≡ prefix ++ x ∷ [] → with_all prefix (solution (drop k (map f ss)) (drop k (map h gs))) ≡ whole → with_all more (solution (drop (k + 1) (map f ss)) (drop (k + 1) (map h gs))) ≡ whole
+solution_step f h ss gs k s g prefix more x whole bs bg is ig e pushed so_far =
     let rest = solution (drop (k + 1) (map f ss)) (drop (k + 1) (map h gs)) in
-    ap (λ zs. with_all zs rest) pushed ∙ joined front x rest
-    ∙ ap (with_all front) (sym (solution_some (f s) (drop (k + 1) (map f ss)) (h g) (drop (k + 1) (map h gs)) x e))
-    ∙ ap (λ es. with_all front (solution es (h g ∷ drop (k + 1) (map h gs)))) (sym (cut_map f ss k s bs is))
-    ∙ ap (λ es. with_all front (solution (drop k (map f ss)) es)) (sym (cut_map h gs k g bg ig)) ∙ so_far
+    ap (λ zs. with_all zs rest) pushed ∙ joined prefix x rest
+    ∙ ap (with_all prefix) (sym (solution_some (f s) (drop (k + 1) (map f ss)) (h g) (drop (k + 1) (map h gs)) x e))
+    ∙ ap (λ es. with_all prefix (solution es (h g ∷ drop (k + 1) (map h gs)))) (sym (cut_map f ss k s bs is))
+    ∙ ap (λ es. with_all prefix (solution (drop k (map f ss)) es)) (sym (cut_map h gs k g bg ig)) ∙ so_far
 
-pub solution_fails : {X Y : Type 0} (f : X → Form) (h : Y → Given) (ss : List X) (gs : List Y) (k : ℕ) (s : X) (g : Y) (front : List Content) (whole : Option (List Content)) → k < length ss → k < length gs → s ≡ get_or ss k s → g ≡ get_or gs k g → with_all front (solution (drop k (map f ss)) (drop k (map h gs))) ≡ whole → solved (f s) (h g) ≡ None → whole ≡ None
-solution_fails f h ss gs k s g front whole bs bg is ig so_far e =
-    sym so_far ∙ ap (with_all front) (ap (λ es. solution es (drop k (map h gs))) (cut_map f ss k s bs is)
+pub solution_fails : {X Y : Type 0} (f : X → Form) (h : Y → Given) (ss : List X) (gs : List Y) (k : ℕ) (s : X) (g : Y) (prefix : List Content) (whole : Option (List Content)) → k < length ss → k < length gs → s ≡ get_or ss k s → g ≡ get_or gs k g → with_all prefix (solution (drop k (map f ss)) (drop k (map h gs))) ≡ whole → solved (f s) (h g) ≡ None → whole ≡ None
+solution_fails f h ss gs k s g prefix whole bs bg is ig so_far e =
+    sym so_far ∙ ap (with_all prefix) (ap (λ es. solution es (drop k (map h gs))) (cut_map f ss k s bs is)
     ∙ ap (λ es. solution (f s ∷ drop (k + 1) (map f ss)) es) (cut_map h gs k g bg ig)
     ∙ solution_none (f s) (drop (k + 1) (map f ss)) (h g) (drop (k + 1) (map h gs)) e)
 
@@ -121,34 +121,34 @@ some_short f ds os xs k all = elim (cases_lt k (length ds)) [
   ]
 ]
 
-pub optional_done : {X : Type 0} (f : X → Content) (ds : List (List Range)) (os xs : List X) (k : ℕ) (front : List Content) (whole : Option (List Content)) → min (min (length ds) (length os)) (length xs) ≤ k → with_all front (optional_all (drop k ds) (drop k (map f os)) (drop k (map f xs))) ≡ whole → whole ≡ Some front
-optional_done f ds os xs k front whole all so_far =
-    sym so_far ∙ ap (with_all front) (optional_end (drop k ds) (drop k (map f os)) (drop k (map f xs)) (some_short f ds os xs k all)) ∙ ap Some (append-nil front)
+pub optional_done : {X : Type 0} (f : X → Content) (ds : List (List Range)) (os xs : List X) (k : ℕ) (prefix : List Content) (whole : Option (List Content)) → min (min (length ds) (length os)) (length xs) ≤ k → with_all prefix (optional_all (drop k ds) (drop k (map f os)) (drop k (map f xs))) ≡ whole → whole ≡ Some prefix
+optional_done f ds os xs k prefix whole all so_far =
+    sym so_far ∙ ap (with_all prefix) (optional_end (drop k ds) (drop k (map f os)) (drop k (map f xs)) (some_short f ds os xs k all)) ∙ ap Some (append-nil prefix)
 
-pub solution_done : {X : Type 0} (f : X → Form) (ss : List X) (gs : List Given) (k : ℕ) (front : List Content) (whole : Option (List Content)) → length ss ≤ k → with_all front (solution (drop k (map f ss)) gs) ≡ whole → whole ≡ Some front
-solution_done f ss gs k front whole all so_far =
-    sym so_far ∙ ap (λ fs. with_all front (solution fs gs)) (drop_all k (map f ss) (simp length-map all)) ∙ ap (with_all front) (solution_nil gs) ∙ ap Some (append-nil front)
+pub solution_done : {X : Type 0} (f : X → Form) (ss : List X) (gs : List Given) (k : ℕ) (prefix : List Content) (whole : Option (List Content)) → length ss ≤ k → with_all prefix (solution (drop k (map f ss)) gs) ≡ whole → whole ≡ Some prefix
+solution_done f ss gs k prefix whole all so_far =
+    sym so_far ∙ ap (λ fs. with_all prefix (solution fs gs)) (drop_all k (map f ss) (simp length-map all)) ∙ ap (with_all prefix) (solution_nil gs) ∙ ap Some (append-nil prefix)
 
-pub solution_lacks : {X Y : Type 0} (f : X → Form) (h : Y → Given) (ss : List X) (gs : List Y) (k : ℕ) (front : List Content) (whole : Option (List Content)) → k < length ss → length gs ≤ k → with_all front (solution (drop k (map f ss)) (drop k (map h gs))) ≡ whole → whole ≡ None
-solution_lacks f h ss gs k front whole below all so_far =
-    sym so_far ∙ ap (λ es. with_all front (solution (drop k (map f ss)) es)) (drop_all k (map h gs) (simp length-map all))
-    ∙ ap (with_all front) (solution_short (drop k (map f ss)) (simp (length-drop, length-map) (omega arith)))
+pub solution_lacks : {X Y : Type 0} (f : X → Form) (h : Y → Given) (ss : List X) (gs : List Y) (k : ℕ) (prefix : List Content) (whole : Option (List Content)) → k < length ss → length gs ≤ k → with_all prefix (solution (drop k (map f ss)) (drop k (map h gs))) ≡ whole → whole ≡ None
+solution_lacks f h ss gs k prefix whole below all so_far =
+    sym so_far ∙ ap (λ es. with_all prefix (solution (drop k (map f ss)) es)) (drop_all k (map h gs) (simp length-map all))
+    ∙ ap (with_all prefix) (solution_short (drop k (map f ss)) (simp (length-drop, length-map) (omega arith)))
 
 -- elements so far, with those to come
-pub copied_step : {X : Type 0} (f : X → Content) (xs : List X) (k : ℕ) (d : X) (front more : List Content) → k < length xs → more ≡ front ++ f (get_or xs k d) ∷ [] → front ++ drop k (map f xs) ≡ map f xs → more ++ drop (k + 1) (map f xs) ≡ map f xs
-copied_step f xs k d front more below pushed so_far =
-    ap (λ zs. zs ++ drop (k + 1) (map f xs)) pushed ∙ append_assoc front (f (get_or xs k d) ∷ []) (drop (k + 1) (map f xs))
-    ∙ ap (λ ys. front ++ ys) (sym (cut_map f xs k (get_or xs k d) below (get_or_same xs k d below))) ∙ so_far
+pub copied_step : {X : Type 0} (f : X → Content) (xs : List X) (k : ℕ) (d : X) (prefix more : List Content) → k < length xs → more ≡ prefix ++ f (get_or xs k d) ∷ [] → prefix ++ drop k (map f xs) ≡ map f xs → more ++ drop (k + 1) (map f xs) ≡ map f xs
+copied_step f xs k d prefix more below pushed so_far =
+    ap (λ zs. zs ++ drop (k + 1) (map f xs)) pushed ∙ append_assoc prefix (f (get_or xs k d) ∷ []) (drop (k + 1) (map f xs))
+    ∙ ap (λ ys. prefix ++ ys) (sym (cut_map f xs k (get_or xs k d) below (get_or_same xs k d below))) ∙ so_far
 
 some_same : {A : Type 0} (x y : A) → Some x ≡ Some y → x ≡ y
 some_same x y e = cc
 
-pub copied_step_at : {X : Type 0} (f : X → Content) (xs : List X) (k : ℕ) (x : X) (front more : List Content) (y : Content) → k < length xs → x ≡ get_or xs k x → Some (f x) ≡ Some y → more ≡ front ++ y ∷ [] → front ++ drop k (map f xs) ≡ map f xs → more ++ drop (k + 1) (map f xs) ≡ map f xs
-copied_step_at f xs k x front more y below is same pushed so_far =
-    copied_step f xs k x front more below (pushed ∙ ap (λ z. front ++ z ∷ []) (sym (some_same (f x) y same) ∙ ap f is)) so_far
+pub copied_step_at : {X : Type 0} (f : X → Content) (xs : List X) (k : ℕ) (x : X) (prefix more : List Content) (y : Content) → k < length xs → x ≡ get_or xs k x → Some (f x) ≡ Some y → more ≡ prefix ++ y ∷ [] → prefix ++ drop k (map f xs) ≡ map f xs → more ++ drop (k + 1) (map f xs) ≡ map f xs
+copied_step_at f xs k x prefix more y below is same pushed so_far =
+    copied_step f xs k x prefix more below (pushed ∙ ap (λ z. prefix ++ z ∷ []) (sym (some_same (f x) y same) ∙ ap f is)) so_far
 
-pub copied_done : {X : Type 0} (f : X → Content) (xs : List X) (k : ℕ) (front : List Content) → length xs ≤ k → front ++ drop k (map f xs) ≡ map f xs → map f xs ≡ front
-copied_done f xs k front all so_far = sym so_far ∙ ap (λ ys. front ++ ys) (drop_all k (map f xs) (simp length-map all)) ∙ append-nil front
+pub copied_done : {X : Type 0} (f : X → Content) (xs : List X) (k : ℕ) (prefix : List Content) → length xs ≤ k → prefix ++ drop k (map f xs) ≡ map f xs → map f xs ≡ prefix
+copied_done f xs k prefix all so_far = sym so_far ∙ ap (λ ys. prefix ++ ys) (drop_all k (map f xs) (simp length-map all)) ∙ append-nil prefix
 
 -- what is given for nothing yet
 

@@ -2,7 +2,7 @@ use Rattle.std.proofs.Common.{◌≡◌, ◌-◌, ◌+◌, List, length, map, ap
 use Rattle.std.proofs.lemmas.List.{map_push}
 use Rattle.fz_reading.specs.Lines.{every_at, lines_at}
 use Rattle.soln_items.proofs.IntLists.{fails_along}
-use Rattle.fz_reading.proofs.PartLoops.{with_front}
+use Rattle.fz_reading.proofs.PartLoops.{with_prefix}
 use Rattle.fz_reading.proofs.LineLoops.{begins_at, stops, fails, goes_on, runs_out}
 use Rattle.fz_reading.proofs.parts.lines.Goals as goal
 
@@ -18,7 +18,7 @@ returns-in-Err g c =
 
 pub loop-turn-preserved : goal.loop-turn-preserved
 loop-turn-preserved g c =
-    let P : List g.P.Part.Seen → Type 0 = λ xs. with_front xs (lines_at c.args.head.now (g.P.Part.read_at c.args.part.now) (length c.args.bytes.now - (c.loop-turn._turn + 1)) (c.in-Ok.read.1).now) ≡ every_at c.args.head.now (g.P.Part.read_at c.args.part.now) c.args.bytes.now in
+    let P : List g.P.Part.Seen → Type 0 = λ xs. with_prefix xs (lines_at c.args.head.now (g.P.Part.read_at c.args.part.now) (length c.args.bytes.now - (c.loop-turn._turn + 1)) (c.in-Ok.read.1).now) ≡ every_at c.args.head.now (g.P.Part.read_at c.args.part.now) c.args.bytes.now in
     subst P (sym (ap (map g.P.Part.seen) c.in_ok-push.ensures.items ∙ map_push g.P.Part.seen c.loop-turn.items.items c.in-Ok.read.0))
     (goes_on c.args.head.now (g.P.Part.read_at c.args.part.now) (map g.P.Part.seen c.loop-turn.items.items) (length c.args.bytes.now) c.loop-turn._turn c.loop-turn.rest.now c.in-Some.inside.now (c.in-Ok.read.1).now (g.P.Part.seen c.in-Ok.read.0) _ c.loop-turn-test.true c.loop-turn.invariant (sym c.in-Some.ensures) c.in-Ok.ensures)
 

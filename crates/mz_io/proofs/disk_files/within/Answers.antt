@@ -5,13 +5,13 @@ use Rattle.std.specs.Option.{option_map}
 use Rattle.mz_io.proofs.disk_files.within.Goals as goal
 
 -- a front that is shorter than it may be is the whole
-whole_front : (whole front : List ℕ) (most : ℕ) → front ≡ take most whole → length front < most → front ≡ whole
-whole_front whole front most is short =
+whole_prefix : (whole prefix : List ℕ) (most : ℕ) → prefix ≡ take most whole → length prefix < most → prefix ≡ whole
+whole_prefix whole prefix most is short =
     grind (arith, common_steps, length-take most whole)
 
-whole_known : (left : Option (List ℕ)) (front : List ℕ) (most : ℕ) → length front < most → IfSome (option_map (take most) left) (λ xs. front ≡ xs) → IfSome left (λ whole. front ≡ whole)
-whole_known None front most short h = h
-whole_known (Some whole) front most short h = whole_front whole front most h short
+whole_known : (left : Option (List ℕ)) (prefix : List ℕ) (most : ℕ) → length prefix < most → IfSome (option_map (take most) left) (λ xs. prefix ≡ xs) → IfSome left (λ whole. prefix ≡ whole)
+whole_known None prefix most short h = h
+whole_known (Some whole) prefix most short h = whole_prefix whole prefix most h short
 
 pub returns-in-Ok-2-clause-bytes : goal.returns-in-Ok-2-clause-bytes
 returns-in-Ok-2-clause-bytes g c =

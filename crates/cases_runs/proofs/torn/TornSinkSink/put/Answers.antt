@@ -8,4 +8,4 @@ returns-clause-told c =
     let bytes = c.args.bytes.now in
     let most = c.min-most.result in
     let kept : c.extend_from_slice.new.self.items ≡ c.args.self.now.bytes.items ++ take most bytes = grind (arith, common_steps) in
-    record { front = take most bytes; back = drop most bytes; whole = sym (take-append-drop most bytes); adds = ap Some kept }
+    record { prefix = take most bytes; back = drop most bytes; whole = sym (take-append-drop most bytes); adds = ap Some kept }
