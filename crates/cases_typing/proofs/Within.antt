@@ -13,7 +13,7 @@ use Rattle.mz_tree.specs.Kinds.{IsSpot, OfTree, OfDeclaration, OfGoal, OfItem}
 use Rattle.mz_tree.proofs.Later.{item_later}
 use Rattle.mz_tree.proofs.Collected.{all_flat}
 use Rattle.mz_occurrence.specs.Given.{identifier, with_identifier, identifiers, cases_in}
-use Rattle.mz_uses.specs.Outlines.{decl_sketch}
+use Rattle.mz_uses.specs.Sketches.{decl_sketch}
 use Rattle.mz_given.specs.Named.{names_in, names_in_all, IsGivenWithin}
 use Rattle.mz_scoped.specs.Parts.{decls_of, decl_at, functions_of, constraint_in, output_in, goal_in, goal_of, enum_in, enums_of, cases_at, given_cases}
 use Rattle.mz_scoped.specs.Scoped.{ScopedTree, IsScoped}

@@ -17,7 +17,7 @@ use Rattle.mz_tree.proofs.Collected.{all_flat}
 use Rattle.mz_occurrence.specs.declared.occurrence.Occurrence.{Occurrence}
 use Rattle.mz_occurrence.specs.Occurrences.{in_item}
 use Rattle.mz_occurrence.specs.Given.{occurrences}
-use Rattle.mz_uses.specs.Outlines.{decl_sketch, function_sketch}
+use Rattle.mz_uses.specs.Sketches.{decl_sketch, function_sketch}
 use Rattle.mz_scoped.specs.Parts.{decls_of, functions_of, decl_at, function_at}
 use Rattle.mz_scoped.specs.Scoped.{IsCyclic, at_decl, at_function}
 use Rattle.mz_spaces.specs.Tests.{first, first_after, is_reserved, is_repeated, is_misfit, first_unknown_of, first_missing_of, solve_in, solve_fault, or_refused, refusal}

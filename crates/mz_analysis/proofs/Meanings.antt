@@ -11,7 +11,7 @@ use Rattle.mz_tree.specs.Items.{FunctionTree}
 use Rattle.mz_uses.specs.declared.name_use.NameUse.{NameUse}
 use Rattle.mz_uses.specs.declared.name_use.NameUse.TheVariants.{Mention, Call}
 use Rattle.mz_uses.specs.Uses.{in_tree}
-use Rattle.mz_uses.specs.Outlines.{decl_sketch, function_sketch, has_parameters}
+use Rattle.mz_uses.specs.Sketches.{decl_sketch, function_sketch, has_parameters}
 use Rattle.mz_dependency.specs.Dependencies.{sketch_at, meant_by, IsUsed, RefersTo}
 use Rattle.mz_scoped.specs.Parts.{EnumTree, name_of, decl_at, function_at}
 use Rattle.mz_scoped.specs.Scoped.{ScopedTree}

@@ -12,7 +12,7 @@ use Rattle.mz_graph.proofs.Membership.{same_or_not}
 use Rattle.mz_occurrence.specs.Sets.{with_name}
 use Rattle.mz_uses.specs.declared.name_use.NameUse.{NameUse}
 use Rattle.mz_uses.specs.Uses.{in_written}
-use Rattle.mz_uses.specs.Outlines.{decl_sketch, function_sketch, in_parameters, with_parameters}
+use Rattle.mz_uses.specs.Sketches.{decl_sketch, function_sketch, in_parameters, with_parameters}
 use Rattle.mz_scoped.specs.Parts.{decl_at, function_at}
 use Rattle.mz_scoped.specs.Scoped.{ScopedTree}
 use Rattle.mz_checks.specs.Tests.{Test, ◌>>=◌, loop}

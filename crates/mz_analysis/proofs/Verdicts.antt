@@ -14,7 +14,7 @@ use Rattle.mz_tree.specs.Items.{FunctionTree, GoalTree}
 use Rattle.mz_graph.proofs.Membership.{below_or_not}
 use Rattle.mz_uses.specs.declared.name_use.NameUse.{NameUse}
 use Rattle.mz_uses.specs.Uses.{in_tree}
-use Rattle.mz_uses.specs.Outlines.{decl_sketch, function_sketch}
+use Rattle.mz_uses.specs.Sketches.{decl_sketch, function_sketch}
 use Rattle.mz_scoped.specs.Parts.{decl_at, function_at}
 use Rattle.mz_scoped.specs.Scoped.{ScopedTree}
 use Rattle.mz_checks.specs.Tests.{Test, ◌>>=◌, ◌>>◌, each}

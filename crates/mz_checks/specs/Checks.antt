@@ -11,7 +11,7 @@ use Rattle.mz_tree.specs.Tree as source
 use Rattle.mz_tree.specs.Tree.{Name, Declaration}
 use Rattle.mz_tree.specs.Items as item
 use Rattle.mz_tree.specs.Items.{FunctionTree, GoalTree}
-use Rattle.mz_uses.specs.Outlines.{has_parameters}
+use Rattle.mz_uses.specs.Sketches.{has_parameters}
 use Rattle.mz_scoped.specs.Parts.{EnumTree, name_of, place_of, decl_at, function_at}
 use Rattle.mz_scoped.specs.Scoped.{ScopedTree}
 use Rattle.mz_checks.specs.declared.meaning.Meaning.{Meaning}

@@ -6,7 +6,7 @@ use Rattle.mz_tree.specs.Tree as source
 use Rattle.mz_tree.specs.Tree.{Declaration, Written}
 use Rattle.mz_tree.specs.Items.{FunctionTree}
 use Rattle.mz_uses.specs.declared.name_use.NameUse.{NameUse}
-use Rattle.mz_uses.specs.Outlines.{decl_sketch, function_sketch}
+use Rattle.mz_uses.specs.Sketches.{decl_sketch, function_sketch}
 use Rattle.mz_dependency.specs.Dependencies.{RefersTo}
 use Rattle.mz_scoped.specs.Parts.{decl_at, function_at}
 use Rattle.mz_scoped.specs.Scoped.{ScopedTree}

@@ -3,7 +3,7 @@ use Rattle.std.proofs.Common.{◌≡◌, ℕ, ◌+◌, ◌<◌, List, length, su
 use Rattle.mz_graph.specs.Graph.{Graph, number_of}
 use Rattle.mz_graph.specs.Order.{IsOrder, IsComplete, IsFirstLeft}
 use Rattle.mz_order.specs.Depends.{DependsOn, IsWholeOrder, IsCyclicAt, NoneOnCycle, IsFirstOnCycle, HaveComponents}
-use Rattle.mz_uses.specs.Outlines.{Sketch}
+use Rattle.mz_uses.specs.Sketches.{Sketch}
 use Rattle.mz_dependency.specs.Dependencies.{Depends, LeadsBack, AreDeclarations, IsSequence, IsStuckAt, IsBackAt}
 use Rattle.mz_dependency.specs.StepsGraphs.{node_of, base_of, AreGraphs}
 use Rattle.mz_dependency.proofs.Following as following

@@ -6,7 +6,7 @@ use Rattle.mz_graph.proofs.Membership.{below_or_not, in_front, in_back, in_eithe
 use Rattle.mz_order.specs.Members.{IsMember}
 use Rattle.mz_order.proofs.Joining.{both_sized, in_first, in_second}
 use Rattle.mz_uses.specs.declared.name_use.NameUse.{NameUse}
-use Rattle.mz_uses.specs.Outlines.{Sketch, all_of}
+use Rattle.mz_uses.specs.Sketches.{Sketch, all_of}
 use Rattle.mz_dependency.specs.Dependencies.{sketch_at, meant_by, IsUsed, RefersTo, AreDeclarations}
 use Rattle.mz_dependency.specs.StepsFaithful.{IsName, AreFaithful, HasTypes, of_function, of_decl, to_name, to_decl, AreTypes}
 use Rattle.mz_dependency.specs.StepsPlaces.{names_in, callee, or_zero}

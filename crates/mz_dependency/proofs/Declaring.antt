@@ -10,7 +10,7 @@ use Rattle.mz_occurrence.specs.Sets.{holds, with_name}
 use Rattle.mz_occurrence.proofs.Holding.{holds_more}
 use Rattle.mz_uses.specs.declared.name_use.NameUse.{NameUse}
 use Rattle.mz_uses.specs.declared.name_use.NameUse.TheVariants.{Mention, Call}
-use Rattle.mz_uses.specs.Outlines.{Sketch}
+use Rattle.mz_uses.specs.Sketches.{Sketch}
 use Rattle.mz_dependency.specs.Dependencies.{sketch_at, meant_by, IsUsed, RefersTo, AreDeclarations}
 use Rattle.mz_dependency.specs.StepsPlaces.{if_in, names_in, place_of, mentioned, mentions_in}
 use Rattle.mz_dependency.proofs.Placing.{from_row, to_row, place_there, place_within, place_holds}

@@ -5,7 +5,7 @@ use Rattle.mz_graph.specs.Order.{IsOrder}
 use Rattle.mz_order.specs.Depends.{DependsOn, directly, by_call, IsOnCycle}
 use Rattle.mz_order.specs.Depends as graph
 use Rattle.mz_uses.specs.declared.name_use.NameUse.{NameUse}
-use Rattle.mz_uses.specs.Outlines.{Sketch, all_of}
+use Rattle.mz_uses.specs.Sketches.{Sketch, all_of}
 use Rattle.mz_dependency.specs.Dependencies.{sketch_at, RefersTo, LeadsTo, itself, through, Depends, TypesLeadTo, called, by_decl, by_function, LeadsBack}
 use Rattle.mz_dependency.specs.StepsFaithful.{AreFaithful, HasTypes, of_function, of_decl, to_name, to_decl, AreTypes}
 use Rattle.mz_dependency.proofs.Turns.{same_turns}

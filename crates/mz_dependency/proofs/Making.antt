@@ -1,4 +1,4 @@
--- What code makes for each outline: loops, rows, and the graphs that are made of them.
+-- What code makes for each sketch: loops, rows, and the graphs that are made of them.
 use Rattle.std.proofs.Common.{◌≡◌, ℕ, ◌+◌, ◌<◌, ◌≤◌, Bool, true, false, List, [], ◌∷◌, ◌++◌, ap, sym, ◌∙◌, map, length, drop, get_or, append_assoc, append-nil, replicate, subst, arith}
 use Rattle.std.specs.Prelude.{if◌then◌else◌, Option, Some, None, MatchOption}
 use Rattle.std.specs.List.{flat_map}
@@ -12,24 +12,24 @@ use Rattle.mz_order.specs.Evaluation.{IsEvaluation}
 use Rattle.mz_order.specs.declared.evaluation.Evaluation.{Evaluation}
 use Rattle.mz_occurrence.specs.Sets.{holds, with_name}
 use Rattle.mz_uses.specs.declared.name_use.NameUse.{NameUse}
-use Rattle.mz_uses.specs.declared.outline.Outline.{Outline}
-use Rattle.mz_uses.specs.Outlines.{Sketch, sketch}
+use Rattle.mz_uses.specs.declared.sketch.Sketch.{Sketch as CodeSketch}
+use Rattle.mz_uses.specs.Sketches.{Sketch, sketch}
 use Rattle.mz_dependency.specs.Dependencies.{meant_by}
 use Rattle.mz_dependency.specs.StepsPlaces.{if_in, names_in, callee, or_zero}
 use Rattle.mz_dependency.specs.StepsGraphs.{name_count, base_of, numbers_of, numbers_by, call_rows, mention_rows, type_rows, HasMembers, AreGraphs}
 use Rattle.mz_dependency.proofs.Gathering.{dropped}
 use Rattle.mz_dependency.proofs.Building.{number_counted}
 
--- a loop that makes one thing for each outline
+-- a loop that makes one thing for each sketch
 
-pub one_made : {R : Type 0} (f : Sketch → R) (all so_far now : List R) (r : R) (xs : List Outline) (i : ℕ) (x : Outline) → all ≡ so_far ++ map f (map sketch (drop i xs)) → i < length xs → x ≡ get_or xs i x → r ≡ f (sketch x) → now ≡ so_far ++ r ∷ [] → all ≡ now ++ map f (map sketch (drop (i + 1) xs))
+pub one_made : {R : Type 0} (f : Sketch → R) (all so_far now : List R) (r : R) (xs : List CodeSketch) (i : ℕ) (x : CodeSketch) → all ≡ so_far ++ map f (map sketch (drop i xs)) → i < length xs → x ≡ get_or xs i x → r ≡ f (sketch x) → now ≡ so_far ++ r ∷ [] → all ≡ now ++ map f (map sketch (drop (i + 1) xs))
 one_made f all so_far now r xs i x k l e is n =
     k ∙ ap (λ z. so_far ++ map f (map sketch z)) (drop_more xs i x l ∙ ap (λ z. z ∷ drop (i + 1) xs) (sym e))
     ∙ ap (λ z. so_far ++ z ∷ map f (map sketch (drop (i + 1) xs))) (sym is)
     ∙ sym (append_assoc so_far (r ∷ []) (map f (map sketch (drop (i + 1) xs))))
     ∙ ap (λ z. z ++ map f (map sketch (drop (i + 1) xs))) (sym n)
 
-pub all_made : {R : Type 0} (f : Sketch → R) (all so_far : List R) (xs : List Outline) (i : ℕ) → all ≡ so_far ++ map f (map sketch (drop i xs)) → length xs ≤ i → so_far ≡ all
+pub all_made : {R : Type 0} (f : Sketch → R) (all so_far : List R) (xs : List CodeSketch) (i : ℕ) → all ≡ so_far ++ map f (map sketch (drop i xs)) → length xs ≤ i → so_far ≡ all
 all_made f all so_far xs i k l = sym (k ∙ ap (λ z. so_far ++ map f (map sketch z)) (dropped xs i l) ∙ append-nil so_far)
 
 -- what types and the rest use, one after the other
@@ -59,14 +59,14 @@ unfolding names_in
 names_short_from applied ns [] = omega arith
 names_short_from applied ns (s ∷ ss) = let a = if_short applied ns s in let b = names_short_from applied (if_in applied ns s) ss in omega (arith, a, b)
 
-pub names_short : (applied : Bool) (ns : List ℕ) (xs : List Outline) → ns ≡ names_in applied [] (map sketch xs) → length ns ≤ length xs
+pub names_short : (applied : Bool) (ns : List ℕ) (xs : List CodeSketch) → ns ≡ names_in applied [] (map sketch xs) → length ns ≤ length xs
 names_short applied ns xs e = let a = names_short_from applied [] (map sketch xs) in let b = length-map xs sketch in let c = ap length e in omega (arith, a, b, c)
 
 numbers_sized : (ss : List Sketch) → length (numbers_of ss) ≡ length ss
 numbers_sized ss = length-map ss (λ s. or_zero (callee (names_in false [] ss) (names_in true [] ss) (meant_by s)))
 
 -- the numbers of functions' names are numbers of names
-pub numbered : (bare applied of : List ℕ) (count : ℕ) (functions : List Outline) → bare ≡ names_in false [] (map sketch functions) → applied ≡ names_in true [] (map sketch functions) → of ≡ numbers_by bare applied (map sketch functions) → count ≡ length bare + length applied → (f : ℕ) → f < length of → number_of of f < count
+pub numbered : (bare applied of : List ℕ) (count : ℕ) (functions : List CodeSketch) → bare ≡ names_in false [] (map sketch functions) → applied ≡ names_in true [] (map sketch functions) → of ≡ numbers_by bare applied (map sketch functions) → count ≡ length bare + length applied → (f : ℕ) → f < length of → number_of of f < count
 numbered bare applied of count functions p q r c f l =
     let is : of ≡ numbers_of (map sketch functions) = r ∙ ap (λ z. numbers_by z applied (map sketch functions)) p ∙ ap (λ z. numbers_by (names_in false [] (map sketch functions)) z (map sketch functions)) q in
     let counted : f < length (map sketch functions) = let a = ap length is in let b = numbers_sized (map sketch functions) in omega (arith, a, b, l) in
@@ -77,7 +77,7 @@ numbered bare applied of count functions p q r c f l =
 
 -- the graphs, by what they are made of
 
-module _ (decls functions : List Outline) (bare applied named of : List ℕ) (first count base : ℕ) (p : bare ≡ names_in false [] (map sketch functions)) (q : applied ≡ names_in true [] (map sketch functions)) (m : named ≡ names_in false [] (map sketch decls)) (r : of ≡ numbers_by bare applied (map sketch functions)) (f : first ≡ length functions) (n : count ≡ length bare + length applied) (b : base ≡ first + count) where
+module _ (decls functions : List CodeSketch) (bare applied named of : List ℕ) (first count base : ℕ) (p : bare ≡ names_in false [] (map sketch functions)) (q : applied ≡ names_in true [] (map sketch functions)) (m : named ≡ names_in false [] (map sketch decls)) (r : of ≡ numbers_by bare applied (map sketch functions)) (f : first ≡ length functions) (n : count ≡ length bare + length applied) (b : base ≡ first + count) where
   first_is : first ≡ length (map sketch functions)
   first_is = f ∙ sym (length-map functions sketch)
 
@@ -133,12 +133,12 @@ of_four P a b c d a_of b_of c_of d_of k p q r s =
 pub evaluated : (a b c d calls mentions decl_calls decl_mentions : Graph) (e : Evaluation) → IsEvaluation a b c d e → a ≡ calls → b ≡ mentions → c ≡ decl_calls → d ≡ decl_mentions → IsEvaluation calls mentions decl_calls decl_mentions e
 evaluated a b c d calls mentions decl_calls decl_mentions e k p q r s = of_four (λ x y z w. IsEvaluation x y z w e) a b c d calls mentions decl_calls decl_mentions k (sym p) (sym q) (sym r) (sym s)
 
-pub none_found : (g types : Graph) (n : ℕ) (functions : List Outline) (o : Option ℕ) → MatchOption o (NoneOnCycle g 0 n) (IsFirstOnCycle g 0 n) → o ≡ None → g ≡ types → n ≡ length functions → NoneOnCycle types 0 (length (map sketch functions))
+pub none_found : (g types : Graph) (n : ℕ) (functions : List CodeSketch) (o : Option ℕ) → MatchOption o (NoneOnCycle g 0 n) (IsFirstOnCycle g 0 n) → o ≡ None → g ≡ types → n ≡ length functions → NoneOnCycle types 0 (length (map sketch functions))
 none_found g types n functions o k e p q =
     let none : NoneOnCycle g 0 n = subst (λ z. MatchOption z (NoneOnCycle g 0 n) (IsFirstOnCycle g 0 n)) e k in
     subst (λ z. NoneOnCycle z 0 (length (map sketch functions))) p (subst (λ z. NoneOnCycle g 0 z) (q ∙ sym (length-map functions sketch)) none)
 
-pub first_found : (g types : Graph) (n f : ℕ) (functions : List Outline) (o : Option ℕ) → MatchOption o (NoneOnCycle g 0 n) (IsFirstOnCycle g 0 n) → o ≡ Some f → g ≡ types → n ≡ length functions → IsFirstOnCycle types 0 (length (map sketch functions)) f
+pub first_found : (g types : Graph) (n f : ℕ) (functions : List CodeSketch) (o : Option ℕ) → MatchOption o (NoneOnCycle g 0 n) (IsFirstOnCycle g 0 n) → o ≡ Some f → g ≡ types → n ≡ length functions → IsFirstOnCycle types 0 (length (map sketch functions)) f
 first_found g types n f functions o k e p q =
     let first : IsFirstOnCycle g 0 n f = subst (λ z. MatchOption z (NoneOnCycle g 0 n) (IsFirstOnCycle g 0 n)) e k in
     subst (λ z. IsFirstOnCycle z 0 (length (map sketch functions)) f) p (subst (λ z. IsFirstOnCycle g 0 z f) (q ∙ sym (length-map functions sketch)) first)

@@ -7,7 +7,7 @@ use Rattle.mz_graph.specs.Graph.{IsIn}
 use Rattle.mz_graph.proofs.Membership.{same_or_not, in_front, in_last}
 use Rattle.mz_occurrence.specs.Sets.{holds, with_name}
 use Rattle.mz_uses.specs.declared.name_use.NameUse.TheVariants.{Mention, Call}
-use Rattle.mz_uses.specs.Outlines.{Sketch}
+use Rattle.mz_uses.specs.Sketches.{Sketch}
 use Rattle.mz_dependency.specs.Dependencies.{sketch_at, meant_by}
 use Rattle.mz_dependency.specs.StepsPlaces.{if_in, names_in, place_of, callee, or_zero}
 use Rattle.mz_dependency.proofs.Placing.{place_there}

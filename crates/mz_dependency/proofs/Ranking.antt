@@ -6,7 +6,7 @@ use Rattle.mz_graph.specs.Graph.{Graph, IsIn, Edge, IsGraph, Path, arrived, onwa
 use Rattle.mz_graph.specs.Order.{Continues, turn, IsOrder, IsComplete}
 use Rattle.mz_graph.proofs.Membership.{below_or_not, same_or_not, old_or_last}
 use Rattle.mz_uses.specs.declared.name_use.NameUse.{NameUse}
-use Rattle.mz_uses.specs.Outlines.{Sketch}
+use Rattle.mz_uses.specs.Sketches.{Sketch}
 use Rattle.mz_dependency.specs.Dependencies.{sketch_at, IsUsed, RefersTo, itself, Depends, LeadsBack, AreRanks}
 use Rattle.mz_dependency.specs.StepsFaithful.{IsName, of_function, of_decl, to_name, to_decl, AreTypes}
 use Rattle.mz_dependency.proofs.Following.{steps, leads}

@@ -1,6 +1,6 @@
 -- The answer to the question in which order a model's declarations are evaluated.
 use Rattle.std.specs.Prelude.{List}
-use Rattle.mz_uses.specs.Outlines.{Sketch}
+use Rattle.mz_uses.specs.Sketches.{Sketch}
 use Rattle.mz_dependency.specs.declared.sequence.Sequence.{Sequence}
 use Rattle.mz_dependency.specs.declared.sequence.Sequence.TheVariants.{Ordered, CyclicDecl, CyclicFunction}
 use Rattle.mz_dependency.specs.Dependencies.{IsSequence, IsStuckAt, IsBackAt}

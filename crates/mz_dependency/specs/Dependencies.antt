@@ -3,7 +3,7 @@ use Rattle.std.specs.Prelude.{◌≡◌, ℕ, ◌<◌, List, [], ◌∷◌, ◌�
 use Rattle.mz_graph.specs.Order.{IsOrder, IsComplete, IsFirstLeft}
 use Rattle.mz_uses.specs.declared.name_use.NameUse.{NameUse}
 use Rattle.mz_uses.specs.declared.name_use.NameUse.TheVariants.{Mention, Call}
-use Rattle.mz_uses.specs.Outlines.{Sketch, all_of}
+use Rattle.mz_uses.specs.Sketches.{Sketch, all_of}
 
 -- Declarations and functions are known by their numbers in two lists, each in source order.
 abbrev pub sketch_at : List Sketch → ℕ → Sketch

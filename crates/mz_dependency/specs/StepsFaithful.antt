@@ -3,7 +3,7 @@
 use Rattle.std.specs.Prelude.{◌≡◌, ℕ, ◌+◌, ◌<◌, ◌≤◌, List, length}
 use Rattle.mz_graph.specs.Graph.{Graph, Edge}
 use Rattle.mz_uses.specs.declared.name_use.NameUse.{NameUse}
-use Rattle.mz_uses.specs.Outlines.{Sketch, all_of}
+use Rattle.mz_uses.specs.Sketches.{Sketch, all_of}
 use Rattle.mz_dependency.specs.Dependencies.{sketch_at, RefersTo}
 
 -- a node for a name, all of whose functions these uses mean

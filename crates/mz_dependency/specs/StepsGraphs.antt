@@ -5,7 +5,7 @@ use Rattle.std.specs.Prelude.{◌≡◌, ℕ, ◌+◌, List, [], ◌++◌, true,
 use Rattle.mz_graph.specs.Graph.{Graph, number_of}
 use Rattle.mz_order.specs.Members.{AreMembers}
 use Rattle.mz_uses.specs.declared.name_use.NameUse.{NameUse}
-use Rattle.mz_uses.specs.Outlines.{Sketch, all_of}
+use Rattle.mz_uses.specs.Sketches.{Sketch, all_of}
 use Rattle.mz_dependency.specs.Dependencies.{meant_by}
 use Rattle.mz_dependency.specs.StepsPlaces.{names_in, callee, callees_in, mentions_in, or_zero}
 

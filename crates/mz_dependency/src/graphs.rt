@@ -2,14 +2,14 @@
 
 ghost use Rattle.std.specs.Prelude.{◌≡◌, ℕ, ◌+◌, ◌<◌, ◌^◌, ◌++◌, [], length, map, replicate, IfOk};
 ghost use Rattle.mz_graph.specs.Graph.{graph_of, number_of};
-ghost use Rattle.mz_uses.specs.Outlines.{sketch};
+ghost use Rattle.mz_uses.specs.Sketches.{sketch};
 ghost use Rattle.mz_dependency.specs.StepsGraphs.{call_rows, mention_rows, type_rows, HasMembers, AreGraphs};
 
 use crate::listing::{call_rows, mention_rows, type_rows};
 use crate::tables::Tables;
 use mz_base::Memory;
 use mz_order::{empty_rows, members_of};
-use mz_uses::Outline;
+use mz_uses::Sketch;
 use std::alloc::Global;
 
 /// The graphs of dependencies.
@@ -66,8 +66,8 @@ fn with_blanks(
 /// The graphs of dependencies.
 pub(crate) fn graphs_of(
     alloc: Global,
-    decls: &[Outline],
-    functions: &[Outline],
+    decls: &[Sketch],
+    functions: &[Sketch],
 ) -> Result<Graphs, Memory>
     ensures { IfOk result (λ g. AreGraphs (map sketch decls.now) (map sketch functions.now) (graph_of g.calls.items) (graph_of g.mentions.items) (graph_of g.decl_calls.items) (graph_of g.decl_mentions.items) (graph_of g.types.items)) }
 {

@@ -2,13 +2,13 @@
 
 ghost use Rattle.std.specs.Prelude.{◌≡◌, ℕ, ◌+◌, ◌<◌, ◌^◌, ◌++◌, length, map, IfOk, OnOk};
 ghost use Rattle.mz_graph.specs.Graph.{graph_of};
-ghost use Rattle.mz_uses.specs.Outlines.{sketch, all_of};
+ghost use Rattle.mz_uses.specs.Sketches.{sketch, all_of};
 ghost use Rattle.mz_dependency.specs.StepsPlaces.{callee, mentioned, raised_from, callees_in, mentions_in};
 ghost use Rattle.mz_dependency.specs.StepsGraphs.{call_rows, mention_rows, type_rows};
 
 use crate::tables::Tables;
 use mz_base::Memory;
-use mz_uses::{NameUse, Outline};
+use mz_uses::{NameUse, Sketch};
 use std::alloc::Global;
 
 /// Adds the name of a function that a use means, numbered from `first` on.
@@ -65,7 +65,7 @@ fn add_mentions(
     Ok(())
 }
 
-fn call_row(tables: &Tables, alloc: Global, o: &Outline, first: usize) -> Result<Vec<usize>, Memory>
+fn call_row(tables: &Tables, alloc: Global, o: &Sketch, first: usize) -> Result<Vec<usize>, Memory>
     requires { first + (length tables.now.bare + length tables.now.applied) < 2 ^ 64 }
     ensures { IfOk result (λ r. r.items ≡ callees_in first tables.now.bare tables.now.applied (all_of (sketch o.now))) }
 {
@@ -75,7 +75,7 @@ fn call_row(tables: &Tables, alloc: Global, o: &Outline, first: usize) -> Result
     Ok(row)
 }
 
-fn mention_row(tables: &Tables, alloc: Global, o: &Outline) -> Result<Vec<usize>, Memory>
+fn mention_row(tables: &Tables, alloc: Global, o: &Sketch) -> Result<Vec<usize>, Memory>
     ensures { IfOk result (λ r. r.items ≡ mentions_in 0 tables.now.decls (all_of (sketch o.now))) }
 {
     let _count = tables.decls.len();
@@ -88,7 +88,7 @@ fn mention_row(tables: &Tables, alloc: Global, o: &Outline) -> Result<Vec<usize>
 fn type_row(
     tables: &Tables,
     alloc: Global,
-    o: &Outline,
+    o: &Sketch,
     first: usize,
     base: usize,
 ) -> Result<Vec<usize>, Memory>
@@ -106,14 +106,14 @@ fn type_row(
 pub(crate) fn call_rows(
     tables: &Tables,
     alloc: Global,
-    outlines: &[Outline],
+    sketches: &[Sketch],
     first: usize,
 ) -> Result<Vec<Vec<usize>>, Memory>
     requires { first + (length tables.now.bare + length tables.now.applied) < 2 ^ 64 }
-    ensures { IfOk result (λ v. graph_of v.items ≡ call_rows first tables.now.bare tables.now.applied (map sketch outlines.now)) }
+    ensures { IfOk result (λ v. graph_of v.items ≡ call_rows first tables.now.bare tables.now.applied (map sketch sketches.now)) }
 {
     let mut rows = Vec::new(alloc);
-    for o in outlines {
+    for o in sketches {
         let row = call_row(tables, alloc, o, first)?;
         rows.push(row)?;
     }
@@ -124,12 +124,12 @@ pub(crate) fn call_rows(
 pub(crate) fn mention_rows(
     tables: &Tables,
     alloc: Global,
-    outlines: &[Outline],
+    sketches: &[Sketch],
 ) -> Result<Vec<Vec<usize>>, Memory>
-    ensures { IfOk result (λ v. graph_of v.items ≡ mention_rows tables.now.decls (map sketch outlines.now)) }
+    ensures { IfOk result (λ v. graph_of v.items ≡ mention_rows tables.now.decls (map sketch sketches.now)) }
 {
     let mut rows = Vec::new(alloc);
-    for o in outlines {
+    for o in sketches {
         let row = mention_row(tables, alloc, o)?;
         rows.push(row)?;
     }
@@ -141,16 +141,16 @@ pub(crate) fn mention_rows(
 pub(crate) fn type_rows(
     tables: &Tables,
     alloc: Global,
-    outlines: &[Outline],
+    sketches: &[Sketch],
     first: usize,
     base: usize,
 ) -> Result<Vec<Vec<usize>>, Memory>
     requires first { first + (length tables.now.bare + length tables.now.applied) < 2 ^ 64 }
     requires base { base + length tables.now.decls < 2 ^ 64 }
-    ensures { IfOk result (λ v. graph_of v.items ≡ type_rows first base tables.now.bare tables.now.applied tables.now.decls (map sketch outlines.now)) }
+    ensures { IfOk result (λ v. graph_of v.items ≡ type_rows first base tables.now.bare tables.now.applied tables.now.decls (map sketch sketches.now)) }
 {
     let mut rows = Vec::new(alloc);
-    for o in outlines {
+    for o in sketches {
         let row = type_row(tables, alloc, o, first, base)?;
         rows.push(row)?;
     }

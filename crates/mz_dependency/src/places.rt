@@ -2,12 +2,12 @@
 
 ghost use Rattle.std.specs.Prelude.{◌≡◌, ℕ, ◌+◌, ◌<◌, ◌^◌, [], length, true, false, map, IfOk, OnOk, IfSome};
 ghost use Rattle.mz_occurrence.specs.Sets.{with_name};
-ghost use Rattle.mz_uses.specs.Outlines.{sketch};
+ghost use Rattle.mz_uses.specs.Sketches.{sketch};
 ghost use Rattle.mz_dependency.specs.StepsPlaces.{if_in, names_in, place_of};
 
 use indexmap::IndexSet;
 use mz_base::{Memory, Name};
-use mz_uses::Outline;
+use mz_uses::Sketch;
 use std::alloc::Global;
 use std::marker::Model;
 
@@ -61,7 +61,7 @@ impl Places {
     }
 
     /// Adds the name of one that is in this space: of functions with parameters, or of all else.
-    fn add_if(&mut self, o: &Outline, applied: bool) -> Result<(), Memory>
+    fn add_if(&mut self, o: &Sketch, applied: bool) -> Result<(), Memory>
         ensures { OnOk result (self.new ≡ if_in applied self.old (sketch o.now)) }
     {
         if o.applied == applied {
@@ -72,11 +72,11 @@ impl Places {
 }
 
 /// The names of those in one space, in source order.
-pub(crate) fn names_in(alloc: Global, outlines: &[Outline], applied: bool) -> Result<Places, Memory>
-    ensures { IfOk result (λ p. p ≡ names_in applied [] (map sketch outlines.now)) }
+pub(crate) fn names_in(alloc: Global, sketches: &[Sketch], applied: bool) -> Result<Places, Memory>
+    ensures { IfOk result (λ p. p ≡ names_in applied [] (map sketch sketches.now)) }
 {
     let mut places = Places::new(alloc);
-    for o in outlines {
+    for o in sketches {
         places.add_if(o, applied)?;
     }
     Ok(places)

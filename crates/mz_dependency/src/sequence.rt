@@ -1,14 +1,14 @@
 // The order in which a model's declarations are evaluated.
 
 ghost use Rattle.std.specs.Prelude.{map, IfOk};
-ghost use Rattle.mz_uses.specs.Outlines.{sketch};
+ghost use Rattle.mz_uses.specs.Sketches.{sketch};
 ghost use Rattle.mz_dependency.specs.Answer.{IsAnswer};
 ghost use Rattle.mz_dependency.specs.Dependencies.{AreDeclarations};
 
 use crate::graphs::graphs_of;
 use mz_base::Memory;
 use mz_order::{Evaluation, evaluation_order, first_on_cycle};
-use mz_uses::Outline;
+use mz_uses::Sketch;
 use std::alloc::Global;
 
 /// The order in which declarations are evaluated, or what has none.
@@ -29,8 +29,8 @@ pub enum Sequence {
 /// the logarithm of their number.
 pub fn sequence_of(
     alloc: Global,
-    decls: &[Outline],
-    functions: &[Outline],
+    decls: &[Sketch],
+    functions: &[Sketch],
 ) -> Result<Sequence, Memory>
     requires { AreDeclarations (map sketch decls.now) }
     ensures { IfOk result (IsAnswer (map sketch decls.now) (map sketch functions.now)) }

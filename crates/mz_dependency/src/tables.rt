@@ -1,14 +1,14 @@
 // The names that uses are looked up in.
 
 ghost use Rattle.std.specs.Prelude.{◌≡◌, ℕ, ◌+◌, ◌<◌, ◌^◌, [], length, true, false, map, IfOk, IfSome};
-ghost use Rattle.mz_uses.specs.Outlines.{sketch};
+ghost use Rattle.mz_uses.specs.Sketches.{sketch};
 ghost use Rattle.mz_dependency.specs.Dependencies.{meant_by};
 ghost use Rattle.mz_dependency.specs.StepsPlaces.{names_in, callee, mentioned, or_zero};
 ghost use Rattle.mz_dependency.specs.StepsGraphs.{numbers_by};
 
 use crate::places::{Places, names_in};
 use mz_base::Memory;
-use mz_uses::{NameUse, Outline};
+use mz_uses::{NameUse, Sketch};
 use std::alloc::Global;
 
 /// The names that uses are looked up in.
@@ -23,7 +23,7 @@ pub(crate) struct Tables {
 }
 
 /// The use that means this declaration or function.
-fn own_use(o: &Outline) -> NameUse
+fn own_use(o: &Sketch) -> NameUse
     ensures { result ≡ meant_by (sketch o.now) }
 {
     if o.applied {
@@ -35,7 +35,7 @@ fn own_use(o: &Outline) -> NameUse
 
 impl Tables {
     /// The names of these declarations and functions.
-    pub fn of(alloc: Global, decls: &[Outline], functions: &[Outline]) -> Result<Tables, Memory>
+    pub fn of(alloc: Global, decls: &[Sketch], functions: &[Sketch]) -> Result<Tables, Memory>
         ensures bare { IfOk result (λ t. t.bare ≡ names_in false [] (map sketch functions.now)) }
         ensures applied { IfOk result (λ t. t.applied ≡ names_in true [] (map sketch functions.now)) }
         ensures decls { IfOk result (λ t. t.decls ≡ names_in false [] (map sketch decls.now)) }
@@ -83,7 +83,7 @@ impl Tables {
     }
 
     /// The number of a function's own name.
-    fn number(&self, o: &Outline) -> usize
+    fn number(&self, o: &Sketch) -> usize
         ensures { result ≡ or_zero (callee self.now.bare self.now.applied (meant_by (sketch o.now))) }
     {
         match self.callee(own_use(o)) {
@@ -93,7 +93,7 @@ impl Tables {
     }
 
     /// For each function the number of its name.
-    pub fn numbers(&self, alloc: Global, functions: &[Outline]) -> Result<Vec<usize>, Memory>
+    pub fn numbers(&self, alloc: Global, functions: &[Sketch]) -> Result<Vec<usize>, Memory>
         ensures { IfOk result (λ v. v.items ≡ numbers_by self.now.bare self.now.applied (map sketch functions.now)) }
     {
         let mut numbers = Vec::new(alloc);

@@ -2,22 +2,22 @@
 
 ghost use Rattle.std.specs.Prelude.{◌≡◌, ◌+◌, length, map, IfOk};
 ghost use Rattle.mz_graph.specs.Graph.{graph_of, IsGraph};
-ghost use Rattle.mz_uses.specs.Outlines.{sketch};
+ghost use Rattle.mz_uses.specs.Sketches.{sketch};
 ghost use Rattle.mz_dependency.specs.Dependencies.{AreDeclarations};
 ghost use Rattle.mz_dependency.specs.StepsFaithful.{AreTypes};
 ghost use Rattle.mz_dependency.specs.StepsGraphs.{node_of, base_of};
 
 use crate::graphs::graphs_of;
 use mz_base::Memory;
-use mz_uses::Outline;
+use mz_uses::Sketch;
 use std::alloc::Global;
 
 /// For each function, each name of functions and each declaration, in this order, what its types refer to; a name leads to its
 /// functions.
 pub fn type_graph(
     alloc: Global,
-    decls: &[Outline],
-    functions: &[Outline],
+    decls: &[Sketch],
+    functions: &[Sketch],
 ) -> Result<Vec<Vec<usize>>, Memory>
     requires { AreDeclarations (map sketch decls.now) }
     ensures graph { IfOk result (λ g. IsGraph (graph_of g.items)) }

@@ -6,7 +6,7 @@ use Rattle.mz_base.specs.declared.fault.Span.{Span}
 use Rattle.mz_tree.specs.Tree as source
 use Rattle.mz_tree.specs.Tree.{Name, Declaration}
 use Rattle.mz_tree.specs.Items.{FunctionTree}
-use Rattle.mz_uses.specs.Outlines.{has_parameters}
+use Rattle.mz_uses.specs.Sketches.{has_parameters}
 use Rattle.mz_scoped.specs.Parts.{EnumTree, name_of}
 use Rattle.mz_scoped.specs.Scoped.{ScopedTree, shared_names, enum_names, name_unless, bare_name}
 use Rattle.mz_checks.specs.declared.meaning.Meaning.{Meaning}

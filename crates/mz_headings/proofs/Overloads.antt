@@ -4,7 +4,7 @@ use Rattle.std.specs.Prelude.{All}
 use Rattle.std.specs.List.{flat_map, enumerate_from}
 use Rattle.std.proofs.lemmas.List.Elements.{All-nil, All-cons}
 use Rattle.mz_tree.specs.Items.{FunctionTree}
-use Rattle.mz_uses.specs.Outlines.{has_parameters}
+use Rattle.mz_uses.specs.Sketches.{has_parameters}
 use Rattle.mz_scoped.specs.Scoped.{ScopedTree}
 use Rattle.mz_checks.specs.Checks.{numbered, applied_name, with_parameters}
 use Rattle.mz_headings.specs.Naming.{IsNamedFunction, AreNamed}

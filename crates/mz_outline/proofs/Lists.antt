@@ -9,7 +9,7 @@ use Rattle.mz_tree.specs.Tree.{Name, Tree, Part, Generator, Let, Based, Declarat
 use Rattle.mz_occurrence.specs.Sets.{with_name}
 use Rattle.mz_uses.specs.declared.name_use.NameUse.{NameUse}
 use Rattle.mz_uses.specs.Uses.{with_bound, with_generator, with_gens, with_let, with_lets, with_declaration, in_tree, in_trees, in_links, in_rows, in_branches, in_part, in_parts, in_generator, in_gens, in_let, in_lets, in_based, in_bases}
-use Rattle.mz_uses.specs.Outlines.{in_parameter, in_parameters, with_parameters}
+use Rattle.mz_uses.specs.Sketches.{in_parameter, in_parameters, with_parameters}
 
 pub trees_flat : {X : Type 0} (h : List Name) (f : X → Tree) (xs : List X) → in_trees h (pure.trees (map f xs)) ≡ flat_map (λ x. in_tree h (f x)) xs
 unfolding in_tree

@@ -3,19 +3,19 @@
 ghost use Rattle.std.specs.Prelude.{◌≡◌, ◌++◌, IfOk, OnOk, map};
 ghost use Rattle.mz_tree.specs.Views.{declaration};
 ghost use Rattle.mz_tree.specs.Items.{function_of};
-ghost use Rattle.mz_uses.specs.Outlines.{sketch, decl_sketch, function_sketch, in_parameter, in_parameters, with_parameters};
+ghost use Rattle.mz_uses.specs.Sketches.{sketch, decl_sketch, function_sketch, in_parameter, in_parameters, with_parameters};
 ghost use Rattle.mz_uses.specs.Uses.{with_declaration};
 
 use crate::hidden::Hidden;
 use crate::walk::{in_expression, in_type};
 use mz_base::Memory;
 use mz_tree::{Decl, Function};
-use mz_uses::{NameUse, Outline};
+use mz_uses::{NameUse, Sketch};
 use std::alloc::Global;
 
 /// What a declaration uses.
 #[tactic(auto, unfolding(mz_uses::specs::Uses::in_tree, mz_tree::specs::Views::declaration, mz_tree::specs::Views::written, mz_tree::specs::Views::tree))]
-pub fn outline_of_decl(alloc: Global, d: &Decl) -> Result<Outline, Memory>
+pub fn sketch_of_decl(alloc: Global, d: &Decl) -> Result<Sketch, Memory>
     ensures { IfOk result (λ o. sketch o ≡ decl_sketch (declaration d.now)) }
 {
     let mut hidden = Hidden::new(alloc);
@@ -25,7 +25,7 @@ pub fn outline_of_decl(alloc: Global, d: &Decl) -> Result<Outline, Memory>
     if let Some(value) = &d.value {
         in_expression(&mut rest, &mut hidden, value)?;
     }
-    Ok(Outline {
+    Ok(Sketch {
         name: d.name,
         applied: false,
         types,
@@ -56,7 +56,7 @@ fn in_parameters(out: &mut Vec<NameUse>, hidden: &mut Hidden, params: &[Decl]) -
 }
 
 /// What a function uses.
-pub fn outline_of_function(alloc: Global, f: &Function) -> Result<Outline, Memory>
+pub fn sketch_of_function(alloc: Global, f: &Function) -> Result<Sketch, Memory>
     ensures { IfOk result (λ o. sketch o ≡ function_sketch (function_of f.now)) }
 {
     let mut hidden = Hidden::new(alloc);
@@ -65,7 +65,7 @@ pub fn outline_of_function(alloc: Global, f: &Function) -> Result<Outline, Memor
     in_parameters(&mut types, &mut hidden, f.params.as_slice())?;
     in_type(&mut types, &mut hidden, &f.result)?;
     in_expression(&mut rest, &mut hidden, &f.body)?;
-    Ok(Outline {
+    Ok(Sketch {
         name: f.name,
         applied: !f.params.is_empty(),
         types,

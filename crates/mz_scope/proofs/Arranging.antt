@@ -22,7 +22,7 @@ use Rattle.mz_occurrence.specs.Given.{occurrences}
 use Rattle.mz_occurrence.specs.Sets.{holds}
 use Rattle.mz_uses.specs.declared.name_use.NameUse.{NameUse}
 use Rattle.mz_uses.specs.Uses.{in_tree}
-use Rattle.mz_uses.specs.Outlines.{Sketch, decl_sketch, function_sketch}
+use Rattle.mz_uses.specs.Sketches.{Sketch, decl_sketch, function_sketch}
 use Rattle.mz_dependency.specs.Dependencies.{sketch_at, meant_by, IsUsed, RefersTo, AreRanks, HaveRanks, IsSequence, IsStuckAt, IsBackAt}
 use Rattle.mz_dependency.specs.declared.sequence.Sequence.{Sequence}
 use Rattle.mz_dependency.specs.declared.sequence.Sequence.TheVariants.{Ordered, CyclicDecl, CyclicFunction}
@@ -149,10 +149,10 @@ cyclic_function p s f x stop k e i r =
     let l = function_counted p.functions.items f q.counted in
     subst (λ z. IfRefused z (HasCycle (parts_tree p))) (sym (r ∙ ap (λ z. Refused (fault_at Cyclic z)) (function_place p.functions.items f x l i))) (of_function f q)
 
--- a loop that makes the outline of each
+-- a loop that makes the sketch of each
 
-pub one_outlined : {X Y R : Type 0} (g : Y → R) (f : X → R) (all : List R) (so_far now : List Y) (y : Y) (xs : List X) (i : ℕ) (x : X) → all ≡ map g so_far ++ map f (drop i xs) → i < length xs → x ≡ get_or xs i x → g y ≡ f x → now ≡ so_far ++ y ∷ [] → all ≡ map g now ++ map f (drop (i + 1) xs)
-one_outlined g f all so_far now y xs i x k l e is n =
+pub one_sketched : {X Y R : Type 0} (g : Y → R) (f : X → R) (all : List R) (so_far now : List Y) (y : Y) (xs : List X) (i : ℕ) (x : X) → all ≡ map g so_far ++ map f (drop i xs) → i < length xs → x ≡ get_or xs i x → g y ≡ f x → now ≡ so_far ++ y ∷ [] → all ≡ map g now ++ map f (drop (i + 1) xs)
+one_sketched g f all so_far now y xs i x k l e is n =
     k ∙ ap (λ z. map g so_far ++ map f z) (drop_more xs i x l ∙ ap (λ z. z ∷ drop (i + 1) xs) (sym e))
     ∙ ap (λ z. map g so_far ++ z ∷ map f (drop (i + 1) xs)) (sym is)
     ∙ sym (append_assoc (map g so_far) (g y ∷ []) (map f (drop (i + 1) xs)))
@@ -164,8 +164,8 @@ dropped [] (suc i) h = refl
 dropped (x ∷ xs) zero h = absurd (omega (arith, h))
 dropped (x ∷ xs) (suc i) h = dropped xs i (omega (arith, h))
 
-pub all_outlined : {X Y R : Type 0} (g : Y → R) (f : X → R) (all : List R) (so_far : List Y) (xs : List X) (i : ℕ) → all ≡ map g so_far ++ map f (drop i xs) → length xs ≤ i → map g so_far ≡ all
-all_outlined g f all so_far xs i k l = sym (k ∙ ap (λ z. map g so_far ++ map f z) (dropped xs i l) ∙ append-nil (map g so_far))
+pub all_sketched : {X Y R : Type 0} (g : Y → R) (f : X → R) (all : List R) (so_far : List Y) (xs : List X) (i : ℕ) → all ≡ map g so_far ++ map f (drop i xs) → length xs ≤ i → map g so_far ≡ all
+all_sketched g f all so_far xs i k l = sym (k ∙ ap (λ z. map g so_far ++ map f z) (dropped xs i l) ∙ append-nil (map g so_far))
 
 pub mapped_twice : {X Y R : Type 0} (g : Y → R) (f : X → Y) (xs : List X) → map g (map f xs) ≡ map (λ x. g (f x)) xs
 mapped_twice g f [] = refl

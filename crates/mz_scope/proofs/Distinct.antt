@@ -14,7 +14,7 @@ use Rattle.mz_graph.specs.Order.{IsOrder, IsComplete}
 use Rattle.mz_occurrence.specs.declared.occurrence.Occurrence.{Occurrence}
 use Rattle.mz_occurrence.specs.Given.{enum_of, occurrences}
 use Rattle.mz_occurrence.specs.Sets.{holds}
-use Rattle.mz_uses.specs.Outlines.{decl_sketch}
+use Rattle.mz_uses.specs.Sketches.{decl_sketch}
 use Rattle.mz_dependency.specs.Dependencies.{sketch_at, AreDeclarations}
 use Rattle.mz_scoped.specs.Parts.{filled, declared_in, decls_of, function_in, functions_of, enums_of, unless, given_of, name_of, decl_at}
 use Rattle.mz_scoped.specs.Scoped.{AreDistinct, enum_names, bare_name}

@@ -15,7 +15,7 @@ use Rattle.mz_occurrence.specs.Occurrences.{is_par, in_tree, in_maybe, in_writte
 use Rattle.mz_occurrence.specs.Given.{cases_in, enum_of, listed, in_given, occurrences}
 use Rattle.mz_occurrence.specs.Sets.{holds}
 use Rattle.mz_occurrence.proofs.Lists.{flat_of_both}
-use Rattle.mz_uses.specs.Outlines.{has_parameters}
+use Rattle.mz_uses.specs.Sketches.{has_parameters}
 use Rattle.mz_scoped.specs.Parts.{declared_in, function_in, cases_at, given_cases, enum_in, enums_of, name_of}
 use Rattle.mz_scoped.specs.Scoped.{enum_names, name_unless, bare_name}
 use Rattle.mz_spaces.specs.Spaces.{declares, gives, name_in, names_with}

@@ -9,7 +9,7 @@ ghost use Rattle.mz_tree.specs.Items.{function_of};
 ghost use Rattle.mz_tree.specs.Views.{declaration};
 ghost use Rattle.mz_occurrence.specs.Given.{occurrences};
 ghost use Rattle.mz_occurrence.specs.StepsWalk.{items_of};
-ghost use Rattle.mz_uses.specs.Outlines.{sketch, decl_sketch, function_sketch};
+ghost use Rattle.mz_uses.specs.Sketches.{sketch, decl_sketch, function_sketch};
 ghost use Rattle.mz_dependency.specs.Answer.{IsAnswer};
 ghost use Rattle.mz_dependency.specs.Dependencies.{AreDeclarations};
 ghost use Rattle.mz_scoped.specs.Scoped.{scoped_tree, parts_tree, IsScoped, AreRanked};
@@ -20,31 +20,31 @@ ghost use Rattle.mz_spaces.specs.Tests.{AreNamed, refusal_of};
 use crate::testing::test_names;
 use mz_base::{Fault, Kind, Memory, Names, Span, Stop};
 use mz_dependency::{Sequence, sequence_of};
-use mz_outline::{outline_of_decl, outline_of_function};
+use mz_outline::{sketch_of_decl, sketch_of_function};
 use mz_scoped::{ModelParts, Scoped, arranged, model_parts};
 use mz_tree::{Data, Decl, Function, Sources};
-use mz_uses::Outline;
+use mz_uses::Sketch;
 use std::alloc::Global;
 
 /// What each declaration uses.
-fn decl_outlines(alloc: Global, decls: &[Decl]) -> Result<Vec<Outline>, Memory>
+fn decl_sketches(alloc: Global, decls: &[Decl]) -> Result<Vec<Sketch>, Memory>
     ensures { IfOk result (λ v. map sketch v.items ≡ map decl_sketch (map declaration decls.now)) }
 {
     let mut all = Vec::new(alloc);
     for d in decls {
-        let o = outline_of_decl(alloc, d)?;
+        let o = sketch_of_decl(alloc, d)?;
         all.push(o)?;
     }
     Ok(all)
 }
 
 /// What each function uses.
-fn function_outlines(alloc: Global, functions: &[Function]) -> Result<Vec<Outline>, Memory>
+fn function_sketches(alloc: Global, functions: &[Function]) -> Result<Vec<Sketch>, Memory>
     ensures { IfOk result (λ v. map sketch v.items ≡ map function_sketch (map function_of functions.now)) }
 {
     let mut all = Vec::new(alloc);
     for f in functions {
-        let o = outline_of_function(alloc, f)?;
+        let o = sketch_of_function(alloc, f)?;
         all.push(o)?;
     }
     Ok(all)
@@ -78,8 +78,8 @@ fn sequence_in(alloc: Global, parts: &ModelParts) -> Result<Sequence, Memory>
     requires { AreDeclarations (map decl_sketch (parts_tree parts.now).decls) }
     ensures { IfOk result (IsAnswer (map decl_sketch (parts_tree parts.now).decls) (map function_sketch (parts_tree parts.now).functions)) }
 {
-    let decls = decl_outlines(alloc, parts.decls.as_slice())?;
-    let functions = function_outlines(alloc, parts.functions.as_slice())?;
+    let decls = decl_sketches(alloc, parts.decls.as_slice())?;
+    let functions = function_sketches(alloc, parts.functions.as_slice())?;
     let sequence = sequence_of(alloc, decls.as_slice(), functions.as_slice())?;
     Ok(sequence)
 }

@@ -9,7 +9,7 @@ use Rattle.mz_tree.specs.Items.{GoalTree, FunctionTree, ItemTree, function_of, g
 use Rattle.mz_tree.specs.Views.{tree, declaration}
 use Rattle.mz_tree.specs.Data.{Given, given}
 use Rattle.mz_occurrence.specs.Sets.{holds}
-use Rattle.mz_uses.specs.Outlines.{Sketch, decl_sketch, function_sketch, has_parameters}
+use Rattle.mz_uses.specs.Sketches.{Sketch, decl_sketch, function_sketch, has_parameters}
 use Rattle.mz_dependency.specs.Dependencies.{IsSequence, IsStuckAt, IsBackAt, AreRanks}
 use Rattle.mz_scoped.specs.declared.parts.ModelParts.{ModelParts}
 use Rattle.mz_scoped.specs.declared.scoped.Scoped.{Scoped}

@@ -4,7 +4,7 @@ use Rattle.mz_graph.specs.Graph.{Graph, Edge, IsIn}
 use Rattle.mz_graph.specs.Order.{Continues, over, turn, IsOrder}
 use Rattle.mz_graph.proofs.Membership.{in_or_not, in_front}
 use Rattle.mz_uses.specs.declared.name_use.NameUse.{NameUse}
-use Rattle.mz_uses.specs.Outlines.{Sketch}
+use Rattle.mz_uses.specs.Sketches.{Sketch}
 use Rattle.mz_dependency.specs.Dependencies.{sketch_at, RefersTo, AreRanks}
 use Rattle.mz_dependency.specs.StepsFaithful.{IsName, of_function, of_decl, TypeEdge, to_name, to_decl, AreTypes}
 

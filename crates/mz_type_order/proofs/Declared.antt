@@ -7,7 +7,7 @@ use Rattle.std.proofs.lemmas.Bool.{eq-eqb}
 use Rattle.mz_tree.specs.Tree as pure
 use Rattle.mz_tree.specs.Tree.{Declaration}
 use Rattle.mz_occurrence.specs.Sets.{holds}
-use Rattle.mz_uses.specs.Outlines.{decl_sketch}
+use Rattle.mz_uses.specs.Sketches.{decl_sketch}
 use Rattle.mz_dependency.specs.Dependencies.{sketch_at, AreDeclarations}
 use Rattle.mz_scoped.specs.Parts.{name_of}
 use Rattle.mz_scoped.specs.Scoped.{ScopedTree, AreDistinct, shared_names, enum_names, bare_name}

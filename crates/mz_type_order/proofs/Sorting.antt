@@ -8,7 +8,7 @@ use Rattle.mz_graph.specs.Graph.{Graph, Edge, IsIn}
 use Rattle.mz_graph.specs.Order.{Continues, turn, IsOrder}
 use Rattle.mz_graph.proofs.Membership.{below_or_not, old_or_last, in_front, in_last}
 use Rattle.mz_uses.specs.declared.name_use.NameUse.{NameUse}
-use Rattle.mz_uses.specs.Outlines.{Sketch, decl_sketch, function_sketch}
+use Rattle.mz_uses.specs.Sketches.{Sketch, decl_sketch, function_sketch}
 use Rattle.mz_dependency.specs.Dependencies.{sketch_at}
 use Rattle.mz_dependency.specs.StepsFaithful.{HasTypes, of_function as on_function, of_decl as on_decl, AreTypes}
 use Rattle.mz_dependency.specs.StepsGraphs.{node_of, base_of}

@@ -3,7 +3,7 @@
 ghost use Rattle.std.specs.Prelude.{◌≡◌, map, ◌++◌, IfOk, OnOk};
 ghost use Rattle.mz_tree.specs.Views.{declaration};
 ghost use Rattle.mz_tree.specs.Items.{function_of};
-ghost use Rattle.mz_uses.specs.Outlines.{sketch, decl_sketch, function_sketch};
+ghost use Rattle.mz_uses.specs.Sketches.{sketch, decl_sketch, function_sketch};
 ghost use Rattle.mz_scoped.specs.Scoped.{scoped_tree, shared_names, AreDistinct, AreRanked};
 ghost use Rattle.mz_type_order.specs.Subjects.{subject, subject_at, subjects_in, IsOrderOf};
 
@@ -11,31 +11,31 @@ use crate::subject::Subject;
 use mz_base::Memory;
 use mz_dependency::type_graph;
 use mz_graph::order_of;
-use mz_outline::{outline_of_decl, outline_of_function};
+use mz_outline::{sketch_of_decl, sketch_of_function};
 use mz_scoped::Scoped;
 use mz_tree::{Decl, Function};
-use mz_uses::Outline;
+use mz_uses::Sketch;
 use std::alloc::Global;
 
 /// What each declaration uses.
-fn decl_outlines(alloc: Global, decls: &[Decl]) -> Result<Vec<Outline>, Memory>
+fn decl_sketches(alloc: Global, decls: &[Decl]) -> Result<Vec<Sketch>, Memory>
     ensures { IfOk result (λ v. map sketch v.items ≡ map decl_sketch (map declaration decls.now)) }
 {
     let mut all = Vec::new(alloc);
     for d in decls {
-        let o = outline_of_decl(alloc, d)?;
+        let o = sketch_of_decl(alloc, d)?;
         all.push(o)?;
     }
     Ok(all)
 }
 
 /// What each function uses.
-fn function_outlines(alloc: Global, functions: &[Function]) -> Result<Vec<Outline>, Memory>
+fn function_sketches(alloc: Global, functions: &[Function]) -> Result<Vec<Sketch>, Memory>
     ensures { IfOk result (λ v. map sketch v.items ≡ map function_sketch (map function_of functions.now)) }
 {
     let mut all = Vec::new(alloc);
     for f in functions {
-        let o = outline_of_function(alloc, f)?;
+        let o = sketch_of_function(alloc, f)?;
         all.push(o)?;
     }
     Ok(all)
@@ -83,8 +83,8 @@ pub fn type_order(alloc: Global, scoped: &Scoped) -> Result<Vec<Subject>, Memory
     requires ranked { AreRanked (scoped_tree scoped.now) }
     ensures { IfOk result (λ v. IsOrderOf (scoped_tree scoped.now) (map subject v.items)) }
 {
-    let decls = decl_outlines(alloc, scoped.decls.as_slice())?;
-    let functions = function_outlines(alloc, scoped.functions.as_slice())?;
+    let decls = decl_sketches(alloc, scoped.decls.as_slice())?;
+    let functions = function_sketches(alloc, scoped.functions.as_slice())?;
     let graph = type_graph(alloc, decls.as_slice(), functions.as_slice())?;
     let order = order_of(alloc, graph.as_slice())?;
     let base = graph.len() - decls.len();

@@ -1,2 +1,2 @@
-pub mod Outlines
+pub mod Sketches
 pub mod Uses

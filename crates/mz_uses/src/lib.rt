@@ -2,7 +2,7 @@
 #![tactic(auto)]
 
 mod name_use;
-mod outline;
+mod sketch;
 
 pub use name_use::NameUse;
-pub use outline::Outline;
+pub use sketch::Sketch;

@@ -6,7 +6,7 @@ use Rattle.mz_dependency.proofs.Making.{one_made, all_made}
 use Rattle.mz_dependency.proofs.listing.type_rows.Goals as goal
 
 pub loop-o-preserved : goal.loop-o-preserved
-loop-o-preserved c = one_made (λ s. callees_in c.args.first c.args.tables.now.bare c.args.tables.now.applied s.types ++ mentions_in c.args.base c.args.tables.now.decls s.types) _ (graph_of c.loop-o.rows.items) (graph_of c.push.new.self.items) c.in_ok-row.row.items c.args.outlines.now c.loop-o.o-index c.o-item.result c.loop-o.invariant c.loop-o-test.true c.o-item.is c.in_ok-row.ensures (ap (λ z. graph_of z) c.in_ok-push.ensures.items ∙ rows_of_both c.loop-o.rows.items _)
+loop-o-preserved c = one_made (λ s. callees_in c.args.first c.args.tables.now.bare c.args.tables.now.applied s.types ++ mentions_in c.args.base c.args.tables.now.decls s.types) _ (graph_of c.loop-o.rows.items) (graph_of c.push.new.self.items) c.in_ok-row.row.items c.args.sketches.now c.loop-o.o-index c.o-item.result c.loop-o.invariant c.loop-o-test.true c.o-item.is c.in_ok-row.ensures (ap (λ z. graph_of z) c.in_ok-push.ensures.items ∙ rows_of_both c.loop-o.rows.items _)
 
 pub returns : goal.returns
-returns c = all_made (λ s. callees_in c.args.first c.args.tables.now.bare c.args.tables.now.applied s.types ++ mentions_in c.args.base c.args.tables.now.decls s.types) _ (graph_of c.loop-o.rows.items) c.args.outlines.now c.loop-o.o-index c.loop-o.invariant c.loop-o-test.false
+returns c = all_made (λ s. callees_in c.args.first c.args.tables.now.bare c.args.tables.now.applied s.types ++ mentions_in c.args.base c.args.tables.now.decls s.types) _ (graph_of c.loop-o.rows.items) c.args.sketches.now c.loop-o.o-index c.loop-o.invariant c.loop-o-test.false

@@ -2,7 +2,7 @@ use Rattle.std.proofs.Common.{refl, map, ap, sym, subst, length}
 use Rattle.mz_graph.specs.Graph.{Graph, graph_of, IsGraph}
 use Rattle.mz_order.specs.Depends.{AreUses, HaveComponents}
 use Rattle.mz_order.specs.Evaluation.{IsEvaluation}
-use Rattle.mz_uses.specs.Outlines.{sketch}
+use Rattle.mz_uses.specs.Sketches.{sketch}
 use Rattle.mz_dependency.proofs.Answering as answering
 use Rattle.mz_dependency.proofs.Closing as closing
 use Rattle.mz_dependency.proofs.Making.{of_four, evaluated, none_found, first_found}

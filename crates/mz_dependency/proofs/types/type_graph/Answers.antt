@@ -1,6 +1,6 @@
 use Rattle.std.proofs.Common.{map}
 use Rattle.mz_graph.specs.Graph.{graph_of}
-use Rattle.mz_uses.specs.Outlines.{sketch}
+use Rattle.mz_uses.specs.Sketches.{sketch}
 use Rattle.mz_dependency.proofs.Building as building
 use Rattle.mz_dependency.proofs.Closing as closing
 use Rattle.mz_dependency.proofs.types.type_graph.Goals as goal

@@ -1,7 +1,7 @@
 use Rattle.std.proofs.Common.{◌+◌, drop, map, ap, sym, ◌∙◌}
 use Rattle.mz_tree.specs.Views.{declaration}
 use Rattle.mz_uses.specs.Uses.{with_declaration}
-use Rattle.mz_uses.specs.Outlines.{in_parameter, in_parameters, with_parameters}
+use Rattle.mz_uses.specs.Sketches.{in_parameter, in_parameters, with_parameters}
 use Rattle.mz_outline.proofs.Lists.{step, parameters_from, with_parameters_from, parameters_read, with_parameters_read}
 use Rattle.mz_outline.proofs.making.in_parameters.Goals as goal
 

@@ -1,6 +1,6 @@
 use Rattle.std.proofs.Common.{◌≡◌, ◌++◌, drop, map}
 use Rattle.mz_tree.specs.Views.{declaration}
-use Rattle.mz_uses.specs.Outlines.{in_parameters, with_parameters}
+use Rattle.mz_uses.specs.Sketches.{in_parameters, with_parameters}
 use Rattle.mz_outline.proofs.making.in_parameters.Given as goal
 
 abbrev pub invariant-loop-p : goal.invariant-loop-p

@@ -3,7 +3,7 @@ use Rattle.std.specs.List.{flat_map}
 use Rattle.mz_tree.specs.Data.{given}
 use Rattle.mz_occurrence.specs.Given.{occurrences}
 use Rattle.mz_occurrence.specs.StepsWalk.{items_of}
-use Rattle.mz_uses.specs.Outlines.{decl_sketch}
+use Rattle.mz_uses.specs.Sketches.{decl_sketch}
 use Rattle.mz_dependency.specs.Dependencies.{AreDeclarations}
 use Rattle.mz_scoped.specs.Scoped.{ScopedTree, scoped_tree, parts_tree, IsScoped, AreRanked}
 use Rattle.mz_scope.specs.Scope.{IsRefused, by_a_cycle}

@@ -1,5 +1,5 @@
 use Rattle.std.proofs.Common.{◌≡◌, ◌++◌, drop, map}
-use Rattle.mz_uses.specs.Outlines.{sketch}
+use Rattle.mz_uses.specs.Sketches.{sketch}
 use Rattle.mz_dependency.specs.StepsGraphs.{numbers_by}
 use Rattle.mz_dependency.proofs.tables.Tables.numbers.Given as goal
 

@@ -5,7 +5,7 @@ use mz_base::Name;
 
 /// What a declaration or a function uses of the names outside.
 #[derive(Debug, Drop)]
-pub struct Outline {
+pub struct Sketch {
     pub name: Name,
     /// Whether it is a function with parameters.
     pub applied: bool,

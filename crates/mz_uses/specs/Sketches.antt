@@ -6,7 +6,7 @@ use Rattle.mz_tree.specs.Tree.{Name, Tree, Declaration}
 use Rattle.mz_tree.specs.Items.{FunctionTree}
 use Rattle.mz_uses.specs.declared.name_use.NameUse.{NameUse}
 use Rattle.mz_uses.specs.declared.name_use.NameUse.TheVariants.{Mention, Call}
-use Rattle.mz_uses.specs.declared.outline.Outline.{Outline}
+use Rattle.mz_uses.specs.declared.sketch.Sketch.{Sketch as CodeSketch}
 use Rattle.mz_uses.specs.Uses.{in_tree, in_maybe, in_written, with_declaration}
 
 -- a declaration's or a function's name, whether it is in the space of functions with parameters, and what it uses
@@ -16,7 +16,7 @@ pub record Sketch : Type 0 where
   pub types : List NameUse
   pub rest : List NameUse
 
-abbrev pub sketch : Outline → Sketch
+abbrev pub sketch : CodeSketch → Sketch
 sketch o = record { name = o.name; applied = o.applied; types = o.types.items; rest = o.rest.items }
 
 -- all that it uses
