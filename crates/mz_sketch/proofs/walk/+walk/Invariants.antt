@@ -3,7 +3,7 @@ use Rattle.std.specs.List.{flat_map}
 use Rattle.mz_tree.specs.Tree.{trees, gens, lets}
 use Rattle.mz_tree.specs.Views.{tree, part, generator, let_of, based}
 use Rattle.mz_uses.specs.Uses.{in_tree, in_trees, in_part, in_gens, in_lets, in_based, with_gens, with_lets}
-use Rattle.mz_outline.proofs.walk.+walk.Given as goal
+use Rattle.mz_sketch.proofs.walk.+walk.Given as goal
 
 abbrev pub invariant-in_all-loop-e : goal.invariant-in_all-loop-e
 invariant-in_all-loop-e l = record {

@@ -2,8 +2,8 @@ use Rattle.std.proofs.Common.{◌+◌, drop, map, ap, sym, ◌∙◌}
 use Rattle.mz_tree.specs.Views.{declaration}
 use Rattle.mz_uses.specs.Uses.{with_declaration}
 use Rattle.mz_uses.specs.Sketches.{in_parameter, in_parameters, with_parameters}
-use Rattle.mz_outline.proofs.Lists.{step, parameters_from, with_parameters_from, parameters_read, with_parameters_read}
-use Rattle.mz_outline.proofs.making.in_parameters.Goals as goal
+use Rattle.mz_sketch.proofs.Lists.{step, parameters_from, with_parameters_from, parameters_read, with_parameters_read}
+use Rattle.mz_sketch.proofs.making.in_parameters.Goals as goal
 
 pub loop-p-preserved : goal.loop-p-preserved
 loop-p-preserved c = record {

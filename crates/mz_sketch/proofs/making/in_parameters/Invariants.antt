@@ -1,7 +1,7 @@
 use Rattle.std.proofs.Common.{◌≡◌, ◌++◌, drop, map}
 use Rattle.mz_tree.specs.Views.{declaration}
 use Rattle.mz_uses.specs.Sketches.{in_parameters, with_parameters}
-use Rattle.mz_outline.proofs.making.in_parameters.Given as goal
+use Rattle.mz_sketch.proofs.making.in_parameters.Given as goal
 
 abbrev pub invariant-loop-p : goal.invariant-loop-p
 invariant-loop-p l = record {

@@ -3,10 +3,10 @@ use Rattle.std.specs.Prelude.{nat_eq}
 use Rattle.mz_tree.specs.Tree.{trees, links, branches, gens, lets}
 use Rattle.mz_tree.specs.Views.{tree, part, generator, let_of, based, link, branch}
 use Rattle.mz_uses.specs.Uses.{applied, in_links, in_branches, in_tree, in_trees, in_part, in_generator, in_gens, in_let, in_lets, in_based, with_generator, with_gens, with_let, with_lets}
-use Rattle.mz_outline.proofs.Lists.{one_read, all_read, trees_flat, links_flat, branches_flat, parts_flat, bases_flat, step, gens_from, with_gens_from, lets_from, with_lets_from, gens_read, lets_read, with_gens_read, with_lets_read}
-use Rattle.mz_outline.proofs.Extending.{begins_gens, begins_lets, left_after}
-use Rattle.mz_outline.proofs.Seen.{after_both, after_scope, in_array_comp, in_set_comp, in_let_form, in_rows_form, in_gen_call, in_chain, empty_same, in_call, in_access, in_if}
-use Rattle.mz_outline.proofs.walk.+walk.Goals as goal
+use Rattle.mz_sketch.proofs.Lists.{one_read, all_read, trees_flat, links_flat, branches_flat, parts_flat, bases_flat, step, gens_from, with_gens_from, lets_from, with_lets_from, gens_read, lets_read, with_gens_read, with_lets_read}
+use Rattle.mz_sketch.proofs.Extending.{begins_gens, begins_lets, left_after}
+use Rattle.mz_sketch.proofs.Seen.{after_both, after_scope, in_array_comp, in_set_comp, in_let_form, in_rows_form, in_gen_call, in_chain, empty_same, in_call, in_access, in_if}
+use Rattle.mz_sketch.proofs.walk.+walk.Goals as goal
 
 pub in_all-loop-e-preserved : goal.in_all-loop-e-preserved
 in_all-loop-e-preserved t c = record {

@@ -16,7 +16,7 @@ use Rattle.mz_tree.specs.Views.{tree, shape, let_of, part, based, declaration, g
 use Rattle.mz_tree.proofs.Looks.{tree_is, shape_is}
 use Rattle.mz_uses.specs.declared.name_use.NameUse.{NameUse}
 use Rattle.mz_uses.specs.Uses.{with_gens, with_lets, applied, is_empty, in_tree, in_trees, in_links, in_shape, in_gens, in_lets, in_branches}
-use Rattle.mz_outline.proofs.Lists.{rows_flat}
+use Rattle.mz_sketch.proofs.Lists.{rows_flat}
 
 form_is : (h : List Name) (e : Expr) (f : Form) (s : Shape) → e.form ≡ f → shape f ≡ s → in_tree h (tree e) ≡ in_shape h s
 unfolding in_tree

@@ -1,7 +1,7 @@
 use Rattle.std.proofs.Common.{◌+◌, drop, ap, sym, ◌∙◌}
 use Rattle.mz_uses.specs.Uses.{with_bound}
-use Rattle.mz_outline.proofs.Lists.{bound_from, bound_read}
-use Rattle.mz_outline.proofs.walk.hide_bound.Goals as goal
+use Rattle.mz_sketch.proofs.Lists.{bound_from, bound_read}
+use Rattle.mz_sketch.proofs.walk.hide_bound.Goals as goal
 
 pub loop-name-preserved : goal.loop-name-preserved
 loop-name-preserved c =
