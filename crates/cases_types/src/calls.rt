@@ -5,7 +5,7 @@ use crate::order::{Parts, make};
 use mz_base::Memory;
 use mz_builtin::{entries, fitting, global, known, signatures};
 use mz_core::{Base, Ix, Signature, TypeInst};
-use mz_overload::{Choice, choose};
+use mz_overload::{Resolution, choose};
 use std::alloc::Global;
 
 // Parts the numbers of entries from their signatures.
@@ -21,14 +21,14 @@ fn push_parted(
     Ok(())
 }
 
-fn push_choice(out: &mut String, numbers: &[u32], choice: Choice) -> Result<(), Memory> {
-    match choice {
-        Choice::One(k) => {
+fn push_resolution(out: &mut String, numbers: &[u32], found: Resolution) -> Result<(), Memory> {
+    match found {
+        Resolution::One(k) => {
             let taken = numbers.get(k as usize).copied();
             write!(out, "takes {k}, entry {taken:?}")?;
         }
-        Choice::NoneFits => out.push_str("none fits")?,
-        Choice::Ambiguous => out.push_str("ambiguous")?,
+        Resolution::NoneFits => out.push_str("none fits")?,
+        Resolution::Ambiguous => out.push_str("ambiguous")?,
     }
     Ok(())
 }
@@ -41,7 +41,7 @@ fn push_call(alloc: Global, out: &mut String, name: &str, args: &[TypeInst]) -> 
     let mut numbers = Vec::new(alloc);
     let mut types = Vec::new(alloc);
     push_parted(few, &mut numbers, &mut types)?;
-    push_choice(out, &numbers, choose(&types, args))?;
+    push_resolution(out, &numbers, choose(&types, args))?;
     out.push_str("\n")?;
     Ok(())
 }

@@ -12,9 +12,9 @@ use Rattle.mz_core.specs.Types.{PlainType, is_allowed}
 use Rattle.mz_core.specs.Coercions.{PathLink}
 use Rattle.mz_core.specs.Join.{join}
 use Rattle.mz_core.specs.Tree.{Tree, Gen, Item, declares, constrains, node, coerce, type_of, place_of}
-use Rattle.mz_overload.specs.declared.choice.Choice.{Choice}
-use Rattle.mz_overload.specs.declared.choice.Choice.TheVariants.{One, NoneFits, Ambiguous}
-use Rattle.mz_overload.specs.Best.{choice}
+use Rattle.mz_overload.specs.declared.resolution.Resolution.{Resolution}
+use Rattle.mz_overload.specs.declared.resolution.Resolution.TheVariants.{One, NoneFits, Ambiguous}
+use Rattle.mz_overload.specs.Best.{resolution}
 use Rattle.mz_builtin.specs.Signatures.{fitting}
 use Rattle.mz_tree.specs.Tree.{Name}
 use Rattle.mz_tree.specs.declared.expr.BinOp.{BinOp}
@@ -94,14 +94,14 @@ module _ (P : Span → Type 0) where
   unfit_kind true = tt
   unfit_kind false = tt
 
-  chosen_stops : (at : Span) (name : List ℕ) (args : List PlainType) (cands : List Candidate) (c : Choice) → P at → Stops P (Any P) (chosen at name args cands c)
+  chosen_stops : (at : Span) (name : List ℕ) (args : List PlainType) (cands : List Candidate) (c : Resolution) → P at → Stops P (Any P) (chosen at name args cands c)
   chosen_stops at name args cands (One k) p = is_found P kind.NoOverload at (slice_get cands k) (p, tt)
   chosen_stops at name args cands NoneFits p = (p, unfit_kind (is_left_out name args))
   chosen_stops at name args cands Ambiguous p = (p, tt)
 
   best_stops : (at : Span) (name : List ℕ) (args : List PlainType) (cands : List Candidate) → P at → Stops P (Any P) (best at name args cands)
   unfolding best
-  best_stops at name args cands p = chosen_stops at name args cands (choice (map (λ c. c.signature) cands) args) p
+  best_stops at name args cands p = chosen_stops at name args cands (resolution (map (λ c. c.signature) cands) args) p
 
   called_at : (at : Span) (t : PlainType) (c : Callee) (es : List Tree) → P at → At (called_node at t c es)
   called_at at t (callee.Function f) es p = p

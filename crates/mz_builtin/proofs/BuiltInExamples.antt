@@ -1,7 +1,7 @@
 -- Worked examples of built-ins: a call's arguments, and what it takes.
 use Rattle.std.proofs.Common.{◌≡◌, List, [], ◌∷◌, map, refl, codes}
 use Rattle.mz_core.specs.Order.{below, same_type, same_dims, dims_below}
-use Rattle.mz_overload.specs.Best.{all_below, is_least, choice}
+use Rattle.mz_overload.specs.Best.{all_below, is_least, resolution}
 use Rattle.mz_builtin.specs.Table.{built_ins, globals, table}
 use Rattle.mz_builtin.specs.Readings.{with_number, with_base, with_indices, enums_from, index_enums_from, with_rank, ranks_from, choices, cases, sets_of_cases, scalars, sets, meanings, readings_of, result_var, opt_of, base_of, type_of, types_with, types_of_rank, array_types, joined, products, index_lists, index_sets, param_types, given_indices, array_indices, result_type, numbered, all_params, with_mark, with_meaning, of_entry}
 use Rattle.mz_builtin.specs.Signatures.{has_name, of_named, made, signatures, fitting}
@@ -23,7 +23,7 @@ calls_of_sets =
     ∷ []
 
 calls_of_sets_are_so : map called calls_of_sets ≡ map expected calls_of_sets
-unfolding below same_type same_dims dims_below all_below is_least choice built_ins globals table with_number with_base with_indices enums_from index_enums_from with_rank ranks_from choices cases sets_of_cases scalars sets meanings readings_of result_var opt_of base_of type_of types_with types_of_rank array_types joined products index_lists index_sets param_types given_indices array_indices result_type numbered all_params with_mark with_meaning of_entry has_name of_named made signatures fitting call
+unfolding below same_type same_dims dims_below all_below is_least resolution built_ins globals table with_number with_base with_indices enums_from index_enums_from with_rank ranks_from choices cases sets_of_cases scalars sets meanings readings_of result_var opt_of base_of type_of types_with types_of_rank array_types joined products index_lists index_sets param_types given_indices array_indices result_type numbered all_params with_mark with_meaning of_entry has_name of_named made signatures fitting call
 calls_of_sets_are_so = refl
 
 abbrev calls_of_arithmetic : List Example
@@ -46,7 +46,7 @@ calls_of_arithmetic =
     ∷ []
 
 calls_of_arithmetic_are_so : map called calls_of_arithmetic ≡ map expected calls_of_arithmetic
-unfolding below same_type same_dims dims_below all_below is_least choice built_ins globals table with_number with_base with_indices enums_from index_enums_from with_rank ranks_from choices cases sets_of_cases scalars sets meanings readings_of result_var opt_of base_of type_of types_with types_of_rank array_types joined products index_lists index_sets param_types given_indices array_indices result_type numbered all_params with_mark with_meaning of_entry has_name of_named made signatures fitting call
+unfolding below same_type same_dims dims_below all_below is_least resolution built_ins globals table with_number with_base with_indices enums_from index_enums_from with_rank ranks_from choices cases sets_of_cases scalars sets meanings readings_of result_var opt_of base_of type_of types_with types_of_rank array_types joined products index_lists index_sets param_types given_indices array_indices result_type numbered all_params with_mark with_meaning of_entry has_name of_named made signatures fitting call
 calls_of_arithmetic_are_so = refl
 
 abbrev calls_of_folds : List Example
@@ -81,7 +81,7 @@ calls_of_folds =
     ∷ []
 
 calls_of_folds_are_so : map called calls_of_folds ≡ map expected calls_of_folds
-unfolding below same_type same_dims dims_below all_below is_least choice built_ins globals table with_number with_base with_indices enums_from index_enums_from with_rank ranks_from choices cases sets_of_cases scalars sets meanings readings_of result_var opt_of base_of type_of types_with types_of_rank array_types joined products index_lists index_sets param_types given_indices array_indices result_type numbered all_params with_mark with_meaning of_entry has_name of_named made signatures fitting call
+unfolding below same_type same_dims dims_below all_below is_least resolution built_ins globals table with_number with_base with_indices enums_from index_enums_from with_rank ranks_from choices cases sets_of_cases scalars sets meanings readings_of result_var opt_of base_of type_of types_with types_of_rank array_types joined products index_lists index_sets param_types given_indices array_indices result_type numbered all_params with_mark with_meaning of_entry has_name of_named made signatures fitting call
 calls_of_folds_are_so = refl
 
 abbrev calls_of_arrays : List Example
@@ -121,7 +121,7 @@ calls_of_arrays =
     ∷ []
 
 calls_of_arrays_are_so : map called calls_of_arrays ≡ map expected calls_of_arrays
-unfolding below same_type same_dims dims_below all_below is_least choice built_ins globals table with_number with_base with_indices enums_from index_enums_from with_rank ranks_from choices cases sets_of_cases scalars sets meanings readings_of result_var opt_of base_of type_of types_with types_of_rank array_types joined products index_lists index_sets param_types given_indices array_indices result_type numbered all_params with_mark with_meaning of_entry has_name of_named made signatures fitting call
+unfolding below same_type same_dims dims_below all_below is_least resolution built_ins globals table with_number with_base with_indices enums_from index_enums_from with_rank ranks_from choices cases sets_of_cases scalars sets meanings readings_of result_var opt_of base_of type_of types_with types_of_rank array_types joined products index_lists index_sets param_types given_indices array_indices result_type numbered all_params with_mark with_meaning of_entry has_name of_named made signatures fitting call
 calls_of_arrays_are_so = refl
 
 abbrev calls_of_bounds : List Example
@@ -142,7 +142,7 @@ calls_of_bounds =
     ∷ []
 
 calls_of_bounds_are_so : map called calls_of_bounds ≡ map expected calls_of_bounds
-unfolding below same_type same_dims dims_below all_below is_least choice built_ins globals table with_number with_base with_indices enums_from index_enums_from with_rank ranks_from choices cases sets_of_cases scalars sets meanings readings_of result_var opt_of base_of type_of types_with types_of_rank array_types joined products index_lists index_sets param_types given_indices array_indices result_type numbered all_params with_mark with_meaning of_entry has_name of_named made signatures fitting call
+unfolding below same_type same_dims dims_below all_below is_least resolution built_ins globals table with_number with_base with_indices enums_from index_enums_from with_rank ranks_from choices cases sets_of_cases scalars sets meanings readings_of result_var opt_of base_of type_of types_with types_of_rank array_types joined products index_lists index_sets param_types given_indices array_indices result_type numbered all_params with_mark with_meaning of_entry has_name of_named made signatures fitting call
 calls_of_bounds_are_so = refl
 
 abbrev calls_of_options_and_enums : List Example
@@ -162,7 +162,7 @@ calls_of_options_and_enums =
     ∷ []
 
 calls_of_options_and_enums_are_so : map called calls_of_options_and_enums ≡ map expected calls_of_options_and_enums
-unfolding below same_type same_dims dims_below all_below is_least choice built_ins globals table with_number with_base with_indices enums_from index_enums_from with_rank ranks_from choices cases sets_of_cases scalars sets meanings readings_of result_var opt_of base_of type_of types_with types_of_rank array_types joined products index_lists index_sets param_types given_indices array_indices result_type numbered all_params with_mark with_meaning of_entry has_name of_named made signatures fitting call
+unfolding below same_type same_dims dims_below all_below is_least resolution built_ins globals table with_number with_base with_indices enums_from index_enums_from with_rank ranks_from choices cases sets_of_cases scalars sets meanings readings_of result_var opt_of base_of type_of types_with types_of_rank array_types joined products index_lists index_sets param_types given_indices array_indices result_type numbered all_params with_mark with_meaning of_entry has_name of_named made signatures fitting call
 calls_of_options_and_enums_are_so = refl
 
 abbrev calls_of_assertions_and_texts : List Example
@@ -192,5 +192,5 @@ calls_of_assertions_and_texts =
     ∷ []
 
 calls_of_assertions_and_texts_are_so : map called calls_of_assertions_and_texts ≡ map expected calls_of_assertions_and_texts
-unfolding below same_type same_dims dims_below all_below is_least choice built_ins globals table with_number with_base with_indices enums_from index_enums_from with_rank ranks_from choices cases sets_of_cases scalars sets meanings readings_of result_var opt_of base_of type_of types_with types_of_rank array_types joined products index_lists index_sets param_types given_indices array_indices result_type numbered all_params with_mark with_meaning of_entry has_name of_named made signatures fitting call
+unfolding below same_type same_dims dims_below all_below is_least resolution built_ins globals table with_number with_base with_indices enums_from index_enums_from with_rank ranks_from choices cases sets_of_cases scalars sets meanings readings_of result_var opt_of base_of type_of types_with types_of_rank array_types joined products index_lists index_sets param_types given_indices array_indices result_type numbered all_params with_mark with_meaning of_entry has_name of_named made signatures fitting call
 calls_of_assertions_and_texts_are_so = refl

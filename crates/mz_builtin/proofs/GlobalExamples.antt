@@ -1,7 +1,7 @@
 -- Worked examples of globals: a call's arguments, and what it takes.
 use Rattle.std.proofs.Common.{◌≡◌, List, [], ◌∷◌, map, refl, codes}
 use Rattle.mz_core.specs.Order.{below, same_type, same_dims, dims_below}
-use Rattle.mz_overload.specs.Best.{all_below, is_least, choice}
+use Rattle.mz_overload.specs.Best.{all_below, is_least, resolution}
 use Rattle.mz_builtin.specs.Table.{built_ins, globals, table}
 use Rattle.mz_builtin.specs.Readings.{with_number, with_base, with_indices, enums_from, index_enums_from, with_rank, ranks_from, choices, cases, sets_of_cases, scalars, sets, meanings, readings_of, result_var, opt_of, base_of, type_of, types_with, types_of_rank, array_types, joined, products, index_lists, index_sets, param_types, given_indices, array_indices, result_type, numbered, all_params, with_mark, with_meaning, of_entry}
 use Rattle.mz_builtin.specs.Signatures.{has_name, of_named, made, signatures, fitting}
@@ -31,7 +31,7 @@ calls_of_order =
     ∷ []
 
 calls_of_order_are_so : map called calls_of_order ≡ map expected calls_of_order
-unfolding below same_type same_dims dims_below all_below is_least choice built_ins globals table with_number with_base with_indices enums_from index_enums_from with_rank ranks_from choices cases sets_of_cases scalars sets meanings readings_of result_var opt_of base_of type_of types_with types_of_rank array_types joined products index_lists index_sets param_types given_indices array_indices result_type numbered all_params with_mark with_meaning of_entry has_name of_named made signatures fitting call
+unfolding below same_type same_dims dims_below all_below is_least resolution built_ins globals table with_number with_base with_indices enums_from index_enums_from with_rank ranks_from choices cases sets_of_cases scalars sets meanings readings_of result_var opt_of base_of type_of types_with types_of_rank array_types joined products index_lists index_sets param_types given_indices array_indices result_type numbered all_params with_mark with_meaning of_entry has_name of_named made signatures fitting call
 calls_of_order_are_so = refl
 
 abbrev calls_of_count : List Example
@@ -57,7 +57,7 @@ calls_of_count =
     ∷ []
 
 calls_of_count_are_so : map called calls_of_count ≡ map expected calls_of_count
-unfolding below same_type same_dims dims_below all_below is_least choice built_ins globals table with_number with_base with_indices enums_from index_enums_from with_rank ranks_from choices cases sets_of_cases scalars sets meanings readings_of result_var opt_of base_of type_of types_with types_of_rank array_types joined products index_lists index_sets param_types given_indices array_indices result_type numbered all_params with_mark with_meaning of_entry has_name of_named made signatures fitting call
+unfolding below same_type same_dims dims_below all_below is_least resolution built_ins globals table with_number with_base with_indices enums_from index_enums_from with_rank ranks_from choices cases sets_of_cases scalars sets meanings readings_of result_var opt_of base_of type_of types_with types_of_rank array_types joined products index_lists index_sets param_types given_indices array_indices result_type numbered all_params with_mark with_meaning of_entry has_name of_named made signatures fitting call
 calls_of_count_are_so = refl
 
 abbrev calls_of_scheduling : List Example
@@ -72,7 +72,7 @@ calls_of_scheduling =
     ∷ []
 
 calls_of_scheduling_are_so : map called calls_of_scheduling ≡ map expected calls_of_scheduling
-unfolding below same_type same_dims dims_below all_below is_least choice built_ins globals table with_number with_base with_indices enums_from index_enums_from with_rank ranks_from choices cases sets_of_cases scalars sets meanings readings_of result_var opt_of base_of type_of types_with types_of_rank array_types joined products index_lists index_sets param_types given_indices array_indices result_type numbered all_params with_mark with_meaning of_entry has_name of_named made signatures fitting call
+unfolding below same_type same_dims dims_below all_below is_least resolution built_ins globals table with_number with_base with_indices enums_from index_enums_from with_rank ranks_from choices cases sets_of_cases scalars sets meanings readings_of result_var opt_of base_of type_of types_with types_of_rank array_types joined products index_lists index_sets param_types given_indices array_indices result_type numbered all_params with_mark with_meaning of_entry has_name of_named made signatures fitting call
 calls_of_scheduling_are_so = refl
 
 abbrev calls_of_graphs : List Example
@@ -87,5 +87,5 @@ calls_of_graphs =
     ∷ []
 
 calls_of_graphs_are_so : map called calls_of_graphs ≡ map expected calls_of_graphs
-unfolding below same_type same_dims dims_below all_below is_least choice built_ins globals table with_number with_base with_indices enums_from index_enums_from with_rank ranks_from choices cases sets_of_cases scalars sets meanings readings_of result_var opt_of base_of type_of types_with types_of_rank array_types joined products index_lists index_sets param_types given_indices array_indices result_type numbered all_params with_mark with_meaning of_entry has_name of_named made signatures fitting call
+unfolding below same_type same_dims dims_below all_below is_least resolution built_ins globals table with_number with_base with_indices enums_from index_enums_from with_rank ranks_from choices cases sets_of_cases scalars sets meanings readings_of result_var opt_of base_of type_of types_with types_of_rank array_types joined products index_lists index_sets param_types given_indices array_indices result_type numbered all_params with_mark with_meaning of_entry has_name of_named made signatures fitting call
 calls_of_graphs_are_so = refl

@@ -6,9 +6,9 @@ use Rattle.mz_base.specs.declared.kind.Kind.{Kind}
 use Rattle.mz_base.specs.declared.kind.Kind.TheVariants as kind
 use Rattle.mz_base.specs.declared.stop.Stop.{Stop}
 use Rattle.mz_core.specs.Types.{PlainType}
-use Rattle.mz_overload.specs.declared.choice.Choice.{Choice}
-use Rattle.mz_overload.specs.declared.choice.Choice.TheVariants.{One, NoneFits, Ambiguous}
-use Rattle.mz_overload.specs.Best.{choice}
+use Rattle.mz_overload.specs.declared.resolution.Resolution.{Resolution}
+use Rattle.mz_overload.specs.declared.resolution.Resolution.TheVariants.{One, NoneFits, Ambiguous}
+use Rattle.mz_overload.specs.Best.{resolution}
 use Rattle.mz_builtin.specs.Readings.{Numbered}
 use Rattle.mz_builtin.specs.Signatures.{fitting}
 use Rattle.mz_checks.specs.Tests.{Test, found}
@@ -35,14 +35,14 @@ found_is : {A : Type 0} (why : Kind) (at : Span) (o : Option A) (x : A) → foun
 found_is why at None x h = absurd (cc)
 found_is why at (Some y) x h = ap Some (ap (passed_or x) h)
 
-chosen_row : (at : Span) (name : List ℕ) (args : List PlainType) (rows : List Numbered) (which : Choice) (c : Candidate) → chosen at name args (map row_candidate rows) which ≡ Ok c → IsRow c.callee
+chosen_row : (at : Span) (name : List ℕ) (args : List PlainType) (rows : List Numbered) (which : Resolution) (c : Candidate) → chosen at name args (map row_candidate rows) which ≡ Ok c → IsRow c.callee
 chosen_row at name args rows (One k) c h = row_at rows k c (found_is kind.NoOverload at (slice_get (map row_candidate rows) k) c h)
 chosen_row at name args rows NoneFits c h = absurd (cc)
 chosen_row at name args rows Ambiguous c h = absurd (cc)
 
 best_row : (at : Span) (name : List ℕ) (args : List PlainType) (rows : List Numbered) (c : Candidate) → best at name args (map row_candidate rows) ≡ Ok c → IsRow c.callee
 unfolding best
-best_row at name args rows c h = chosen_row at name args rows (choice (map (λ d. d.signature) (map row_candidate rows)) args) c h
+best_row at name args rows c h = chosen_row at name args rows (resolution (map (λ d. d.signature) (map row_candidate rows)) args) c h
 
 row_of_row : (at : Span) (name : List ℕ) (args : List PlainType) (c : Candidate) → row_of at name args ≡ Ok c → IsRow c.callee
 unfolding row_of

@@ -13,7 +13,7 @@ use crate::left_out::is_left_out;
 use crate::pairs::{Candidate, Candidates};
 use mz_base::{Kind, Span, Stop};
 use mz_core::TypeInst;
-use mz_overload::Choice;
+use mz_overload::Resolution;
 use mz_premises::refusal;
 use std::alloc::Global;
 
@@ -49,11 +49,11 @@ pub(crate) fn best(
     ensures { Passes candidate result (best span name.now (map plain_type args.now) candidates) }
 {
     match candidates.choose(args) {
-        Choice::One(place) => found(span, candidates.take(place)),
-        Choice::NoneFits => {
+        Resolution::One(place) => found(span, candidates.take(place)),
+        Resolution::NoneFits => {
             let left_out = is_left_out(alloc, name, args)?;
             Err(refusal(unfit(left_out), span))
         }
-        Choice::Ambiguous => Err(refusal(Kind::Ambiguous, span)),
+        Resolution::Ambiguous => Err(refusal(Kind::Ambiguous, span)),
     }
 }

@@ -3,13 +3,13 @@
 ghost use Rattle.std.specs.Prelude.{◌≡◌, ◌∷◌, [], ◌++◌, map, slice_get, IfOk};
 ghost use Rattle.std.specs.Option.{option_map};
 ghost use Rattle.mz_core.specs.Types.{plain_type, plain_signature};
-ghost use Rattle.mz_overload.specs.Best.{choice};
+ghost use Rattle.mz_overload.specs.Best.{resolution};
 ghost use Rattle.mz_callees.specs.Views.{candidate};
 
 use mz_base::Memory;
 use mz_checks::Callee;
 use mz_core::{Signature, TypeInst};
-use mz_overload::{Choice, choose};
+use mz_overload::{Resolution, choose};
 use std::alloc::Global;
 use std::marker::Model;
 
@@ -70,8 +70,8 @@ impl Candidates {
 
     /// The candidate that a call with arguments of these types takes.
     #[tactic(auto, using(crate::proofs::Pairing::paired_signatures))]
-    pub fn choose(&self, args: &[TypeInst]) -> Choice
-        ensures { result ≡ choice (map (λ c. c.signature) self.now) (map plain_type args.now) }
+    pub fn choose(&self, args: &[TypeInst]) -> Resolution
+        ensures { result ≡ resolution (map (λ c. c.signature) self.now) (map plain_type args.now) }
     {
         choose(self.signatures.as_slice(), args)
     }

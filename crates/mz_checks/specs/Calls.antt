@@ -8,9 +8,9 @@ use Rattle.mz_base.specs.declared.kind.Kind.TheVariants as kind
 use Rattle.mz_base.specs.Names.{text_of}
 use Rattle.mz_core.specs.Types.{PlainType, PlainSignature, is_text}
 use Rattle.mz_core.specs.Tree.{Tree, node, builtin, call, trees, type_of}
-use Rattle.mz_overload.specs.declared.choice.Choice.{Choice}
-use Rattle.mz_overload.specs.declared.choice.Choice.TheVariants.{One, NoneFits, Ambiguous}
-use Rattle.mz_overload.specs.Best.{choice}
+use Rattle.mz_overload.specs.declared.resolution.Resolution.{Resolution}
+use Rattle.mz_overload.specs.declared.resolution.Resolution.TheVariants.{One, NoneFits, Ambiguous}
+use Rattle.mz_overload.specs.Best.{resolution}
 use Rattle.mz_builtin.specs.Readings.{Numbered}
 use Rattle.mz_builtin.specs.Signatures.{fitting, global_place}
 use Rattle.mz_tree.specs.Tree.{Name}
@@ -81,14 +81,14 @@ abbrev pub unfit : Bool → Kind
 unfit true = kind.LeftOut
 unfit false = kind.NoOverload
 
-abbrev pub chosen : Span → List ℕ → List PlainType → List Candidate → Choice → Test Candidate
+abbrev pub chosen : Span → List ℕ → List PlainType → List Candidate → Resolution → Test Candidate
 chosen at name args cands (One k) = found kind.NoOverload at (slice_get cands k)
 chosen at name args cands NoneFits = refuse (unfit (is_left_out name args)) at
 chosen at name args cands Ambiguous = refuse kind.Ambiguous at
 
 -- among these candidates the accepting one whose parameters are below those of every other accepting one
 unfoldable pub best : Span → List ℕ → List PlainType → List Candidate → Test Candidate
-best at name args cands = chosen at name args cands (choice (map (λ c. c.signature) cands) args)
+best at name args cands = chosen at name args cands (resolution (map (λ c. c.signature) cands) args)
 
 -- CANDIDATES
 

@@ -3,8 +3,8 @@ use Rattle.std.specs.Prelude.{◌≡◌, ℕ, Bool, true, false, not, ◌&&◌, 
 use Rattle.std.specs.List.{list_any, list_all, position_from}
 use Rattle.mz_core.specs.Types.{PlainType, PlainSignature}
 use Rattle.mz_core.specs.Order.{below}
-use Rattle.mz_overload.specs.declared.choice.Choice.{Choice}
-use Rattle.mz_overload.specs.declared.choice.Choice.TheVariants.{One, NoneFits, Ambiguous}
+use Rattle.mz_overload.specs.declared.resolution.Resolution.{Resolution}
+use Rattle.mz_overload.specs.declared.resolution.Resolution.TheVariants.{One, NoneFits, Ambiguous}
 
 -- as many of the one as of the other, each below its own
 unfoldable pub all_below : List PlainType → List PlainType → Bool
@@ -24,14 +24,14 @@ is_least cands args c = list_all (λ d. not (accepts args d) || all_below c.para
 abbrev pub is_best : List PlainSignature → List PlainType → PlainSignature → Bool
 is_best cands args c = accepts args c && is_least cands args c
 
-abbrev pub choice_of : Option ℕ → Bool → Choice
-choice_of (Some k) b = One k
-choice_of None true = Ambiguous
-choice_of None false = NoneFits
+abbrev pub resolution_of : Option ℕ → Bool → Resolution
+resolution_of (Some k) b = One k
+resolution_of None true = Ambiguous
+resolution_of None false = NoneFits
 
 -- the first best candidate, or why there is none
-unfoldable pub choice : List PlainSignature → List PlainType → Choice
-choice cands args = choice_of (position_from (is_best cands args) 0 cands) (list_any (accepts args) cands)
+unfoldable pub resolution : List PlainSignature → List PlainType → Resolution
+resolution cands args = resolution_of (position_from (is_best cands args) 0 cands) (list_any (accepts args) cands)
 
 -- the candidate at a place accepts
 pub record IsAccepting (cands : List PlainSignature) (args : List PlainType) (k : ℕ) (c : PlainSignature) : Type 0 where
@@ -44,7 +44,7 @@ pub record IsBest (cands : List PlainSignature) (args : List PlainType) (k : ℕ
   pub least : (j : ℕ) (d : PlainSignature) → IsAccepting cands args j d → all_below c.params d.params ≡ true
 
 -- what an answer means: the place of a best candidate; none accepts; some accept, and none is best
-abbrev pub IsChoice : List PlainSignature → List PlainType → Choice → Type 0
-IsChoice cands args (One k) = (c : PlainSignature) × IsBest cands args k c
-IsChoice cands args NoneFits = (j : ℕ) (d : PlainSignature) → IsAccepting cands args j d → ⊥
-IsChoice cands args Ambiguous = ((j : ℕ) × ((d : PlainSignature) × IsAccepting cands args j d)) × ((k : ℕ) (c : PlainSignature) → IsBest cands args k c → ⊥)
+abbrev pub IsResolution : List PlainSignature → List PlainType → Resolution → Type 0
+IsResolution cands args (One k) = (c : PlainSignature) × IsBest cands args k c
+IsResolution cands args NoneFits = (j : ℕ) (d : PlainSignature) → IsAccepting cands args j d → ⊥
+IsResolution cands args Ambiguous = ((j : ℕ) × ((d : PlainSignature) × IsAccepting cands args j d)) × ((k : ℕ) (c : PlainSignature) → IsBest cands args k c → ⊥)

@@ -1,2 +1,2 @@
 pub mod Best
-pub mod StepsChoice
+pub mod StepsResolution

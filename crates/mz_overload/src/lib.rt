@@ -1,6 +1,6 @@
 // The overload that a call takes.
 #![tactic(auto)]
 
-mod choice;
+mod resolution;
 
-pub use choice::{Choice, choose};
+pub use resolution::{Resolution, choose};

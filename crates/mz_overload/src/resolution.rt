@@ -1,15 +1,15 @@
-// The choice among candidates.
+// Overload resolution: the best among candidates.
 
 ghost use Rattle.std.specs.Prelude.{◌≡◌, ◌+◌, ◌<◌, ◌∷◌, map, length, drop};
 ghost use Rattle.mz_core.specs.Types.{plain_type, plain_signature};
-ghost use Rattle.mz_overload.specs.Best.{all_below, accepts, is_least, choice, IsChoice};
-ghost use Rattle.mz_overload.specs.StepsChoice.{choice_from, first_accepting};
+ghost use Rattle.mz_overload.specs.Best.{all_below, accepts, is_least, resolution, IsResolution};
+ghost use Rattle.mz_overload.specs.StepsResolution.{resolution_from, first_accepting};
 
 use mz_core::{Signature, TypeInst, below};
 
 /// What a call finds among its candidates.
 #[derive(Clone, Copy, Debug, PartialEq, Eq)]
-pub enum Choice {
+pub enum Resolution {
     /// The place, from 0, of the best candidate.
     One(u64),
     /// No candidate accepts the arguments.
@@ -58,12 +58,17 @@ fn is_least(cands: &[Signature], args: &[TypeInst], c: &Signature) -> bool
     true
 }
 
-// The choice, where `c`, at the place `first`, is the first candidate that accepts. If some
+// The resolution, where `c`, at the place `first`, is the first candidate that accepts. If some
 // candidate is the best, then the last one that replaces `c` is.
-#[tactic(auto, unfolding(crate::specs::StepsChoice::choice_from))]
-fn choice_from(cands: &[Signature], args: &[TypeInst], first: usize, c: &Signature) -> Choice
+#[tactic(auto, unfolding(crate::specs::StepsResolution::resolution_from))]
+fn resolution_from(
+    cands: &[Signature],
+    args: &[TypeInst],
+    first: usize,
+    c: &Signature,
+) -> Resolution
     requires { first < length cands.now }
-    ensures { result ≡ choice_from (map plain_signature cands.now) (map plain_type args.now) first (plain_signature c.now) (first + 1) (map plain_signature (drop (first + 1) cands.now)) }
+    ensures { result ≡ resolution_from (map plain_signature cands.now) (map plain_type args.now) first (plain_signature c.now) (first + 1) (map plain_signature (drop (first + 1) cands.now)) }
 {
     let mut at = first;
     let mut least = c;
@@ -75,23 +80,23 @@ fn choice_from(cands: &[Signature], args: &[TypeInst], first: usize, c: &Signatu
         }
     }
     if is_least(cands, args, least) {
-        Choice::One(at as u64)
+        Resolution::One(at as u64)
     } else {
-        Choice::Ambiguous
+        Resolution::Ambiguous
     }
 }
 
-#[tactic(auto, unfolding(crate::specs::StepsChoice::first_accepting))]
-fn first_accepting(cands: &[Signature], args: &[TypeInst]) -> Choice
+#[tactic(auto, unfolding(crate::specs::StepsResolution::first_accepting))]
+fn first_accepting(cands: &[Signature], args: &[TypeInst]) -> Resolution
     ensures { result ≡ first_accepting (map plain_signature cands.now) (map plain_type args.now) 0 (map plain_signature cands.now) }
 {
     for i in 0..cands.len() {
         let c = &cands[i];
         if accepts(args, c) {
-            return choice_from(cands, args, i, c);
+            return resolution_from(cands, args, i, c);
         }
     }
-    Choice::NoneFits
+    Resolution::NoneFits
 }
 
 /// The candidate that a call with arguments of these types takes. Takes no memory.
@@ -100,9 +105,9 @@ fn first_accepting(cands: &[Signature], args: &[TypeInst]) -> Choice
 /// below its parameter. `One` has the place of the best: the accepting candidate whose parameters
 /// are below those of every other accepting one. Where several with equal parameters are the best,
 /// it is the first of them.
-pub fn choose(cands: &[Signature], args: &[TypeInst]) -> Choice
-    ensures best { IsChoice (map plain_signature cands.now) (map plain_type args.now) result }
-    ensures first { result ≡ choice (map plain_signature cands.now) (map plain_type args.now) }
+pub fn choose(cands: &[Signature], args: &[TypeInst]) -> Resolution
+    ensures best { IsResolution (map plain_signature cands.now) (map plain_type args.now) result }
+    ensures first { result ≡ resolution (map plain_signature cands.now) (map plain_type args.now) }
 {
     first_accepting(cands, args)
 }

@@ -1,5 +1,5 @@
 use Rattle.std.proofs.Common.{length}
-use Rattle.mz_overload.proofs.choice.+all_below.Given as goal
+use Rattle.mz_overload.proofs.resolution.+all_below.Given as goal
 
 abbrev pub decreases-all_below : goal.decreases-all_below
 decreases-all_below l = length l.ts.now

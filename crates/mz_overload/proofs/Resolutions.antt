@@ -1,4 +1,4 @@
--- The choice is the first best candidate, and what it means.
+-- The resolution is the first best candidate, and what it means.
 use Rattle.std.proofs.Common.{◌≡◌, ℕ, zero, suc, ◌+◌, Bool, true, false, not, ◌&&◌, ◌||◌, List, [], ◌∷◌, Option, Some, None, ◌⊎◌, inl, inr, refl, sym, subst, arith, if◌then◌else◌, ◌∙◌}
 use Rattle.std.specs.Prelude.{slice_get}
 use Rattle.std.specs.List.{list_any, list_all, position_from}
@@ -6,10 +6,10 @@ use Rattle.mz_core.specs.Types.{PlainType, PlainSignature}
 use Rattle.mz_core.specs.Order.{below}
 use Rattle.mz_core.proofs.OrderLaws.{complete}
 use Rattle.mz_core.proofs.PathLaws.{leads_on, sound}
-use Rattle.mz_overload.specs.declared.choice.Choice.{Choice}
-use Rattle.mz_overload.specs.declared.choice.Choice.TheVariants.{One, Ambiguous}
-use Rattle.mz_overload.specs.Best.{all_below, accepts, is_least, is_best, choice_of, choice, IsAccepting, IsBest, IsChoice}
-use Rattle.mz_overload.specs.StepsChoice.{choice_from, first_accepting}
+use Rattle.mz_overload.specs.declared.resolution.Resolution.{Resolution}
+use Rattle.mz_overload.specs.declared.resolution.Resolution.TheVariants.{One, Ambiguous}
+use Rattle.mz_overload.specs.Best.{all_below, accepts, is_least, is_best, resolution_of, resolution, IsAccepting, IsBest, IsResolution}
+use Rattle.mz_overload.specs.StepsResolution.{resolution_from, first_accepting}
 
 -- the order goes on, since paths do
 below_trans : (t u v : PlainType) → below t u ≡ true → below u v ≡ true → below t v ≡ true
@@ -72,25 +72,25 @@ unfolding is_least
 least_first all rest args d c h e a = implied (accepts args d) (all_below c.params d.params) (both (not (accepts args d) || all_below c.params d.params) (is_least rest args c) (h c e)).0 a
 
 -- c is the best, or else the first best of the rest
-abbrev first_best : List PlainSignature → List PlainType → ℕ → PlainSignature → ℕ → List PlainSignature → Choice
-first_best all args k c i rest = choice_of (if is_best all args c then Some k else position_from (is_best all args) i rest) true
+abbrev first_best : List PlainSignature → List PlainType → ℕ → PlainSignature → ℕ → List PlainSignature → Resolution
+first_best all args k c i rest = resolution_of (if is_best all args c then Some k else position_from (is_best all args) i rest) true
 
 -- a candidate above c that is best leaves c the best
-passed : (c_is d_is : Bool) (k i : ℕ) (r : Option ℕ) → (d_is ≡ true → c_is ≡ true) → choice_of (if c_is then Some k else r) true ≡ choice_of (if c_is then Some k else (if d_is then Some i else r)) true
+passed : (c_is d_is : Bool) (k i : ℕ) (r : Option ℕ) → (d_is ≡ true → c_is ≡ true) → resolution_of (if c_is then Some k else r) true ≡ resolution_of (if c_is then Some k else (if d_is then Some i else r)) true
 passed true d_is k i r h = refl
 passed false true k i r h = absurd (let e = h refl in cc)
 passed false false k i r h = refl
 
-replaced : (c_is d_is : Bool) (k i : ℕ) (r : Option ℕ) → (c_is ≡ true → ⊥) → choice_of (if d_is then Some i else r) true ≡ choice_of (if c_is then Some k else (if d_is then Some i else r)) true
+replaced : (c_is d_is : Bool) (k i : ℕ) (r : Option ℕ) → (c_is ≡ true → ⊥) → resolution_of (if d_is then Some i else r) true ≡ resolution_of (if c_is then Some k else (if d_is then Some i else r)) true
 replaced true d_is k i r h = absurd (h refl)
 replaced false d_is k i r h = refl
 
-settled : (a l : Bool) (k : ℕ) → a ≡ true → (if l then One k else Ambiguous) ≡ choice_of (if a && l then Some k else None) true
+settled : (a l : Bool) (k : ℕ) → a ≡ true → (if l then One k else Ambiguous) ≡ resolution_of (if a && l then Some k else None) true
 settled true true k e = refl
 settled true false k e = refl
 settled false l k e = absurd cc
 
-branch : (a b : Bool) (x y z : Choice) → (a ≡ false → y ≡ z) → (a ≡ true → b ≡ true → y ≡ z) → (a ≡ true → b ≡ false → x ≡ z) → (if a && not b then x else y) ≡ z
+branch : (a b : Bool) (x y z : Resolution) → (a ≡ false → y ≡ z) → (a ≡ true → b ≡ true → y ≡ z) → (a ≡ true → b ≡ false → x ≡ z) → (if a && not b then x else y) ≡ z
 branch true true x y z f g h = g refl refl
 branch true false x y z f g h = h refl refl
 branch false b x y z f g h = f refl
@@ -99,23 +99,23 @@ refused : (a l : Bool) → a ≡ false → a && l ≡ true → ⊥
 refused true l e f = absurd cc
 refused false l e f = absurd cc
 
-pub from_is : (all : List PlainSignature) (args : List PlainType) (k : ℕ) (c : PlainSignature) (i : ℕ) (rest : List PlainSignature) → accepts args c ≡ true → OfAll all rest args → choice_from all args k c i rest ≡ first_best all args k c i rest
-unfolding choice_from
+pub from_is : (all : List PlainSignature) (args : List PlainType) (k : ℕ) (c : PlainSignature) (i : ℕ) (rest : List PlainSignature) → accepts args c ≡ true → OfAll all rest args → resolution_from all args k c i rest ≡ first_best all args k c i rest
+unfolding resolution_from
 from_is all args k c i [] a h = settled (accepts args c) (is_least all args c) k a
 from_is all args k c i (d ∷ ds) a h =
     let after = position_from (is_best all args) (i + 1) ds in
     let rest_of : OfAll all ds args = least_rest all ds args d h in
     let stays = from_is all args k c (i + 1) ds a rest_of in
-    branch (accepts args d) (all_below c.params d.params) (choice_from all args i d (i + 1) ds) (choice_from all args k c (i + 1) ds) (first_best all args k c i (d ∷ ds))
+    branch (accepts args d) (all_below c.params d.params) (resolution_from all args i d (i + 1) ds) (resolution_from all args k c (i + 1) ds) (first_best all args k c i (d ∷ ds))
     (λ e. stays ∙ passed (is_best all args c) (is_best all args d) k i after (λ f. absurd (refused (accepts args d) (is_least all args d) e f)))
     (λ e b. stays ∙ passed (is_best all args c) (is_best all args d) k i after (λ f. all_of a (least_below all args c d b (both (accepts args d) (is_least all args d) f).1)))
     (λ e b. from_is all args i d (i + 1) ds e rest_of ∙ replaced (is_best all args c) (is_best all args d) k i after (λ f. let g = least_first all ds args d c h (both (accepts args c) (is_least all args c) f).1 e in cc))
 
 -- no candidate before the i-th accepts
-abbrev best_of : List PlainSignature → List PlainType → ℕ → List PlainSignature → Choice
-best_of all args i rest = choice_of (position_from (is_best all args) i rest) (list_any (accepts args) rest)
+abbrev best_of : List PlainSignature → List PlainType → ℕ → List PlainSignature → Resolution
+best_of all args i rest = resolution_of (position_from (is_best all args) i rest) (list_any (accepts args) rest)
 
-begins : (a l : Bool) (x y : Choice) (i : ℕ) (r : Option ℕ) (s : Bool) → (a ≡ true → x ≡ choice_of (if a && l then Some i else r) true) → (a ≡ false → y ≡ choice_of r s) → (if a then x else y) ≡ choice_of (if a && l then Some i else r) (a || s)
+begins : (a l : Bool) (x y : Resolution) (i : ℕ) (r : Option ℕ) (s : Bool) → (a ≡ true → x ≡ resolution_of (if a && l then Some i else r) true) → (a ≡ false → y ≡ resolution_of r s) → (if a then x else y) ≡ resolution_of (if a && l then Some i else r) (a || s)
 begins true l x y i r s f g = f refl
 begins false l x y i r s f g = g refl
 
@@ -123,7 +123,7 @@ pub first_is : (all : List PlainSignature) (args : List PlainType) (i : ℕ) (re
 unfolding first_accepting
 first_is all args i [] h = refl
 first_is all args i (c ∷ cs) h =
-    begins (accepts args c) (is_least all args c) (choice_from all args i c (i + 1) cs) (first_accepting all args (i + 1) cs) i (position_from (is_best all args) (i + 1) cs) (list_any (accepts args) cs)
+    begins (accepts args c) (is_least all args c) (resolution_from all args i c (i + 1) cs) (first_accepting all args (i + 1) cs) i (position_from (is_best all args) (i + 1) cs) (list_any (accepts args) cs)
     (λ e. from_is all args i c (i + 1) cs e (least_rest all cs args c h))
     (λ e. first_is all args (i + 1) cs (least_rest all cs args c h))
 
@@ -184,27 +184,27 @@ least_of : (cands : List PlainSignature) (args : List PlainType) (c : PlainSigna
 unfolding is_least
 least_of cands args c h j d a = implied (accepts args d) (all_below c.params d.params) (all_pass (λ x. not (accepts args x) || all_below c.params x.params) cands h j d a.at) a.accepting
 
-is_choice_of : (cands : List PlainSignature) (args : List PlainType) (o : Option ℕ) (b : Bool) → position_from (is_best cands args) 0 cands ≡ o → list_any (accepts args) cands ≡ b → IsChoice cands args (choice_of o b)
-is_choice_of cands args (Some k) b e f =
+is_resolution_of : (cands : List PlainSignature) (args : List PlainType) (o : Option ℕ) (b : Bool) → position_from (is_best cands args) 0 cands ≡ o → list_any (accepts args) cands ≡ b → IsResolution cands args (resolution_of o b)
+is_resolution_of cands args (Some k) b e f =
     let r = hit (is_best cands args) 0 cands k e in
     let c = r.1.0 in
     let q : r.0 ≡ k = omega (arith, r.1.3) in
     let p = both (accepts args c) (is_least cands args c) r.1.2 in
     (c, record { accepted = record { at = subst (λ m. slice_get cands m ≡ Some c) q r.1.1; accepting = p.0 }; least = least_of cands args c p.1 })
-is_choice_of cands args None true e f =
+is_resolution_of cands args None true e f =
     let r = some_passes (accepts args) cands f in
     ((r.0, (r.1.0, record { at = r.1.1; accepting = r.1.2 })), λ k c b. miss (is_best cands args) 0 cands e k c b.accepted.at (best_passes cands args k c b))
-is_choice_of cands args None false e f = λ j d a. none_passes (accepts args) cands f j d a.at a.accepting
+is_resolution_of cands args None false e f = λ j d a. none_passes (accepts args) cands f j d a.at a.accepting
 
--- the choice means what it is to mean
-pub choice_is : (cands : List PlainSignature) (args : List PlainType) → IsChoice cands args (choice cands args)
-unfolding choice
-choice_is cands args = is_choice_of cands args (position_from (is_best cands args) 0 cands) (list_any (accepts args) cands) refl refl
+-- the resolution means what it is to mean
+pub resolution_is : (cands : List PlainSignature) (args : List PlainType) → IsResolution cands args (resolution cands args)
+unfolding resolution
+resolution_is cands args = is_resolution_of cands args (position_from (is_best cands args) 0 cands) (list_any (accepts args) cands) refl refl
 
 -- the first candidate that accepts, and those that replace it, lead to the first best
-pub chosen_first : (cands : List PlainSignature) (args : List PlainType) → first_accepting cands args 0 cands ≡ choice cands args
-unfolding choice
+pub chosen_first : (cands : List PlainSignature) (args : List PlainType) → first_accepting cands args 0 cands ≡ resolution cands args
+unfolding resolution
 chosen_first cands args = first_is cands args 0 cands (λ c h. h)
 
-pub chosen_is : (cands : List PlainSignature) (args : List PlainType) (r : Choice) → r ≡ choice cands args → IsChoice cands args r
-chosen_is cands args r e = subst (λ x. IsChoice cands args x) (sym e) (choice_is cands args)
+pub chosen_is : (cands : List PlainSignature) (args : List PlainType) (r : Resolution) → r ≡ resolution cands args → IsResolution cands args r
+chosen_is cands args r e = subst (λ x. IsResolution cands args x) (sym e) (resolution_is cands args)
