@@ -277,7 +277,7 @@ fn open_choice(
     last: &Known,
 ) -> Result<Known, Stop>
     requires { (plain_type t.now).var ≡ true }
-    ensures { Tells cell_of result (arrays.choice_cell Bare (plain_type t.now) at (pairs_of branches.now) (cell_of last.now)) }
+    ensures { Tells cell_of result (arrays.branch_cell Bare (plain_type t.now) at (pairs_of branches.now) (cell_of last.now)) }
 {
     let all = all_bounds(alloc, t, branches, last)?;
     branches_cell(alloc, t, at, &all)
@@ -288,14 +288,14 @@ fn open_choice(
 ///
 /// Refused IndexMismatch at `at` where two branches are arrays of different index ranges.
 #[tactic(auto, unfolding(mz_core::specs::Types::plain_type))]
-pub fn choice_cell(
+pub fn branch_cell(
     alloc: Global,
     t: &TypeInst,
     at: Span,
     branches: &[(Known, Known)],
     last: Known,
 ) -> Result<Known, Stop>
-    ensures { Tells cell_of result (arrays.choice_cell Bare (plain_type t.now) at (pairs_of branches.now) (cell_of last)) }
+    ensures { Tells cell_of result (arrays.branch_cell Bare (plain_type t.now) at (pairs_of branches.now) (cell_of last)) }
 {
     if t.var {
         open_choice(alloc, t, at, branches, &last)

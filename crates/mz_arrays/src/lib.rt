@@ -10,7 +10,7 @@ mod numbering;
 mod running;
 mod tabling;
 
-pub use choosing::choice_cell;
+pub use choosing::branch_cell;
 pub use gathering::{Gathered, gathered_with, nothing_gathered};
 pub use lining::{line_cell, set_cell};
 pub use moving::{moved, present};

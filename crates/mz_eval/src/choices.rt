@@ -7,7 +7,7 @@ ghost use Rattle.mz_core.specs.TreeViews.{tree, branch};
 ghost use Rattle.mz_meaning.specs.Runs.{spend, then_do};
 ghost use Rattle.mz_meaning.specs.Cells.{Bare, Open};
 ghost use Rattle.mz_meaning.specs.Contexts.{Untested};
-ghost use Rattle.mz_meaning.specs.Arrays.{choice_cell};
+ghost use Rattle.mz_meaning.specs.Arrays.{branch_cell};
 ghost use Rattle.mz_meaning.specs.Forms.{is_met, open_branch, last_branch, otherwise, branches};
 ghost use Rattle.mz_meaning.specs.Evaluation.{eval};
 ghost use Rattle.mz_cells.specs.Views.{cell_of, test_if};
@@ -16,7 +16,7 @@ ghost use Rattle.mz_frames.specs.Runs.{Meets, at_work};
 ghost use Rattle.mz_frames.specs.Views.{world_of, env_of};
 
 use crate::forms::eval_expression;
-use mz_arrays::choice_cell;
+use mz_arrays::branch_cell;
 use mz_base::{Span, Stop};
 use mz_cells::{Item, Known, one, test_of};
 use mz_core::{Core, TypeInst};
@@ -70,10 +70,10 @@ fn chosen_branch(
     cell: Known,
     work: &mut u64,
 ) -> Result<Known, Stop>
-    ensures { Meets cell_of result work.new (then_do (spend world.now.budget at 1 (at_work work.old)) (λ _. choice_cell Bare (plain_type ty.now) at (pairs_of others.items) (cell_of cell))) }
+    ensures { Meets cell_of result work.new (then_do (spend world.now.budget at 1 (at_work work.old)) (λ _. branch_cell Bare (plain_type ty.now) at (pairs_of others.items) (cell_of cell))) }
 {
     spend(world.budget, at, 1, work)?;
-    choice_cell(alloc, ty, at, &others, cell)
+    branch_cell(alloc, ty, at, &others, cell)
 }
 
 // The last branch.

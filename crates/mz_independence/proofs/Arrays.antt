@@ -17,7 +17,7 @@ use Rattle.mz_operations.specs.RowBounds.{line_of}
 use Rattle.mz_meaning.specs.Runs.{Run, give, stop}
 use Rattle.mz_meaning.specs.Cells.{Cell, Par, Var, Unshaped, Mode, Blank, held, undefined, all_par, is_par, is_there, value_of, bounds_in, scalar_bound, length_of, or_zero, both_sure}
 use Rattle.mz_meaning.specs.Arrays as arrays
-use Rattle.mz_meaning.specs.Arrays.{Want, Anything, Missing, Within, line_cell, line_value, table_cell, table_value, joined, row_length, table_ranges, par_undefined, all_there, ends_in, hull_over, elements_reached, accessed, access_cell, suits, has_set, own_ranges, declared_ranges, declared_count, fits_shape, no_missing, moved, fitted_to, fitted, branch_bounds_of, all_bounds, same_shape, branches_cell, chosen_value, choice_cell}
+use Rattle.mz_meaning.specs.Arrays.{Want, Anything, Missing, Within, line_cell, line_value, table_cell, table_value, joined, row_length, table_ranges, par_undefined, all_there, ends_in, hull_over, elements_reached, accessed, access_cell, suits, has_set, own_ranges, declared_ranges, declared_count, fits_shape, no_missing, moved, fitted_to, fitted, branch_bounds_of, all_bounds, same_shape, branches_cell, chosen_value, branch_cell}
 use Rattle.mz_meaning.specs.Lets.{all_have_sets}
 use Rattle.mz_meaning.specs.Calls.{argument_suits, all_lengths}
 use Rattle.mz_independence.specs.Outlines.{outline, outlines, outline_rows, outline_branch, outline_sure}
@@ -189,8 +189,8 @@ branches_cell_outlined : {t : Tie} {n : Bool} (m : Mode) (ty : PlainType) (at : 
 branches_cell_outlined m ty at [] u v = give_outlined refl
 branches_cell_outlined m ty at (b ∷ bs) u v = if_outlined (list_all (same_shape b) bs) (give_outlined refl) (stop_outlined kind.IndexMismatch at (pos 0))
 
-pub choice_cell_outlined : {t : Tie} {n : Bool} (m : Mode) (ty : PlainType) (at : Span) (ps : List (Cell × Cell)) (last : Cell) → HasOutline t n outline (choice_cell m ty at ps last) (choice_cell (Blank n) ty at (map outline_branch ps) (outline last))
-choice_cell_outlined {n = n} m ty at ps last =
+pub branch_cell_outlined : {t : Tie} {n : Bool} (m : Mode) (ty : PlainType) (at : Span) (ps : List (Cell × Cell)) (last : Cell) → HasOutline t n outline (branch_cell m ty at ps last) (branch_cell (Blank n) ty at (map outline_branch ps) (outline last))
+branch_cell_outlined {n = n} m ty at ps last =
     if_outlined (not ty.var) (give_outlined refl)
     (at_same (λ bs. branches_cell (Blank n) ty at (all_bounds bs) (chosen_value (map outline_branch ps) (outline last)))
     (ap (map (branch_bounds_of ty)) (branches_outline ps last) ∙ map_outline (branch_bounds_of ty) (branch_bounds_outline ty) (map (λ p. p.1) ps ++ last ∷ []))

@@ -23,7 +23,7 @@ use Rattle.mz_independence.proofs.Joins.{then_outlined, give_outlined, when_outl
 use Rattle.mz_independence.proofs.Cells.{test_outline, push_outline, coerced_outline, work_outline}
 use Rattle.mz_independence.proofs.Allowed.{chained_allows}
 use Rattle.mz_independence.proofs.Rows.{done_outlined, operated_by_outlined, operated_outlined}
-use Rattle.mz_independence.proofs.Arrays.{line_outline, table_cell_outlined, access_outline, elements_outline, choice_cell_outlined}
+use Rattle.mz_independence.proofs.Arrays.{line_outline, table_cell_outlined, access_outline, elements_outline, branch_cell_outlined}
 
 -- ---- contexts: what leaves Untested and Other as they are keeps a tie
 
@@ -122,10 +122,10 @@ access_outlined {n = n} {w = w} {top = top} g h e es y z at ty i =
 
 last_branch_outlined : {t : Tie} {n : Bool} {w : World} {top : Env} {go go' : Eval} → EvalHasOutline t n w top go go' → {c d : Context} → Ties t c d → (e : Tree) → Allows t (free_in e) → (at : Span) (ty : PlainType) {env env' : Env} → HasOutlines env env' → (acc : List (Cell × Cell)) → HasOutline t n outline (forms.last_branch w go c e at ty env acc) (forms.last_branch (blank_world n w top) go' d e at ty env' (map outline_branch acc))
 last_branch_outlined {w = w} g h e z at ty i acc =
-    then_outlined _ (g.by h e z i) (λ x. then_outlined _ (handed_outlined w.mode g.notes x) (λ v. then_outlined _ (spend_outlined w.budget at 1) (λ u. choice_cell_outlined w.mode ty at acc x)))
+    then_outlined _ (g.by h e z i) (λ x. then_outlined _ (handed_outlined w.mode g.notes x) (λ v. then_outlined _ (spend_outlined w.budget at 1) (λ u. branch_cell_outlined w.mode ty at acc x)))
 
 otherwise_outlined : {t : Tie} {n : Bool} {w : World} {top : Env} {go go' : Eval} → EvalHasOutline t n w top go go' → {c d : Context} → Ties t c d → (e : Option Tree) → AllowsIf t e → (at : Span) (ty : PlainType) {env env' : Env} → HasOutlines env env' → (acc : List (Cell × Cell)) → HasOutline t n outline (forms.otherwise w go c e at ty env acc) (forms.otherwise (blank_world n w top) go' d e at ty env' (map outline_branch acc))
-otherwise_outlined {w = w} g h None z at ty i acc = then_outlined _ (spend_outlined w.budget at 1) (λ u. choice_cell_outlined w.mode ty at acc (par_value (values.bool true)))
+otherwise_outlined {w = w} g h None z at ty i acc = then_outlined _ (spend_outlined w.budget at 1) (λ u. branch_cell_outlined w.mode ty at acc (par_value (values.bool true)))
 otherwise_outlined g h (Some e) z at ty i acc = last_branch_outlined g h e z at ty i acc
 
 push_branch : (ps : List (Cell × Cell)) (c x : Cell) → map outline_branch ps ++ (outline c, outline x) ∷ [] ≡ map outline_branch (ps ++ (c, x) ∷ [])

@@ -258,8 +258,8 @@ chosen_value [] last = value_of last
 chosen_value (p ∷ ps) last = if is_true (value_of p.0) then value_of p.1 else chosen_value ps last
 
 -- the evaluated branches: those under var conditions with these, and the last one
-abbrev pub choice_cell : Mode → PlainType → Span → List (Cell × Cell) → Cell → Run Cell
-choice_cell m t at ps last =
+abbrev pub branch_cell : Mode → PlainType → Span → List (Cell × Cell) → Cell → Run Cell
+branch_cell m t at ps last =
     if not t.var
     then give last
     else branches_cell m t at (all_bounds (map (branch_bounds_of t) (map (λ p. p.1) ps ++ last ∷ []))) (chosen_value ps last)

@@ -15,7 +15,7 @@ use Rattle.mz_meaning.specs.Runs.{Run, ◌>>=◌, ◌>>◌, give, spend, loop, w
 use Rattle.mz_meaning.specs.Cells.{Cell, Mode, Env, Test, Settled, Open, test_of, undefined, par_value, typed, length_of, or_zero}
 use Rattle.mz_meaning.specs.Coerced.{coerced, coercion_work}
 use Rattle.mz_meaning.specs.Operations.{row_at, row_cost, row_cell}
-use Rattle.mz_meaning.specs.Arrays.{line_cell, table_cell, set_cell, access_cell, choice_cell}
+use Rattle.mz_meaning.specs.Arrays.{line_cell, table_cell, set_cell, access_cell, branch_cell}
 use Rattle.mz_meaning.specs.Contexts.{Context, Untested, Positive, Other, elsewhere, elsewhere_if, closes}
 use Rattle.mz_meaning.specs.Chains.{Operator, Innermost, chained, same_level, before, right_in, closed_by, operand_base}
 
@@ -189,11 +189,11 @@ last_branch w go ctx e at t env acc = do
   x ← go ctx e env
   handed w.mode x
   spend w.budget at 1
-  choice_cell w.mode t at acc x
+  branch_cell w.mode t at acc x
 
 -- a missing `else` is true
 abbrev pub otherwise : World → Eval → Context → Option Tree → Span → PlainType → Env → List (Cell × Cell) → Run Cell
-otherwise w go ctx None at t env acc = spend w.budget at 1 >> choice_cell w.mode t at acc (par_value (values.bool true))
+otherwise w go ctx None at t env acc = spend w.budget at 1 >> branch_cell w.mode t at acc (par_value (values.bool true))
 otherwise w go ctx (Some e) at t env acc = last_branch w go ctx e at t env acc
 
 abbrev pub is_met : Test → Bool

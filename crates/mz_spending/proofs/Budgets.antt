@@ -178,14 +178,14 @@ branches_cell_well : {budget : ℕ} (mode : Mode) (t : PlainType) (at : Span) (b
 branches_cell_well mode t at [] v = give_well _
 branches_cell_well mode t at (b ∷ bs) v = if_well (list_all (arrays.same_shape b) bs) _ _ (give_well _) (stop_well kind.IndexMismatch at (pos 0))
 
-choice_cell_well : {budget : ℕ} (mode : Mode) (t : PlainType) (at : Span) (ps : List (Cell × Cell)) (last : Cell) → Keeps budget (arrays.choice_cell mode t at ps last)
-choice_cell_well mode t at ps last = if_well (not t.var) _ _ (give_well last) (branches_cell_well mode t at (arrays.all_bounds (map (arrays.branch_bounds_of t) (map (λ p. p.1) ps ++ last ∷ []))) (arrays.chosen_value ps last))
+branch_cell_well : {budget : ℕ} (mode : Mode) (t : PlainType) (at : Span) (ps : List (Cell × Cell)) (last : Cell) → Keeps budget (arrays.branch_cell mode t at ps last)
+branch_cell_well mode t at ps last = if_well (not t.var) _ _ (give_well last) (branches_cell_well mode t at (arrays.all_bounds (map (arrays.branch_bounds_of t) (map (λ p. p.1) ps ++ last ∷ []))) (arrays.chosen_value ps last))
 
 last_branch_well : (w : World) (go : Eval) → IsEvaluator w.budget go → (e : Tree) (at : Span) (t : PlainType) (env : Env) (acc : List (Cell × Cell)) → Keeps w.budget (forms.last_branch w go Untested e at t env acc)
-last_branch_well w go g e at t env acc = then_well (g.by e env) (λ x. then_well (weigh_well w.mode _) (λ v. then_well (spend_well at 1) (λ u. choice_cell_well w.mode t at acc x)))
+last_branch_well w go g e at t env acc = then_well (g.by e env) (λ x. then_well (weigh_well w.mode _) (λ v. then_well (spend_well at 1) (λ u. branch_cell_well w.mode t at acc x)))
 
 otherwise_well : (w : World) (go : Eval) → IsEvaluator w.budget go → (e : Option Tree) (at : Span) (t : PlainType) (env : Env) (acc : List (Cell × Cell)) → Keeps w.budget (forms.otherwise w go Untested e at t env acc)
-otherwise_well w go g None at t env acc = then_well (spend_well at 1) (λ u. choice_cell_well w.mode t at acc _)
+otherwise_well w go g None at t env acc = then_well (spend_well at 1) (λ u. branch_cell_well w.mode t at acc _)
 otherwise_well w go g (Some e) at t env acc = last_branch_well w go g e at t env acc
 
 open_branch_well : (w : World) (go : Eval) → IsEvaluator w.budget go → (e : Tree) (env : Env) (acc : List (Cell × Cell)) (c : Cell) (t : Test) → Keeps w.budget (forms.open_branch w go Untested e env acc c t)
