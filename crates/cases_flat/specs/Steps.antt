@@ -1,4 +1,4 @@
--- A program as the calls of a builder make it.
+-- Mirror of src/built.rt; private clauses only. A program as the calls of a builder make it.
 use Rattle.std.specs.Prelude.{pos, List, [], ◌∷◌, true, false, codes}
 use Rattle.fz_program.specs.declared.program.Domain.TheVariants.{Ints as Integers}
 use Rattle.fz_program.specs.declared.row_name.RowName.TheVariants.{IntLe}

@@ -9,7 +9,7 @@ use std::alloc::{AllocError, Global};
 /// An operator of each level, from the tightest on, with an operand after it.
 const EACH_LEVEL: &str = " ++ 1 ^ 1 * 1 + 1 .. 1 union 1 in 1 < 1 /\\ 1 \\/ 1 -> 1 <-> 1";
 
-/// A constraint with 8713 expressions one inside the other: each has all levels of operators, each atom as many
+/// A constraint with 8713 nested expressions: each has all levels of operators, each atom as many
 /// accesses as may be open, and the first index of each atom has the next expression.
 fn text(alloc: Global) -> Result<String, AllocError> {
     let mut text = String::from_str(alloc, "constraint ")?;

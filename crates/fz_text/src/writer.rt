@@ -16,7 +16,7 @@ pub enum Wrote {
     All,
     /// A front of the text may have gone out, and no more can.
     Failed,
-    /// Want of memory; no byte went out.
+    /// Memory ran out; no byte went out.
     Memory,
 }
 

@@ -1,4 +1,4 @@
--- WHAT A MODEL WITH ITS DATA IS TESTED FOR BEFORE IT IS COMPILED: its names, and then its types.
+-- What a model with its data is tested for before it is compiled: its names, and then its types.
 use Rattle.std.specs.Prelude.{◌≡◌, ◌<◌, ◌+◌, ◌-◌, refl, ℕ, length, map, All, List, [], ◌∷◌, Option, Some, None, slice_get, unwrap_or, codes}
 use Rattle.std.specs.List.{flat_map}
 use Rattle.mz_base.specs.declared.fault.Span.{Span}

@@ -1,4 +1,4 @@
-// What every crate speaks of: places in files, the kinds of refusal, want of memory, limits, words
+// What every crate speaks of: places in files, the kinds of refusal, out of memory, limits, words
 // and keywords, names, and what is counted against a limit.
 #![tactic(auto)]
 

@@ -3,11 +3,11 @@
 use crate::fault::Fault;
 use std::alloc::{AllocError, AllocFailed};
 
-/// Want of memory.
+/// Memory ran out.
 #[derive(Clone, Copy, Debug, PartialEq, Eq)]
 pub struct Memory;
 
-/// What ends a stage early: a refusal of the input, or want of memory.
+/// What ends a stage early: a refusal of the input, or memory that ran out.
 #[derive(Clone, Copy, Debug, PartialEq, Eq)]
 pub enum Stop {
     Refused(Fault),

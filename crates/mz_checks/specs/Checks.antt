@@ -159,8 +159,7 @@ sections s m = do
   os ← each (output m) s.outputs
   Ok (record { decls = ds; functions = fs; constraints = cs; goal = g; outputs = os })
 
--- THE WHOLE, with types that were typed in this order. Data is no part of it yet: its values will be tested after the functions that
--- are declared twice
+-- THE WHOLE, with types that were typed in this order and without data; with it, `checked_with_data` of mz_datum
 unfoldable pub checked_with : ScopedTree → Model → Test Sections
 checked_with s m = do
   none_met (types_met s m)

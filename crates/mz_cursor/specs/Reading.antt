@@ -88,7 +88,7 @@ module _ {Part : Type 0} {Value : Part → Type 0} where
   Falls rank r (leave p) = Falls rank r p
   Falls rank r (part m f) = (rank m < r) × ((x : Value m) → Falls rank r (f x))
 
-  -- at most fuel parts, one inside the other
+  -- parts that are nested at most fuel deep
   unfoldable pub read_by : ((n : Part) → Rule Value n) → ℕ → (n : Part) → ℕ → Reader (Value n)
   read_by rule zero n room ts = stuck syntax ts
   read_by rule (suc fuel) n room ts = step (read_by rule fuel) (rule n) room ts

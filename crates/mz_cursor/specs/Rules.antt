@@ -1,8 +1,8 @@
 -- Rules of a grammar, and what they allow.
 --
 -- A grammar names its parts, says what each is read to (Value), and gives one rule for each. A rule
--- says what may stand next, by the token in front. So the grammar is deterministic by its own words:
--- each repetition of the EBNF goes on as long as the token behind lets it.
+-- says what may follow, by the next token. So the grammar is deterministic by its own words:
+-- each repetition of the EBNF goes on as long as the token after it allows.
 use Rattle.std.specs.Prelude.{◌≡◌, ℕ, zero, suc, List, [], ◌∷◌, ◌++◌, Option, Some, None}
 use Rattle.mz_base.specs.declared.fault.Span.{Span}
 use Rattle.mz_lexer.specs.declared.token.Token.{Token}
@@ -22,11 +22,11 @@ pub data Rule {Part : Type 0} (Value : Part → Type 0) (n : Part) : Type 0 wher
   -- no token fits, or none of a form that is left out
   refuse : Rule Value n
   leave_out : Rule Value n
-  -- by the token in front
+  -- by the next token
   look : (Option Tok → Rule Value n) → Rule Value n
-  -- over the token in front, and on by its place
+  -- over the next token, and on by its place
   pass : (Span → Rule Value n) → Rule Value n
-  -- over the token in front, which opens something
+  -- over the next token, which opens something
   enter : (Span → Rule Value n) → Rule Value n
   -- what was opened last is closed
   leave : Rule Value n → Rule Value n

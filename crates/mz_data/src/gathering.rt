@@ -50,7 +50,7 @@ pub fn gather_with_data<F: Files>(
     ensures sources { IfOk result (λ s. IsSourcesWithData names.new (F.texts files.old) model.now (words_of data_files.now) (map (file names.new) s.sources.files.items) (map given s.given_data.items.items)) }
     ensures known { IfOk result (λ s. AreKnownWithData names.new (words_of data_files.now) s) }
 
-    // Each other answer has its cause; want of memory alone is free.
+    // Each other answer has its cause; running out of memory alone is free.
     ensures refused { IfRefused result (λ f n. FailsWithData names.new (F.texts files.old) model.now (words_of data_files.now) f (text_of names.new n)) }
     ensures owner { IfRefused result (λ _ n. n < length names.new) }
     ensures read_fault { OnReadFault result (Rose (F.counts files.old).faults (F.counts files.new).faults) }

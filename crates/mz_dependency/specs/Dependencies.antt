@@ -42,7 +42,7 @@ pub data TypesLeadTo (decls functions : List Sketch) : List NameUse → ℕ → 
 abbrev pub LeadsBack : List Sketch → List Sketch → ℕ → Type 0
 LeadsBack decls functions f = TypesLeadTo decls functions (sketch_at functions f).types f
 
--- Numbers for declarations and for functions that fall along all that types refer to: types can be typed on demand by them.
+-- Numbers for declarations and for functions that fall along all that types refer to: types are typed in their order.
 pub record AreRanks (decls functions : List Sketch) (of_decl of_function : ℕ → ℕ) : Type 0 where
   pub decl_decl : (d e : ℕ) → d < length decls → RefersTo (sketch_at decls d).types decls e → of_decl e < of_decl d
   pub decl_function : (d f : ℕ) → d < length decls → RefersTo (sketch_at decls d).types functions f → of_function f < of_decl d

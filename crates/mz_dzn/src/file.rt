@@ -161,7 +161,7 @@ fn file(alloc: Global, cur: &mut Cursor<'_>, names: &Names) -> Result<Vec<DataIt
 /// and columns from 1 and bytes from 0. A list may be as long as memory allows, since each is read in a loop.
 ///
 /// The one refusal is Syntax, at the first token with which no data file goes on, or at `end` where the file may not
-/// end there. No data file has enough open brackets for TooDeep, and none is LeftOut. After a refusal or want of memory
+/// end there. No data file has enough open brackets for TooDeep, and none is LeftOut. After a refusal, or where memory runs out,
 /// nothing is given.
 pub fn data_items(alloc: Global, tokens: &[Token], end: Span, names: &Names) -> Result<Data, Stop>
     ensures answers { Answers rule (file (dimensions_of names.now)) (λ d. map given d.items.items) OPEN_LIMIT end tokens.now [] result }

@@ -17,7 +17,7 @@ use std::alloc::Global;
 ///
 /// The longest front of the tokens that is one; behind it the cursor stands with as many open as before. Refused with
 /// Syntax or LeftOut at the first token with which none goes on, or with TooDeep at the token that would be the 121st
-/// open; after that, and for want of memory, the cursor may stand anywhere.
+/// open; after that, and where memory runs out, the cursor may stand anywhere.
 pub fn expression(alloc: Global, cur: &mut Cursor<'_>) -> Result<Expr, Stop>
     ensures answers { Answers rule parts.expr tree cur.old.room cur.old.end cur.old.rest.now cur.new.rest.now result }
     ensures room { OnOk result (cur.new.room ≡ cur.old.room) }
@@ -30,7 +30,7 @@ pub fn expression(alloc: Global, cur: &mut Cursor<'_>) -> Result<Expr, Stop>
 ///
 /// The longest front of the tokens that is one; behind it the cursor stands with as many open as before. Refused with
 /// Syntax or LeftOut at the first token with which none goes on, or with TooDeep at the token that would be the 121st
-/// open; after that, and for want of memory, the cursor may stand anywhere.
+/// open; after that, and where memory runs out, the cursor may stand anywhere.
 pub fn declaration(alloc: Global, cur: &mut Cursor<'_>) -> Result<Decl, Stop>
     ensures answers { Answers rule parts.declaration declaration cur.old.room cur.old.end cur.old.rest.now cur.new.rest.now result }
     ensures room { OnOk result (cur.new.room ≡ cur.old.room) }
@@ -43,7 +43,7 @@ pub fn declaration(alloc: Global, cur: &mut Cursor<'_>) -> Result<Decl, Stop>
 ///
 /// The longest front of the tokens that is one; behind it the cursor stands with as many open as before. Refused with
 /// Syntax or LeftOut at the first token with which none goes on, or with TooDeep at the token that would be the 121st
-/// open; after that, and for want of memory, the cursor may stand anywhere.
+/// open; after that, and where memory runs out, the cursor may stand anywhere.
 pub fn type_text(alloc: Global, cur: &mut Cursor<'_>) -> Result<TypeText, Stop>
     ensures answers { Answers rule parts.type written cur.old.room cur.old.end cur.old.rest.now cur.new.rest.now result }
     ensures room { OnOk result (cur.new.room ≡ cur.old.room) }
@@ -56,7 +56,7 @@ pub fn type_text(alloc: Global, cur: &mut Cursor<'_>) -> Result<TypeText, Stop>
 ///
 /// The longest front of the tokens that is one; behind it the cursor stands with as many open as before. Refused with
 /// Syntax or LeftOut at the first token with which none goes on, or with TooDeep at the token that would be the 121st
-/// open; after that, and for want of memory, the cursor may stand anywhere.
+/// open; after that, and where memory runs out, the cursor may stand anywhere.
 pub fn marks(alloc: Global, cur: &mut Cursor<'_>) -> Result<(), Stop>
     ensures answers { Answers rule parts.marks (λ u. tt) cur.old.room cur.old.end cur.old.rest.now cur.new.rest.now result }
     ensures room { OnOk result (cur.new.room ≡ cur.old.room) }

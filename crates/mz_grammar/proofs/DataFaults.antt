@@ -12,7 +12,7 @@ use Rattle.mz_grammar.specs.Tests.{ident_of, ends_row}
 use Rattle.mz_grammar.specs.Data.{Place, Value, Ruled, rule, file, item, datum, named, sized, index_sets, plains, rows, row, plain, range, set, bounds, ones, one, literal_of, negated_of}
 use Rattle.mz_tree.specs.Data.{is_name}
 
--- how many tokens a part opens, one inside the other
+-- how deep the tokens that a part opens are nested
 unfoldable pub depth : Place → ℕ
 depth (file d) = 3
 depth (item d) = 3

@@ -10,7 +10,7 @@ pub enum GatherEnd {
     Refused(Fault, Name),
     /// A file can't be read.
     ReadFault,
-    /// Want of memory.
+    /// Memory ran out.
     Memory,
 }
 

@@ -59,7 +59,7 @@ pub fn gather<F: Files>(
     ensures sources { IfOk result (λ s. IsSources names.new (F.texts files.old) first.now (map (file names.new) s.files.items)) }
     ensures known { IfOk result (λ s. AreKnown names.new s.files.items) }
 
-    // Each other answer has its cause; want of memory alone is free.
+    // Each other answer has its cause; running out of memory alone is free.
     ensures refused { IfRefused result (λ f n. IsFirstFailure names.new (F.texts files.old) first.now f (text_of names.new n)) }
     ensures owner { IfRefused result (λ _ n. n < length names.new) }
     ensures read_fault { OnReadFault result (Rose (F.counts files.old).faults (F.counts files.new).faults) }

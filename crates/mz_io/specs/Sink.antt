@@ -8,7 +8,7 @@ use Rattle.mz_io.specs.Counts.{Rose, raised}
 abbrev pub Held : Type 0
 Held = Option (List ℕ)
 
--- how often a put failed, and how often it wanted memory
+-- how often a put failed, and how often it ran out of memory
 pub record SinkCounts : Type 0 where
   pub faults : ℕ
   pub shortages : ℕ
@@ -37,7 +37,7 @@ Counts old new All = new ≡ old
 Counts old new Failed = Rose old.faults new.faults × (new.shortages ≡ old.shortages)
 Counts old new Memory = Rose old.shortages new.shortages × (new.faults ≡ old.faults)
 
--- no put failed, and none wanted memory
+-- no put failed, and none ran out of memory
 abbrev pub no_counts : SinkCounts
 no_counts = record { faults = 0; shortages = 0 }
 

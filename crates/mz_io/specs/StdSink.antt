@@ -6,6 +6,6 @@ use Rattle.mz_io.specs.Sink.{SinkCounts}
 abbrev pub writer_of : {W : Type 0} → StdSink W → W
 writer_of sink = sink.writer
 
--- how often a put failed; none wants memory
+-- how often a put failed; none runs out of memory
 abbrev pub counts_of : {W : Type 0} → StdSink W → SinkCounts
 counts_of sink = record { faults = sink.faults; shortages = 0 }

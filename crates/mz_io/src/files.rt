@@ -13,7 +13,7 @@ pub enum Fetched {
     TooLong,
     /// The file can't be read.
     Failed,
-    /// Want of memory.
+    /// Memory ran out.
     Memory,
 }
 

@@ -7,7 +7,7 @@ pub enum Sent {
     All,
     /// A front of the bytes may have gone out, and no more can.
     Failed,
-    /// Want of memory; no byte went out.
+    /// Memory ran out; no byte went out.
     Memory,
 }
 

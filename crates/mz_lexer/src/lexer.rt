@@ -64,7 +64,7 @@ impl Cursor<'_> {
 /// The tokens of a file's bytes, in order.
 ///
 /// `file` is the file's number in each place. Every name of a token is one of the table behind the
-/// call. The first fault is Lexical, LeftOut or Bounds. After a fault or want of memory the table
+/// call. The first fault is Lexical, LeftOut or Bounds. After a fault, or where memory runs out, the table
 /// may hold more names.
 pub fn tokens(alloc: Global, bytes: &[u8], file: u64, names: &mut Names) -> Result<Vec<Token>, Stop>
     requires { length bytes.now ≤ FILE_LIMIT }

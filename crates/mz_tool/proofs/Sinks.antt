@@ -20,7 +20,7 @@ pub pieces_whole : {X A : Type 0} (f : X → List A) (xs : List X) (i : ℕ) (d 
 pieces_whole f xs i d below =
     ap (flat_map f) (sym (take-append-drop i xs)) ∙ flat_map-append f (take i xs) (drop i xs) ∙ ap (λ ys. flat_map f (take i xs) ++ ys) (rw (add-one, drop-cons xs i d below) refl)
 
--- a piece that failed or wanted memory cuts what was to go out
+-- a piece that failed or ran out of memory cuts what was to go out
 pub cut_short : (old mid new : Held) (before after : SinkCounts) (done piece rest line : List ℕ) → line ≡ done ++ (piece ++ rest) → Adds old mid done → AddsPrefix mid new piece → Rose before.faults after.faults ⊎ Rose before.shortages after.shortages → Notes old new before after line
 cut_short old mid new before after done piece rest line is adds prefix rose = record {
   prefix = done ++ prefix.prefix;
@@ -36,7 +36,7 @@ all_out old new before after line adds = record { prefix = line; back = []; whol
 pub prefix_nothing : (h : Held) (piece : List ℕ) → AddsPrefix h h piece
 prefix_nothing h piece = record { prefix = []; back = piece; whole = refl; adds = adds_nothing h }
 
--- the same where the piece wanted memory
+-- the same where the piece ran out of memory
 pub cut_before : (old mid new : Held) (before after : SinkCounts) (done piece rest line : List ℕ) → line ≡ done ++ (piece ++ rest) → Adds old mid done → new ≡ mid → Rose before.faults after.faults ⊎ Rose before.shortages after.shortages → Notes old new before after line
 cut_before old mid new before after done piece rest line is adds same rose =
     cut_short old mid new before after done piece rest line is adds (rw same (prefix_nothing mid piece)) rose

@@ -15,6 +15,6 @@ pub enum Status {
     ReadFault,
     /// The output can't be written.
     WriteFault,
-    /// Want of memory.
+    /// Memory ran out.
     Memory,
 }

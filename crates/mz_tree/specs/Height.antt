@@ -1,4 +1,4 @@
--- How high a tree is: how many expressions stand one inside the other.
+-- How high a tree is: how deep its expressions are nested.
 use Rattle.std.specs.Prelude.{◌≡◌, ℕ, zero, suc, max, ◌+◌}
 use Rattle.std.proofs.Common.{refl}
 use Rattle.mz_base.specs.declared.limit.TheConstants.{OPEN_LIMIT}

@@ -1,4 +1,4 @@
-// The trees that files are read to.
+// The syntax trees of files.
 #![tactic(auto)]
 
 mod data;

@@ -9,7 +9,7 @@ use mz_base::{Name, Span};
 
 /// A file of the model: its name as it was fetched, its items in order, and the place of its end.
 ///
-/// At most `HEIGHT_LIMIT` expressions stand one inside the other.
+/// Expressions are nested at most `HEIGHT_LIMIT` deep.
 #[derive(Debug, Drop)]
 pub struct SourceFile {
     pub name: Name,

@@ -1,4 +1,4 @@
-// The parts that are read from outside: the descent begins with them.
+// The entry points of the descent.
 
 ghost use Rattle.mz_tree.specs.Views.{tree, declaration, written};
 ghost use Rattle.mz_cursor.specs.Reads.{Passes, Reads};
