@@ -218,14 +218,14 @@ impl Machine {
         self.put(CoreForm::Rows(rows), ty)
     }
 
-    // `comp:TYPE:COUNT`, an array of the head that stands before it, over so many generators; in braces `setcomp`
+    // `comp:TYPE:COUNT`, an array of the head that stands before it, over this many generators; in braces `setcomp`
     fn comprehension(&mut self, braces: bool, ty: &str, count: &str) -> Result<(), Memory> {
         let head = self.boxed()?;
         let generators = last(self.alloc, &mut self.generators, number(count))?;
         self.put(CoreForm::Comp(braces, head, generators), ty)
     }
 
-    // `if:TYPE:COUNT`, so many conditions with their branches, and what stands behind `else`; without it `ifonly`
+    // `if:TYPE:COUNT`, this many conditions with their branches, and what follows `else`; without it `ifonly`
     fn choice(&mut self, other: bool, ty: &str, count: &str) -> Result<(), Memory> {
         let last = if other { Some(self.boxed()?) } else { None };
         let mut back = Vec::new(self.alloc);
@@ -275,7 +275,7 @@ impl Machine {
         })
     }
 
-    // `let:TYPE:COUNT`, the body that stands before it under so many items
+    // `let:TYPE:COUNT`, the body that stands before it under this many items
     fn scoped(&mut self, ty: &str, count: &str) -> Result<(), Memory> {
         let body = self.boxed()?;
         let items = last(self.alloc, &mut self.items, number(count))?;

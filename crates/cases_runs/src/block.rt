@@ -38,8 +38,8 @@ impl<'a> Block<'a> {
     }
 
     /// Adds what an indented line says: `NAME: TEXT`, a file, where `NAME SIZE: TEXT` fills the text with blanks up to
-    /// so many bytes; `fails fetch N`, `fails put N`, `fails note N` and `tears put`; `slow writer N`, an output that
-    /// goes to a writer of the system which takes so many bytes.
+    /// this many bytes; `fails fetch N`, `fails put N`, `fails note N` and `tears put`; `slow writer N`, an output that
+    /// goes to a writer of the system which takes this many bytes.
     pub fn add(&mut self, alloc: Global, line: &str) -> Result<(), Memory> {
         if let Some((name, text)) = line.split_once(':') {
             return self.add_file(alloc, name, text);

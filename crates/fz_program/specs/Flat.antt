@@ -138,7 +138,7 @@ is_variable_of vs kind k = is_kind (slice_get vs k) kind
 abbrev pub is_literal_range : Range → Bool
 is_literal_range r = int_le r.0 r.1 && (is_literal r.0 && is_literal r.1)
 
--- some integer above a range lies below all ranges behind it
+-- some integer above a range lies below all ranges after it
 abbrev pub is_apart : Range → List Range → Bool
 is_apart r [] = true
 is_apart r (s ∷ ss) = int_lt (r.1 +ℤ pos 1) s.0

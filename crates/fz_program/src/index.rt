@@ -44,7 +44,7 @@ fn size_of(range: (i64, i64)) -> u64
     }
 }
 
-/// Whether index ranges have so many places.
+/// Whether index ranges have this many places.
 #[tactic(auto, unfolding(crate::specs::Flat::place_count))]
 pub fn has_places(ranges: &[(i64, i64)], count: u64) -> bool
     requires { list_all is_index_range ranges.now ≡ true }

@@ -1,4 +1,4 @@
--- A loop that reads lines that begin with the same text: what is read so far, in front of what the rest is read to in the
+-- A loop that reads lines that begin with the same text: what is read so far, before what the rest is read to in the
 -- turns that are left, is what all is read to.
 use Rattle.std.proofs.Common.{◌≡◌, ℕ, zero, suc, ◌+◌, ◌-◌, ◌<◌, ◌≤◌, List, [], ◌∷◌, ◌++◌, length, refl, sym, ap, ◌∙◌, arith, Some, None, append_assoc}
 use Rattle.std.proofs.lemmas.List.{append-nil}

@@ -1,4 +1,4 @@
--- A loop that reads parts with commas between them: what is read so far, in front of what the rest is read to in the turns
+-- A loop that reads parts with commas between them: what is read so far, before what the rest is read to in the turns
 -- that are left, is what all is read to.
 use Rattle.std.proofs.Common.{◌≡◌, ℕ, zero, suc, ◌+◌, ◌-◌, ◌<◌, ◌≤◌, List, [], ◌∷◌, ◌++◌, length, refl, sym, ap, ◌∙◌, arith, Some, None, append_assoc}
 use Rattle.std.specs.Prelude.{codes}
@@ -47,11 +47,11 @@ no_turn part (suc most) at none = absurd (omega arith)
 pub fails : {A : Type 0} (part : List ℕ → Read A) (prefix : List A) (n i : ℕ) (at : List ℕ) (whole : Read (List A)) → with_prefix prefix (parts_at part (n - i) at) ≡ whole → part at ≡ None → whole ≡ None
 fails part prefix n i at whole so_far e = sym so_far ∙ ap (with_prefix prefix) (none_at part (n - i) at e)
 
--- it is read, and no comma stands behind it
+-- it is read, and no comma follows it
 pub ends : {A : Type 0} (part : List ℕ → Read A) (prefix : List A) (n i : ℕ) (at next : List ℕ) (x : A) (whole : Read (List A)) → i < n → with_prefix prefix (parts_at part (n - i) at) ≡ whole → part at ≡ Some (x, next) → behind (codes ",") next ≡ None → whole ≡ Some (prefix ++ x ∷ [], next)
 ends part prefix n i at next x whole below so_far e stop = sym so_far ∙ ap (with_prefix prefix) (last_at part (n - i) at next x (omega arith) e stop)
 
--- it is read, and a comma stands behind it
+-- it is read, and a comma follows it
 pub goes_on : {A : Type 0} (part : List ℕ → Read A) (prefix : List A) (n i : ℕ) (at next more : List ℕ) (x : A) (whole : Read (List A)) → i < n → with_prefix prefix (parts_at part (n - i) at) ≡ whole → part at ≡ Some (x, next) → behind (codes ",") next ≡ Some more → with_prefix (prefix ++ x ∷ []) (parts_at part (n - (i + 1)) more) ≡ whole
 goes_on part prefix n i at next more x whole below so_far e goes =
     let turns : suc (n - (i + 1)) ≡ n - i = omega arith in

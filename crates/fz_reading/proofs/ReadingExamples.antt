@@ -18,7 +18,7 @@ pub number_of_text : number_at (codes "-120,") ≡ Some (negsuc 119, codes ",")
 unfolding behind digits_at natural_at negative_at number_at
 number_of_text = refl
 
--- behind a number there is no letter
+-- after a number there is no letter
 pub no_number : number_at (codes "x1") ≡ None
 unfolding behind digits_at natural_at negative_at number_at
 no_number = refl

@@ -28,7 +28,7 @@ word_at names bs = do
   a ← word_of names w.0
   Some (a, w.1)
 
--- what stands behind `l..`
+-- what follows `l..`
 unfoldable pub interval_set_at : ℤ → List ℕ → Read Argument
 interval_set_at low bs = do
   s ← interval_from low bs
@@ -40,7 +40,7 @@ number_or_interval_at bs = do
   n ← number_at bs
   choose (behind (codes "..") n.1) (interval_set_at n.0) (Some (one (int n.0), n.1))
 
--- what stands behind an opening brace
+-- what follows an opening brace
 unfoldable pub braces_set_at : List ℕ → Read Argument
 braces_set_at bs = do
   s ← braces_at bs
@@ -53,7 +53,7 @@ number_or_set_at bs = choose (behind (codes "{") bs) braces_set_at (number_or_in
 unfoldable pub plain_at : List Name → List ℕ → Read Argument
 plain_at names bs = if is_letter (first_byte bs) then word_at names bs else number_or_set_at bs
 
--- what stands behind an opening bracket
+-- what follows an opening bracket
 unfoldable pub array_at : List Name → List ℕ → Read Argument
 array_at names bs = do
   xs ← closed_at (codes "]") (plain_at names) bs

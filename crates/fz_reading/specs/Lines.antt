@@ -59,7 +59,7 @@ marked_at domain label bs = do
   rest ← behind (codes ";\n") defined.1
   Some (record { label = label; domain = domain; introduced = introduced.0; defined = defined.0; output = output.0 }, rest)
 
--- a variable's line, behind `var `
+-- a variable's line, after `var `
 unfoldable pub variable_at : List ℕ → Read Variable
 variable_at bs = do
   d ← domain_at bs
@@ -72,7 +72,7 @@ variable_at bs = do
 abbrev pub add_first : {A : Type 0} → A → List A × List ℕ → List A × List ℕ
 add_first x r = (x ∷ r.0, r.1)
 
--- lines, as long as they begin with this text, up to so many
+-- lines, as long as they begin with this text, up to this many
 unfoldable pub lines_at : {A : Type 0} → List ℕ → (List ℕ → Read A) → ℕ → List ℕ → Read (List A)
 lines_at head part zero bs = Some ([], bs)
 lines_at head part (suc most) bs = choose (behind head bs) (λ rest. do
@@ -88,7 +88,7 @@ every_at head part bs = lines_at head part (length bs) bs
 abbrev pub is_no_colon : ℕ → Bool
 is_no_colon b = not (nat_eq b 58)
 
--- the bytes from the first colon: how many elements there are, and what they are, is told again behind it
+-- the bytes from the first colon: how many elements there are, and what they are, is told again after it
 unfoldable pub from_colon : List ℕ → List ℕ
 from_colon bs = drop (prefix_len is_no_colon bs) bs
 
@@ -100,7 +100,7 @@ array_name_at bs = do
   sets ← behind (codes " :: output_array([") n.1
   Some (n.0, sets)
 
--- an array's line, behind `array [1..`
+-- an array's line, after `array [1..`
 unfoldable pub array_item_at : List Name → List ℕ → Read ArrayItem
 array_item_at names bs = do
   n ← array_name_at bs
@@ -123,7 +123,7 @@ row_name_at bs = do
   r ← row_named w.0
   Some (r, w.1)
 
--- the variable that a row defines, behind ` :: defines_var(`, and the end of the line
+-- the variable that a row defines, after ` :: defines_var(`, and the end of the line
 unfoldable pub defined_at : List Name → List ℕ → Read (Option ℕ)
 defined_at names bs = do
   k ← place_at names bs
@@ -138,7 +138,7 @@ undefined_at bs = do
 unfoldable pub definition_at : List Name → List ℕ → Read (Option ℕ)
 definition_at names bs = choose (behind (codes " :: defines_var(") bs) (defined_at names) (undefined_at bs)
 
--- a row's line, behind `constraint `
+-- a row's line, after `constraint `
 unfoldable pub row_at : List Name → List ℕ → Read Row
 row_at names bs = do
   r ← row_name_at bs
@@ -171,7 +171,7 @@ goal_at names bs = do
 
 -- ---- the whole
 
--- what stands behind the variables
+-- what follows the variables
 pub record Body : Type 0 where
   pub arrays : List ArrayItem
   pub rows : List Row

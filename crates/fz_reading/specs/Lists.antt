@@ -7,7 +7,7 @@ use Rattle.fz_reading.specs.Tokens.{behind, number_at, interval_at}
 abbrev pub with_first : {A : Type 0} → A → List A × List ℕ → List A × List ℕ
 with_first x r = (x ∷ r.0, r.1)
 
--- one part or more, up to so many: behind a comma stands one
+-- one part or more, up to this many: after a comma comes one
 unfoldable pub parts_at : {A : Type 0} → (List ℕ → Read A) → ℕ → List ℕ → Read (List A)
 parts_at part zero bs = None
 parts_at part (suc most) bs = do
@@ -31,7 +31,7 @@ filled_at close part bs = do
 unfoldable pub closed_at : {A : Type 0} → List ℕ → (List ℕ → Read A) → List ℕ → Read (List A)
 closed_at close part bs = choose (behind close bs) (λ rest. Some ([], rest)) (filled_at close part bs)
 
--- what stands behind an opening brace: the set of these numbers
+-- what follows an opening brace: the set of these numbers
 unfoldable pub braces_at : List ℕ → Read (List Range)
 braces_at bs = do
   xs ← filled_at (codes "}") number_at bs

@@ -7,7 +7,7 @@ use Rattle.mz_value.specs.Ranges.{Range}
 use Rattle.soln_items.specs.Bytes.{is_name_byte}
 use Rattle.soln_items.specs.Items.{◌>>=◌, Read, choose, without, digits_at, name_of, interval}
 
--- the bytes behind a text
+-- the bytes after a text
 unfoldable pub behind : List ℕ → List ℕ → Option (List ℕ)
 behind text bs = without text bs
 
@@ -29,7 +29,7 @@ number_at bs = choose (behind (codes "-") bs) negative_at (natural_at bs)
 unfoldable pub name_at : List ℕ → Read (List ℕ)
 name_at bs = name_of (prefix_len is_name_byte bs) bs
 
--- what stands behind `l..`: the set from l on
+-- what follows `l..`: the set from l on
 unfoldable pub interval_from : ℤ → List ℕ → Read (List Range)
 interval_from low bs = do
   high ← number_at bs

@@ -1,4 +1,4 @@
--- What the code's part behind the variables shows.
+-- What the code's part after the variables shows.
 use Rattle.std.specs.Prelude.{map}
 use Rattle.fz_program.specs.Flat.{array_item, row}
 use Rattle.fz_reading.specs.declared.reader.Body.{Body as BodyOfCode}

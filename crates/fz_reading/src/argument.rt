@@ -73,7 +73,7 @@ fn number_or_interval(alloc: Global, bytes: &[u8]) -> Result<(Arg, &[u8]), Miss>
     }
 }
 
-/// What stands behind an opening brace.
+/// What follows an opening brace.
 #[tactic(auto, unfolding(crate::specs::Arguments::braces_set_at))]
 fn set_in_braces(alloc: Global, bytes: &[u8]) -> Result<(Arg, &[u8]), Miss>
     ensures { Gives (with_rest argument) result (braces_set_at bytes.now) }

@@ -44,8 +44,8 @@ fn elements<'a>(
     closed(alloc, &ArrayPlace { names }, b"];\n", bytes)
 }
 
-/// An array's name, behind `array [1..`, up to the ranges of its indices. How many elements there
-/// are, and what they are, is told again behind it.
+/// An array's name, after `array [1..`, up to the ranges of its indices. How many elements there
+/// are, and what they are, is told again after it.
 #[tactic(auto, unfolding(crate::specs::Lines::array_name_at))]
 fn array_name(bytes: &[u8]) -> Result<(&str, &[u8]), Miss>
     ensures { Gives (with_rest (λ n. n.now)) result (array_name_at bytes.now) }
@@ -56,7 +56,7 @@ fn array_name(bytes: &[u8]) -> Result<(&str, &[u8]), Miss>
     Ok((label, rest))
 }
 
-/// An array's line, behind `array [1..`.
+/// An array's line, after `array [1..`.
 #[derive(Drop)]
 pub(crate) struct ArrayLine<'t, 'a> {
     pub alloc: Global,

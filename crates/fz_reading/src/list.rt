@@ -95,7 +95,7 @@ impl<'a> Part<'a> for Number {
     }
 }
 
-/// What stands behind an opening brace.
+/// What follows an opening brace.
 #[tactic(auto, unfolding(crate::specs::Lists::braces_at))]
 pub(crate) fn braces(alloc: Global, bytes: &[u8]) -> Result<(RangeSet, &[u8]), Miss>
     ensures { Gives (with_rest (λ s. s)) result (braces_at bytes.now) }

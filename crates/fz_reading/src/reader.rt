@@ -15,7 +15,7 @@ use fz_program::{FzArray, FzGoal, FzProgram, FzRow, FzVar};
 use soln_items::Miss;
 use std::alloc::Global;
 
-/// What stands behind the variables.
+/// What follows the variables.
 #[derive(Drop)]
 pub(crate) struct Body {
     arrays: Vec<FzArray>,
@@ -23,7 +23,7 @@ pub(crate) struct Body {
     goal: FzGoal,
 }
 
-/// What stands behind the variables, up to the end.
+/// What follows the variables, up to the end.
 #[tactic(auto, unfolding(crate::specs::Lines::body_at))]
 fn read_body<'a>(alloc: Global, names: &NameTable<'a>, bytes: &'a [u8]) -> Result<Body, Miss>
     ensures { Gives body_of result (body_at names.now bytes.now) }

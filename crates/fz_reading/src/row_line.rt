@@ -104,7 +104,7 @@ fn row_name(bytes: &[u8]) -> Result<(RowName, &[u8]), Miss>
     }
 }
 
-/// The variable that a row defines, behind ` :: defines_var(`, and the end of the line.
+/// The variable that a row defines, after ` :: defines_var(`, and the end of the line.
 #[tactic(auto, unfolding(crate::specs::Lines::defined_at))]
 fn defined<'a>(names: &NameTable<'a>, bytes: &'a [u8]) -> Result<(Option<u64>, &'a [u8]), Miss>
     ensures { Gives (with_rest (λ d. d)) result (defined_at names.now bytes.now) }
@@ -132,7 +132,7 @@ fn definition<'a>(names: &NameTable<'a>, bytes: &'a [u8]) -> Result<(Option<u64>
     }
 }
 
-/// A row's line, behind `constraint `.
+/// A row's line, after `constraint `.
 #[derive(Drop)]
 pub(crate) struct RowLine<'t, 'a> {
     pub alloc: Global,

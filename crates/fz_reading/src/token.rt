@@ -48,7 +48,7 @@ fn name_len(bytes: &[u8]) -> usize
     bytes.iter().take_while(|b| is_name_byte(**b)).count()
 }
 
-/// The bytes behind a text.
+/// The bytes after a text.
 #[tactic(auto, unfolding(crate::specs::Tokens::behind))]
 pub(crate) fn behind<'a>(text: &[u8], bytes: &'a [u8]) -> Option<&'a [u8]>
     ensures { option_map (λ r. r.now) result ≡ behind text.now bytes.now }
@@ -97,7 +97,7 @@ fn digits(bytes: &[u8]) -> Result<(u64, &[u8]), Miss>
     Ok((number_of(&bytes[..n]), &bytes[n..]))
 }
 
-/// Digits behind a minus.
+/// Digits after a minus.
 #[tactic(auto, unfolding(crate::specs::Tokens::negative_at))]
 fn negative(bytes: &[u8]) -> Result<(i64, &[u8]), Miss>
     ensures { Gives (with_rest (λ n. n)) result (negative_at bytes.now) }

@@ -51,7 +51,7 @@ fn domain_of(alloc: Global, bytes: &[u8]) -> Result<(Domain, &[u8]), Miss>
     }
 }
 
-/// Whether a mark stands first, and the bytes behind it, where it does.
+/// Whether a mark stands first, and the bytes after it, where it does.
 #[tactic(auto, unfolding(crate::specs::Lines::mark_at))]
 fn mark<'a>(text: &[u8], bytes: &'a [u8]) -> (bool, &'a [u8])
     ensures { (result.0, (result.1).now) ≡ mark_at text.now bytes.now }
@@ -89,7 +89,7 @@ fn marked<'a>(
     ))
 }
 
-/// A variable's line, behind `var `.
+/// A variable's line, after `var `.
 #[derive(Drop)]
 pub(crate) struct VariableLine {
     pub alloc: Global,

@@ -69,7 +69,7 @@ numbers_all n r old mid new low high first before =
 
 -- ---- lists with commas, by their first element
 
--- texts behind commas
+-- texts after commas
 pub after_first : {X : Type 0} (f : X → List ℕ) (xs : List X) → flat_map (λ u. 44 ∷ u) (map f xs) ≡ each_after_comma f xs
 after_first f [] = refl
 after_first f (x ∷ xs) = ap (λ t. 44 ∷ f x ++ t) (after_first f xs)

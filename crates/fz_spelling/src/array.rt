@@ -1,5 +1,5 @@
 // The lines of arrays. Each function that takes `out` appends its part to it; after an `Err` some
-// front of it may stand there.
+// prefix of it may stand there.
 
 ghost use Rattle.std.specs.Prelude.{◌≡◌, ◌++◌, ◌∷◌, List, codes, decimal, length, map, None, OnOk, slice_get};
 ghost use Rattle.std.specs.List.{flat_map};

@@ -1,5 +1,5 @@
 // A FlatZinc program's text and its parts. Each function that takes `out` appends its part to it; after an `Err`
-// some front of it may stand there.
+// some prefix of it may stand there.
 
 ghost use Rattle.std.specs.Prelude.{◌≡◌, ◌++◌, ◌≤ℤ◌, ◌∷◌, List, codes, map, Some, IfOk, OnOk};
 ghost use Rattle.std.specs.Fmt.{signed_decimal};

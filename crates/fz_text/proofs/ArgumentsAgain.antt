@@ -88,7 +88,7 @@ false_is_keyword : is_keyword (codes "false") ≡ true
 unfolding is_keyword
 false_is_keyword = refl
 
--- the name of a variable in an array, or behind a mark
+-- the name of a variable in an array, or after a mark
 pub place_at_again : (names : List Name) (k : ℕ) (rest : List ℕ) → AreNames names → k < length names → is_name_byte (first_byte rest) ≡ false → place_at names (label_at names k ++ rest) ≡ Some (k, rest)
 unfolding place_at
 place_at_again names k rest are below stop =
@@ -138,7 +138,7 @@ set_plain_again names [] rest is stop = ap (λ t. plain_at names (t ++ rest)) em
 set_plain_again names (r ∷ []) rest is stop = interval_plain_again names r (r ∷ []) rest is.1.0 is.1.1 (one_range r is.0.0 is.1.0 is.1.1) stop
 set_plain_again names (r ∷ t ∷ rs) rest is stop = rw (braces_text (r ∷ t ∷ rs) rest) (rw (brace (numbers (flat_map elements (r ∷ t ∷ rs)) ++ (codes "}" ++ rest))) (rw (braces_again r (t ∷ rs) rest is.0 is.1) refl))
 
--- each is read again, where a comma or what closes stands behind it
+-- each is read again, where a comma or what closes follows it
 pub plain_again : (names : List Name) → AreNames names → (p : Plain) → HasText names p → (rest : List ℕ) → is_stop (first_byte rest) ≡ true → plain_at names (plain_text names p ++ rest) ≡ Some (one p, rest)
 unfolding plain_text
 plain_again names are (bool true) h rest stop = word_again names (codes "true") (one (bool true)) rest refl (stop_is_no_name_byte (first_byte rest) stop) (true_of names)
@@ -204,7 +204,7 @@ pub commas_text : (t : List ℕ) (ts : List (List ℕ)) (rest : List ℕ) → co
 unfolding commas
 commas_text t ts rest = append_assoc t (flat_map (λ u. 44 ∷ u) ts) rest
 
--- the elements of an array, behind its opening bracket
+-- the elements of an array, after its opening bracket
 elements_again : (names : List Name) → AreNames names → (ps : List Plain) → AllByRecursion (HasText names) ps → (rest : List ℕ) → closed_at (codes "]") (plain_at names) (commas (map (plain_text names) ps) ++ (codes "]" ++ rest)) ≡ Some (map one ps, rest)
 unfolding commas
 elements_again names are [] h rest = none_again (codes "]") (plain_at names) rest (bracket_closes rest)

@@ -65,7 +65,7 @@ domain_again Truths rest h stop = bool_text rest
 domain_again (Ints s) rest h stop = integers_again s rest h.0 h.1 stop
 domain_again (SetOf s) rest h stop = set_of_text (set s ++ rest) ∙ set_of_again s rest h.0 h.1 stop
 
--- the marks and the end of the line, with what stands behind it
+-- the marks and the end of the line, with what follows it
 abbrev pub marks_text : Bool → Bool → Bool → List ℕ → List ℕ
 marks_text output introduced defined rest = mark output (codes "output_var") ++ (mark introduced (codes "var_is_introduced") ++ (mark defined (codes "is_defined_var") ++ (codes ";\n" ++ rest)))
 
@@ -84,14 +84,14 @@ colon : (bs : List ℕ) → behind (codes ": ") (codes ": " ++ bs) ≡ Some bs
 unfolding behind
 colon bs = refl
 
--- what stands behind a variable's name begins with a blank or a semicolon
+-- what follows a variable's name begins with a blank or a semicolon
 marks_stop : (output introduced defined : Bool) (rest : List ℕ) → is_name_byte (first_byte (marks_text output introduced defined rest)) ≡ false
 marks_stop true i d rest = refl
 marks_stop false true d rest = refl
 marks_stop false false true rest = refl
 marks_stop false false false rest = refl
 
--- the line behind `var `, with what stands behind it
+-- the line after `var `, with what follows it
 abbrev pub inside_variable : Variable → List ℕ → List ℕ
 inside_variable v rest = domain_text v.domain ++ (codes ": " ++ (v.label ++ marks_text v.output v.introduced v.defined rest))
 
@@ -228,7 +228,7 @@ unfolding definition_at defined_at
 defined_again names k rest are below =
     rw (defines (label_at names k ++ (codes ");\n" ++ rest))) (rw (place_at_again names k (codes ");\n" ++ rest) are below refl) (rw (defined_end rest) refl))
 
--- behind the arguments, and the end of the line
+-- after the arguments, and the end of the line
 definition_again : (names : List Name) (d : Option ℕ) (rest : List ℕ) → AreNames names → ((k : ℕ) → d ≡ Some k → k < length names) → definition_at names (definition names d ++ (codes ";\n" ++ rest)) ≡ Some (d, rest)
 unfolding definition
 definition_again names None rest are there = undefined_again names rest
@@ -298,7 +298,7 @@ all_again : (names : List Name) (xs : List Argument) (rest : List ℕ) → AreNa
 all_again names [] rest are h some = absurd (some refl)
 all_again names (x ∷ xs) rest are h some = filled_again (codes ")") (argument_at names) (argument_text names) x xs rest (each_argument names are (x ∷ xs) h) refl (closing rest)
 
--- the line behind `constraint `, with what stands behind it
+-- the line after `constraint `, with what follows it
 abbrev pub inside_row : List Name → Row → List ℕ → List ℕ
 inside_row names r rest = (line r.name).text ++ (codes "(" ++ (argument_list names r.args ++ (codes ")" ++ (definition names r.defines ++ (codes ";\n" ++ rest)))))
 
@@ -402,7 +402,7 @@ items_again names are (k ∷ ks) h rest =
     let other = ap (behind (codes "];\n")) (commas_text (label_at names k) (map (label_at names) ks) tail) ∙ not_behind 93 (codes ";\n") (label_at names k ++ more) (no_end (first_byte (label_at names k ++ more)) (ap is_letter (first_is (label_at names k) more word) ∙ (word_is (label_at names k) word).0)) in
     some_again (codes "];\n") (place_at names) (label_at names) k ks rest other (each_label names are (k ∷ ks) h) refl (items_close rest)
 
--- the line behind `array [1..`, with what stands behind it
+-- the line after `array [1..`, with what follows it
 abbrev pub inside_array : List Variable → ArrayItem → List ℕ → List ℕ
 inside_array vs a rest = head_of vs a ++ (codes ": " ++ (a.label ++ (codes " :: output_array([" ++ (commas (map interval a.index) ++ (codes "]) = [" ++ (commas (map (label_at (labels_of vs)) a.items) ++ (codes "];\n" ++ rest)))))))
 

@@ -37,7 +37,7 @@ middle : (xs : List Name) (x : Name) (ys : List Name) → Contains (xs ++ x ∷ 
 middle [] x ys = (0, omega arith, refl)
 middle (y ∷ xs) x ys = contains_more y x (xs ++ x ∷ ys) (middle xs x ys)
 
--- a name behind others isn't one of them
+-- a name after others isn't one of them
 apart : (names : List Name) (x : Name) (xs : List Name) → AreDistinct (names ++ x ∷ xs) → Contains names x → ⊥
 apart [] x xs d h = omega (arith, h.1)
 apart (y ∷ names) x xs d (zero, below, at) = d.0 (subst (Contains (names ++ x ∷ xs)) (sym at) (middle names x xs))

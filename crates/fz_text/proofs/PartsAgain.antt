@@ -15,7 +15,7 @@ use Rattle.fz_text.proofs.Prefixes.{not_behind}
 abbrev pub is_close : ℕ → Bool
 is_close b = nat_eq b 41 || (nat_eq b 93 || nat_eq b 125)
 
--- what may stand behind a part: a comma, or what closes
+-- what may follow a part: a comma, or what closes
 abbrev pub is_stop : ℕ → Bool
 is_stop b = nat_eq b 44 || is_close b
 

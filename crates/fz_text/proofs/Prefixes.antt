@@ -1,4 +1,4 @@
--- What stands behind a text, a run of bytes, a number and a name.
+-- What follows a text, a run of bytes, a number and a name.
 use Rattle.std.proofs.Common.{◌≡◌, ℕ, zero, suc, ◌+◌, ◌-◌, ◌*◌, ◌/◌, ◌%◌, ◌^◌, ◌<◌, ◌≤◌, ◌==◌, List, [], ◌∷◌, ◌++◌, length, length-append, take, drop, Bool, true, false, cond, refl, sym, ap, ◌∙◌, arith, tests, Some, None}
 use Rattle.std.specs.Prelude.{◌&&◌, nat_eq, min, ℤ, pos, negsuc, ◌≤ℤ◌}
 use Rattle.std.specs.List.{prefix_len, list_all}
@@ -125,7 +125,7 @@ negative_again : (k : ℕ) (rest : List ℕ) → suc k < past → is_digit (firs
 unfolding negative_at
 negative_again k rest small stop = rw (digits_again (suc k) rest small stop) refl
 
--- a number's text is read again, where no digit stands behind it
+-- a number's text is read again, where no digit follows it
 pub number_again : (n : ℤ) (rest : List ℕ) → IsInLimit n → is_digit (first_byte rest) ≡ false → number_at (signed_decimal n ++ rest) ≡ Some (n, rest)
 unfolding number_at natural_at
 number_again (pos k) rest h stop =
@@ -175,7 +175,7 @@ pub first_is : (w rest : List ℕ) → is_word w ≡ true → first_byte (w ++ r
 first_is [] rest e = absurd (false≢true e)
 first_is (b ∷ bs) rest e = refl
 
--- a name is read again, where no byte of a name stands behind it
+-- a name is read again, where no byte of a name follows it
 pub name_again : (w rest : List ℕ) → is_word w ≡ true → is_name_byte (first_byte rest) ≡ false → name_at (w ++ rest) ≡ Some (w, rest)
 unfolding name_at
 name_again w rest e stop =

@@ -80,7 +80,7 @@ unfolding row_line
 row_lines vs [] are h = tt
 row_lines vs (r ∷ rs) are h = (record { inside = inside_row (labels_of vs) r; is = λ rest. simp append_assoc; again = λ rest. row_again vs r rest are h.0 }, row_lines vs rs are h.1)
 
--- ---- what stands behind lines is no such line: each begins with another letter
+-- ---- what follows lines is no such line: each begins with another letter
 
 goal_is_no_row : (names : List Name) (g : FzGoal) → behind (codes "constraint ") (goal_line names g) ≡ None
 unfolding behind goal_line

@@ -94,7 +94,7 @@ is_from n (suc m) y low high = by (int_le y n) refl (λ l. is_from (n +ℤ pos 1
     by true e rest = let same : n ≡ y = omega (arith, ints, e) in subst (λ z. Contains (z ∷ numbers_from (n +ℤ pos 1) m) y) (sym same) (to_head y (numbers_from (n +ℤ pos 1) m))
     by false e rest = to_tail n y (numbers_from (n +ℤ pos 1) m) (rest (omega (arith, ints, e)))
 
--- the number behind a range
+-- the number after a range
 past_end : (lo hi : ℤ) → lo ≤ℤ hi → (lo +ℤ pos (suc (nat_abs (hi -ℤ lo)))) ≡ (hi +ℤ pos 1)
 past_end lo hi h = first_of (grind (arith, ints), omega (arith, ints))
 
@@ -215,7 +215,7 @@ zero_in_limit = by refl refl
     by : int_le least (pos 0) ≡ true → int_le (pos 0) greatest ≡ true → IsInLimit (pos 0)
     by low high = search (rules, low, high)
 
--- a set's text is read again, where no digit stands behind it
+-- a set's text is read again, where no digit follows it
 pub set_again : (s : List Range) (rest : List ℕ) → AreCanonical s → AreInLimit s → is_digit (first_byte rest) ≡ false → set_at (set s ++ rest) ≡ Some (s, rest)
 unfolding set set_at
 set_again [] rest c l stop = ap (λ t. set_at (t ++ rest)) empty_text ∙ interval_set_again (pos 1, pos 0) [] rest one_in_limit zero_in_limit refl stop

@@ -5,7 +5,7 @@ use Rattle.mz_io.specs.Sink.{Held, SinkCounts, Adds, AddsPrefix}
 use Rattle.fz_text.specs.declared.writer.Wrote.{Wrote}
 use Rattle.fz_text.specs.declared.writer.Wrote.TheVariants.{All, Failed, Memory}
 
--- what an answer says of the bytes held: the text went out, a front of it may have, or none did
+-- what an answer says of the bytes held: the text went out, a prefix of it may have, or none did
 abbrev pub Writes : Held → Held → List ℕ → Wrote → Type 0
 Writes old new text All = Adds old new text
 Writes old new text Failed = AddsPrefix old new text

@@ -14,7 +14,7 @@ use std::alloc::Global;
 pub enum Wrote {
     /// The whole text went out.
     All,
-    /// A front of the text may have gone out, and no more can.
+    /// A prefix of the text may have gone out, and no more can.
     Failed,
     /// Memory ran out; no byte went out.
     Memory,
@@ -24,7 +24,7 @@ pub enum Wrote {
 /// constraint and the solve item, in the order of the program, as the FlatZinc chapter of the MiniZinc Handbook has them.
 /// `well_formed` of `fz_formed` tests what is required.
 ///
-/// After `Failed` the sink holds what it held and a front of the text, after `Memory` what it held.
+/// After `Failed` the sink holds what it held and a prefix of the text, after `Memory` what it held.
 pub fn write<S: Sink>(alloc: Global, p: &FzProgram, out: &mut S) -> Wrote
     requires { WellFormed (program p.now) }
     ensures told { Writes (S.held out.old) (S.held out.new) (spelling (program p.now)) result }

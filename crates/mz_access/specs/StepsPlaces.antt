@@ -17,16 +17,16 @@ place_by (r ∷ rs) [] = None
 place_by (r ∷ rs) (None ∷ vs) = None
 place_by (r ∷ rs) (Some n ∷ vs) = if is_inside r n then option_map (λ p. min cap (offset_of r n * min cap (count_of rs) + p)) (place_by rs vs) else None
 
--- how far an index stands behind another
+-- how far an index is past another
 abbrev pub steps_between : ℤ → ℤ → ℕ
 steps_between lo i = if int_le lo i then nat_abs (i -ℤ lo) else 0
 
--- of so many indices from i on, each with the next c elements: what those within the bounds reach
+-- of this many indices from i on, each with the next c elements: what those within the bounds reach
 unfoldable pub swept : {A : Type 0} → (List A → List A) → Ends → ℕ → ℕ → ℤ → List A → List A
 swept go e c zero i xs = []
 swept go e c (suc n) i xs = (if is_within e i then go xs else []) ++ swept go e c n (i +ℤ pos 1) (drop c xs)
 
--- of so many indices, each with the next c elements: what all of them reach
+-- of this many indices, each with the next c elements: what all of them reach
 unfoldable pub runs : {A : Type 0} → (List A → List A) → ℕ → ℕ → List A → List A
 runs go c zero xs = []
 runs go c (suc n) xs = go xs ++ runs go c n (drop c xs)

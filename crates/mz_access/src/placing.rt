@@ -96,14 +96,14 @@ fn with_first(alloc: Global, p: Places<'_>, out: Vec<Bound>) -> Result<Vec<Bound
     }
 }
 
-/// How far an index stands behind another, `0` where it stands before it.
+/// How far an index is past another, `0` where it is before it.
 fn distance(lo: i64, i: i64) -> u64
     ensures { result ≡ steps_between lo i }
 {
     if lo <= i { i.abs_diff(lo) } else { 0 }
 }
 
-/// The elements from those of an index on, where each index has so many.
+/// The elements from those of an index on, where each index has this many.
 fn from_index<'a>(p: Places<'a>, lo: i64, i: i64, each: u64) -> Places<'a>
     ensures { (c : ℕ) → each ≡ min cap c → places_of result ≡ drop (steps_between lo i * c) (places_of p.entry) }
 {

@@ -23,7 +23,7 @@ use Rattle.mz_scope.proofs.Parting.{or_none}
 use Rattle.mz_data.specs.WithData.{IsGivenKnown}
 use Rattle.mz_analysis.specs.Known.{OfGiven}
 
--- an item whose names are of a table, and whose places are in so many files
+-- an item whose names are of a table, and whose places are in this many files
 pub known_given : (names files : ℕ) (g : Given) → IsGivenKnown names files g → OfGiven (λ n. n < names) (λ at. at.file < files) g
 known_given names files g k = record { name = k.within.name; names = k.within.names; span = k.name; value = k.value }
 

@@ -37,7 +37,7 @@ fault_is table fs ds =
     ap (λ z. refusal table (known_in table) (tests.end_of fs) (flat_map solve_in z) (occurrences z (map given ds))) (items_are table fs)
     ∙ ap (λ e. refusal table (known_in table) e (flat_map solve_in (items_of (map (file table) fs))) (occurrences (items_of (map (file table) fs)) (map given ds))) (end_is table fs)
 
--- a file of the table, one of so many
+-- a file of the table, one of this many
 record IsFileAmong (table : List (List ℕ)) (count : ℕ) (f : SourceFile) : Type 0 where
   turn : ℕ
   below : turn < count
@@ -51,7 +51,7 @@ all_mapped P f [] h = All-nil P
 all_mapped P f (x ∷ xs) h = All-cons P (f x) (map f xs) (All-head (λ y. P (f y)) x xs h) (all_mapped P f xs (All-tail (λ y. P (f y)) x xs h))
 
 module _ (table : List (List ℕ)) (count : ℕ) where
-  -- an item whose names are of the table, and whose places are in so many files
+  -- an item whose names are of the table, and whose places are in this many files
   abbrev pub IsKnown : ItemTree → Type 0
   IsKnown i = OfItem (λ n. n < length table) (λ s. s.file < count) i
 

@@ -47,7 +47,7 @@ module _ (table : List (List ℕ)) (fs : List SourceFile) (ds : List DataItem) w
   ill_named (Err (stop.Refused f)) refused = ill f refused
   ill_named (Err stop.Memory) refused = tt
 
-  -- all names are of the table, and all places in so many files
+  -- all names are of the table, and all places in this many files
   module _ (count : ℕ) (fewer : length fs ≤ count) (known : AreKnown table fs) (items : All (IsGivenKnown (length table) count) (map given ds)) where
     abbrev IsNamed : ℕ → Type 0
     IsNamed n = n < length table

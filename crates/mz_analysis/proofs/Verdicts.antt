@@ -181,7 +181,7 @@ module _ (s : ScopedTree) (table : List (List ℕ)) where
     absent m (of_decl d) none = absent_case m d none (below_or_not d (length s.decls))
     absent m (of_function f) none = absent_function m f none (below_or_not f (length s.functions))
 
-    -- two fronts of the orders agree
+    -- two prefixes of the orders agree
     fronts_agree : (p back q tail : List Subject) → order ≡ p ++ back → other ≡ q ++ tail → Agree s table p q
     fronts_agree p back q tail is too y a c =
         let in_order : SameEntry y (T s table p) M = subst (λ z. SameEntry y (T s table p) (T s table z)) (sym is) (stays_among s table y p back a) in

@@ -86,7 +86,7 @@ IsOfTests LeftOut = Unit {0}
 IsOfTests Syntax = Unit {0}
 IsOfTests _ = ⊥
 
--- A test of names or of types fails, with a kind of its own, at a place in one of the files, of which so many are data files. These are
+-- A test of names or of types fails, with a kind of its own, at a place in one of the files, of which this many are data files. These are
 -- numbered after all files of the model.
 pub record FailsTest (table : List (List ℕ)) (files : List File) (data_files : ℕ) (items : List Given) (f : Fault) : Type 0 where
   pub refused : IsRefused table files items f

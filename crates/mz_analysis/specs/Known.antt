@@ -32,6 +32,6 @@ module _ (Named : Name → Type 0) (Placed : Span → Type 0) where
     pub outputs : All (OfTree Named Placed) s.outputs
     pub given : All OfGiven s.given
 
--- the names are of a table with so many texts, and the places in so many files
+-- the names are of a table with this many texts, and the places in this many files
 abbrev pub IsWithin : ℕ → ℕ → ScopedTree → Type 0
 IsWithin names files s = OfScoped (λ n. n < names) (λ at. at.file < files) s

@@ -27,7 +27,7 @@ TypedOrRefused = (table : List (List ℕ)) (files : List File) (items : List Giv
 abbrev pub OrderMakesNoDifference : Type 0
 OrderMakesNoDifference = (table : List (List ℕ)) (s : ScopedTree) (order other : List Subject) (all : Sections) → IsTypeOrder s order → IsTypeOrder s other → checked_with_data table s order ≡ Ok all → checked_with_data table s other ≡ Ok all
 
--- A model's types, and its data, are refused with a kind of the tests, at a place in one of its files, where all its places are in so many
+-- A model's types, and its data, are refused with a kind of the tests, at a place in one of its files, where all its places are in this many
 -- files.
 abbrev pub TypesAreRefusedInFiles : Type 0
 TypesAreRefusedInFiles = (names files : ℕ) (table : List (List ℕ)) (s : ScopedTree) (f : Fault) → 0 < names → 0 < files → IsWithin names files s → IsRefusedWithData table s f → (f.span.file < files) × IsOfTests f.kind

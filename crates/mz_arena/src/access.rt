@@ -83,7 +83,7 @@ impl Table {
         }
     }
 
-    /// The list without so many of its first sets.
+    /// The list without this many of its first sets.
     fn skip_subsets(&self, list: Id, count: u64) -> Id
         requires { IsSoundTable self.now }
         ensures { subsets_of self.now result ≡ drop count (subsets_of self.now list) }
@@ -100,7 +100,7 @@ impl Table {
         at
     }
 
-    /// What one of so many first sets has.
+    /// What one of this many first sets has.
     fn union_of_first(&self, alloc: Global, list: Id, count: u64) -> Result<RangeSet, AllocError>
         requires { IsSoundTable self.now }
         ensures is { IfOk result (λ s. s ≡ union_from [] (take count (subsets_of self.now list))) }

@@ -12,7 +12,7 @@ use mz_interval::Interval;
 use std::alloc::{AllocError, Global};
 
 impl Table {
-    /// A node behind a condition.
+    /// A node under a condition.
     #[tactic(auto, unfolding(crate::specs::Extents::guard_extent))]
     pub(crate) fn guard(&self, a: Id, b: Id) -> Option<Reach>
         requires { IsSoundTable self.now }

@@ -69,7 +69,7 @@ impl Table {
         acc
     }
 
-    /// The list without so many of its first elements.
+    /// The list without this many of its first elements.
     pub(crate) fn skip(&self, list: Id, count: u64) -> Id
         requires { IsSoundTable self.now }
         ensures { wholes_of self.now result ≡ drop count (wholes_of self.now list) }
@@ -86,7 +86,7 @@ impl Table {
         at
     }
 
-    /// The hull of so many first elements; 0..0 of none.
+    /// The hull of this many first elements; 0..0 of none.
     pub(crate) fn hull_of_first(&self, list: Id, count: u64) -> Interval
         requires { IsSoundTable self.now }
         ensures { ends result ≡ hull_of_all (take count (wholes_of self.now list)) }

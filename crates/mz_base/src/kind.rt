@@ -101,7 +101,7 @@ impl Kind {
         }
     }
 
-    /// Whether a refusal line shows the fault's number behind the kind.
+    /// Whether a refusal line shows the fault's number after the kind.
     pub fn shows_number(self) -> bool
         ensures { result ≡ shows_number self }
     {

@@ -17,7 +17,7 @@ each_more : {A : Type 0} (see : Bound → Option A) (b : Bound) (bs : List Bound
 unfolding each
 each_more see b bs = refl
 
--- what is taken so far, in front of what the rest gives
+-- what is taken so far, before what the rest gives
 abbrev pub after : {A : Type 0} → List A → Option (List A) → Option (List A)
 after front rest = option_map (λ xs. front ++ xs) rest
 

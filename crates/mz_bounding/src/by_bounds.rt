@@ -235,7 +235,7 @@ fn has_dimensions(rs: &[(i64, i64)], dimensions: u64) -> bool
     rs.len() as u64 == dimensions
 }
 
-/// The index set at a place, of index ranges of so many dimensions.
+/// The index set at a place, of index ranges of this many dimensions.
 fn index_set_of(
     alloc: Global,
     place: u64,

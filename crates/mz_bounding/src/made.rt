@@ -213,7 +213,7 @@ fn index_ranges(alloc: Global, sets: &[Known]) -> Result<Option<Vec<(i64, i64)>>
     Ok(Some(ranges))
 }
 
-/// `array1d` to `array6d` of index sets and an array, where there are so many arguments.
+/// `array1d` to `array6d` of index sets and an array, where there are this many arguments.
 fn shaped_by(alloc: Global, sets: &[Known], others: &[Known]) -> Result<Option<Bounds>, AllocError>
     ensures { IfOk result (λ b. option_map known_bounds b ≡ shaped_of (rows.each set_range (map index_set_of sets.now)) (rows.elements_at (all_bounds others.now) 0)) }
 {
@@ -227,7 +227,7 @@ fn shaped_by(alloc: Global, sets: &[Known], others: &[Known]) -> Result<Option<B
     Ok(Some(Bounds::Many(index, all)))
 }
 
-/// `array1d` to `array6d` of so many index sets and an array.
+/// `array1d` to `array6d` of this many index sets and an array.
 #[tactic(auto, using(crate::proofs::Shaping::too_few))]
 fn shaped(alloc: Global, d: u64, cells: &[Known]) -> Result<Option<Bounds>, AllocError>
     ensures { IfOk result (λ b. option_map known_bounds b ≡ rows.made_bounds (MadeRow.Shaped d) (argument_bounds (Row.Made (MadeRow.Shaped d)) (cells_of cells.now))) }

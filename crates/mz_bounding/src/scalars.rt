@@ -87,7 +87,7 @@ fn extreme(alloc: Global, side: Side, cells: &[Known]) -> Result<Option<(i128, i
     Ok(Some(wide(&nearest)))
 }
 
-/// The bounds of a count of so many elements.
+/// The bounds of a count of this many elements.
 fn count_ends(n: u64) -> (i128, i128)
     ensures { result ≡ bounds.count_ends n }
 {

@@ -144,7 +144,7 @@ unfoldable pub products : {A : Type 0} → List (List A) → List (List A)
 products [] = [] ∷ []
 products (xs ∷ rest) = joined xs (products rest)
 
--- the index types of an array of so many dimensions
+-- the index types of an array of this many dimensions
 unfoldable pub index_lists : List Ix → ℕ → List (List Ix)
 index_lists indices zero = [] ∷ []
 index_lists indices (suc n) = joined indices (index_lists indices n)

@@ -54,9 +54,9 @@ pub enum Param {
     Par(Of),
     /// An array of any dimensions, whose elements are var in the var reading.
     Array(Of),
-    /// An array of so many dimensions, whose elements are var in the var reading.
+    /// An array of this many dimensions, whose elements are var in the var reading.
     Sized(u64, Of),
-    /// An array of so many dimensions, whose elements are par in each reading.
+    /// An array of this many dimensions, whose elements are par in each reading.
     ParSized(u64, Of),
     /// An index set: a par set of integers or of an enum, which each reading chooses for itself.
     IndexSet,

@@ -95,7 +95,7 @@ pub(crate) fn array_bounds(
     Ok(Bounds::Many(index.clone()?, held))
 }
 
-/// So many empty index ranges.
+/// This many empty index ranges.
 #[tactic(auto, using(std::proofs::lemmas::List::replicate_more))]
 fn empty_ranges(alloc: Global, count: u64) -> Result<Vec<(i64, i64)>, AllocError>
     ensures { IfOk result (λ all. all.items ≡ replicate count (pos 1, pos 0)) }
@@ -107,7 +107,7 @@ fn empty_ranges(alloc: Global, count: u64) -> Result<Vec<(i64, i64)>, AllocError
     Ok(all)
 }
 
-/// The bounds of an undefined array of so many dimensions: it has no element.
+/// The bounds of an undefined array of this many dimensions: it has no element.
 pub(crate) fn no_array(alloc: Global, count: u64) -> Result<Bounds, AllocError>
     ensures { IfOk result (λ b. known_bounds b ≡ bounds.no_array count) }
 {

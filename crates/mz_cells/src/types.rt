@@ -65,7 +65,7 @@ pub enum Known {
     Var(Bound),
     /// A var array: its index ranges, and its elements' bounds.
     Row(Rc<Vec<(i64, i64)>>, Rc<Vec<Bound>>),
-    /// An undefined par array of so many dimensions that has become var.
+    /// An undefined par array of this many dimensions that has become var.
     Unshaped(u64),
 }
 

@@ -178,6 +178,6 @@ last_of_chain at s ls e first b v all others x os begun made h p q same split fi
     ∙ ap (λ ys. os ++ (o ∷ ys)) (sym (backed_apart e.span all others x split))
     ∙ ap (λ ys. os ++ ys) (sym (ap (last_with at s ls) (back_of_chain e first b v all h p q ∙ ap (back_if e.span (tree first) (map step all)) same)))
 
--- what is put behind a list, written otherwise
+-- what is put after a list, written otherwise
 pub other_end : {A : Type 0} (os vs a b : List A) → a ≡ b → vs ≡ os ++ a → vs ≡ os ++ b
 other_end os vs a b h e = e ∙ ap (λ xs. os ++ xs) h

@@ -89,7 +89,7 @@ fn plain_innermost<'a>(
     Ok(Innermost { first, operators })
 }
 
-// a chain behind the operators of its first operand, round which are the coercions of `first`
+// a chain after the operators of its first operand, round which are the coercions of `first`
 fn more_innermost<'a>(
     part: Innermost<'a>,
     at: Span,

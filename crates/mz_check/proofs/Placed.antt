@@ -90,7 +90,7 @@ onward a b c h k = ⊎_elim
     (λ p. ⊎_elim (λ q. let f = p.0 in inl (omega (arith, f, q))) (λ q. let f = p.0 in let g = q.0 in let m = p.1 in let n = q.1 in inr (f ∙ g, omega (arith, m, n))) k)
     h
 
--- none stands before the one in front of it
+-- none comes before the one before it
 abbrev pub Rise : List Decl → Type 0
 Rise ds = (k : ℕ) (d : Decl) → k + 1 < length ds → stands_before (get_or ds (k + 1) d).span (get_or ds k d).span ≡ false
 

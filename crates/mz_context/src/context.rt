@@ -44,7 +44,7 @@ pub struct Context<'a> {
 impl<'a> Context<'a> {
     ghost use Rattle.mz_context.specs.Known.{answers, known};
 
-    /// What is known before any type is typed, of so many declarations.
+    /// What is known before any type is typed, of this many declarations.
     pub fn new(
         alloc: Global,
         texts: &'a Names,

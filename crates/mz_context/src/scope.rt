@@ -49,7 +49,7 @@ impl Model for Scope {
 }
 
 impl Scope {
-    /// No local name, after so many declarations.
+    /// No local name, after this many declarations.
     pub fn new(alloc: Global, declared: u64, output: bool) -> Scope
         requires { declared < 2 ^ 63 }
         ensures { result ≡ record { locals = []; next = declared; output = output } }
@@ -139,7 +139,7 @@ impl Scope {
         Ok(())
     }
 
-    /// Goes back to what was in scope when there were so many local names. After `Memory` some of the others are still in scope.
+    /// Goes back to what was in scope when there were this many local names. After `Memory` some of the others are still in scope.
     #[tactic(auto, using(crate::proofs::Returning::extends_back, crate::proofs::Returning::extends_end))]
     pub fn leave(&mut self, mark: usize) -> Result<(), Memory>
         ensures { OnOk result ((env : Env) → Extends env self.old → mark ≡ length env.locals → self.new ≡ env) }

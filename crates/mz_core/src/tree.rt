@@ -57,7 +57,7 @@ pub enum CoreForm {
     Set(Vec<Core>),
     /// Whether it is in braces, its head, and its generators.
     Comp(bool, Box<Core>, Vec<CoreGen>),
-    /// Conditions, each with its branch, and what stands behind `else`.
+    /// Conditions, each with its branch, and what follows `else`.
     If(Vec<(Core, Core)>, Option<Box<Core>>),
     Let(Vec<CoreItem>, Box<Core>),
     /// One step of coercion, to the type of this node.

@@ -5,9 +5,9 @@ use Rattle.mz_lexer.specs.declared.token.Token.{Token}
 use Rattle.mz_lexer.specs.declared.token.Tok.{Tok}
 use Rattle.mz_cursor.specs.Rules.{Rule, give, refuse, leave_out, look, pass, enter, leave, part, Runs, gives, looks, passes, enters, leaves, parts}
 
--- Holds n room x says something of the value x of the part n, in front of which room tokens more may be opened.
+-- Holds n room x says something of the value x of the part n, before which room tokens more may be opened.
 module _ {Part : Type 0} {Value : Part → Type 0} (Holds : (n : Part) → ℕ → Value n → Type 0) where
-  -- The rest of a rule keeps it: in front of the whole part start tokens more might be opened, and now room.
+  -- The rest of a rule keeps it: before the whole part start tokens more might be opened, and now room.
   abbrev pub Keeps : {n : Part} → ℕ → ℕ → Rule Value n → Type 0
   Keeps {n = n} start room (give x) = Holds n start x
   Keeps start room refuse = Unit {0}

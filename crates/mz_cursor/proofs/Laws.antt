@@ -17,7 +17,7 @@ weight_prefix w [] rest = omega arith
 weight_prefix w (t ∷ us) rest = let h = weight_prefix w us rest in omega arith
 
 module _ {Part : Type 0} {Value : Part → Type 0} (rule : (n : Part) → Rule Value n) (rank : Part → ℕ) (width : ℕ) (low : (n : Part) → rank n < width) (falls : (n : Part) → Falls rank (rank n) (rule n)) where
-  -- behind a token, any part is one further down
+  -- after a token, any part is one further down
   all_fall : {n : Part} (p : Rule Value n) → Falls rank width p
   all_fall (give x) = tt
   all_fall refuse = tt

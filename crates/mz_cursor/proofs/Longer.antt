@@ -51,7 +51,7 @@ module _ {Part : Type 0} {Value : Part → Type 0} (rule : (n : Part) → Rule V
       firm : ((o : Option Tok) → TakesToken rule MayEndBefore takes_token IsUsable far aim (f o)) → Seen f
       by : (more : List Token) → Before (look f) more → Seen f
 
-    -- what stands behind the part m takes a token; or else m may end before the aim, or is brought to it
+    -- what follows the part m takes a token; or else m may end before the aim, or is brought to it
     pub data Reach (m : Part) {n : Part} (f : Value m → Rule Value n) : Rule Value n → Type 0 where
       firmly : {p : Rule Value n} → TakesToken rule MayEndBefore takes_token IsUsable far aim p → Reach m f p
       near : {p : Rule Value n} → MayEndBefore m (Some aim.tok) → Before p [] → Reach m f p

@@ -1,4 +1,4 @@
--- Each front of tokens that a grammar hasn't refused begins some part, where the grammar's rules have a few properties.
+-- Each prefix of tokens that a grammar hasn't refused begins some part, where the grammar's rules have a few properties.
 use Rattle.std.proofs.Common.{◌≡◌, ℕ, zero, suc, ◌+◌, List, [], ◌∷◌, ◌++◌, refl, sym, ap, ◌∙◌, subst, append_assoc, arith, true, false, Bool, Option, inl, inr, ◌⊎◌, append-nil}
 use Rattle.std.specs.Prelude.{Ok, Err, Some, None}
 use Rattle.mz_base.specs.declared.fault.Span.{Span}
@@ -36,7 +36,7 @@ has_right : (us vs : List Token) → HasToken vs → HasToken (us ++ vs)
 has_right [] vs h = h
 has_right (t ∷ us) vs h = tt
 
--- the token that follows stays the same, whatever stands behind
+-- the token that follows stays the same, whatever follows
 same_prefix : (us : List Token) (why : Reason) (rest more : List Token) (next other : Option Tok) → tok_at rest ≡ next → Begun us why rest → follows us next ≡ follows ((us ++ allowed why rest) ++ more) other
 same_prefix [] syntax rest more next other e b = absurd b
 same_prefix [] left_out rest more next other e b = absurd b
@@ -189,7 +189,7 @@ module _ {Part : Type 0} {Value : Part → Type 0} (rule : (n : Part) → Rule V
       maybe : {p : Rule Value n} (more : List Token) → Done p more → MayEndBefore m (follows more None) → ((o : Option Tok) → MayEndBefore n o → MayEndBefore m o) → After n m f p
       brought : {p : Rule Value n} (more : List Token) → ((x : Value m) → Done (f x) more) → TakesToken p → far m ≡ true → Some aim.tok ≡ follows more None → After n m f p
 
-    -- what a rule must keep to: behind each token and each part there is a way on
+    -- what a rule must keep to: after each token and each part there is a way on
     abbrev pub CanComplete : {n : Part} → Rule Value n → Type 0
     CanComplete {n = n} (give x) = IsUsable n x
     CanComplete refuse = Unit {0}
@@ -248,7 +248,7 @@ module _ {Part : Type 0} {Value : Part → Type 0} (rule : (n : Part) → Rule V
           parts us [] (ends other h (end_part next other c after.0 g') (can_complete m)) g'
       ends other (parts {m = m} us (t ∷ vs) {x = x} h g) c l = parts us (t ∷ vs) h (ends other g c (l x (usable h (can_complete m))).1)
 
-      -- a part with these tokens, and with some more behind them, before the aim
+      -- a part with these tokens, and with some more after them, before the aim
       abbrev pub Brought : (n : Part) → List Token → Type 0
       Brought n us = (more : List Token) × (y : Value n) × Goes (rule n) (us ++ more) y (Some aim.tok)
 
@@ -267,7 +267,7 @@ module _ {Part : Type 0} {Value : Part → Type 0} (rule : (n : Part) → Rule V
         from [] too_deep (t ∷ rest) c g = g tt
         from (t ∷ us) why rest c g = g tt
 
-        -- a way on behind a part
+        -- a way on after a part
         abbrev Onward : {n m : Part} → (Value m → Rule Value n) → List Token → Type 0
         Onward {n = n} {m = m} f us = (more : List Token) × (y : Value n) × Goes (part m f) (us ++ more) y None
 
@@ -284,7 +284,7 @@ module _ {Part : Type 0} {Value : Part → Type 0} (rule : (n : Part) → Rule V
         onward {n = n} {m = m} f us x {p = p} e (maybe more d c s) h = onward_by f us x e more (may_take p more d) c h
         onward {n = n} {m = m} f us x e (brought more d t e' b) h = let r = bring m e' h.0 us x None h.1 in onward_brought f us more r.0 r.1 (r.2.0, subst (λ o. Runs rule m r.2.0 (rule m) (us ++ r.0) r.1 o) b r.2.1) (may_take (f r.1) more (d r.1))
 
-        -- what stopped at once behind a part was not at its end
+        -- what stopped at once after a part was not at its end
         onward_refused : {n m : Part} (f : Value m → Rule Value n) (us : List Token) (x : Value m) {p : Rule Value n} {q room : ℕ} {vs : List Token} {why : Reason} {next ahead : Option Tok} → f x ≡ p → After n m f p → Runs rule m q (rule m) us x ahead → Refuses rule n room p vs why next → Onward f us
         onward_refused f us x e (last s) h g = elim g [ ]
         onward_refused f us x {p = p} {q = q} e (tokens more d c t) h g = onward_by f us x e more (may_take p more d) c (q, h)

@@ -1,4 +1,4 @@
--- What a caller is promised of a part that is read at the front of a list of tokens.
+-- What a caller is promised of a part that is read at the beginning of a list of tokens.
 use Rattle.std.specs.Prelude.{◌≡◌, ℕ, List, [], ◌∷◌, ◌++◌, Option, Some, None, Result, Ok, Err}
 use Rattle.mz_base.specs.declared.fault.Span.{Span}
 use Rattle.mz_base.specs.declared.fault.Fault.{Fault}
@@ -36,7 +36,7 @@ Gives view end rest (Ok x) read = read ≡ Ok (view x, rest)
 Gives view end rest (Err stop) read = Stops end rest stop read
 
 module _ {Part : Type 0} {Value : Part → Type 0} (rule : (n : Part) → Rule Value n) where
-  -- these tokens, and no others behind them, are this part with this value
+  -- these tokens, and no others after them, are this part with this value
   abbrev pub IsWithin : (n : Part) → ℕ → List Token → Value n → Type 0
   IsWithin n room ts x = Runs rule n room (rule n) ts x None
 
@@ -56,7 +56,7 @@ module _ {Part : Type 0} {Value : Part → Type 0} (rule : (n : Part) → Rule V
   EndsAt n prefix [] = Unit {0}
   EndsAt n prefix (t ∷ rest) = Begins n (prefix ++ (t ∷ [])) → ⊥
 
-  -- the longest front that is such a part
+  -- the longest prefix that is such a part
   pub record IsLongestPrefix (n : Part) (room : ℕ) (old rest : List Token) (x : Value n) : Type 0 where
     pub prefix : List Token
     pub split : old ≡ prefix ++ rest
@@ -89,7 +89,7 @@ module _ {Part : Type 0} {Value : Part → Type 0} (rule : (n : Part) → Rule V
   IsFault n room left_out end old at = IsUnfit n room left_out end old at
   IsFault n room too_deep end old at = IsTooDeep n room old at
 
-  -- what a call answered that reads a part at the front of old, where so many tokens more may be opened
+  -- what a call answered that reads a part at the beginning of old, where this many tokens more may be opened
   abbrev pub Answers : {X : Type 0} → (n : Part) → (X → Value n) → ℕ → Span → List Token → List Token → Result X Stop → Type 0
   Answers n view room end old new (Ok x) = IsLongestPrefix n room old new (view x)
   Answers n view room end old new (Err Memory) = Unit {0}

@@ -1,4 +1,4 @@
--- What a grammar reads at the front of a list of tokens: a value and the tokens behind it, or the first token that doesn't fit.
+-- What a grammar reads at the beginning of a list of tokens: a value and the tokens after it, or the first token that doesn't fit.
 use Rattle.std.specs.Prelude.{◌≡◌, ℕ, zero, suc, ◌+◌, ◌<◌, List, [], ◌∷◌, ◌++◌, if◌then◌else◌, length, Option, Some, None, Result, Ok, Err, Bool}
 use Rattle.mz_base.specs.declared.fault.Span.{Span}
 use Rattle.mz_lexer.specs.declared.token.Token.{Token}
@@ -23,12 +23,12 @@ Reader A = List Token → Read A
 abbrev pub stuck : {A : Type 0} → Reason → List Token → Read A
 stuck why ts = Err (record { why = why; rest = ts })
 
--- what follows depends on something in front
+-- what follows depends on something before it
 abbrev pub on : {A : Type 0} {B : Type 0} → Option A → B → (A → B) → B
 on None other found = other
 on (Some a) other found = found a
 
--- behind one more open token, where there is room for it
+-- after one more open token, where there is room for it
 abbrev pub open_at : {A : Type 0} → ℕ → List Token → (ℕ → Read A) → Read A
 open_at zero ts inside = stuck too_deep ts
 open_at (suc room) ts inside = inside room
@@ -46,7 +46,7 @@ mapped f o = o >>= λ x. Ok (f x.0, x.1)
 abbrev pub with_prefix : {A : Type 0} → List A → Read (List A) → Read (List A)
 with_prefix all o = mapped (λ xs. all ++ xs) o
 
--- the elements behind x, where a separator tells whether more follow, and next reads those
+-- the elements after x, where a separator tells whether more follow, and next reads those
 abbrev pub listed : {A : Type 0} → Reader Bool → Reader (List A) → A → Reader (List A)
 listed separator next x ts = separator ts >>= λ b. if b.0 then with_prefix (x ∷ []) (next b.1) else Ok (x ∷ [], b.1)
 
@@ -77,7 +77,7 @@ module _ {Part : Type 0} {Value : Part → Type 0} where
   step inner (leave p) room ts = step inner p (suc room) ts
   step inner (part m f) room ts = inner m room ts >>= λ x. step inner (f x.0) room x.1
 
-  -- the parts that may stand in front stand lower in the order of ranks, so no part begins with itself
+  -- the parts that may come first are lower in the order of ranks, so no part begins with itself
   abbrev pub Falls : (Part → ℕ) → {n : Part} → ℕ → Rule Value n → Type 0
   Falls rank r (give x) = Unit {0}
   Falls rank r refuse = Unit {0}

@@ -34,7 +34,7 @@ pub data Rule {Part : Type 0} (Value : Part → Type 0) (n : Part) : Type 0 wher
   part : (m : Part) → (Value m → Rule Value n) → Rule Value n
 
 module _ {Part : Type 0} {Value : Part → Type 0} (rule : (n : Part) → Rule Value n) where
-  -- Where room tokens more may be opened, the rule takes these tokens and gives x, and next stands behind them.
+  -- Where room tokens more may be opened, the rule takes these tokens and gives x, and next follows them.
   pub data Runs : (n : Part) → ℕ → Rule Value n → List Token → Value n → Option Tok → Type 0 where
     gives : {n : Part} {room : ℕ} {x : Value n} {next : Option Tok} → Runs n room (give x) [] x next
     looks : {n : Part} {room : ℕ} {f : Option Tok → Rule Value n} {ts : List Token} {x : Value n} {next : Option Tok} → Runs n room (f (follows ts next)) ts x next → Runs n room (look f) ts x next

@@ -1,20 +1,20 @@
--- What stands in front in a list of tokens.
+-- What comes first in a list of tokens.
 use Rattle.std.specs.Prelude.{ℕ, List, [], ◌∷◌, Option, Some, None}
 use Rattle.mz_base.specs.declared.fault.Span.{Span}
 use Rattle.mz_lexer.specs.declared.token.Token.{Token}
 use Rattle.mz_lexer.specs.declared.token.Tok.{Tok}
 
--- the token in front
+-- the next token
 abbrev pub first_token : List Token → Option Token
 first_token [] = None
 first_token (t ∷ ts) = Some t
 
--- what the token in front is
+-- what the next token is
 abbrev pub tok_at : List Token → Option Tok
 tok_at [] = None
 tok_at (t ∷ ts) = Some t.tok
 
--- the tokens behind it
+-- the tokens after it
 abbrev pub behind : List Token → List Token
 behind [] = []
 behind (t ∷ ts) = ts

@@ -108,7 +108,7 @@ module _ (names : List (List ℕ)) (texts : Texts) (start : ℕ) (words : List (
 pub next_word : (words : List (Bor (List ℕ))) (i : ℕ) (d : Bor (List ℕ)) → i < length words → words_of (take (i + 1) words) ≡ words_of (take i words) ++ (get_or words i d).now ∷ []
 next_word words i d below = ap words_of (take_more words i d below) ∙ map_push (λ (w : Bor (List ℕ)). w.now) (take i words) (get_or words i d)
 
--- the next word, between those before it and those behind it
+-- the next word, between those before it and those after it
 pub split_words : (words : List (Bor (List ℕ))) (i : ℕ) (d : Bor (List ℕ)) → i < length words → words_of words ≡ words_of (take i words) ++ (get_or words i d).now ∷ words_of (drop (i + 1) words)
 split_words words i d below =
     ap words_of (sym (take-append-drop (i + 1) words)) ∙ map-append (λ (w : Bor (List ℕ)). w.now) (take (i + 1) words) (drop (i + 1) words)

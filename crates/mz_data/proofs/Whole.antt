@@ -31,14 +31,14 @@ module _ (old new : List (List ℕ)) (grows : Grows old new) where
   files_later (f ∷ fs) all = ap (λ v. v ∷ map (file new) fs) (file_later f (All-head (IsNamed old) f fs all)) ∙ ap (λ vs. file old f ∷ vs) (files_later fs (All-tail (IsNamed old) f fs all))
 
   module _ (texts now : Texts) (same : now ≡ texts) (first : List ℕ) (words : List (List ℕ)) (fs : List SourceFile) (model : IsSources old texts first (map (file old) fs)) where
-    -- the data files are read behind the model's
+    -- the data files are read after the model's
     pub with_data : (items : List Given) → AreKnown old fs → AreDataRead new now (length fs) words items → IsSourcesWithData new texts first words (map (file new) fs) items
     with_data items known read = record {
       model = subst (IsSources new texts first) (sym (files_later fs (each_named old fs known))) (sources_later old new grows texts first (map (file old) fs) model);
       data_files = subst (λ k. AreDataRead new texts k words items) (sym (length-map fs (file new))) (subst (λ ts. AreDataRead new ts (length fs) words items) same read);
     }
 
-    -- a data file fails, behind the model's
+    -- a data file fails, after the model's
     pub data_fails : (f : Fault) (owner : List ℕ) → FailsFirst new now (length fs) words f owner → FailsWithData new texts first words f owner
     data_fails f owner h =
         in_the_data (map (file old) fs) (sources_later old new grows texts first (map (file old) fs) model)

@@ -16,7 +16,7 @@ use Rattle.mz_data.specs.declared.gathering.SourcesWithData.{SourcesWithData}
 abbrev pub words_of : List (Bor (List ℕ)) → List (List ℕ)
 words_of words = map (λ w. w.now) words
 
--- The model with its included files, and then the items of its data files, which are numbered behind all files of the model.
+-- The model with its included files, and then the items of its data files, which are numbered after all files of the model.
 pub record IsSourcesWithData (names : List (List ℕ)) (texts : Texts) (first : List ℕ) (data_names : List (List ℕ)) (files : List File) (items : List Given) : Type 0 where
   pub model : IsSources names texts first files
   pub data_files : AreDataRead names texts (length files) data_names items
@@ -27,7 +27,7 @@ pub data FailsWithData (names : List (List ℕ)) (texts : Texts) (first : List �
   in_the_model : {f : Fault} {owner : List ℕ} → IsFirstFailure names texts first f owner → FailsWithData names texts first data_names f owner
   in_the_data : {f : Fault} {owner : List ℕ} (files : List File) → IsSources names texts first files → FailsFirst names texts (length files) data_names f owner → FailsWithData names texts first data_names f owner
 
--- the names in an item are of a table of so many texts, and its places are in the first files, so many
+-- the names in an item are of a table of this many texts, and its places are in this many first files
 pub record IsGivenKnown (names files : ℕ) (g : Given) : Type 0 where
   pub within : IsGivenWithin names g
   pub name : g.span.file < files

@@ -31,7 +31,7 @@ fn push(read: &mut DataFiles, name: Name, mut given_data: Data) -> Result<(), Me
     Ok(())
 }
 
-/// The data files of these names, which are numbered behind the files of the model.
+/// The data files of these names, which are numbered after the files of the model.
 pub fn read_data_files<F: Files>(
     alloc: Global,
     sources: &Sources,

@@ -1,4 +1,4 @@
-// A model with the files that it includes, and its data files behind them.
+// A model with the files that it includes, and its data files after them.
 #![tactic(auto)]
 
 mod data_files;

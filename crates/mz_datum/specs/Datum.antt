@@ -98,7 +98,7 @@ index_set_type (ix.Enum e) = scalar (base.SetEnum e)
 unfoldable pub index_set_tree : Meanings → Span → Value × Ix → Test Tree
 index_set_tree ms at p = plain_tree ms at p.0 >>= λ e. fitted e (index_set_type p.1)
 
--- the call that makes an array of so many dimensions
+-- the call that makes an array of this many dimensions
 abbrev pub array_call : ℕ → List ℕ
 array_call n =
     if nat_eq n 1 then codes "array1d" else

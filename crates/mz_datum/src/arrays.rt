@@ -53,7 +53,7 @@ pub(crate) fn list_tree(
     list_with(alloc, context, span, ds)
 }
 
-/// Whether all these rows have so many values.
+/// Whether all these rows have this many values.
 fn all_have(n: usize, rows: &[Vec<Datum>]) -> bool
     ensures { result ≡ list_all (has_length n) (map (λ r. map value r.items) rows.now) }
 {
@@ -166,7 +166,7 @@ fn index_sets(
     Ok(all)
 }
 
-/// The name of the call that makes an array of so many dimensions.
+/// The name of the call that makes an array of this many dimensions.
 fn array_call(n: usize) -> &'static str
     ensures { result.now ≡ array_call n }
 {

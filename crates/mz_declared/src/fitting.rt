@@ -68,7 +68,7 @@ fn no_own(ws: &[Want]) -> bool
     true
 }
 
-/// Whether index ranges have so many places.
+/// Whether index ranges have this many places.
 #[tactic(auto, using(mz_made::proofs::Places::same_test))]
 fn has_places(ranges: &[(i64, i64)], n: u64) -> bool
     requires { n < 2 ^ 63 }

@@ -155,7 +155,7 @@ fn choose(alloc: Global, t: &TypeInst, set: Option<RangeSet>) -> Result<(Known, 
     }
 }
 
-/// So many times the same bounds.
+/// The same bounds, this many times.
 fn repeated(alloc: Global, b: &Bound, count: u64) -> Result<Vec<Bound>, AllocError>
     ensures { IfOk result (λ all. map known_bound all.items ≡ replicate count (known_bound b.now)) }
 {

@@ -59,7 +59,7 @@ module _ (Named : Name → Type 0) (Placed : Span → Type 0) where
   Holds part.ones vs = EachWithin vs
   Holds part.one v = Placed v.0 × Within v.1
 
-  -- the name of the token in front
+  -- the name of the next token
   abbrev TokenHolds : Option Tok → Type 0
   TokenHolds None = Unit {0}
   TokenHolds (Some (tok.Word k)) = Unit {0}

@@ -22,7 +22,7 @@ use Rattle.mz_dzn.specs.DataFile.{IsDataFile, IsRefusedData}
 use Rattle.mz_dzn.proofs.Answer.{Outcome, outcome}
 use Rattle.mz_dzn.proofs.Tables.{reads_later}
 
--- what was read of tokens with no others behind them
+-- what was read of tokens with no others after them
 read_whole : {items : List Given} {o : Read (List Given)} → Laws.Reaches rule rank width low falls 120 120 items [] o → o ≡ Ok (items, [])
 read_whole (Laws.reached p) = p
 read_whole (Laws.too_much r p less) = absurd (omega arith)
@@ -52,7 +52,7 @@ module _ (names : List (List ℕ)) (tokens : List Token) where
   pub read_file : (items : List Given) → reads (file (dimensions_of names)) 120 tokens ≡ Ok (items, []) → IsDataFile names tokens items
   read_file items e = file_of items _ (outcome (file (dimensions_of names)) 120 tokens _ refl) e
 
-  -- the same of the longest front that is one, with no token behind it
+  -- the same of the longest prefix that is one, with no token after it
   pub prefix_file : (items : List Given) → IsLongestPrefix rule (file (dimensions_of names)) 120 tokens [] items → IsDataFile names tokens items
   prefix_file items h = subst (λ ts. IsDataFile names ts items) (sym (h.split ∙ append-nil h.prefix)) h.reads
 

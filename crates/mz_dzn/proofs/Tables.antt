@@ -24,7 +24,7 @@ use Rattle.mz_dzn.specs.Steps.{file_goes_on_at}
 use Rattle.mz_dzn.proofs.Equations.{named_reads, datum_reads, item_reads, file_reads}
 use Rattle.mz_dzn.proofs.Answer.{Outcome, outcome}
 
--- what holds of each element holds of those behind a front
+-- what holds of each element holds of those after a prefix
 all_behind : {A : Type 0} (P : A → Type 0) (prefix rest : List A) → All P (prefix ++ rest) → All P rest
 all_behind P [] rest all = all
 all_behind P (x ∷ prefix) rest all = all_behind P prefix rest (All-tail P x (prefix ++ rest) all)
@@ -69,7 +69,7 @@ module _ (d e : Dimensions) where
       go n true = ap (item_named n (place ts)) (datum_same room (behind (behind ts)) (behind_agree (behind ts) (behind_agree ts all)))
       go n false = refl
 
-  -- what is read behind an item
+  -- what is read after an item
   more_same : (k room : ℕ) (i : Given) (us : List Token) → ((vs : List Token) → length vs ≤ k → All Agree vs → reads (file d) room vs ≡ reads (file e) room vs) → length us ≤ suc k → All Agree us
       → listed file_goes_on_at (reads (file d) room) i us ≡ listed file_goes_on_at (reads (file e) room) i us
   unfolding file_goes_on_at

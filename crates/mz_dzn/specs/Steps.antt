@@ -11,19 +11,19 @@ use Rattle.mz_cursor.specs.Reading.{Reader, stuck, on, open_at, mapped}
 use Rattle.mz_grammar.specs.Tests.{ends_row}
 use Rattle.mz_grammar.specs.Data.{Placed, reads, plains, rows, ones}
 
--- behind an element of a list: whether another may follow, or the list is closed
+-- after an element of a list: whether another may follow, or the list is closed
 unfoldable pub goes_on_at : Symbol → Symbol → Reader Bool
 goes_on_at separator closing ts = if is_sym separator (tok_at ts)
     then Ok (true, behind ts)
     else (if is_sym closing (tok_at ts) then Ok (false, behind ts) else stuck syntax ts)
 
--- behind a cell of a row, whose closing token stays
+-- after a cell of a row, whose closing token stays
 unfoldable pub row_goes_on_at : Reader Bool
 row_goes_on_at ts = if is_sym SComma (tok_at ts)
     then (if ends_row (tok_at (behind ts)) then Ok (false, behind ts) else Ok (true, behind ts))
     else Ok (false, ts)
 
--- behind an item of the file
+-- after an item of the file
 unfoldable pub file_goes_on_at : Reader Bool
 file_goes_on_at ts = on (tok_at ts) (Ok (false, ts)) (λ t. if is_sym SSemi (tok_at ts) then Ok (true, behind ts) else stuck syntax ts)
 

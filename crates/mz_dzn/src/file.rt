@@ -41,7 +41,7 @@ fn brackets(alloc: Global, cur: &mut Cursor<'_>) -> Result<Vec<Datum>, Stop>
     Ok(elements)
 }
 
-/// What stands behind the `(` of an array with so many index sets, up to and with the `)`.
+/// What follows the `(` of an array with this many index sets, up to and with the `)`.
 #[tactic(auto, using(crate::proofs::Equations::sized_reads))]
 fn sized(alloc: Global, cur: &mut Cursor<'_>, dimensions: u8) -> Result<Datum, Stop>
     ensures { Passes value (reads (sized dimensions)) cur.old cur.new result }
@@ -52,7 +52,7 @@ fn sized(alloc: Global, cur: &mut Cursor<'_>, dimensions: u8) -> Result<Datum, S
     Ok(make_array_nd_datum(sets, elements))
 }
 
-/// What stands behind an identifier with which a value begins.
+/// What follows an identifier with which a value begins.
 #[tactic(auto, using(crate::proofs::Equations::named_reads))]
 fn named(alloc: Global, cur: &mut Cursor<'_>, names: &Names, name: Name) -> Result<Datum, Stop>
     ensures { Passes value (reads (named (dimensions_of names.now) name)) cur.old cur.new result }

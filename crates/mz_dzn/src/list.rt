@@ -47,7 +47,7 @@ pub fn plains(alloc: Global, cur: &mut Cursor<'_>) -> Result<Vec<Datum>, Stop>
     Ok(all)
 }
 
-/// The cells of a row, before the `|` or `|]` behind it.
+/// The cells of a row, before the `|` or `|]` after it.
 #[tactic(auto, using(crate::proofs::Equations::row_reads, mz_cursor::proofs::Steps::prefix_push, std::proofs::lemmas::List::map_push, mz_cursor::proofs::Steps::nothing_behind, mz_cursor::proofs::Steps::no_prefix))]
 fn row(alloc: Global, cur: &mut Cursor<'_>) -> Result<Vec<Datum>, Stop>
     ensures { Reads (λ v. map value v.items) (reads row) cur.old cur.new result }
@@ -79,7 +79,7 @@ pub fn rows(alloc: Global, cur: &mut Cursor<'_>) -> Result<Vec<Vec<Datum>>, Stop
     Ok(all)
 }
 
-/// The index sets of an array, so many, each with the comma behind it; and one comma more, where it stands there.
+/// The index sets of an array, this many, each with the comma after it; and one comma more, where it stands there.
 #[tactic(auto, using(crate::proofs::Equations::index_sets_more, crate::proofs::Equations::index_sets_none, mz_cursor::proofs::Steps::prefix_push, std::proofs::lemmas::List::map_push, mz_cursor::proofs::Steps::nothing_behind, mz_cursor::proofs::Steps::no_prefix))]
 pub fn index_sets(alloc: Global, cur: &mut Cursor<'_>, dimensions: u8) -> Result<Vec<Datum>, Stop>
     ensures { Passes (λ v. map value v.items) (reads (index_sets dimensions)) cur.old cur.new result }

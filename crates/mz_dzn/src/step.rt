@@ -1,4 +1,4 @@
-// What stands behind an element of a list.
+// What follows an element of a list.
 
 ghost use Rattle.std.specs.Prelude.{◌≡◌, ◌≤◌, ◌<◌, length, false, [], OnOk, IfOk, if◌then◌else◌};
 ghost use Rattle.mz_cursor.specs.Promise.{Gives};
@@ -12,7 +12,7 @@ use mz_base::Stop;
 use mz_cursor::{Cursor, is_sym};
 use mz_lexer::Symbol;
 
-/// What stands behind an element: true behind a separator, false behind the closing symbol.
+/// What follows an element: true after a separator, false after the closing symbol.
 #[tactic(auto, unfolding(crate::specs::Steps::goes_on_at))]
 pub fn goes_on(cur: &mut Cursor<'_>, separator: Symbol, closing: Symbol) -> Result<bool, Stop>
     ensures reads { Gives (λ b. b) cur.new.end cur.new.rest.now result (goes_on_at separator closing cur.old.rest.now) }
@@ -31,7 +31,7 @@ pub fn goes_on(cur: &mut Cursor<'_>, separator: Symbol, closing: Symbol) -> Resu
     }
 }
 
-/// What stands behind a cell of a row: true behind a comma with a further cell.
+/// What follows a cell of a row: true after a comma with a further cell.
 #[tactic(auto, unfolding(crate::specs::Steps::row_goes_on_at))]
 pub fn row_goes_on(cur: &mut Cursor<'_>) -> bool
     ensures reads { Gives (λ b. b) cur.new.end cur.new.rest.now (Ok result) (row_goes_on_at cur.old.rest.now) }
@@ -46,7 +46,7 @@ pub fn row_goes_on(cur: &mut Cursor<'_>) -> bool
     !ends_row(cur.tok())
 }
 
-/// What stands behind an item: true behind a semicolon, false at the end of the file.
+/// What follows an item: true after a semicolon, false at the end of the file.
 #[tactic(auto, unfolding(crate::specs::Steps::file_goes_on_at))]
 pub fn file_goes_on(cur: &mut Cursor<'_>) -> Result<bool, Stop>
     ensures reads { Gives (λ b. b) cur.new.end cur.new.rest.now result (file_goes_on_at cur.old.rest.now) }
@@ -65,7 +65,7 @@ pub fn file_goes_on(cur: &mut Cursor<'_>) -> Result<bool, Stop>
     }
 }
 
-/// Passes a comma, where one stands in front.
+/// Passes a comma, where one comes next.
 pub fn skip_comma(cur: &mut Cursor<'_>)
     ensures rest { cur.new.rest.now ≡ (if is_sym SComma (tok_at cur.old.rest.now) then behind cur.old.rest.now else cur.old.rest.now) }
     ensures room { cur.new.room ≡ cur.old.room }

@@ -39,7 +39,7 @@ pub fn one(cur: &mut Cursor<'_>) -> Result<Datum, Stop>
     Ok(literal)
 }
 
-/// What may stand behind a value that is one token: the upper end of a range.
+/// What may follow a value that is one token: the upper end of a range.
 #[tactic(auto, using(crate::proofs::Equations::range_reads))]
 pub fn range_from(alloc: Global, cur: &mut Cursor<'_>, from: Datum) -> Result<Datum, Stop>
     ensures reads { Gives value cur.new.end cur.new.rest.now result (reads (range (value from)) cur.old.room cur.old.rest.now) }
@@ -55,7 +55,7 @@ pub fn range_from(alloc: Global, cur: &mut Cursor<'_>, from: Datum) -> Result<Da
     Ok(make_range_datum(alloc, from, to)?)
 }
 
-/// What stands behind the first value of a set: the upper end of a range, which only an identifier can do without.
+/// What follows the first value of a set: the upper end of a range, which only an identifier can do without.
 #[tactic(auto, using(crate::proofs::Equations::bounds_reads))]
 fn bounds_from(alloc: Global, cur: &mut Cursor<'_>, from: Datum) -> Result<Datum, Stop>
     ensures reads { Gives value cur.new.end cur.new.rest.now result (reads (bounds (value from)) cur.old.room cur.old.rest.now) }

@@ -45,7 +45,7 @@ pub fn literal_of(tok: Option<Tok>) -> Option<Datum>
     }
 }
 
-/// The number that a `-` makes of the number behind it.
+/// The number that a `-` makes of the number after it.
 pub fn negated_of(tok: Option<Tok>) -> Option<i64>
     ensures { result ≡ negated_of tok }
 {

@@ -95,7 +95,7 @@ fn eval_last(
     chosen_branch(alloc, world, at, ty, others, cell, work)
 }
 
-// What stands behind `else`; without it, true.
+// What follows `else`; without it, true.
 #[cycle(forms)]
 fn eval_otherwise(
     alloc: Global,

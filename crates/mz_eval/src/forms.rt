@@ -31,7 +31,7 @@ use mz_frames::{Scope, World, all_cases, at_slot, done, literal_text, spend};
 use mz_steps::{arguments_base, operated_all, operated_one, operated_two};
 use std::alloc::Global;
 
-// An expression below which so many levels of nesting are left.
+// An expression below which this many levels of nesting are left.
 #[cycle(forms)]
 #[tactic(auto, using(crate::proofs::OneLevel::eval_end, crate::proofs::OneLevel::eval_more))]
 pub(crate) fn eval_expression(
@@ -56,7 +56,7 @@ pub(crate) fn eval_expression(
     finished(alloc, world, e, b, cell, work)
 }
 
-// A node, below which so many levels of nesting are left.
+// A node, below which this many levels of nesting are left.
 #[cycle(forms)]
 fn eval_form(
     alloc: Global,

@@ -46,7 +46,7 @@ fn levels_left(depth: &Depth) -> u64
     levels
 }
 
-// these steps, of which so many are spent
+// these steps, of which this many are spent
 fn spent_of(budget: u64, work: u64) -> Steps
     requires small { budget < 2 ^ 63 }
     requires within { work ≤ budget + 1 }

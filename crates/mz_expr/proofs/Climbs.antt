@@ -32,7 +32,7 @@ climbing_more (k ∷ ks) l x room ts =
     same_then (with_operators k x room ts) _ _ (λ y. climbing_more ks l y.0 room y.1)
     ∙ grouped (with_operators k x room ts) (λ y. climbing ks y.0 room y.1) (λ y. with_operators l y.0 room y.1)
 
--- an expression of this level is what stands in front of the operators, with the operators of these levels behind it
+-- an expression of this level is what comes before the operators, with the operators of these levels after it
 abbrev Climbs : Level → List Level → Type 0
 Climbs l ks = (room : ℕ) (ts : List Token) → reads (parts.level l) room ts ≡ (reads parts.unit room ts >>= λ x. climbing ks x.0 room x.1)
 

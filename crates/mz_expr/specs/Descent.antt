@@ -31,7 +31,7 @@ height (entry_is.Level l) = operand_rank l
 height entry_is.Unit = 1
 height entry_is.Head = 0
 
--- how far down calls may go, where so many tokens more may be opened: each that is opened counts more than all levels
+-- how far down calls may go, where this many tokens more may be opened: each that is opened counts more than all levels
 abbrev pub extent : ℕ → Entry → ℕ
 extent room e = 32 * room + height e
 

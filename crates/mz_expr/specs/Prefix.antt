@@ -8,7 +8,7 @@ use Rattle.mz_cursor.specs.Promise.{IsLongestPrefix, IsFault, fault_of, reason_o
 use Rattle.mz_grammar.specs.Parts.{annotations, Value}
 use Rattle.mz_grammar.specs.Model.{rule}
 
--- what a call answered that passes annotations at the front of old, where so many tokens more may be opened
+-- what a call answered that passes annotations at the beginning of old, where this many tokens more may be opened
 abbrev pub PassesAnnotations : ℕ → Span → List Token → List Token → Result (Unit {0}) Stop → Type 0
 PassesAnnotations room end old new (Ok u) = (annotated : Value annotations) × IsLongestPrefix rule annotations room old new annotated
 PassesAnnotations room end old new (Err Memory) = Unit {0}

@@ -18,11 +18,11 @@ unfoldable pub levels : ℕ → ℕ → List Level
 levels zero last = []
 levels (suc n) last = if nat_le last n then numbered n ∷ levels n last else []
 
--- an operand x with the operators of this level behind it
+-- an operand x with the operators of this level after it
 abbrev pub with_operators : Level → Operand → ℕ → Reader Operand
 with_operators l x room ts = reads (parts.operators l) room ts >>= λ ls. Ok (chained x ls.0, ls.1)
 
--- x with the operators of these levels behind it, one level after the other
+-- x with the operators of these levels after it, one level after the other
 unfoldable pub climbing : List Level → Operand → ℕ → Reader Operand
 climbing [] x room ts = Ok (x, ts)
 climbing (l ∷ ls) x room ts = with_operators l x room ts >>= λ y. climbing ls y.0 room y.1

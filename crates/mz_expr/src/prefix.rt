@@ -15,7 +15,7 @@ use std::alloc::Global;
 
 /// An expression.
 ///
-/// The longest front of the tokens that is one; behind it the cursor stands with as many open as before. Refused with
+/// The longest prefix of the tokens that is one; after it the cursor stands with as many open as before. Refused with
 /// Syntax or LeftOut at the first token with which none goes on, or with TooDeep at the token that would be the 121st
 /// open; after that, and where memory runs out, the cursor may stand anywhere.
 pub fn expression(alloc: Global, cur: &mut Cursor<'_>) -> Result<Expr, Stop>
@@ -28,7 +28,7 @@ pub fn expression(alloc: Global, cur: &mut Cursor<'_>) -> Result<Expr, Stop>
 
 /// A declaration.
 ///
-/// The longest front of the tokens that is one; behind it the cursor stands with as many open as before. Refused with
+/// The longest prefix of the tokens that is one; after it the cursor stands with as many open as before. Refused with
 /// Syntax or LeftOut at the first token with which none goes on, or with TooDeep at the token that would be the 121st
 /// open; after that, and where memory runs out, the cursor may stand anywhere.
 pub fn declaration(alloc: Global, cur: &mut Cursor<'_>) -> Result<Decl, Stop>
@@ -41,7 +41,7 @@ pub fn declaration(alloc: Global, cur: &mut Cursor<'_>) -> Result<Decl, Stop>
 
 /// A type.
 ///
-/// The longest front of the tokens that is one; behind it the cursor stands with as many open as before. Refused with
+/// The longest prefix of the tokens that is one; after it the cursor stands with as many open as before. Refused with
 /// Syntax or LeftOut at the first token with which none goes on, or with TooDeep at the token that would be the 121st
 /// open; after that, and where memory runs out, the cursor may stand anywhere.
 pub fn type_text(alloc: Global, cur: &mut Cursor<'_>) -> Result<TypeText, Stop>
@@ -52,9 +52,9 @@ pub fn type_text(alloc: Global, cur: &mut Cursor<'_>) -> Result<TypeText, Stop>
     parser::type_text(alloc, cur)
 }
 
-/// Marks: annotations in front of an expression or a goal, which are dropped.
+/// Marks: annotations before an expression or a goal, which are dropped.
 ///
-/// The longest front of the tokens that is one; behind it the cursor stands with as many open as before. Refused with
+/// The longest prefix of the tokens that is one; after it the cursor stands with as many open as before. Refused with
 /// Syntax or LeftOut at the first token with which none goes on, or with TooDeep at the token that would be the 121st
 /// open; after that, and where memory runs out, the cursor may stand anywhere.
 pub fn marks(alloc: Global, cur: &mut Cursor<'_>) -> Result<(), Stop>
@@ -67,7 +67,7 @@ pub fn marks(alloc: Global, cur: &mut Cursor<'_>) -> Result<(), Stop>
 
 /// Annotations, which are dropped.
 ///
-/// The longest front of the tokens that is a row of them, which may be none; otherwise as `expression`.
+/// The longest prefix of the tokens that is a row of them, which may be none; otherwise as `expression`.
 pub fn anns(alloc: Global, cur: &mut Cursor<'_>) -> Result<(), Stop>
     ensures answers { PassesAnnotations cur.old.room cur.old.end cur.old.rest.now cur.new.rest.now result }
     ensures room { OnOk result (cur.new.room ≡ cur.old.room) }

@@ -62,7 +62,7 @@ pub fn all_cases(alloc: Global, world: &World, e: u64) -> Result<Known, AllocErr
 {
     let count = case_count(world, e);
     if count > GREATEST as u64 {
-        // so many names take more memory than there can be
+        // that many names take more memory than there can be
         return Err(AllocError);
     }
     let cases = RangeSet::range(alloc, 1, count as i64)?;

@@ -26,7 +26,7 @@ unfoldable mutual
   names_in_lines pure.no_lines = []
   names_in_lines (pure.a_line vs ls) = names_in_all vs ++ names_in_lines ls
 
--- the names of an item of the data are of a table of so many texts
+-- the names of an item of the data are of a table of this many texts
 pub record IsGivenWithin (count : ℕ) (d : Given) : Type 0 where
   pub name : d.name < count
   pub names : All (λ n. n < count) (names_in d.value)

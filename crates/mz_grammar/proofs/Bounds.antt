@@ -1,4 +1,4 @@
--- How high the trees of each part of a model may be, where room tokens more may be opened in front of it.
+-- How high the trees of each part of a model may be, where room tokens more may be opened before it.
 use Rattle.std.proofs.Common.{◌≡◌, ℕ, zero, suc, List, [], ◌∷◌, ◌++◌, ◌≤◌, ◌+◌, arith, refl, ap, true, false, Bool, Option}
 use Rattle.std.specs.Prelude.{Some, None, max, map, if◌then◌else◌}
 use Rattle.std.specs.Option.{option_map}
@@ -126,7 +126,7 @@ right_of a b h = le_trans (le-max_right a b) h
 pub one_higher : (a b : ℕ) {c : ℕ} → a ≤ c → b ≤ c → suc (max a b) ≤ suc c
 one_higher a b {c = c} h g = let k : max a b ≤ c = max-le h g in omega arith
 
--- a branch in front of others, with an alternative m
+-- a branch before others, with an alternative m
 pub one_branch : (c e bs m : ℕ) {k : ℕ} → max c e ≤ k → max bs m ≤ k → max (max c (max e bs)) m ≤ k
 one_branch c e bs m h g = max-le (max-le (left_of c e h) (max-le (right_of c e h) (left_of bs m g))) (right_of bs m g)
 
@@ -161,7 +161,7 @@ unfolding head_most
 one_form zero = omega arith
 one_form (suc room) = omega arith
 
--- By a test, or by what stands in front.
+-- By a test, or by what comes first.
 pub tested : {n : Place} (start room : ℕ) (b : Bool) (p q : Ruled n) → Kept start room p → Kept start room q → Kept start room (if b then p else q)
 tested start room true p q h g = h
 tested start room false p q h g = g

@@ -1,4 +1,4 @@
--- The rules of calls keep to what makes each front of tokens viable: the arguments that are read are expressions, or generators.
+-- The rules of calls keep to what makes each prefix of tokens viable: the arguments that are read are expressions, or generators.
 use Rattle.std.proofs.Common.{◌≡◌, List, [], ◌∷◌, ◌++◌, refl, true, false, Bool, Option, inl, inr, ◌⊎◌}
 use Rattle.std.specs.Prelude.{Some, None, if◌then◌else◌, ◌&&◌}
 use Rattle.mz_base.specs.declared.fault.Span.{Span}
@@ -29,7 +29,7 @@ found_map : {A B : Type 0} (f : A → B) (o : Option A) → Found o → Found (o
 found_map f None h = h
 found_map f (Some a) h = tt
 
--- generators behind a generator
+-- generators after a generator
 strict_found : (gs : List Generator) → Found (generators_behind [] (map strict gs))
 strict_found [] = tt
 strict_found (generator ms e c ∷ gs) = found_map _ (generators_behind [] (map strict gs)) (strict_found gs)
@@ -98,7 +98,7 @@ can_complete_guarded_rest : (t : Generators) (x : Argument) → ((gs : List Gene
 unfolding step read_by rule symbol_number keyword_number
 can_complete_guarded_rest t x h = can_complete_behind Paren _ _ (sign SRParen ∷ [], tt) (λ gs a. (last (λ o h. h), h gs)) (h [])
 
--- a `where`, or what else stands behind an argument
+-- a `where`, or what else follows an argument
 abbrev rest_of_arguments : (t : Generators) (x : Operand) → Bool → Option Tok → Ruled (Parts.arguments t)
 rest_of_arguments t x may o = if may && is_word KWhere o
     then pass (λ s. part Parts.expr λ w. guarded_rest (guarded x w))
@@ -162,7 +162,7 @@ can_complete_called n s xs = (
   λ o. tested (is_sym SLParen o) _ _ (found (generators_of xs) _ _ tt (λ gs. can_complete_generator_call n s gs)) (found (trees_of xs) _ _ tt (λ es. tt)),
 )
 
--- a call ends behind its arguments, or goes on where they are generators
+-- a call ends after its arguments, or goes on where they are generators
 abbrev by_arguments : (n : Name) (s : Span) → Option (List Tree) → Option (List Generator) → Option Tok → Ruled (Parts.named n s)
 by_arguments n s trees gens o = if is_sym SLParen o
     then on gens refuse (λ gs. generator_call n s gs)

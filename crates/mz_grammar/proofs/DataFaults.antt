@@ -27,7 +27,7 @@ depth plain = 1
 depth set = 1
 depth _ = 0
 
--- a rule opens at most so many, and leaves no form out
+-- a rule opens at most this many, and leaves no form out
 abbrev pub Opens : {n : Place} → ℕ → Ruled n → Type 0
 Opens d (give x) = Unit {0}
 Opens d refuse = Unit {0}

@@ -79,7 +79,7 @@ Completion p = ways.Completion rule p
 abbrev pub Done : {n : Place} → Ruled n → List Token → Type 0
 Done p more = ways.Done rule p more
 
--- Tests on the token in front
+-- Tests on the next token
 
 pub tested : {n : Place} (b : Bool) (p q : Ruled n) → CanComplete p → CanComplete q → CanComplete (if b then p else q)
 tested true p q h g = h
@@ -133,7 +133,7 @@ takes_opening s p = λ o. takes_tested (is_sym s o) _ _ tt tt
 pub can_complete_opening : {n : Place} (s : Symbol) (p : Ruled n) → Completion p → CanComplete p → CanComplete (opening s p)
 can_complete_opening s p d h = (never (takes_opening s p), λ o. tested (is_sym s o) _ _ (λ a. (d, h)) tt)
 
--- What stands behind an element of a list
+-- What follows an element of a list
 
 pub takes_behind : {n : Place} (separator closing : Symbol) (more done : Ruled n) → TakesToken (behind_element separator closing more done)
 takes_behind separator closing more done = λ o. takes_tested (is_sym separator o) _ _ tt (takes_tested (is_sym closing o) _ _ tt tt)

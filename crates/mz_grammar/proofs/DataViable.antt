@@ -21,7 +21,7 @@ use Rattle.mz_tree.specs.Data.{is_name}
 use Rattle.mz_grammar.proofs.DataFalls.{low, falls}
 use Rattle.mz_grammar.proofs.DataPartEnds.{EndsValue, MayEndBefore, takes_token, IsUsable, far, aim, sign, a_number, an_identifier, CanComplete, Completion, tested, found, takes_found, steady_false, steady_true, steady_none, takes_symbol, can_complete_symbol, takes_opening, can_complete_opening, takes_behind, can_complete_behind, takes}
 
--- Index sets, so many
+-- Index sets, this many
 
 sets : ℕ → List Token
 sets zero = []

@@ -1,4 +1,4 @@
--- The rules of declarations and types keep to what makes each front of tokens viable.
+-- The rules of declarations and types keep to what makes each prefix of tokens viable.
 use Rattle.std.proofs.Common.{ℕ, zero, suc, [], ◌∷◌}
 use Rattle.mz_base.specs.declared.keyword.Keyword.TheVariants.{KArray, KBool, KInt, KList, KOf, KOpt, KPar, KSet, KVar}
 use Rattle.mz_lexer.specs.declared.token.Symbol.TheVariants.{SLParen, SRParen, SLBrack, SRBrack, SColon, SEq}

@@ -232,7 +232,7 @@ called_reads n s xs (suc r) (t ∷ us) =
     ∙ same_on (generators_of xs) _ _ refl (λ gs. same_then (reads Parts.expr r us) _ _ (λ e. symbol_reads (Parts.named n s) SRParen _ r e.1)))
     (step_on reads {n = Parts.named n s} (trees_of xs) refuse (λ es. give (Parts.other s (node s (call n (trees es))))) (suc r) (t ∷ us))
 
--- The room behind a closed one is that before it.
+-- The room after a closed one is that before it.
 closed_called : (n : Name) (s : Span) (room : ℕ) (ts : List Token) →
     open_at room ts (λ r. reads (Parts.arguments Possible) r (behind ts) >>= λ xs. step reads (called n s xs.0) (suc r) xs.1)
     ≡ open_at room ts (λ r. reads (Parts.arguments Possible) r (behind ts) >>= λ xs. called_at n s xs.0 (suc r) xs.1)

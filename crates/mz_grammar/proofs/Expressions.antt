@@ -1,4 +1,4 @@
--- The rules of expressions keep to what makes each front of tokens viable.
+-- The rules of expressions keep to what makes each prefix of tokens viable.
 use Rattle.std.proofs.Common.{[], ◌∷◌, true, false, Bool, Option}
 use Rattle.std.specs.Prelude.{Some, None, if◌then◌else◌}
 use Rattle.mz_lexer.specs.declared.token.Tok.{Tok}
@@ -70,7 +70,7 @@ pub can_complete_expr : CanComplete (rule Parts.expr)
 unfolding step read_by rule symbol_number keyword_number
 can_complete_expr = λ x a. (last (λ o h. h), tt)
 
--- behind an operator
+-- after an operator
 abbrev more_operators : (l : Level) → BinOp → Bool → Tree → Ruled (Parts.operators l)
 more_operators l op nonassociative e = if nonassociative then give ((op, e) ∷ []) else part (Parts.operators l) λ ls. give ((op, e) ∷ ls)
 

@@ -28,7 +28,7 @@ use Rattle.mz_grammar.specs.Reading.{rank, operand_rank, width}
 abbrev Down : {n : Place} → ℕ → Ruled n → Type 0
 Down r p = Falls rank r p
 
--- by a test, or by what stands in front
+-- by a test, or by what comes first
 tested : {n : Place} (r : ℕ) (b : Bool) (p q : Ruled n) → Down r p → Down r q → Down r (if b then p else q)
 tested r true p q h g = h
 tested r false p q h g = g

@@ -88,7 +88,7 @@ annotations_kept room = λ o. tested room room (is_sym SColons o) _ _ (λ s. λ 
 pub marks_kept : (room : ℕ) → Kept room room marks_rule
 marks_kept room = λ o. tested room room (is_sym SColons o) _ _ (λ s. λ h u. λ m w. tt) tt
 
--- a head, behind whose opening token there is room
+-- a head, after whose opening token there is room
 symbol_kept : (room : ℕ) (s : Symbol) → Kept (suc room) (suc room) (head_symbol s)
 unfolding height shape_height head_most
 symbol_kept room symbol_is.SAbsent = λ s. omega arith

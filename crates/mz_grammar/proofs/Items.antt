@@ -1,4 +1,4 @@
--- The rules of items keep to what makes each front of tokens viable.
+-- The rules of items keep to what makes each prefix of tokens viable.
 use Rattle.std.proofs.Common.{◌≡◌, [], ◌∷◌, refl, sym, ap, subst, true, false, Bool, Option, inl, inr, ◌⊎◌}
 use Rattle.std.specs.Prelude.{Some, None, if◌then◌else◌, ◌||◌}
 use Rattle.mz_lexer.specs.declared.token.Tok.{Tok}
@@ -152,7 +152,7 @@ can_complete_file = (
   λ o. found o _ _ tt (λ t i a. (maybe [] tt ends_item_end ends_item_none, λ is b. (last (λ o h. h), tt))),
 )
 
--- behind an item
+-- after an item
 abbrev more_from : Option Tok → Ruled Parts.more_items
 more_from o = on o (give []) (λ t. if is_sym SSemi o then pass (λ s. part Parts.file λ is. give is) else refuse)
 

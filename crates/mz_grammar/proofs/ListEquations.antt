@@ -30,7 +30,7 @@ text_rest_reads room ts = by_rule Parts.text_rest room ts ∙ same_then (reads P
     pass_on reads {n = Parts.text_rest} middle_of refl _ _ room e.1
     ∙ same_on (middle_of (tok_at e.1)) _ _ (pass_on reads {n = Parts.text_rest} tail_of refl refuse _ room e.1) (λ n. refl))
 
--- a comprehension, behind its `|`
+-- a comprehension, after its `|`
 comprehension : (n : Place) (c : Closing) (f : List Generator → Value n) (room : ℕ) (ts : List Token) →
     step reads (part Parts.generator λ g. behind_element {n = n} c (part (Parts.generators c) λ gs. give (f (g ∷ gs))) (give (f (g ∷ [])))) room ts
     ≡ mapped f (generators_at c room ts)

@@ -1,4 +1,4 @@
--- The rules of lists, of `if` and of `let` keep to what makes each front of tokens viable.
+-- The rules of lists, of `if` and of `let` keep to what makes each prefix of tokens viable.
 use Rattle.std.proofs.Common.{◌≡◌, [], ◌∷◌, refl, sym, ap, true, false, Bool, inl, inr, ◌⊎◌}
 use Rattle.std.specs.Prelude.{Some, if◌then◌else◌, ◌||◌}
 use Rattle.mz_lexer.specs.declared.token.Tok.TheVariants.{Word, Sym}
@@ -175,7 +175,7 @@ pub can_complete_row : CanComplete row_rule
 unfolding step read_by rule symbol_number keyword_number
 can_complete_row = λ e a. (maybe [] tt ends_item_end (λ o h. h.0), λ es b. (last (λ o h. h), tt))
 
--- behind the comma of a row, before the token that ends it
+-- after the comma of a row, before the token that ends it
 row_test : (a b : Bool) (p q : Ruled Parts.cells) → TakesToken q → b ≡ true → TakesToken (if a then p else q) ⊎ ((if a then p else q) ≡ (if b then p else q))
 row_test false b p q h e = inl h
 row_test true b p q h e = inr (sym (ap (λ b. if b then p else q) e))

@@ -110,7 +110,7 @@ abbrev pub IsUsable : (n : Place) → Value n → Type 0
 IsUsable (Parts.arguments t) xs = Fit t xs
 IsUsable _ x = Unit {0}
 
--- The parts that may end with the expression of a `let`: an `=` behind it goes on that expression, if it may. So tokens more
+-- The parts that may end with the expression of a `let`: an `=` after it goes on that expression, if it may. So tokens more
 -- are needed before the `=` of a function.
 abbrev pub far : Place → Bool
 far Parts.annotations = true
@@ -168,7 +168,7 @@ closing Bracket = sign SRBrack
 closing Elements = sign SRBrack
 closing Brace = sign SRBrace
 
--- Tests on the token in front
+-- Tests on the next token
 
 pub tested : {n : Place} (b : Bool) (p q : Ruled n) → CanComplete p → CanComplete q → CanComplete (if b then p else q)
 tested true p q h g = h
@@ -215,7 +215,7 @@ can_complete_word k f h = (never (λ o. takes_tested (is_word k o) _ _ tt tt), �
 pub can_complete_identifier : {n : Place} (f : Name → Span → Ruled n) → ((x : Name) (a : Span) → Completion (f x a) × CanComplete (f x a)) → CanComplete (identifier f)
 can_complete_identifier f h = (never (λ o. takes_found (ident_of o) _ _ tt (λ x. tt)), λ o. found (ident_of o) _ _ tt h)
 
--- What stands behind an element of a list
+-- What follows an element of a list
 
 pub takes_behind : {n : Place} (c : Closing) (more done : Ruled n) → TakesToken (behind c more done)
 takes_behind c more done = λ o. takes_tested (is_sym SComma o) _ _ tt (takes_tested (closes c o) _ _ tt (takes_tested (is_left_out c o) _ _ tt tt))
@@ -246,7 +246,7 @@ ends_item_closing Brace = ((refl, refl, refl), refl, refl, refl, refl)
 pub no_operator : (l : Level) (o : Option Tok) → operator_of o ≡ None → binary_of l o ≡ None
 no_operator l o e = ap (if_level l) e
 
--- an element, and what stands behind it
+-- an element, and what follows it
 pub after_element : (n m : Place) (f : Value m → Ruled n) (c : Closing) (more : Ruled n) (x : Value n) → MayEndBefore m (Some (closing c).tok) → After n m f (behind c more (give x))
 after_element n m f c more x may_end = tokens (closing c ∷ []) (done_behind c more x) may_end (takes_behind c more (give x))
 

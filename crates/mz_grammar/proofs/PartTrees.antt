@@ -98,7 +98,7 @@ module _ (Named : Name → Type 0) (Placed : Span → Type 0) where
   Holds Parts.let_item l = OfLet Named Placed l
   Holds _ x = Unit {0}
 
-  -- the name of the token in front
+  -- the name of the next token
   abbrev pub TokenHolds : Option Tok → Type 0
   TokenHolds None = Unit {0}
   TokenHolds (Some (tok.Word k)) = Unit {0}
@@ -113,7 +113,7 @@ module _ (Named : Name → Type 0) (Placed : Span → Type 0) where
   abbrev pub Kept : {n : Place} → Ruled n → Type 0
   Kept p = Keeps Holds TokenHolds Placed p
 
-  -- By a test, or by what stands in front.
+  -- By a test, or by what comes first.
   pub tested : {n : Place} (b : Bool) (p q : Ruled n) → Kept p → Kept q → Kept (if b then p else q)
   tested true p q h g = h
   tested false p q h g = g

@@ -1,4 +1,4 @@
--- Each front of tokens that the grammar of models hasn't refused begins some part of that kind.
+-- Each prefix of tokens that the grammar of models hasn't refused begins some part of that kind.
 use Rattle.std.proofs.Common.{◌≡◌, ℕ, List, [], ◌∷◌, refl, true, false, Bool, Option}
 use Rattle.std.specs.Prelude.{Some, None, if◌then◌else◌}
 use Rattle.mz_base.specs.declared.fault.Span.{Span}
@@ -211,7 +211,7 @@ long_operand : (l : Level) → Long (operand_rule l)
 unfolding step read_by rule symbol_number keyword_number
 long_operand l = long_found (tighter_level l) _ _ (λ x. (farther [] refl (λ y. tt) refl, tt)) (λ k x. (farther [] refl (λ y. tt) refl, tt))
 
--- behind an operand come the operators of its level
+-- after an operand come the operators of its level
 abbrev operators_behind : (l : Level) → Operand → Ruled (Parts.level l)
 operators_behind l x = part (Parts.operators l) λ ls. give (chained x ls)
 
@@ -234,7 +234,7 @@ long_level : (l : Level) → Long (rule (Parts.level l))
 unfolding step read_by rule symbol_number keyword_number
 long_level l = λ x. (reach_operators l x, λ ls. (farther [] refl (λ m. tt) refl, tt))
 
--- and behind an operator and its operand, more of them
+-- and after an operator and its operand, more of them
 abbrev chain_behind : (l : Level) → BinOp → Bool → Operand → Ruled (Parts.operators l)
 chain_behind l op nonassociative x = if nonassociative then give ((op, tree_of x) ∷ []) else part (Parts.operators l) λ ls. give ((op, tree_of x) ∷ ls)
 

@@ -52,7 +52,7 @@ role_of (guarded (member n s e) c) = bound ((n, s) ∷ []) e (just c)
 role_of (guarded (other s e) c) = unfit
 role_of (strict (generator ms e c)) = bound ms e c
 
--- one argument, where these names wait for their `in`, and the arguments behind it
+-- one argument, where these names wait for their `in`, and the arguments after it
 abbrev pub by_role : List (Name × Span) → Role → (List (Name × Span) → Option (List Generator)) → Option (List Generator)
 by_role ns (waiting n s) rest = rest (ns ++ ((n, s) ∷ []))
 by_role ns (bound ms e c) rest = option_map (λ gs. generator (ns ++ ms) e c ∷ gs) (rest [])

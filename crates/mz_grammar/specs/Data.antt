@@ -83,7 +83,7 @@ symbol s p = look (λ o. if is_sym s o then pass (λ at. p) else refuse)
 abbrev pub opening : {n : Place} → Symbol → Ruled n → Ruled n
 opening s p = look (λ o. if is_sym s o then enter (λ at. p) else refuse)
 
--- what stands behind an element of a list: the separator, and then perhaps more, or the closing symbol
+-- what follows an element of a list: the separator, and then perhaps more, or the closing symbol
 abbrev pub behind_element : {n : Place} → Symbol → Symbol → Ruled n → Ruled n → Ruled n
 behind_element separator closing more done = look (λ o. if is_sym separator o
     then pass (λ at. more)
@@ -114,11 +114,11 @@ one_rule = look (λ o. if is_sym SMinus o
     then pass (λ s. look (λ o. on (negated_of o) refuse (λ z. pass (λ t. give (s, pure.int z)))))
     else on (literal_of o) refuse (λ v. pass (λ s. give (s, v))))
 
--- what may stand behind a one, where it may be a value itself: [ ".." one ]
+-- what may follow a one, where it may be a value itself: [ ".." one ]
 abbrev pub range_rule : (v : pure.Value) → Ruled (range v)
 range_rule v = look (λ o. if is_sym SDots o then pass (λ d. part one λ w. give (pure.range v w.1)) else give v)
 
--- "{" [ one { "," one } ] "}", behind the "{"
+-- "{" [ one { "," one } ] "}", after the "{"
 abbrev pub ones_rule : Ruled ones
 ones_rule = look (λ o. if is_sym SRBrace o
     then pass (λ c. give [])
@@ -130,7 +130,7 @@ set_rule = look (λ o. if is_sym SLBrace o
     then enter (λ s. part ones λ vs. leave (give (pure.set (values vs))))
     else part one λ v. part (bounds v.1) λ w. give w)
 
--- what stands behind the first one of a set; behind an IDENT nothing need
+-- what follows the first one of a set; after an IDENT nothing need
 abbrev pub bounds_rule : (v : pure.Value) → Ruled (bounds v)
 bounds_rule v = look (λ o. if is_sym SDots o
     then pass (λ d. part one λ w. give (pure.range v w.1))
@@ -146,7 +146,7 @@ plain_rule = look (λ o. if is_sym SLBrace o
 
 -- Lists
 
--- "[" [ plain { "," plain } ] "]", behind the "["
+-- "[" [ plain { "," plain } ] "]", after the "["
 abbrev pub plains_rule : Ruled plains
 plains_rule = look (λ o. if is_sym SRBrack o
     then pass (λ c. give [])
@@ -158,22 +158,22 @@ row_rule = part plain λ v. look (λ o. if is_sym SComma o
     then pass (λ c. look (λ o. if ends_row o then give (v.1 ∷ []) else part row λ vs. give (v.1 ∷ vs)))
     else give (v.1 ∷ []))
 
--- "[|" [ drow { "|" drow } [ "|" ] ] "|]", behind the "[|"
+-- "[|" [ drow { "|" drow } [ "|" ] ] "|]", after the "[|"
 abbrev pub rows_rule : Ruled rows
 rows_rule = look (λ o. if is_sym SRRows o
     then pass (λ c. give [])
     else part row λ l. behind_element SBar SRRows (part rows λ ls. give (l ∷ ls)) (give (l ∷ [])))
 
--- set "," { set "," } [ "," ], with so many sets
+-- set "," { set "," } [ "," ], with this many sets
 abbrev pub index_sets_rule : (d : ℕ) → Ruled (index_sets d)
 index_sets_rule zero = look (λ o. if is_sym SComma o then pass (λ c. give []) else give [])
 index_sets_rule (suc d) = part set λ v. symbol SComma (part (index_sets d) λ vs. give (v ∷ vs))
 
--- ARRAYND "(" set { "," set } "," "[" [ plain { "," plain } ] "]" ")", behind the "("
+-- ARRAYND "(" set { "," set } "," "[" [ plain { "," plain } ] "]" ")", after the "("
 abbrev pub sized_rule : (d : ℕ) → Ruled (sized d)
 sized_rule d = part (index_sets d) λ ss. opening SLBrack (part plains λ vs. leave (symbol SRParen (give (pure.array_nd (values ss) (values vs)))))
 
--- what stands behind a value's identifier: the "(" of an ARRAYND, or nothing, or the ".." of a range
+-- what follows a value's identifier: the "(" of an ARRAYND, or nothing, or the ".." of a range
 abbrev pub named_rule : (dimensions : Dimensions) (n : Name) → Ruled (named dimensions n)
 named_rule dimensions n = look (λ o. if is_sym SLParen o
     then on (dimensions n) refuse (λ d. enter (λ p. part (sized d) λ v. leave (give v)))
@@ -233,6 +233,6 @@ rank _ = 0
 abbrev pub width : ℕ
 width = 4
 
--- what the grammar reads at the front of a list of tokens
+-- what the grammar reads at the beginning of a list of tokens
 unfoldable pub reads : (n : Place) → ℕ → Reader (Value n)
 reads n room ts = read rule rank width n room ts

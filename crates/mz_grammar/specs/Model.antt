@@ -41,7 +41,7 @@ word k f = look (λ o. if is_word k o then pass f else refuse)
 abbrev pub identifier : {n : Place} → (Name → Span → Ruled n) → Ruled n
 identifier f = look (λ o. on (ident_of o) refuse (λ n. pass (f n)))
 
--- what stands behind an element of a list: a comma, and perhaps more, or the closing token
+-- what follows an element of a list: a comma, and perhaps more, or the closing token
 abbrev pub behind : {n : Place} → Closing → Ruled n → Ruled n → Ruled n
 behind c more done = look (λ o. if is_sym SComma o
     then pass (λ s. more)
@@ -106,7 +106,7 @@ marks_rule = look (λ o. if is_sym SColons o then pass (λ s. part Parts.head λ
 abbrev pub head_symbol : Symbol → Ruled Parts.head
 -- "<>"
 head_symbol SAbsent = pass (λ s. give (other s (node s absent)))
--- "(" expr ")", where a "," behind the expression is left out of the language
+-- "(" expr ")", where a "," after the expression is left out of the language
 head_symbol SLParen = enter (λ s. part Parts.expr λ e. look (λ o.
     if is_sym SRParen o then pass (λ c. leave (give (other s e))) else (if is_sym SComma o then leave_out else refuse)))
 -- "[" [ expr { "," expr } ] "]" | "[" expr "|" gens "]"
@@ -179,7 +179,7 @@ arguments_rule t = look (λ o. if is_sym SRParen o then pass (λ s. give [])
     else (if awaits_in t && is_word KIn o then set_argument
     else expr_argument t))
 
--- what stands behind a text's first piece
+-- what follows a text's first piece
 abbrev pub text_rest_rule : Ruled Parts.text_rest
 text_rest_rule = part Parts.expr λ e. look (λ o. on (middle_of o)
     (on (tail_of o) refuse (λ n. pass (λ s. give (shown e ∷ (plain n ∷ [])))))
@@ -206,7 +206,7 @@ set_body_rule = look (λ o. if is_sym SRBrace o
     then pass (λ s. part Parts.generator λ g. behind Brace (part (Parts.generators Brace) λ gs. give (set_comp e (gens (g ∷ gs)))) (give (set_comp e (gens (g ∷ [])))))
     else behind Brace (part (Parts.elements Brace) λ es. give (set (trees (e ∷ es)))) (give (set (trees (e ∷ []))))))
 
--- A "|" directly behind the "[|" is left out of the language.
+-- A "|" directly after the "[|" is left out of the language.
 abbrev pub rows_body_rule : Ruled Parts.rows_body
 rows_body_rule = look (λ o. if is_sym SRRows o then pass (λ s. give [])
     else (if is_sym SBar o then leave_out
@@ -306,7 +306,7 @@ element_rule = look (λ o. if is_word KVar o
     then pass (λ s. part Parts.unmarked λ t. give (marked s false t))
     else part Parts.unmarked λ t. give t))
 
--- `set` behind `opt` is left out of the language
+-- `set` after `opt` is left out of the language
 abbrev pub unmarked_rule : Ruled Parts.unmarked
 unmarked_rule = look (λ o. if is_word KOpt o
     then pass (λ s. look (λ o. if is_word KSet o then leave_out else part Parts.base λ b. give (written s no_array false true false b.1)))
@@ -336,7 +336,7 @@ param_rule = part Parts.type λ t. symbol SColon λ c. identifier λ n s. part P
 
 -- Items
 
--- IDENT [ params ] anns "=" expr, behind the type of what it gives
+-- IDENT [ params ] anns "=" expr, after the type of what it gives
 abbrev pub function_rule : Written → Ruled Parts.item
 function_rule t = identifier λ n s. part Parts.params λ ds. part Parts.annotations λ m. symbol SEq λ q. part Parts.expr λ e. give (function (record { name = n; span = s; result = t; params = ds; body = e }))
 
@@ -373,7 +373,7 @@ goal_rule = look (λ o. if is_word KSatisfy o
     then pass (λ s. part Parts.expr λ e. give (minimize e))
     else (if is_word KMaximize o then pass (λ s. part Parts.expr λ e. give (maximize e)) else refuse)))
 
--- An identifier behind the "=", and "++" or "(" behind the "}", are left out of the language.
+-- An identifier after the "=", and "++" or "(" after the "}", are left out of the language.
 abbrev pub cases_rule : Ruled Parts.cases
 cases_rule = look (λ o. if is_sym SEq o
     then pass (λ q. look (λ o. if is_sym SLBrace o

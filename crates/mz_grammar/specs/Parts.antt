@@ -26,18 +26,18 @@ tree_of (name n s) = node s (ident n)
 tree_of (member n s e) = node s (chain (node s (ident n)) (links ((op.Member, e) ∷ [])))
 tree_of (other s e) = e
 
--- a name with one operator behind it
+-- a name with one operator after it
 abbrev pub related : Name → Span → BinOp → Tree → Operand
 related n s op.Member e = member n s e
 related n s o e = other s (node s (chain (node s (ident n)) (links ((o, e) ∷ []))))
 
--- an operand with the operators of one level behind it
+-- an operand with the operators of one level after it
 abbrev pub chained : Operand → List (BinOp × Tree) → Operand
 chained x [] = x
 chained (name n s) (l ∷ []) = related n s l.0 l.1
 chained x (l ∷ ls) = other (at_of x) (node (at_of x) (chain (tree_of x) (links (l ∷ ls))))
 
--- an argument of a call: an expression, one that a `where` makes a generator, or a generator behind such a one
+-- an argument of a call: an expression, one that a `where` makes a generator, or a generator after such a one
 pub data Argument : Type 0 where
   unguarded : Operand → Argument
   guarded : Operand → Tree → Argument

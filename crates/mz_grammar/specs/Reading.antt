@@ -1,4 +1,4 @@
--- What the grammar of models reads at the front of a list of tokens.
+-- What the grammar of models reads at the beginning of a list of tokens.
 use Rattle.std.specs.Prelude.{ℕ, suc, ◌+◌, Bool, true, false, List, [], ◌∷◌, ◌++◌, map, Option, Some, Ok, if◌then◌else◌, ◌||◌}
 use Rattle.mz_base.specs.declared.fault.Span.{Span}
 use Rattle.mz_lexer.specs.declared.token.Tok.{Tok}

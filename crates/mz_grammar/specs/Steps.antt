@@ -28,13 +28,13 @@ use Rattle.mz_grammar.specs.Reading.{reads}
 abbrev pub ident_at : Reader (Name × Span)
 ident_at ts = on (ident_of (tok_at ts)) (stuck syntax ts) (λ n. Ok ((n, place ts), behind ts))
 
--- behind an element of a list: whether another may follow, or the list is closed
+-- after an element of a list: whether another may follow, or the list is closed
 abbrev pub separator_at : Closing → Reader Bool
 separator_at c ts = if is_sym SComma (tok_at ts)
     then Ok (true, behind ts)
     else (if closes c (tok_at ts) then Ok (false, behind ts) else (if is_left_out c (tok_at ts) then stuck left_out ts else stuck syntax ts))
 
--- behind an item of a let
+-- after an item of a let
 abbrev pub let_separator_at : Reader Bool
 let_separator_at ts = if is_sym SComma (tok_at ts) || is_sym SSemi (tok_at ts)
     then Ok (true, behind ts)
@@ -48,15 +48,15 @@ with_branches all o = mapped (λ bs. (all ++ bs.0, bs.1)) o
 abbrev pub generators_at : Closing → ℕ → Reader (List Generator)
 generators_at c room ts = reads Parts.generator room ts >>= λ g. listed (separator_at c) (reads (Parts.generators c) room) g.0 g.1
 
--- what stands behind an argument that is a generator
+-- what follows an argument that is a generator
 abbrev pub guarded_at : Argument → ℕ → Reader (List Argument)
 guarded_at x room ts = separator_at Paren ts >>= λ b. if b.0 then mapped (λ gs. x ∷ map strict gs) (reads (Parts.generators Paren) room b.1) else Ok (x ∷ [], b.1)
 
--- the set, behind its `in`, of names that end with a comma
+-- the set, after its `in`, of names that end with a comma
 abbrev pub waited_at : ℕ → Reader Argument
 waited_at room ts = reads (Parts.level level_is.Union) room (behind ts) >>= λ x. reads Parts.filter room x.1 >>= λ w. Ok (strict (generator [] (tree_of x.0) w.0), w.1)
 
--- a call, behind its arguments
+-- a call, after its arguments
 abbrev pub called_at : Name → Span → List Argument → ℕ → Reader Operand
 called_at n s xs room ts = if is_sym SLParen (tok_at ts)
     then on (generators_of xs) (stuck syntax ts) (λ gs. open_at room ts (λ r. reads Parts.expr r (behind ts) >>= λ e. symbol_at SRParen e.1 >>= λ c. Ok (other s (node s (gen_call n (gens gs) e.0)), c.1)))
@@ -96,7 +96,7 @@ head_at (Some (Word k)) room ts = head_word_at k room ts
 head_at (Some (Sym s)) room ts = head_symbol_at s room ts
 head_at _ room ts = stuck syntax ts
 
--- the index types of an array type, in their brackets, and the `of` behind them
+-- the index types of an array type, in their brackets, and the `of` after them
 abbrev pub dimensions_at : ℕ → Reader (List Based)
 dimensions_at room ts = if is_sym SLBrack (tok_at ts)
     then open_at room ts (λ r. if is_sym SRBrack (tok_at (behind ts)) then stuck syntax (behind ts) else (reads (Parts.index_types 6) r (behind ts) >>= λ bs. word_at KOf bs.1 >>= λ p. Ok (bs.0, p.1)))
@@ -108,7 +108,7 @@ braced_at room ts = if is_sym SLBrace (tok_at ts)
     then open_at room ts (λ r. reads Parts.case_names r (behind ts) >>= λ ns. if is_sym SConcat (tok_at ns.1) || is_sym SLParen (tok_at ns.1) then stuck left_out ns.1 else Ok (Some ns.0, ns.1))
     else on (ident_of (tok_at ts)) (stuck syntax ts) (λ n. stuck left_out ts)
 
--- a function, behind the type of what it gives
+-- a function, after the type of what it gives
 abbrev pub function_at : Written → ℕ → Reader ItemTree
 function_at t room ts = ident_at ts >>= λ i. reads Parts.params room i.1 >>= λ ds. reads Parts.annotations room ds.1 >>= λ m. symbol_at SEq m.1 >>= λ q. reads Parts.expr room q.1 >>= λ e.
     Ok (function (record { name = i.0.0; span = i.0.1; result = t; params = ds.0; body = e.0 }), e.1)
@@ -128,7 +128,7 @@ other_item_at room ts = if begins_type (tok_at ts)
     then (reads Parts.declaration room ts >>= λ d. Ok (declare d.0, d.1))
     else (reads (Parts.level level_is.Union) room ts >>= λ x. by_expression_at x.0 room x.1)
 
--- an item, behind the keyword at that place
+-- an item, after the keyword at that place
 abbrev pub item_at : ItemKind → Span → ℕ → Reader ItemTree
 item_at an_include s room ts = on (text_of (tok_at ts)) (stuck syntax ts) (λ n. Ok (include n (place ts), behind ts))
 item_at a_constraint s room ts = reads Parts.marks room ts >>= λ m. reads Parts.expr room m.1 >>= λ e. Ok (constraint e.0, e.1)

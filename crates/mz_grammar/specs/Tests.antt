@@ -16,7 +16,7 @@ closes Bracket tok = is_sym SRBrack tok
 closes Elements tok = is_sym SRBrack tok
 closes Brace tok = is_sym SRBrace tok
 
--- `:` behind an element of an array literal is left out of the language
+-- `:` after an element of an array literal is left out of the language
 abbrev pub is_left_out : Closing → Option Tok → Bool
 is_left_out Elements tok = is_sym SColon tok
 is_left_out _ tok = false

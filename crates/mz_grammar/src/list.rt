@@ -7,7 +7,7 @@ pub enum Closing {
     Paren,
     /// `]` of an access, of index types or of a comprehension
     Bracket,
-    /// `]` of an array literal, where `:` behind an element is left out of the language
+    /// `]` of an array literal, where `:` after an element is left out of the language
     Elements,
     /// `}`
     Brace,

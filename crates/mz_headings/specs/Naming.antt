@@ -24,7 +24,7 @@ pub record IsNamedFunction (k : ℕ) (f : FunctionTree) : Type 0 where
 abbrev pub HasNamedCases : ℕ → EnumTree → Type 0
 HasNamedCases k e = All (λ c. c.0 < k) e.cases
 
--- each name of a scoped model is one of so many
+-- each name of a scoped model is one of this many
 pub record AreNamed (k : ℕ) (s : ScopedTree) : Type 0 where
   pub enums : All (HasNamedCases k) s.enums
   pub decls : All (IsNamedDeclaration k) s.decls

@@ -33,7 +33,7 @@ use Rattle.mz_include.proofs.Later.{named_push}
 abbrev IsOwned : List Mention → Mention → Type 0
 IsOwned ms m = HasNumber ms m.span.file m.owner
 
--- more mentions behind these
+-- more mentions after these
 stays : (ms more : List Mention) (k : ℕ) (m : Mention) → slice_get ms k ≡ Some m → slice_get (ms ++ more) k ≡ Some m
 stays [] more zero m h = absurd (cc)
 stays [] more (suc k) m h = absurd (cc)

@@ -15,7 +15,7 @@ abbrev pub begins_with_slash : List ℕ → Bool
 begins_with_slash [] = false
 begins_with_slash (b ∷ bs) = nat_eq slash b
 
--- a name that begins with `/` stands as it is, and any other behind the including file's folder
+-- a name that begins with `/` stands as it is, and any other after the including file's folder
 abbrev pub joined : List ℕ → List ℕ → List ℕ
 joined including written = if begins_with_slash written then written else folder including ++ written
 

@@ -36,7 +36,7 @@ fn begin(alloc: Global, first: &str, names: &mut Names) -> Result<Queue, Memory>
 /// The model `first` and the files that it includes.
 ///
 /// The files are the model and then each included name in the order in which it was first named,
-/// each read once. A name that begins with `/` stands as it is; any other is put behind the
+/// each read once. A name that begins with `/` stands as it is; any other is put after the
 /// including file's name up to and with its last `/`. An include item that writes `globals.mzn`,
 /// or a global constraint's name with `.mzn`, names the built-in library, and nothing is fetched
 /// for it. A file is fetched, then lexed whole, then parsed, before the next one.

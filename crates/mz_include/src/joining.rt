@@ -17,7 +17,7 @@ fn folder(name: &str) -> &str
 
 /// The name under which a file is fetched that the file `including` names as `written`.
 ///
-/// A name that begins with `/` stands as it is; any other is put behind the including file's
+/// A name that begins with `/` stands as it is; any other is put after the including file's
 /// folder.
 pub fn joined(alloc: Global, including: &str, written: &str) -> Result<String, AllocError>
     ensures { IfOk result (λ name. string_bytes name ≡ joined including.now written.now) }

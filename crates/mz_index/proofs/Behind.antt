@@ -1,4 +1,4 @@
--- Places behind a number of whole rows.
+-- Places after a number of whole rows.
 use Rattle.std.proofs.Common.{ℕ, ℤ, ◌≡◌, ◌+◌, ◌*◌, ◌<◌, ◌≤◌, ◌≤ℤ◌, Bool, true, false, cond, List, [], ◌∷◌, length, get_or, drop, refl, sym, ap, ◌∙◌, subst, zero, suc, arith, Option, Some, None, option_map, if◌then◌else◌}
 use Rattle.std.proofs.Math.Nat.{mul-le-mul_right, le-mul_of_pos_right}
 use Rattle.std.proofs.lemmas.Int.{ints}
@@ -6,7 +6,7 @@ use Rattle.std.proofs.lemmas.List.{drop_more}
 use Rattle.mz_index.proofs.Counts.{offset_of_below, pos_of_mul}
 use Rattle.mz_index.specs.Places.{Range, length_of, count_of, is_inside, offset_of, place_of}
 
--- the place behind n whole rows of such places
+-- the place after n whole rows of such places
 abbrev pub behind : ℕ → List Range → List ℤ → Option ℕ
 behind n rs is = option_map (λ place. n * count_of rs + place) (place_of rs is)
 

@@ -33,6 +33,6 @@ abbrev pub IsMost : ByteSource → ℕ → Took → Type 0
 IsMost source room (took.Some n) = n ≡ min source.most (min room (length source.left))
 IsMost source room _ = Unit {0}
 
--- a take gives the front, and the rest is left
+-- a take gives a prefix, and the rest is left
 pub source_after-some : (source_after (record { left = 1 ∷ 2 ∷ 3 ∷ []; most = 2; failing = []; calls = 0; faults = 0 }) (took.Some 2)).left ≡ 3 ∷ []
 source_after-some = refl

@@ -18,7 +18,7 @@ abbrev pub Adds : Held → Held → List ℕ → Type 0
 Adds None new piece = new ≡ None
 Adds (Some old) new piece = new ≡ Some (old ++ piece)
 
--- the bytes held are those before and a front of the piece, where they are told
+-- the bytes held are those before and a prefix of the piece, where they are told
 pub record AddsPrefix (old new : Held) (piece : List ℕ) : Type 0 where
   pub prefix : List ℕ
   pub back : List ℕ

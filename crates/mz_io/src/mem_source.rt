@@ -56,7 +56,7 @@ impl MemSource {
     }
 }
 
-// Copies the front of `left` over the front of `buf`, as many bytes as both have, and at most `most`.
+// Copies the first bytes of `left` over those of `buf`, as many bytes as both have, and at most `most`.
 fn fill(buf: &mut [u8], left: &[u8], most: usize) -> usize
     ensures count { result ≡ min most (min (length buf.old) (length left.now)) }
     ensures filled { buf.new ≡ take result left.now ++ drop result buf.old }
@@ -72,7 +72,7 @@ impl Source for MemSource {
 
     ghost faults = { λ s. s.faults };
 
-    /// What stands in `buf` behind the bytes given stays as it was.
+    /// What stands in `buf` after the bytes given stays as it was.
     fn take(&mut self, buf: &mut [u8]) -> Took
         requires { 0 < length buf.old }
         ensures told { Gives (Some self.old.left) (Some self.new.left) buf.new result }

@@ -5,7 +5,7 @@
 pub enum Sent {
     /// All bytes went out.
     All,
-    /// A front of the bytes may have gone out, and no more can.
+    /// A prefix of the bytes may have gone out, and no more can.
     Failed,
     /// Memory ran out; no byte went out.
     Memory,
@@ -21,9 +21,9 @@ pub trait Sink {
     // How often a call answered Failed and Memory. A count stands still at the last u64.
     ghost counts: { Self → SinkCounts };
 
-    /// Puts `bytes` behind the bytes held.
+    /// Puts `bytes` after the bytes held.
     ///
-    /// After `Failed` the bytes held are those before and a front of `bytes`, after `Memory` those
+    /// After `Failed` the bytes held are those before and a prefix of `bytes`, after `Memory` those
     /// before.
     fn put(&mut self, bytes: &[u8]) -> Sent
         ensures told { Puts (held self.old) (held self.new) bytes.now result }

@@ -3,7 +3,7 @@
 /// What taking bytes answers.
 #[derive(Clone, Copy, Debug, PartialEq, Eq)]
 pub enum Took {
-    /// So many bytes, at least one, stand at the front of the buffer.
+    /// This many bytes, at least one, are at the beginning of the buffer.
     Some(usize),
     /// There are no more bytes.
     End,
@@ -22,7 +22,7 @@ pub trait Source {
     // How often a call answered Failed. The count stands still at the last u64.
     ghost faults: { Self → ℕ };
 
-    /// Takes bytes into the front of `buf`, which may not be empty.
+    /// Takes bytes into the beginning of `buf`, which may not be empty.
     ///
     /// After `Failed` the bytes left are those before.
     fn take(&mut self, buf: &mut [u8]) -> Took

@@ -6,7 +6,7 @@ use Rattle.std.proofs.lemmas.List.{drop_all}
 use Rattle.mz_lexer.specs.Steps.{comment_len, ends_comment}
 use Rattle.mz_lexer.proofs.Contents.{at_place}
 
--- so many bytes more
+-- this many bytes more
 abbrev pub farther : ℕ → Option ℕ → Option ℕ
 farther k None = None
 farther k (Some n) = Some (k + n)

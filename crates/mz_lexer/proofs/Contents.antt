@@ -10,7 +10,7 @@ unfolding content_from
 content_cons true b bs = refl
 content_cons false b bs = refl
 
--- the byte at a place stands in front of the rest
+-- the byte at a place is the first of the rest
 pub at_place : (bs : List ℕ) (i : ℕ) → i < length bs → drop i bs ≡ get_or bs i 0 ∷ drop (i + 1) bs
 at_place bs i below = rw (add-one, drop-cons bs i 0 below) refl
 

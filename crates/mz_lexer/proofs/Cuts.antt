@@ -25,7 +25,7 @@ no_second false u e h = cc
 zero_no_suc : {n : ℕ} → 0 ≡ suc n → ⊥
 zero_no_suc e = cc
 
--- the greatest front of at most m bytes that is UTF-8
+-- the longest prefix of at most m bytes that is UTF-8
 record IsGreatest (bs : List ℕ) (m n : ℕ) : Type 0 where
   valid : IsUtf8 (take n bs)
   longest : (k : ℕ) → n < k → k ≤ m → IsUtf8 (take k bs) → ⊥
@@ -55,7 +55,7 @@ valid_longest bs k more few u = (greatest bs (length bs)).longest k (omega (arit
 pub valid_whole : (bs : List ℕ) → utf8_valid_len bs ≡ length bs → IsUtf8 bs
 valid_whole bs e = subst IsUtf8 (ap (λ n. take n bs) e ∙ take_all (length bs) bs (omega arith)) (valid_prefix bs)
 
--- the content in front, and what stands behind it
+-- the content that comes first, and what follows it
 pub record IsPrefixContent (bs : List ℕ) : Type 0 where
   pub content : List ℕ
   pub value : List ℕ
@@ -149,7 +149,7 @@ cut_before (an_escape escape m) zero below high = record { value = []; means = n
 cut_before (an_escape {b = b} escape m) (suc zero) below high = absurd (omega (arith, escape_low b escape))
 cut_before (an_escape {b = b} escape m) (suc (suc n)) below high = let rest = cut_before m n (omega arith) high in record { value = escape_value b ∷ rest.value; means = an_escape escape rest.means }
 
--- behind the greatest front that is UTF-8 stands a byte that isn't ASCII
+-- after the longest prefix that is UTF-8 comes a byte that isn't ASCII
 pub high_behind : (bs : List ℕ) → utf8_valid_len bs < length bs → 128 ≤ get_or bs (utf8_valid_len bs) 0
 high_behind bs less =
     let n : ℕ = utf8_valid_len bs in
@@ -173,7 +173,7 @@ ascii_cut d r b low u =
     let boundary = IsCharBoundary-before_ascii (d ++ b ∷ r) (length d) (omega (arith, length-append d (b ∷ r))) (omega (arith, here, low)) in
     subst IsUtf8 (take_at d (b ∷ r) (length d) refl) (IsUtf8-take (d ++ b ∷ r) (length d) u boundary)
 
--- what is left of a content that stops being UTF-8 is none, nor is it with what stands behind it
+-- what is left of a content that stops being UTF-8 is none, nor is it with what follows it
 not_all : (c : List ℕ) → utf8_valid_len c < length c → IsUtf8 (drop (utf8_valid_len c) c) → ⊥
 not_all c less u =
     let n : ℕ = utf8_valid_len c in

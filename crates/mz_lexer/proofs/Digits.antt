@@ -15,7 +15,7 @@ pub number_grows : (base n : ℕ) (ds : List ℕ) → 0 < base → n ≤ number_
 number_grows base n [] some = omega arith
 number_grows base n (d ∷ ds) some = omega (arith, number_grows base (n * base + digit_value d) ds some, grows_by base n some)
 
--- a number of at most so many times fits
+-- a number of at most this many times fits
 pub times_within : (base n most : ℕ) → 0 < base → n ≤ most / base → n * base ≤ most
 times_within base n most some le = (le-div_iff_mul-le some).0 le
 

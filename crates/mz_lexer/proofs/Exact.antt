@@ -1,4 +1,4 @@
--- What stands in front, from the language's own words.
+-- What comes first, from the language's own words.
 use Rattle.std.proofs.Common.{◌≡◌, ℕ, suc, ◌+◌, ◌-◌, ◌<◌, ◌≤◌, List, [], ◌∷◌, ◌++◌, length, take, drop, Bool, true, false, ◌&&◌, not, cond, refl, sym, ap, subst, ◌∙◌, inl, inr, arith, append_assoc, length-append}
 use Rattle.std.specs.Prelude.{Option, Some, nat_eq, nat_le, pos}
 use Rattle.std.specs.Option.{option_map}
@@ -30,7 +30,7 @@ use Rattle.mz_lexer.proofs.Cuts.{prefix_content}
 use Rattle.mz_lexer.proofs.Meanings.{byte_utf8}
 use Rattle.mz_lexer.proofs.Shapes.{NumberShape, a_literal, no_literal, number_shape, limited, number_is_limited, piece_parts}
 
--- what stands in front, with the number of a literal past the limit
+-- what comes first, with the number of a literal past the limit
 pub data IsRaw (later : Bool) (bs : List ℕ) (f : Prefix) : Type 0 where
   raw_same : raw_prefix later bs ≡ f → IsRaw later bs f
   raw_past : (m z : ℕ) → raw_prefix later bs ≡ steps.token (lx.int (pos z)) m → f ≡ steps.refusal Bounds 0 → IsRaw later bs f
@@ -50,7 +50,7 @@ raw_of later bs f e = go (is_digit (first_byte bs)) refl
     go true is = raw_literal later bs f (number_raw bs) (raw_is_number later bs is) (number_shape bs is) (sym (number_is_limited bs) ∙ sym (prefix_is_number later bs is) ∙ e)
     go false isnt = raw_same (raw_is_prefix later bs isnt ∙ e)
 
--- a token that begins here, at a token in front
+-- a token that begins here, where a token comes first
 pub record IsShorter (v : List ℕ) (y x : Lexeme) (m : ℕ) : Type 0 where
   pub le : length v ≤ m
   pub same : length v ≡ m → y ≡ x
@@ -162,7 +162,7 @@ utf8_behind c d u w =
     let boundary = IsCharBoundary-from_take (c ++ d) (length c) w (omega (arith, length-append c d)) (subst IsUtf8 (sym (take_at c d (length c) refl)) u) in
     subst IsUtf8 (drop_at c d (length c) refl) (IsUtf8-drop (c ++ d) (length c) w boundary)
 
--- no front of what goes on with a content is UTF-8
+-- no prefix of what goes on with a content is UTF-8
 no_prefix : (a r : List ℕ) → ((n : ℕ) → 0 < n → IsUtf8 (take n (a ++ r)) → ⊥) → (n : ℕ) → 0 < n → 0 < length a → IsUtf8 (take n a) → ⊥
 no_prefix a r none n some long u = elim (cases_lt (length a) n) [
   | inl past ↦ none (length a) long (subst IsUtf8 (take_all n a (omega (arith, past)) ∙ sym (take_at a r (length a) refl)) u)

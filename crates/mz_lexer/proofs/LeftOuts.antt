@@ -1,4 +1,4 @@
--- Where a form that is left out begins, that is the fault in front.
+-- Where a form that is left out begins, that is the first fault.
 use Rattle.std.proofs.Common.{◌≡◌, ℕ, ◌<◌, ◌≤◌, List, [], ◌∷◌, ◌++◌, length, drop, Bool, true, false, ◌&&◌, ◌||◌, refl, sym, ap, subst, ◌∙◌, arith}
 use Rattle.std.specs.Prelude.{Option, Some, None, nat_eq, nat_le}
 use Rattle.std.specs.List.{take_while, prefix_len, list_all}
@@ -105,7 +105,7 @@ digit_other d k is isnt = go (nat_eq d k) refl
     go true e = absurd (false≢true (sym isnt ∙ ap is_digit (sym ((Decides-eqb d k).0 e)) ∙ is))
     go false e = refl
 
--- behind the first of some decimal digits stands no other base's letter
+-- after the first of some decimal digits comes no other base's letter
 second_other : (d : ℕ) (ds bs : List ℕ) (k : ℕ) → list_all is_digit (d ∷ ds) ≡ true → is_digit k ≡ false → nat_eq (first_byte bs) k ≡ false → nat_eq (first_byte (ds ++ bs)) k ≡ false
 second_other d [] bs k all isnt no_k = no_k
 second_other d (e ∷ ds) bs k all isnt no_k = digit_other e k (both (is_digit e) (list_all is_digit ds) (both (is_digit d) (list_all is_digit (e ∷ ds)) all).1).0 isnt

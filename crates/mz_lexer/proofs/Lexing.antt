@@ -96,7 +96,7 @@ token_no_left e = cc
 bounds_no_left : steps.refusal LeftOut 0 ≡ steps.refusal Bounds 0 → ⊥
 bounds_no_left e = cc
 
--- what is known of the bytes behind, as far as they are few
+-- what is known of the bytes after, as far as they are few
 abbrev Behind : ℕ → Type 0
 Behind n = (opens : List Opening) (at : Span) (bs : List ℕ) → length bs ≤ n → Lexed opens at bs (outcome_at opens at bs)
 
@@ -182,7 +182,7 @@ sound_within (suc n) opens at (b ∷ bs) le = sound_cons n b bs opens at le (λ 
 pub sound : (file : ℕ) (bytes : List ℕ) → Lexed [] (start_of file) bytes (outcome_of file bytes)
 sound file bytes = subst (Lexed [] (start_of file) bytes) (sym (of_is file bytes)) (sound_within (length bytes) [] (start_of file) bytes (omega arith))
 
--- a token of the relation is the one in front
+-- a token of the relation is the one that comes first
 token_same : (later : Bool) (w bs : List ℕ) (x y : Lexeme) (m : ℕ) → Spells later w x → IsLongest later w bs → Spells later (take m (w ++ bs)) y → m ≤ length (w ++ bs) → raw_prefix later (w ++ bs) ≡ steps.token y m → (length w ≡ m) × (x ≡ y)
 token_same later w bs x y m spells longest found le raw =
     let short = shorter spells bs (w ++ bs) refl raw in

@@ -1,4 +1,4 @@
--- What stands in front of bytes that begin with a token, a blank, a comment or a form that is left out.
+-- What is found in bytes that begin with a token, a blank, a comment or a form that is left out.
 use Rattle.std.proofs.Common.{◌≡◌, ℕ, suc, ◌+◌, ◌≤◌, List, [], ◌∷◌, ◌++◌, length, take, drop, Bool, true, false, ◌&&◌, not, refl, sym, ap, subst, ◌∙◌, arith, append_assoc, length-append}
 use Rattle.std.specs.Prelude.{Option, Some, None, nat_eq, pos, if◌then◌else◌}
 use Rattle.std.specs.List.{take_while, prefix_len, list_all}
@@ -32,7 +32,7 @@ use Rattle.mz_lexer.proofs.Spellings.{keyword_known, keyword_found, keyword_is_w
 abbrev pub number_token : ℕ → List ℕ → ℕ → Prefix
 number_token base ds n = steps.token (lx.int (pos (number_of base ds))) n
 
--- the literal in front, whatever its number
+-- the literal that comes first, whatever its number
 unfoldable pub number_raw : List ℕ → Prefix
 number_raw bs =
     if nat_eq (first_byte bs) 48 && (nat_eq (second_byte bs) 120 && is_hex_digit (third_byte bs))
@@ -42,11 +42,11 @@ number_raw bs =
     if goes_on (drop (prefix_len is_digit bs) bs) then steps.refusal LeftOut 0
     else number_token 10 (take_while is_digit bs) (prefix_len is_digit bs)
 
--- what stands in front, whatever the number of a literal
+-- what comes first, whatever the number of a literal
 unfoldable pub raw_prefix : Bool → List ℕ → Prefix
 raw_prefix later bs = if is_digit (first_byte bs) then number_raw bs else prefix_of later bs
 
--- the token is in front, or a longer one, or a form that is left out
+-- the token comes first, or a longer one, or a form that is left out
 pub data Covers (v : List ℕ) (y : Lexeme) : Prefix → Type 0 where
   by_token : {x : Lexeme} {m : ℕ} → length v ≤ m → (length v ≡ m → y ≡ x) → Covers v y (steps.token x m)
   by_left_out : Covers v y (steps.refusal LeftOut 0)
@@ -161,7 +161,7 @@ octal_raw : (d : ℕ) (bs : List ℕ) → is_octal_digit d ≡ true → number_r
 unfolding number_raw
 octal_raw d bs is = rw is refl
 
--- digits in front of another base's letter are one zero
+-- digits before another base's letter are one zero
 one_digit : (d : ℕ) (ds after : List ℕ) (letter : ℕ) → is_digit letter ≡ false → list_all is_digit (d ∷ ds) ≡ true → nat_eq (first_byte (ds ++ after)) letter ≡ true → ds ≡ []
 one_digit d [] after letter isnt all is = refl
 one_digit d (e ∷ ds) after letter isnt all is =
@@ -272,7 +272,7 @@ symbol_covers t y b o same (covered {s = s} {n = n} le eq) = by_token le (λ h. 
 pub data IsSymbolByte (later : Bool) (bs : List ℕ) : Type 0 where
   symbol_byte : prefix_of later bs ≡ symbol_or_fault (first_byte bs) (symbol_at (first_byte bs) (second_byte bs) (third_byte bs)) → is_digit (first_byte bs) ≡ false → IsSymbolByte later bs
 
--- where a symbol stands in front, nothing else does
+-- where a symbol comes first, nothing else does
 prefix_is_symbol : (later : Bool) (t : Symbol) (after : List ℕ) → (later ≡ true → t ≡ SRParen → ⊥) → IsSymbolByte later (symbol_text t ++ after)
 unfolding prefix_of
 prefix_is_symbol true SLParen after other = symbol_byte refl refl
@@ -346,7 +346,7 @@ covers_symbol later t after other = elim (prefix_is_symbol later t after other) 
       subst (Covers (symbol_text t) (lx.sym t)) (sym (raw_is_prefix later (symbol_text t ++ after) isnt ∙ is)) (symbol_covers t (lx.sym t) (first_byte (symbol_text t ++ after)) _ refl (symbol_is_covered t after))
 ]
 
--- a token that begins here is in front, or a longer one, or a form that is left out
+-- a token that begins here comes first, or a longer one, or a form that is left out
 pub covers : {later : Bool} {v : List ℕ} {y : Lexeme} → Spells later v y → (after : List ℕ) → Covers v y (raw_prefix later (v ++ after))
 covers (an_identifier {later = later} {w = w} is isnt) after = covers_word later w after _ is (ap (word_lexeme w) (sym (no_keyword w isnt)))
 covers (a_keyword {later = later} k) after = covers_word later (keyword_text k) after _ (keyword_is_word k) (ap (word_lexeme (keyword_text k)) (sym (keyword_found k)))

@@ -1,4 +1,4 @@
--- The longest front of some bytes that pass a test.
+-- The longest prefix of some bytes that pass a test.
 use Rattle.std.proofs.Common.{◌≡◌, ℕ, ◌+◌, ◌<◌, ◌≤◌, List, [], ◌∷◌, ◌++◌, length, drop, Bool, true, false, ◌&&◌, cond, refl, sym, ap, ◌∙◌, arith}
 use Rattle.std.specs.List.{prefix_len, take_while, list_all}
 use Rattle.std.proofs.Math.Numerals.{one-add}
@@ -6,7 +6,7 @@ use Rattle.std.proofs.lemmas.List.Sums.{take_while-cons}
 use Rattle.std.proofs.lemmas.Bool.{false≢true}
 use Rattle.mz_lexer.specs.Bytes.{first_byte}
 
--- the byte in front passes
+-- the first byte passes
 pub some_run : (p : ℕ → Bool) → p 0 ≡ false → (bs : List ℕ) → p (first_byte bs) ≡ true → 0 < prefix_len p bs
 some_run p never [] is = absurd (false≢true (sym never ∙ is))
 some_run p never (b ∷ bs) is = let passes = ap (λ t. cond t (1 + prefix_len p bs) 0) is in omega (arith, passes)
@@ -35,12 +35,12 @@ stops_cons p b bs rest = go (p b) refl
     go true is = rw one-add rest
     go false is = is
 
--- behind the run stands a byte that doesn't pass, or none
+-- after the run comes a byte that doesn't pass, or none
 pub stops_run : (p : ℕ → Bool) → p 0 ≡ false → (bs : List ℕ) → p (first_byte (drop (prefix_len p bs) bs)) ≡ false
 stops_run p never [] = never
 stops_run p never (b ∷ bs) = stops_cons p b bs (stops_run p never bs)
 
--- bytes in front that pass belong to the run
+-- first bytes that pass belong to the run
 pub run_holds : (p : ℕ → Bool) (w bs : List ℕ) → list_all p w ≡ true → length w ≤ prefix_len p (w ++ bs)
 run_holds p [] bs all = omega arith
 run_holds p (b ∷ w) bs all =
@@ -48,7 +48,7 @@ run_holds p (b ∷ w) bs all =
     let passes = ap (λ t. cond t (1 + prefix_len p (w ++ bs)) 0) parts.0 in
     omega (arith, passes, run_holds p w bs parts.1)
 
--- and are the run where no byte behind them passes
+-- and are the run where no byte after them passes
 pub run_is : (p : ℕ → Bool) (w bs : List ℕ) → list_all p w ≡ true → p (first_byte bs) ≡ false → prefix_len p (w ++ bs) ≡ length w
 run_is p [] [] all stop = refl
 run_is p [] (b ∷ bs) all stop = rw stop refl

@@ -1,4 +1,4 @@
--- What stands in front of some bytes, in the language's own words.
+-- What some bytes begin with, in the language's own words.
 use Rattle.std.proofs.Common.{◌≡◌, ℕ, zero, suc, ◌+◌, ◌<◌, ◌≤◌, List, [], ◌∷◌, ◌++◌, length, take, drop, Bool, true, false, ◌&&◌, not, cond, refl, sym, ap, subst, ◌∙◌, inl, inr, arith, append_assoc, length-append, length-take}
 use Rattle.std.specs.Prelude.{Option, Some, None, nat_eq, nat_le, pos, if◌then◌else◌}
 use Rattle.std.specs.Option.{option_map}

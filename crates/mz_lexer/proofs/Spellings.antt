@@ -135,7 +135,7 @@ keyword_is_word KVar = refl
 keyword_is_word KWhere = refl
 keyword_is_word KXor = refl
 
--- a symbol that is found stands in front
+-- a symbol that is found comes first
 pub data IsFound (bs : List ℕ) : Option (Symbol × ℕ) → Type 0 where
   none_found : IsFound bs None
   one_found : {s : Symbol} {n : ℕ} → take n bs ≡ symbol_text s → n ≤ length bs → IsFound bs (Some (s, n))
@@ -200,7 +200,7 @@ module _ (bs : List ℕ) where
       pick (IsFound bs) (nat_eq (first_byte bs) 94) _ _ (λ e. one 94 SCaret refl (omega arith) e) (λ _.
       none_found)))))))))))))))))))))
 
--- a symbol that stands in front is found, or a longer one is
+-- a symbol that comes first is found, or a longer one is
 pub data IsCovered (t : Symbol) : Option (Symbol × ℕ) → Type 0 where
   covered : {s : Symbol} {n : ℕ} → length (symbol_text t) ≤ n → (length (symbol_text t) ≡ n → t ≡ s) → IsCovered t (Some (s, n))
 

@@ -1,4 +1,4 @@
--- The outcome of some bytes, by what stands in front.
+-- The outcome of some bytes, by what comes first.
 use Rattle.std.proofs.Common.{◌≡◌, ℕ, zero, suc, ◌-◌, ◌<◌, List, [], ◌∷◌, ◌++◌, length, take, drop, map, refl, sym, ap, ◌∙◌, arith, append_assoc, append-nil, sub-one}
 use Rattle.std.specs.Prelude.{Ok, Err, All}
 use Rattle.std.proofs.lemmas.List.{map_push}
@@ -44,26 +44,26 @@ less_one : (n : ℕ) (opens : List Opening) (at : Span) (b : ℕ) (bs : List ℕ
 less_one zero opens at b bs some = absurd (omega arith)
 less_one (suc n) opens at b bs some = rw sub-one (behind_drop n opens (passed at b) bs)
 
--- a blank or a comment stands in front
+-- a blank or a comment comes first
 pub step_gap : (opens : List Opening) (at : Span) (bs : List ℕ) (n : ℕ) → 0 < length bs → 0 < n → prefix_of (begins_piece opens) bs ≡ gap n → outcome_at opens at bs ≡ outcome_at opens (after at (take n bs)) (drop n bs)
 step_gap opens at [] n some long is = absurd (omega arith)
 step_gap opens at (b ∷ bs) n some long is =
     at_prefix opens at b bs ∙ ap (λ f. prefix_then opens at (b ∷ bs) f (λ more os. outcome_behind more os (passed at b) bs)) is ∙ less_one n opens at b bs long
 
--- a token stands in front
+-- a token comes first
 pub step_token : (opens : List Opening) (at : Span) (bs : List ℕ) (x : Lexeme) (n : ℕ) → 0 < length bs → 0 < n → prefix_of (begins_piece opens) bs ≡ token x n → outcome_at opens at bs ≡ with_token (record { lexeme = x; span = at; len = n }) (outcome_at (opens_behind x opens) (after at (take n bs)) (drop n bs))
 step_token opens at [] x n some long is = absurd (omega arith)
 step_token opens at (b ∷ bs) x n some long is =
     at_prefix opens at b bs ∙ ap (λ f. prefix_then opens at (b ∷ bs) f (λ more os. outcome_behind more os (passed at b) bs)) is
     ∙ ap (with_token (record { lexeme = x; span = at; len = n })) (less_one n (opens_behind x opens) at b bs long)
 
--- a fault stands in front
+-- a fault comes first
 pub step_fault : (opens : List Opening) (at : Span) (bs : List ℕ) (kind : Kind) (n : ℕ) → 0 < length bs → prefix_of (begins_piece opens) bs ≡ refusal kind n → outcome_at opens at bs ≡ Err (fault kind (after at (take n bs)))
 step_fault opens at [] kind n some is = absurd (omega arith)
 step_fault opens at (b ∷ bs) kind n some is =
     at_prefix opens at b bs ∙ ap (λ f. prefix_then opens at (b ∷ bs) f (λ more os. outcome_behind more os (passed at b) bs)) is
 
--- tokens in front of an outcome
+-- tokens before an outcome
 abbrev pub with_tokens : List Lex → Outcome → Outcome
 with_tokens ts (Ok us) = Ok (ts ++ us)
 with_tokens ts (Err f) = Err f

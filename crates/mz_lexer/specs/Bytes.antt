@@ -2,7 +2,7 @@
 use Rattle.std.specs.Prelude.{ℕ, List, [], ◌∷◌, Bool, ◌||◌, nat_eq, nat_le, drop, codes}
 use Rattle.mz_base.specs.Words.{is_between, is_digit}
 
--- the byte in front, 0 where there is none
+-- the first byte, 0 where there is none
 abbrev pub first_byte : List ℕ → ℕ
 first_byte [] = 0
 first_byte (b ∷ bs) = b

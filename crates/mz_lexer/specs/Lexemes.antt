@@ -44,13 +44,13 @@ abbrev pub begins_piece : List Opening → Bool
 begins_piece (opening.Text ∷ opens) = true
 begins_piece _ = false
 
--- the place behind a byte: a newline ends its line
+-- the place after a byte: a newline ends its line
 abbrev pub passed : Span → ℕ → Span
 passed at b = if is_newline b
     then record { file = at.file; line = at.line + 1; col = 1; byte = at.byte + 1 }
     else record { file = at.file; line = at.line; col = at.col + 1; byte = at.byte + 1 }
 
--- the place behind some bytes
+-- the place after some bytes
 abbrev pub after : Span → List ℕ → Span
 after at bs = fold passed at bs
 
@@ -66,7 +66,7 @@ abbrev pub closed : List Opening → List Opening
 closed [] = []
 closed (o ∷ opens) = opens
 
--- what is open behind a token
+-- what is open after a token
 abbrev pub opens_behind : Lexeme → List Opening → List Opening
 opens_behind (text_head _) opens = opening.Text ∷ opens
 opens_behind (text_tail _) opens = closed opens

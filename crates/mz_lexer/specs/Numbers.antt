@@ -9,7 +9,7 @@ use Rattle.mz_base.specs.Words.{is_digit}
 abbrev pub limit : ℕ
 limit = nat_abs INTEGER_LIMIT
 
--- the number that digits spell in a base, behind digits that spell a number
+-- the number that digits spell in a base, after digits that spell a number
 abbrev pub number_from : ℕ → ℕ → List ℕ → ℕ
 number_from base n [] = n
 number_from base n (d ∷ ds) = number_from base (n * base + digit_value d) ds
@@ -24,7 +24,7 @@ is_exponent_letter b = is_byte (codes "e") b || is_byte (codes "E") b
 abbrev pub is_sign : ℕ → Bool
 is_sign b = is_byte (codes "+") b || is_byte (codes "-") b
 
--- behind decimal digits: a fraction or an exponent stands in front
+-- after decimal digits: a fraction or an exponent comes first
 abbrev pub goes_on : List ℕ → Bool
 goes_on bs =
     (is_byte (codes ".") (first_byte bs) && is_digit (second_byte bs))

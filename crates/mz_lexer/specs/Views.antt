@@ -38,24 +38,24 @@ IsNamed names (tok.TextTail n) = n < length names
 abbrev pub HasName : List (List ℕ) → Token → Type 0
 HasName names t = IsNamed names t.tok
 
--- what stands in front
+-- what comes first
 abbrev pub prefix : List (List ℕ) → CodePrefix → Prefix
 prefix names (shown.Gap n) = gap n
 prefix names (shown.Token t n) = token (lexeme names t) n
 prefix names (shown.Refusal kind n) = refusal kind n
 
--- the name of the token in front, if it has one, is one of this table
+-- the name of the next token, if it has one, is one of this table
 abbrev pub IsPrefixNamed : List (List ℕ) → CodePrefix → Type 0
 IsPrefixNamed names (shown.Gap n) = Unit {0}
 IsPrefixNamed names (shown.Token t n) = IsNamed names t
 IsPrefixNamed names (shown.Refusal kind n) = Unit {0}
 
--- what stands in front of so many bytes has a length, and isn't longer
+-- what this many bytes begin with has a length, and isn't longer
 abbrev pub Fits : ℕ → CodePrefix → Type 0
 Fits all (shown.Gap n) = (0 < n) × (n ≤ all)
 Fits all (shown.Token t n) = (0 < n) × (n ≤ all)
 Fits all (shown.Refusal kind n) = n ≤ all
 
--- a symbol of so many bytes has these as its second and third one, 0 where there is none
+-- a symbol of this many bytes has these as its second and third one, 0 where there is none
 abbrev pub IsSpelled : ℕ → ℕ → ℕ → Type 0
 IsSpelled second third n = (0 < n) × (n ≤ 3) × (2 ≤ n → 0 < second) × (3 ≤ n → 0 < third)

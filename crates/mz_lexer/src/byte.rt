@@ -7,7 +7,7 @@ ghost use Rattle.mz_base.specs.Words.{is_letter, is_digit, is_word_byte};
 
 use mz_base::{is_digit, is_word_byte};
 
-/// The byte in front, 0 where there is none.
+/// The first byte, 0 where there is none.
 pub fn first_byte(bytes: &[u8]) -> u8
     ensures value { result ≡ first_byte bytes.now }
     ensures long { 0 < result → 1 ≤ length bytes.now }
@@ -78,7 +78,7 @@ pub fn is_left_out_byte(byte: u8) -> bool
         || byte == b'/'
 }
 
-/// How many bytes in front go on with a word.
+/// How many first bytes go on with a word.
 pub fn word_len(bytes: &[u8]) -> usize
     ensures value { result ≡ prefix_len is_word_byte bytes.now }
     ensures within { result ≤ length bytes.now }
@@ -86,7 +86,7 @@ pub fn word_len(bytes: &[u8]) -> usize
     bytes.iter().take_while(|b| is_word_byte(**b)).count()
 }
 
-/// How many digits stand in front.
+/// How many digits come first.
 pub fn digits_len(bytes: &[u8]) -> usize
     ensures value { result ≡ prefix_len is_digit bytes.now }
     ensures within { result ≤ length bytes.now }
@@ -94,7 +94,7 @@ pub fn digits_len(bytes: &[u8]) -> usize
     bytes.iter().take_while(|b| is_digit(**b)).count()
 }
 
-/// How many hexadecimal digits stand in front.
+/// How many hexadecimal digits come first.
 pub fn hex_digits_len(bytes: &[u8]) -> usize
     ensures value { result ≡ prefix_len is_hex_digit bytes.now }
     ensures within { result ≤ length bytes.now }
@@ -102,7 +102,7 @@ pub fn hex_digits_len(bytes: &[u8]) -> usize
     bytes.iter().take_while(|b| is_hex_digit(**b)).count()
 }
 
-/// How many octal digits stand in front.
+/// How many octal digits come first.
 pub fn octal_digits_len(bytes: &[u8]) -> usize
     ensures value { result ≡ prefix_len is_octal_digit bytes.now }
     ensures within { result ≤ length bytes.now }

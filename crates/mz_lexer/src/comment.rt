@@ -6,7 +6,7 @@ ghost use Rattle.mz_lexer.specs.Bytes.{first_byte, second_byte};
 
 use crate::byte::{first_byte, second_byte};
 
-/// Whether `*/` stands in front.
+/// Whether the bytes begin with `*/`.
 fn ends_comment(bytes: &[u8]) -> bool
     ensures value { result ≡ ends_comment bytes.now }
     ensures long { IsTrue result → 2 ≤ length bytes.now }

@@ -31,8 +31,8 @@ fn escape_value(byte: u8) -> u8
     }
 }
 
-/// Whether plain bytes and escapes go on with the byte in front, and then whether the next one is
-/// behind a backslash.
+/// Whether plain bytes and escapes go on with the first byte, and then whether the next one is
+/// after a backslash.
 fn content_step(escaped: bool, bytes: &[u8]) -> Option<bool>
     ensures { result ≡ content_step escaped bytes.now }
 {
@@ -46,7 +46,7 @@ fn content_step(escaped: bool, bytes: &[u8]) -> Option<bool>
     }
 }
 
-/// How many bytes of plain bytes and escapes stand in front.
+/// How many bytes of plain bytes and escapes come first.
 pub fn content_len(bytes: &[u8]) -> usize
     ensures len { result ≡ content_len bytes.now }
     ensures within { result ≤ length bytes.now }

@@ -1,9 +1,9 @@
-// What stands in front of some bytes, as it is found.
+// What some bytes begin with, as it is found.
 
 use crate::token::Tok;
 use mz_base::Kind;
 
-/// What stands in front of some bytes. Lengths are in bytes.
+/// What some bytes begin with. Lengths are in bytes.
 #[derive(Clone, Copy, Debug)]
 pub enum Prefix {
     /// A blank or a comment, with its length.

@@ -38,7 +38,7 @@ struct Cursor<'a> {
 }
 
 impl Cursor<'_> {
-    /// Passes the first bytes, so many.
+    /// Passes this many first bytes.
     fn pass(&mut self, len: usize)
         requires { len ≤ length self.old.rest.now }
         ensures rest { self.new.rest.now ≡ drop len self.old.rest.now }
@@ -48,7 +48,7 @@ impl Cursor<'_> {
         self.rest = &self.rest[len..];
     }
 
-    /// The fault behind the first bytes, so many.
+    /// The fault after this many first bytes.
     fn fault(&self, kind: Kind, len: usize) -> Fault
         requires { len ≤ length self.now.rest.now }
         ensures { result ≡ fault kind (after self.now.at (take len self.now.rest.now)) }
@@ -63,7 +63,7 @@ impl Cursor<'_> {
 
 /// The tokens of a file's bytes, in order.
 ///
-/// `file` is the file's number in each place. Every name of a token is one of the table behind the
+/// `file` is the file's number in each place. Every name of a token is one of the table after the
 /// call. The first fault is Lexical, LeftOut or Bounds. After a fault, or where memory runs out, the table
 /// may hold more names.
 pub fn tokens(alloc: Global, bytes: &[u8], file: u64, names: &mut Names) -> Result<Vec<Token>, Stop>

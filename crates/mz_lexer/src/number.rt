@@ -64,7 +64,7 @@ fn literal(base: u64, digits: &[u8], len: usize) -> Prefix
     }
 }
 
-/// Whether a fraction or an exponent stands behind decimal digits.
+/// Whether a fraction or an exponent follows decimal digits.
 fn goes_on(bytes: &[u8]) -> bool
     ensures { result ≡ goes_on bytes.now }
 {
@@ -76,7 +76,7 @@ fn goes_on(bytes: &[u8]) -> bool
                 || ((second == b'+' || second == b'-') && is_digit(third_byte(bytes)))))
 }
 
-/// Whether `0`, this letter and a digit of its base stand in front.
+/// Whether the bytes begin with `0`, this letter and a digit of its base.
 fn is_prefixed(bytes: &[u8], letter: u8, third_is_digit: bool) -> bool
     ensures value { result ≡ (nat_eq (first_byte bytes.now) 48 && (nat_eq (second_byte bytes.now) letter && third_is_digit)) }
     ensures long { IsTrue result → 0 < letter → 2 ≤ length bytes.now }
@@ -84,7 +84,7 @@ fn is_prefixed(bytes: &[u8], letter: u8, third_is_digit: bool) -> bool
     first_byte(bytes) == b'0' && (second_byte(bytes) == letter && third_is_digit)
 }
 
-/// The longest literal in front of bytes that begin with a digit.
+/// The longest literal at the beginning of bytes that begin with a digit.
 #[tactic(auto, unfolding(crate::specs::Steps::number_prefix))]
 pub fn number_prefix(bytes: &[u8]) -> Prefix
     requires { is_digit (first_byte bytes.now) ≡ true }

@@ -14,7 +14,7 @@ use mz_base::{Kind, Memory, Names};
 use std::alloc::Global;
 use std::str::from_utf8;
 
-/// The piece of a text by its end, behind its content, which has this meaning and length.
+/// The piece of a text by its end, after its content, which has this meaning and length.
 fn piece_end(
     later: bool,
     value: &str,
@@ -46,7 +46,7 @@ fn piece_end(
     Ok(Prefix::Refusal(Kind::Lexical, len + 1))
 }
 
-/// The piece of a text behind its content, which is UTF-8.
+/// The piece of a text after its content, which is UTF-8.
 fn meant_piece(
     alloc: Global,
     later: bool,
@@ -67,7 +67,7 @@ fn meant_piece(
     }
 }
 
-/// The piece of a text behind the quote or the parenthesis that begins it.
+/// The piece of a text after the quote or the parenthesis that begins it.
 #[tactic(auto, unfolding(crate::specs::Steps::piece_prefix))]
 pub fn piece_prefix(
     alloc: Global,

@@ -6,7 +6,7 @@ ghost use Rattle.mz_lexer.specs.Lexemes.{passed, after};
 use crate::byte::is_newline;
 use mz_base::Span;
 
-/// The place behind a byte.
+/// The place after a byte.
 fn passed(at: Span, byte: u8) -> Span
     requires line { at.line + 1 < 2 ^ 32 }
     requires col { at.col + 1 < 2 ^ 32 }
@@ -33,7 +33,7 @@ fn passed(at: Span, byte: u8) -> Span
     }
 }
 
-/// The place behind some bytes.
+/// The place after some bytes.
 pub fn after(start: Span, bytes: &[u8]) -> Span
     requires line { start.line + length bytes.now < 2 ^ 32 }
     requires col { start.col + length bytes.now < 2 ^ 32 }

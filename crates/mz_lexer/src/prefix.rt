@@ -1,4 +1,4 @@
-// What stands in front of some bytes.
+// What some bytes begin with.
 
 ghost use Rattle.std.specs.Prelude.{ℕ, List, ◌≡◌, ◌+◌, ◌<◌, ◌≤◌, ◌^◌, length, true, IfOk, IfSome};
 ghost use Rattle.std.specs.List.{list_all};
@@ -34,7 +34,7 @@ fn word_text(word: &[u8]) -> &str
     }
 }
 
-/// The longest word in front of bytes that begin with a letter.
+/// The longest word at the beginning of bytes that begin with a letter.
 #[tactic(auto, unfolding(crate::specs::Steps::word_prefix))]
 fn word_prefix(bytes: &[u8], names: &mut Names) -> Result<Prefix, Memory>
     requires { is_letter (first_byte bytes.now) ≡ true }
@@ -60,7 +60,7 @@ fn word_prefix(bytes: &[u8], names: &mut Names) -> Result<Prefix, Memory>
     }
 }
 
-/// The longest symbol in front, or the fault that stands there.
+/// The longest symbol that comes first, or the fault there.
 fn symbol_prefix(bytes: &[u8]) -> Prefix
     requires { 0 < length bytes.now }
     ensures shown { (names : List (List ℕ)) → prefix names result ≡ symbol_or_fault (first_byte bytes.now) (symbol_at (first_byte bytes.now) (second_byte bytes.now) (third_byte bytes.now)) }
@@ -80,7 +80,7 @@ fn symbol_prefix(bytes: &[u8]) -> Prefix
     }
 }
 
-/// A comment between `/*` and `*/`, behind its first two bytes.
+/// A comment between `/*` and `*/`, after its first two bytes.
 fn comment_prefix(bytes: &[u8]) -> Prefix
     ensures shown { (names : List (List ℕ)) → prefix names result ≡ comment_of (comment_len bytes.now) }
     ensures named { (names : List (List ℕ)) → IsPrefixNamed names result }
@@ -92,7 +92,7 @@ fn comment_prefix(bytes: &[u8]) -> Prefix
     }
 }
 
-/// What stands in front of some bytes, where `later` says that a `)` begins a piece of a text.
+/// What some bytes begin with, where `later` says that a `)` begins a piece of a text.
 #[tactic(auto, unfolding(crate::specs::Steps::prefix_of))]
 pub fn prefix_of(
     alloc: Global,

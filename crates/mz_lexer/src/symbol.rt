@@ -1,4 +1,4 @@
-// The longest symbol in front.
+// The longest symbol that comes first.
 
 ghost use Rattle.std.specs.Prelude.{◌≡◌, ◌≤◌, ◌<◌, IfSome};
 ghost use Rattle.mz_lexer.specs.StepsSymbols.{less_at, longer, symbol_at};

@@ -6,6 +6,6 @@ use Rattle.mz_made.specs.declared.building.IndexShape.{IndexShape}
 abbrev pub shape_of : IndexShape → arrays.IndexShape
 shape_of w = record { contiguous = w.contiguous; ranges = w.ranges.items }
 
--- more places than an array has; so many are told apart
+-- more places than an array has; that many are told apart
 abbrev pub cap : ℕ
 cap = 2 ^ 63

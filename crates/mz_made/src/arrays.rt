@@ -72,7 +72,7 @@ pub(crate) fn line(alloc: Global, args: &[Option<Value>]) -> Result<Option<Value
     Ok(Some(array))
 }
 
-/// `array1d` to `array6d` of so many index sets and an array.
+/// `array1d` to `array6d` of this many index sets and an array.
 #[tactic(auto, unfolding(mz_operations::specs::Values::made_value))]
 pub(crate) fn shaped(
     alloc: Global,

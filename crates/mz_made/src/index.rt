@@ -99,7 +99,7 @@ fn place_total(ranges: &[(i64, i64)]) -> u128
     total
 }
 
-/// Whether index sets are contiguous and have so many places.
+/// Whether index sets are contiguous and have this many places.
 #[tactic(auto, using(crate::proofs::Places::same_test))]
 pub fn fits(w: &IndexShape, n: u64) -> bool
     requires { n < 2 ^ 63 }

@@ -40,7 +40,7 @@ abbrev pub is_name : Layer → Bool
 is_name (tree.slot_form s) = true
 is_name l = false
 
--- AN EXPRESSION, below which at most so many levels of nesting are left. Coercions at its root count no nesting: the node below them is evaluated, takes its type, and then they are applied
+-- AN EXPRESSION, below which at most this many levels of nesting are left. Coercions at its root count no nesting: the node below them is evaluated, takes its type, and then they are applied
 unfoldable pub eval : World → ℕ → Eval
 eval w zero ctx e env = stop kind.Depth (place_of (inner_tree e)) (pos 601)
 eval w (suc n) ctx e env = do

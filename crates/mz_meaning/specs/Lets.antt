@@ -131,7 +131,7 @@ free_local w Untested at t ixs x = chosen w.mode w.int_range t ixs x
 free_local w Positive at t ixs x = chosen w.mode w.int_range t ixs x
 free_local w Other at t ixs x = stop kind.FreeInContext at (pos 0)
 
--- ---- a declaration: its index sets, its set, and its value. The elements of its array type count at its name: behind the value, and of a free local before its choices
+-- ---- a declaration: its index sets, its set, and its value. The elements of its array type count at its name: after the value, and of a free local before its choices
 
 abbrev pub given_value : World → Eval → Context → Decl → List Want → Want → Env → Option Tree → Run (Cell × Sure)
 given_value w go ctx d ixs x env None = spend w.budget d.span (declared_count ixs undefined) >> free_local w ctx d.ty.span d.ty.ty ixs x

@@ -152,7 +152,7 @@ reads_bounds r = false
 
 -- ---- a row with a var argument, and a var value: the faults and the bounds go by bounds and par values alone
 
--- what is known of an argument without its var value: a par value, and of a var array that it has so many elements
+-- what is known of an argument without its var value: a par value, and of a var array that it has this many elements
 abbrev pub known_in : Bounds → Option Content
 known_in (bounds.one b) = None
 known_in (bounds.many ix bs) = Some (values.array ix (contents (map (λ _. values.absent) bs)))

@@ -80,7 +80,7 @@ record Sets : Type 0 where
   -- ub(s), and lb(s), which is empty
   greatest : run [] given scope (fun 1 ints op.ub_set (s 4 ∷ [])) ≡ gives (Par (Some (set (fromto (pos 1) (pos 3))))) 3
   least : run [] given scope (fun 1 ints op.lb_set (s 4 ∷ [])) ≡ gives (Par (Some (set []))) 3
-  -- if true then s else s endif: behind an `if` nothing is sure
+  -- if true then s else s endif: after an `if` nothing is sure
   set_of_if : run [] given scope (choose 1 var_ints (lit 4 true) (to_var (range 9 (pos 1) (pos 2))) (Some (s 20))) ≡ gives (var_set [] (fromto (pos 1) (pos 2)) (Some (set (fromto (pos 1) (pos 2))))) 6
 
 sets : Sets

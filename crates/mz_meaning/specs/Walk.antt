@@ -129,7 +129,7 @@ abbrev pub valued : Mode → Assignment → Span → Decl → List Want → Want
 valued m a at d ixs x true c = give (variable m a d.slot (domains_by_value d.ty.ty ixs x c) (Some c))
 valued m a at d ixs x false c = par_name at d c (surely (suits x c))
 
--- the elements of an array type count, at the name, behind the value and before its length is compared
+-- the elements of an array type count, at the name, after the value and before its length is compared
 abbrev pub declare_value : World → Eval → Context → Assignment → Decl → List Want → Want → Env → Option Tree → Run Declared
 declare_value w go ctx a d ixs x env None = do
   spend w.budget d.span (declared_count ixs undefined)

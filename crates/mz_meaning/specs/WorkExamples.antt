@@ -75,7 +75,7 @@ record Work : Type 0 where
   budget_at_the_set : with_budget 6 length_of_set ≡ stops kind.Budget 17 (pos 7)
   -- [n | n in 1..3]: 4, then 2 for each element; with a budget of 8 at the third, whose place is the comprehension's
   at_a_generator : with_budget 8 (comp 3 int (slot 4 int 1) (gen (1 ∷ []) (range 13 (pos 1) (pos 3)) None ∷ [])) ≡ stops kind.Budget 3 (pos 9)
-  -- let { array[1..100] of int: a = [1] } in 2: a declared array counts its elements at its name, behind its value and before its length is compared
+  -- let { array[1..100] of int: a = [1] } in 2: a declared array counts its elements at its name, after its value and before its length is compared
   declared_array : with_budget 50 (let_in 1 int (declares (decl 28 1 (indexed (list_of int) (Some (range 13 (pos 1) (pos 100)) ∷ []) None) (Some (list 32 int (num 33 (pos 1) ∷ [])))) ∷ []) (num 40 (pos 2))) ≡ stops kind.Budget 28 (pos 51)
 
 work : Work

@@ -1,4 +1,4 @@
--- The arguments of a call as they are taken, one behind another.
+-- The arguments of a call as they are taken, one after another.
 use Rattle.std.proofs.Common.{◌≡◌, refl, ap, sym, ◌∙◌, Bool, true, false, List, [], ◌∷◌, ◌++◌, append_assoc, ◌<◌, length, arith}
 use Rattle.std.specs.Prelude.{Option, Some, None, if◌then◌else◌}
 use Rattle.std.specs.Option.{option_map}
@@ -9,7 +9,7 @@ use Rattle.mz_cursor.specs.Reading.{on}
 use Rattle.mz_grammar.specs.Parts.{Operand, tree_of, Argument, unguarded, guarded, strict}
 use Rattle.mz_grammar.specs.Arguments.{unguarded_of, trees_of, Role, role_of, waiting, bound, unfit, by_role, generators_behind, generators_of}
 
--- one more argument behind trees that were taken, if it is an expression
+-- one more argument after trees that were taken, if it is an expression
 abbrev with_last : Option (List Tree) → Option Operand → Option (List Tree)
 with_last o g = on o None (λ es. on g None (λ x. Some (es ++ (tree_of x ∷ []))))
 
@@ -19,7 +19,7 @@ with_last-cons y None g = refl
 with_last-cons y (Some es) None = refl
 with_last-cons y (Some es) (Some x) = refl
 
--- the trees of arguments, and of one more behind them
+-- the trees of arguments, and of one more after them
 pub trees_of-behind : (xs : List Argument) (a : Argument) → trees_of (xs ++ (a ∷ [])) ≡ with_last (trees_of xs) (unguarded_of a)
 trees_of-behind [] a = refl
 trees_of-behind (unguarded y ∷ xs) a = ap (option_map (λ es. tree_of y ∷ es)) (trees_of-behind xs a) ∙ with_last-cons y (trees_of xs) (unguarded_of a)
@@ -40,7 +40,7 @@ pub taken-none : Taken [] true [] []
 unfolding Taken
 taken-none rest = unchanged (generators_behind [] rest)
 
--- what one argument is, and those behind it
+-- what one argument is, and those after it
 behind_role : (names : List (Name × Span)) (a : Argument) (rest : List Argument) (r : Role) → role_of a ≡ r → generators_behind names (a ∷ rest) ≡ by_role names r (λ ms. generators_behind ms rest)
 behind_role [] a rest r e = ap (λ (r : Role). by_role [] r (λ ms. generators_behind ms rest)) e
 behind_role (n ∷ ns) a rest r e = ap (λ (r : Role). by_role (n ∷ ns) r (λ ms. generators_behind ms rest)) e
@@ -55,7 +55,7 @@ pub taken-waiting : (xs : List Argument) (fit : Bool) (gs : List Generator) (nam
 unfolding Taken
 taken-waiting xs fit gs names a n s e t = step_taken xs fit gs names a (waiting n s) e t
 
--- a generator behind those so far, and more behind it
+-- a generator after those so far, and more after it
 one_more : (gs : List Generator) (g : Generator) (o : Option (List Generator)) → option_map (λ more. gs ++ more) (option_map (λ hs. g ∷ hs) o) ≡ option_map (λ more. (gs ++ (g ∷ [])) ++ more) o
 one_more gs g None = refl
 one_more gs g (Some hs) = rw append_assoc
@@ -64,7 +64,7 @@ one_more gs g (Some hs) = rw append_assoc
 if_fit : (fit : Bool) (o p : Option (List Generator)) → o ≡ p → (if fit then o else None) ≡ (if fit then p else None)
 if_fit fit o p e = rw e
 
--- names with their set, behind those that waited
+-- names with their set, after those that waited
 pub taken-bound : (xs : List Argument) (fit : Bool) (gs : List Generator) (names ms : List (Name × Span)) (a : Argument) (e : Tree) (c : Maybe) → role_of a ≡ bound ms e c → Taken xs fit gs names → Taken (xs ++ (a ∷ [])) fit (gs ++ (generator (names ++ ms) e c ∷ [])) []
 unfolding Taken
 taken-bound xs fit gs names ms a e c r t rest = step_taken xs fit gs names a (bound ms e c) r t rest ∙ if_fit fit _ _ (one_more gs (generator (names ++ ms) e c) (generators_behind [] rest))

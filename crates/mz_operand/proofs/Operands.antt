@@ -1,4 +1,4 @@
--- A name with one `in` behind it.
+-- A name with one `in` after it.
 use Rattle.std.proofs.Common.{◌≡◌, refl, map, true, List, [], ◌∷◌, ◌++◌}
 use Rattle.mz_base.specs.declared.fault.Span.{Span}
 use Rattle.mz_tree.specs.Tree.{Name, Tree}

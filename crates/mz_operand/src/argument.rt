@@ -14,7 +14,7 @@ use mz_grammar::Generators;
 use mz_tree::{Expr, Gen, make_generator};
 use std::alloc::{AllocError, Global};
 
-/// An argument: an expression, one that a `where` makes a generator, or a generator behind such a one.
+/// An argument: an expression, one that a `where` makes a generator, or a generator after such a one.
 #[derive(Drop)]
 pub enum Argument {
     Unguarded(Operand),
@@ -218,7 +218,7 @@ pub fn generators_of(alloc: Global, args: Vec<Argument>) -> Result<Option<Vec<Ge
     }
 }
 
-/// Names, and more names behind them.
+/// Names, and more names after them.
 fn joined(
     names: Vec<(Name, Span)>,
     more: Vec<(Name, Span)>,

@@ -18,7 +18,7 @@ use std::alloc::{AllocError, Global};
 pub enum Operand {
     /// An identifier.
     Name(Name, Span),
-    /// An identifier, `in` and what stands behind it.
+    /// An identifier, `in` and what follows it.
     Member(Name, Span, OneDrop<Expr>),
     /// Any other expression.
     Other(Span, OneDrop<Expr>),
@@ -59,7 +59,7 @@ impl Operand {
     }
 }
 
-/// An operand with the operators of one level behind it.
+/// An operand with the operators of one level after it.
 pub fn chained(
     alloc: Global,
     first: Operand,
@@ -77,7 +77,7 @@ pub fn chained(
     }
 }
 
-/// An expression with operators behind it.
+/// An expression with operators after it.
 fn linked(alloc: Global, first: Operand, links: Vec<(BinOp, Expr)>) -> Result<Operand, AllocError>
     ensures { IfOk result (λ x. operand x ≡ pure_parts.other (at_of (operand first)) (node (at_of (operand first)) (chain (tree_of (operand first)) (pure.links (map link links.items))))) }
 {
@@ -86,7 +86,7 @@ fn linked(alloc: Global, first: Operand, links: Vec<(BinOp, Expr)>) -> Result<Op
     Ok(other(at, make_chain(alloc, at, operand, links)?))
 }
 
-/// A name with operators behind it.
+/// A name with operators after it.
 fn related(
     alloc: Global,
     name: Name,
@@ -116,7 +116,7 @@ fn is_member(links: &[(BinOp, Expr)]) -> bool
     }
 }
 
-/// An expression with the indices of an access behind it.
+/// An expression with the indices of an access after it.
 pub fn accessed(alloc: Global, x: Operand, indices: Vec<Expr>) -> Result<Operand, AllocError>
     ensures { IfOk result (λ y. operand y ≡ accessed (operand x) (map tree indices.items)) }
 {

@@ -153,7 +153,7 @@ pub fn ident(cur: &mut Cursor<'_>) -> Result<(Name, Span), Stop>
     }
 }
 
-/// What stands behind an element: a comma, behind which another may stand, or the closing token.
+/// What follows an element: a comma, after which another may stand, or the closing token.
 pub fn separator(cur: &mut Cursor<'_>, c: Closing) -> Result<bool, Stop>
     ensures reads { Gives (λ b. b) cur.new.end cur.new.rest.now result (separator_at c cur.old.rest.now) }
     ensures room { cur.new.room ≡ cur.old.room }
@@ -174,7 +174,7 @@ pub fn separator(cur: &mut Cursor<'_>, c: Closing) -> Result<bool, Stop>
     Err(cur.unfit())
 }
 
-/// What stands behind an item of a `let`.
+/// What follows an item of a `let`.
 pub fn let_separator(cur: &mut Cursor<'_>) -> Result<bool, Stop>
     ensures reads { Gives (λ b. b) cur.new.end cur.new.rest.now result (let_separator_at cur.old.rest.now) }
     ensures room { cur.new.room ≡ cur.old.room }

@@ -61,7 +61,7 @@ pub record IndexShape : Type 0 where
 unfoldable pub with_index : IndexShape → List Range → IndexShape
 with_index w s = record { contiguous = w.contiguous && is_contiguous s; ranges = w.ranges ++ index_range s ∷ [] }
 
--- so many arguments, from a place on, as index sets
+-- this many arguments, from a place on, as index sets
 unfoldable pub shape_from : ℕ → ℕ → Arguments → IndexShape → Option IndexShape
 shape_from zero k args w = Some w
 shape_from (suc n) k args w = set_at args k >>= λ s. shape_from n (k + 1) args (with_index w s)

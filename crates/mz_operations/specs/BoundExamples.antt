@@ -259,7 +259,7 @@ branches_of_arrays : if_bounds (numbers 2 (b (pos 1) (pos 1) ∷ b (pos 9) (pos 
 unfolding if_bounds branch_bounds branch_bound
 branches_of_arrays = refl
 
--- nothing is sure of a set behind a condition
+-- nothing is sure of a set under a condition
 branches_of_sets : if_bounds (one (sets (from_to 1 1 ∷ []) (from_to 1 1 ∷ []))) (one (sets (from_to 2 2 ∷ []) (from_to 2 2 ∷ [])) ∷ []) ≡ within (from_to 1 2 ∷ [])
 unfolding if_bounds branch_bounds branch_bound union complement missing_from intersection
 branches_of_sets = refl

@@ -53,7 +53,7 @@ unfoldable pub bounds_of : Content → Bounds
 bounds_of (array ix xs) = many ix (map bound_of (items_in xs))
 bounds_of x = one (bound_of x)
 
--- the bounds of an undefined par set, and of an undefined par array of so many dimensions
+-- the bounds of an undefined par set, and of an undefined par array of this many dimensions
 abbrev pub no_set : Bounds
 no_set = one (sets [] [])
 
@@ -128,7 +128,7 @@ raised_ends e (suc n) = fold_ends Product (raised_ends e n) e
 
 -- ---- counts
 
--- of so many elements
+-- of this many elements
 abbrev pub count_ends : ℕ → Ends
 count_ends n = (pos 0, pos n)
 
@@ -184,7 +184,7 @@ branch_bound (number e) (number f) = number (hull_of e f)
 branch_bound (sets l u) (sets m v) = sets [] (union u v)
 branch_bound b c = b
 
--- of a set nothing is sure behind a condition
+-- of a set nothing is sure under a condition
 abbrev pub opened : Bound → Bound
 opened (number e) = number e
 opened (sets l u) = sets [] u

@@ -60,7 +60,7 @@ all_ends_at bs k = elements_at bs k >>= each as_ends
 unfoldable pub all_uppers_at : List Bounds → ℕ → Option (List (List Range))
 all_uppers_at bs k = elements_at bs k >>= each as_upper
 
--- the sets that so many first arguments are
+-- the sets that this many first arguments are
 unfoldable pub uppers_before : ℕ → List Bounds → Option (List (List Range))
 uppers_before zero bs = Some []
 uppers_before (suc n) [] = None

@@ -81,12 +81,12 @@ pub enum MadeRow {
     Superset,
     /// `..`.
     UpTo,
-    /// `index_set` and its kin: the index set with this place, from 0, of an array of so many
+    /// `index_set` and its kin: the index set with this place, from 0, of an array of this many
     /// dimensions.
     IndexSet { place: u64, dimensions: u64 },
     /// `array1d` of an array alone.
     Line,
-    /// `array1d` to `array6d` of so many index sets and an array.
+    /// `array1d` to `array6d` of this many index sets and an array.
     Shaped(u64),
     /// `++` of arrays.
     Concat,

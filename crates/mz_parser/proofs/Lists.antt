@@ -52,7 +52,7 @@ last_prefix f xs ys x ts p e h = ap (λ r. with_prefix (map f xs) r) h ∙ ap (�
 pub prefix_alone : {A : Type 0} (xs : List A) (ts : List Token) (p : Read (List A)) → p ≡ Ok ([], ts) → with_prefix xs p ≡ Ok (xs, ts)
 prefix_alone xs ts p h = ap (λ r. with_prefix xs r) h ∙ ap (λ l. Ok (l, ts)) (append-nil xs)
 
--- behind an element, by what its separator says
+-- after an element, by what its separator says
 goes_on : {A : Type 0} (separator : Reader Bool) (next : Reader (List A)) (x : A) (ts us : List Token) (more : Bool) → separator ts ≡ Ok (more, us) → more ≡ true → listed separator next x ts ≡ with_prefix (x ∷ []) (next us)
 goes_on separator next x ts us more e h = read_then (separator ts) more us _ e ∙ passed more _ _ h
 
@@ -82,9 +82,9 @@ no_param room ts vs o closed at test e rest = param_list_reads room ts ∙ passe
 pub no_case : (room : ℕ) (ts vs : List Token) (o : Option Tok) (closed : Bool) → o ≡ tok_at ts → closed ≡ is_sym SRBrace o → closed ≡ true → vs ≡ behind ts → reads Parts.case_names room ts ≡ Ok ([], vs)
 no_case room ts vs o closed at test e rest = case_names_reads room ts ∙ passed (is_sym SRBrace (tok_at ts)) _ _ (sym (ap (is_sym SRBrace) at) ∙ sym test ∙ e) ∙ ap (λ l. Ok ([], l)) (sym rest)
 
--- The items of a file, each with the semicolon behind it
+-- The items of a file, each with the semicolon after it
 
--- the items behind one
+-- the items after one
 behind_item : (i : ItemTree) (room : ℕ) (ts : List Token) → with_prefix (i ∷ []) (reads Parts.more_items room ts) ≡ (semicolon_at ts >>= λ u. with_prefix (i ∷ []) (reads Parts.file room u.1))
 behind_item i room [] = ap (λ o. with_prefix (i ∷ []) o) (more_items_reads room [] ∙ sym (file_reads room []))
 behind_item i room (t ∷ us) = ap (λ o. with_prefix (i ∷ []) o) (more_items_reads room (t ∷ us)) ∙ by_symbol (is_sym SSemi (tok_at (t ∷ us)))

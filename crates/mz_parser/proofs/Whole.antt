@@ -19,7 +19,7 @@ use Rattle.mz_syntax.specs.ModelSyntax.{DerivesModel}
 use Rattle.mz_syntax.proofs.ModelMeans.{models_derived}
 use Rattle.mz_parser.specs.Model.{IsModel, IsItems}
 
--- a front behind which nothing stands is the whole file
+-- a prefix that nothing follows is the whole file
 all_tokens : (tokens new : List Token) (is : List ItemTree) → new ≡ [] → IsLongestPrefix rule Parts.file OPEN_LIMIT tokens new is → IsModel tokens is
 all_tokens tokens new is e f = subst (λ ts. IsModel ts is) (sym (f.split ∙ ap (λ l. f.prefix ++ l) e ∙ append-nil f.prefix)) f.reads
 

@@ -30,6 +30,6 @@ IsItems end tokens (Ok items) = IsModel tokens (map item items.items)
 IsItems end tokens (Err (Refused f)) = IsRefused end tokens f
 IsItems end tokens (Err Memory) = Unit {0}
 
--- behind an item: its semicolon, or the end of the file
+-- after an item: its semicolon, or the end of the file
 abbrev pub semicolon_at : Reader Unit
 semicolon_at ts = on (tok_at ts) (Ok (tt, ts)) (λ t. if is_sym SSemi (tok_at ts) then Ok (tt, behind ts) else stuck syntax ts)

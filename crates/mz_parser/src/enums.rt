@@ -19,7 +19,7 @@ use mz_lexer::Symbol;
 use mz_operand::step::{ident, ident_of, separator};
 use std::alloc::Global;
 
-/// The cases behind the `=`, or None where no `=` stands here.
+/// The cases after the `=`, or None where no `=` stands here.
 #[tactic(auto, using(mz_grammar::proofs::ItemEquations::cases_reads))]
 pub fn cases(alloc: Global, cur: &mut Cursor<'_>) -> Result<Option<Vec<(Name, Span)>>, Stop>
     ensures { Passes (λ cs. option_map (λ v. v.items) cs) (reads parts.cases) cur.old cur.new result }
@@ -32,7 +32,7 @@ pub fn cases(alloc: Global, cur: &mut Cursor<'_>) -> Result<Option<Vec<(Name, Sp
     Ok(Some(all))
 }
 
-/// The cases in their braces. A name that isn't in braces, and what would make more cases behind them, is left out of the language.
+/// The cases in their braces. A name that isn't in braces, and what would make more cases after them, is left out of the language.
 #[tactic(auto, using(mz_cursor::proofs::Steps::open_more, mz_cursor::proofs::Steps::open_none))]
 fn braced(alloc: Global, cur: &mut Cursor<'_>) -> Result<Vec<(Name, Span)>, Stop>
     ensures { Reads (λ v. Some v.items) braced_at cur.old cur.new result }

@@ -32,7 +32,7 @@ pub fn all_items(alloc: Global, cur: &mut Cursor<'_>) -> Result<Vec<Item>, Stop>
     Ok(all)
 }
 
-/// Passes the semicolon behind an item, which may be missing behind the last.
+/// Passes the semicolon after an item, which may be missing after the last.
 fn semicolon(cur: &mut Cursor<'_>) -> Result<(), Stop>
     ensures { Passes (λ u. tt) (λ room ts. semicolon_at ts) cur.old cur.new result }
 {

@@ -170,7 +170,7 @@ fn function(alloc: Global, cur: &mut Cursor<'_>) -> Result<Item, Stop>
     function_body(alloc, cur, result_type)
 }
 
-/// A function, behind the type of what it gives. Its annotations are dropped.
+/// A function, after the type of what it gives. Its annotations are dropped.
 fn function_body(alloc: Global, cur: &mut Cursor<'_>, gives: TypeText) -> Result<Item, Stop>
     ensures { Reads item (function_at (written gives)) cur.old cur.new result }
 {
@@ -223,7 +223,7 @@ fn other_item(alloc: Global, cur: &mut Cursor<'_>) -> Result<Item, Stop>
     by_expression(alloc, cur, x)
 }
 
-/// An item, behind the expression with which it begins.
+/// An item, after the expression with which it begins.
 fn by_expression(alloc: Global, cur: &mut Cursor<'_>, x: Operand) -> Result<Item, Stop>
     ensures { Reads item (by_expression_at (operand x)) cur.old cur.new result }
 {
@@ -233,7 +233,7 @@ fn by_expression(alloc: Global, cur: &mut Cursor<'_>, x: Operand) -> Result<Item
     }
 }
 
-/// An item, behind the name with which it begins: an assignment, or a declaration whose type the name is.
+/// An item, after the name with which it begins: an assignment, or a declaration whose type the name is.
 fn by_name(alloc: Global, cur: &mut Cursor<'_>, name: Name, at: Span) -> Result<Item, Stop>
     ensures { Reads item (by_expression_at (parts.name name at)) cur.old cur.new result }
 {
@@ -245,7 +245,7 @@ fn by_name(alloc: Global, cur: &mut Cursor<'_>, name: Name, at: Span) -> Result<
     of_type(alloc, cur, Operand::Name(name, at))
 }
 
-/// A declaration, behind the expression that is its type.
+/// A declaration, after the expression that is its type.
 fn of_type(alloc: Global, cur: &mut Cursor<'_>, x: Operand) -> Result<Item, Stop>
     ensures { Reads item (declared_by (operand x)) cur.old cur.new result }
 {

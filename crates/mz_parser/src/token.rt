@@ -1,4 +1,4 @@
-// Tests on the token in front.
+// Tests on the next token.
 
 ghost use Rattle.std.specs.Prelude.{◌≡◌, Some};
 ghost use Rattle.mz_cursor.specs.Tokens.{tok_at};

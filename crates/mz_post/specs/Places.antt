@@ -14,7 +14,7 @@ place_among n ps s = or_else n (slice_get ps s)
 abbrev pub next_place : ℕ → Declared → ℕ
 next_place n x = if has_variable x.domains then suc n else n
 
--- how many variables come before each name, where so many come before these
+-- how many variables come before each name, where this many come before these
 abbrev pub places_from : ℕ → List Declared → List ℕ
 places_from n [] = []
 places_from n (x ∷ xs) = n ∷ places_from (next_place n x) xs

@@ -99,7 +99,7 @@ abbrev pub posted_by : World → List Declared → Span → Layer → Env → Ru
 posted_by w xs at (chain_form a ss) env = chain_by w xs at a ss env
 posted_by w xs at form env = unbuilt_rows
 
--- behind these rows, those of a constraint that isn't par
+-- after these rows, those of a constraint that isn't par
 abbrev pub form_rows : World → List Declared → List Row → Span → Layer → Env → Run (List Row)
 form_rows w xs rows at f env = do
   more ← posted_by w xs at f env

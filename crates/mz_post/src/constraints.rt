@@ -117,7 +117,7 @@ fn row_of_steps(
     }
 }
 
-// the rows of a par constraint behind these: a false one for each root that isn't true
+// the rows of a par constraint after these: a false one for each root that isn't true
 fn write_par(
     alloc: Global,
     world: &World,
@@ -133,7 +133,7 @@ fn write_par(
     Ok(with_roots(alloc, rows, &kept.roots)?)
 }
 
-// the row of one that isn't par behind these, if it wants one
+// the row of one that isn't par after these, if it wants one
 fn write_form(
     alloc: Global,
     world: &World,
@@ -171,7 +171,7 @@ fn write_next(
     }
 }
 
-/// The rows of constraints behind these.
+/// The rows of constraints after these.
 pub(crate) fn write_all(
     alloc: Global,
     world: &World,

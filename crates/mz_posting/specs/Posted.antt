@@ -31,7 +31,7 @@ operand w k ctx e env = do
   c ← coerced_by w (place_of (inner_tree e)) (root_coercions e) x
   give (x, c)
 
--- a comparison at this place and of this type, below which so many levels are left: both operands, with the coercions of their places, and the row
+-- a comparison at this place and of this type, below which this many levels are left: both operands, with the coercions of their places, and the row
 abbrev pub compare : World → ℕ → Context → Span → PlainType → Tree → Step → Env → Run Posted
 compare w k ctx at t a s env = do
   x ← operand w k (before ctx (record { at = at; step = s } ∷ [])) a env

@@ -80,7 +80,7 @@ abbrev pub rooted : World → Roots → Run Cell → Context → Env → PlainTy
 rooted w go whole ctx env t (Some f) = root_chain w go ctx env t f
 rooted w go whole ctx env t None = whole >>= λ c. give (one_root c)
 
--- THE ROOTS OF AN EXPRESSION, below which so many levels of nesting are left
+-- THE ROOTS OF AN EXPRESSION, below which this many levels of nesting are left
 unfoldable pub roots : World → ℕ → Roots
 roots w zero ctx e env = eval w zero ctx e env >>= λ c. give (one_root c)
 roots w (suc n) ctx e env = rooted w (roots w n) (eval w (suc n) ctx e env) ctx env (type_of e) (conjunction e)

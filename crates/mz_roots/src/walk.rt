@@ -115,7 +115,7 @@ fn root_operators(
     Ok(x)
 }
 
-// the operands of a conjunction, below which so many levels of nesting are left
+// the operands of a conjunction, below which this many levels of nesting are left
 #[cycle(walk)]
 fn root_innermost(
     alloc: Global,
@@ -150,7 +150,7 @@ fn root_chain(
     Ok(with_type(alloc, ty, x)?)
 }
 
-// a conjunction, of which this is the front
+// a conjunction, of which this is the innermost operand with all operators
 #[cycle(walk)]
 #[tactic(auto, using(crate::proofs::Walking::roots_end, crate::proofs::Walking::roots_more))]
 fn conjoined(

@@ -19,7 +19,7 @@ pub(crate) fn power(x: i64, k: i64) -> Option<i128>
     }
 }
 
-/// The product of so many factors `x`, or the first product that leaves the limit. It goes on for
+/// The product of this many factors `x`, or the first product that leaves the limit. It goes on for
 /// 62 factors at most, but for the bases 0, 1 and -1, which it doesn't go on with.
 fn raised(x: i64, n: u64) -> i128
     ensures { result ≡ raised x n }

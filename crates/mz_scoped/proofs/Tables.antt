@@ -103,7 +103,7 @@ first_or : {X : Type 0} (b : Bool) (o : Option ℕ) (x : X) (xs : List X) → at
 first_or true o x xs = refl
 first_or false o x xs = at_later o x xs
 
--- what stands at the first place of a name, where the list has one more in front
+-- what stands at the first place of a name, where the list has one more before it
 one_more : {X : Type 0} (n m : Name) (ms : List Name) (x : X) (xs : List X) → at (place_from 0 n (m ∷ ms)) (x ∷ xs) ≡ cond (nat_eq n m) (Some x) (at (place_from 0 n ms) xs)
 unfolding place_from
 one_more n m ms x xs =

@@ -33,7 +33,7 @@ above_none n hi l = above_if false n hi (int_lt_false n hi l)
 above_some : (n hi : ℤ) → n <ℤ hi → above n hi ≡ numbers_from (n +ℤ pos 1) (nat_abs (hi -ℤ n))
 above_some n hi l = above_if true n hi (int_lt_true n hi l)
 
--- so many from an integer on are those above the one before
+-- this many from an integer on are those above the one before
 above_from : (m hi : ℤ) → m ≤ℤ hi → numbers_from (m +ℤ pos 1) (nat_abs (hi -ℤ m)) ≡ above m hi
 above_from m hi l = by (int_lt m hi) refl
   where

@@ -23,7 +23,7 @@ abbrev placed : ℕ → List Tok → List Token
 placed n [] = []
 placed n (t ∷ ts) = record { tok = t; span = column n; len = 1 } ∷ placed (suc n) ts
 
--- where so many tokens may be open at once
+-- where this many tokens may be open at once
 abbrev within : ℕ → List Tok → Read Tree
 within room ts = reads parts.expr room (placed 1 ts)
 

@@ -19,7 +19,7 @@ use Rattle.mz_syntax.proofs.Symbols.{is_symbol, is_keyword}
 pub data Over : List Token → List Token → Type 0 where
   over : {t : Token} {us : List Token} → Over (t ∷ us) us
 
--- Claim n room ts x us says what it means that ts begins with the part n, read to x, and us follows it, in front of
+-- Claim n room ts x us says what it means that ts begins with the part n, read to x, and us follows it, before
 -- which room tokens more may be opened.
 module _ {Part : Type 0} {Value : Part → Type 0} (Claim : (n : Part) → ℕ → List Token → Value n → List Token → Type 0) where
   -- The rest of a rule, before ts, claims no more: the part began at from, where start tokens more might be opened. As

@@ -20,7 +20,7 @@ Within whole ts = (before : List Token) × (whole ≡ before ++ ts)
 abbrev pub Stands : Tok → List Token → Type 0
 Stands k ts = tok_at ts ≡ Some k
 
--- { p "," }, so many times
+-- { p "," }, this many times
 pub data Each (k : ℕ) (p : Phrase) : ℕ → List Token → List Token → Type 0 where
   none_yet : {ts : List Token} → Each k p zero ts ts
   one_more : {n : ℕ} {ts us vs ws : List Token} {x : Meaning p} → Each k p n ts us → Derives k p us x vs → Next (Sym SComma) vs ws → Each k p (suc n) ts ws

@@ -19,7 +19,7 @@ use Rattle.mz_syntax.specs.LeftOut.{IsLeftOut}
 abbrev pub ArePositive : Dimensions → Type 0
 ArePositive dimensions = (n : Name) (m : ℕ) → dimensions n ≡ Some m → 0 < m
 
--- What the rules take of a data file, where so many tokens may be open at once, the EBNF derives with no more open.
+-- What the rules take of a data file, where this many tokens may be open at once, the EBNF derives with no more open.
 abbrev pub DataFilesAreDerived : Type 0
 DataFilesAreDerived = (names : List (List ℕ)) (room : ℕ) (tokens : List Token) (items : List Given) → IsWithin rule (file (dimensions_of names)) room tokens items → DerivesFile (dimensions_of names) room tokens items
 
@@ -39,14 +39,14 @@ NoDerivedDataFileIsRefused = (names : List (List ℕ)) (room : ℕ) (tokens : Li
 abbrev pub DerivesOneDataFile : Type 0
 DerivesOneDataFile = (names : List (List ℕ)) (k m : ℕ) (tokens : List Token) (items others : List Given) → DerivesFile (dimensions_of names) k tokens items → DerivesFile (dimensions_of names) m tokens others → items ≡ others
 
--- What is derived with so many tokens open at once is derived where more may be open.
+-- What is derived with this many tokens open at once is derived where more may be open.
 abbrev pub MoreMayBeOpenInData : Type 0
 MoreMayBeOpenInData = (names : List (List ℕ)) (k : ℕ) (tokens : List Token) (items : List Given) → DerivesFile (dimensions_of names) k tokens items → DerivesFile (dimensions_of names) (suc k) tokens items
 
 abbrev pub MoreMayBeOpen : Type 0
 MoreMayBeOpen = (k : ℕ) (tokens : List Token) (items : List ItemTree) → DerivesModel k tokens items → DerivesModel (suc k) tokens items
 
--- What the rules take of a model, where so many tokens may be open at once, the EBNF derives with no more open.
+-- What the rules take of a model, where this many tokens may be open at once, the EBNF derives with no more open.
 abbrev pub ModelsAreDerived : Type 0
 ModelsAreDerived = (room : ℕ) (tokens : List Token) (items : List ItemTree) → IsWithin model.rule model_part.file room tokens items → DerivesModel room tokens items
 

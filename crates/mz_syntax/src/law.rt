@@ -34,7 +34,7 @@ pub fn left_out_is_a_form()
     ensures { LeftOutIsAForm }
 {}
 
-/// What the EBNF derives with so many tokens open at once, it derives where more may be open.
+/// What the EBNF derives with this many tokens open at once, it derives where more may be open.
 pub fn more_may_be_open()
     ensures data_files { MoreMayBeOpenInData }
     ensures models { MoreMayBeOpen }

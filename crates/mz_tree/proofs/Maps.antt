@@ -1,4 +1,4 @@
--- One function behind another over a list.
+-- One function after another over a list.
 use Rattle.std.proofs.Common.{◌≡◌, ap, map, List, [], ◌∷◌, refl}
 
 pub map_map : {A B C : Type 0} (f : B → C) (g : A → B) (xs : List A) → map f (map g xs) ≡ map (λ x. f (g x)) xs

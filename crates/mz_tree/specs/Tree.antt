@@ -42,7 +42,7 @@ mutual
     no_trees : Trees
     a_tree : Tree → Trees → Trees
 
-  -- an operator and the operand behind it
+  -- an operator and the operand after it
   pub data Links : Type 0 where
     no_links : Links
     a_link : BinOp → Tree → Links → Links
@@ -51,7 +51,7 @@ mutual
     no_rows : Rows
     a_row : Trees → Rows → Rows
 
-  -- a condition and what stands behind its `then`
+  -- a condition and what follows its `then`
   pub data Branches : Type 0 where
     no_branches : Branches
     a_branch : Tree → Tree → Branches → Branches
@@ -145,6 +145,6 @@ dims (Some bs) = array_of (bases bs)
 abbrev pub array_type : Span → List Based → Written → Written
 array_type s bs (written t ds v o st b) = written s (array_of (bases bs)) v o st b
 
--- this type behind `var` or `par`
+-- this type after `var` or `par`
 abbrev pub marked : Span → Bool → Written → Written
 marked s var (written t ds v o st b) = written s ds var o st b

@@ -75,7 +75,7 @@ pub fn make_unary(alloc: Global, span: Span, op: UnOp, operand: Expr) -> Result<
     })
 }
 
-/// Operators of one level in a row, each with the operand behind it.
+/// Operators of one level in a row, each with the operand after it.
 pub fn make_chain(
     alloc: Global,
     span: Span,

@@ -20,7 +20,7 @@ use mz_context::{Context, Scope};
 use mz_core::Core;
 use std::alloc::Global;
 
-/// A comprehension with its typed parts. The scope goes back to what it was when it had so many local names.
+/// A comprehension with its typed parts. The scope goes back to what it was when it had this many local names.
 #[inline(never)]
 pub(crate) fn end_comprehension(
     alloc: Global,
@@ -38,7 +38,7 @@ pub(crate) fn end_comprehension(
     comprehended(alloc, span, braces, gens, head)
 }
 
-/// A call of a name with a comprehension, as `forall(i in S)(..)`. The scope goes back to what it was when it had so many local names.
+/// A call of a name with a comprehension, as `forall(i in S)(..)`. The scope goes back to what it was when it had this many local names.
 #[inline(never)]
 pub(crate) fn end_call(
     alloc: Global,
@@ -59,7 +59,7 @@ pub(crate) fn end_call(
     applied(alloc, context, span, name, args)
 }
 
-/// A `let` with its typed parts. The scope goes back to what it was when it had so many local names.
+/// A `let` with its typed parts. The scope goes back to what it was when it had this many local names.
 #[inline(never)]
 pub(crate) fn end_let(
     alloc: Global,

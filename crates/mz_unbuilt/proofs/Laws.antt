@@ -35,7 +35,7 @@ here p ps = (0, omega arith, refl)
 beyond : (p at : Span) (ps : List Span) → Contains ps at → Contains (p ∷ ps) at
 beyond p at ps h = Contains-append_right (p ∷ []) ps at h
 
--- one that is among these is so behind a second one
+-- one that is among these is so after a second one
 skipped : (b p at : Span) (ps : List Span) (k : ℕ) → k < length (b ∷ ps) → get_or (b ∷ ps) k at ≡ at → Contains (b ∷ p ∷ ps) at
 skipped b p at ps zero w e = (0, omega arith, e)
 skipped b p at ps (suc k) w e = (suc (suc k), omega arith, e)

@@ -41,7 +41,7 @@ same_high r s rs ss c d low same =
     let above = not_longer s r ss rs d c (sym low) (λ x. (same x).0) in
     omega (arith, ints)
 
--- what is behind the first range lies behind the other list's first range too
+-- what is after the first range lies after the other list's first range too
 behind : (r s : Range) (rs ss : List Range) → AreCanonical (r ∷ rs) → r.1 ≡ s.1 → ((x : ℤ) → Has (r ∷ rs) x → Has (s ∷ ss) x) → (x : ℤ) → Has rs x → Has ss x
 behind r s rs ss c high there x h =
     let above = has_behind r rs x c h in

@@ -47,7 +47,7 @@ pub has_right : (rs ss : List Range) (x : ℤ) → Has ss x → Has (rs ++ ss) x
 has_right [] ss x h = h
 has_right (r ∷ rs) ss x h = inr (has_right rs ss x h)
 
--- a range in front, where it isn't empty
+-- a range first, where it isn't empty
 
 pub has_range : (lo hi : ℤ) (rs : List Range) (x : ℤ) → Has (range_of lo hi ++ rs) x → IsIn (lo, hi) x ⊎ Has rs x
 has_range lo hi rs x h = by_lt_z hi lo (λ e. inr (rw (range_of_none lo hi e) at h)) (λ l. rw (range_of_some lo hi l) at h)

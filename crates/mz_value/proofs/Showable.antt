@@ -30,7 +30,7 @@ pub listed_first : (f : ℤ → List ℕ) (rs : List Range) (d : Range) → 1 �
 listed_first f [] d some = absurd (omega arith)
 listed_first f (r ∷ rs) d some = rw (behind r rs) (listed_elements f r rs)
 
--- the first range's elements are written, and then those behind it
+-- the first range's elements are written, and then those after it
 pub elements_written : (f : ℤ → List ℕ) (rs : List Range) (d : Range) (old first all : List ℕ) → 1 ≤ length rs → first ≡ old ++ listed (map f (range_elements (get_or rs 0 d))) → all ≡ first ++ ranges_after_commas f (take (length rs - 1) (drop 1 rs)) → all ≡ old ++ listed (map f (flat_map range_elements rs))
 elements_written f rs d old first all some one more =
     let rest = ranges_after_commas f (take (length rs - 1) (drop 1 rs)) in
@@ -63,7 +63,7 @@ showable_at view names (x ∷ xs) (suc i) d all l = showable_at view names xs i 
 pub showable_item : {X : Type 0} (view : X → Content) (names : shown.Names) (xs : List X) (i : ℕ) (x : X) → AreShowable names (contents (map view xs)) → i < length xs → x ≡ get_or xs i x → IsShowable names (view x)
 showable_item {X} view names xs i x all l is = let P : X → Type 0 = λ y. IsShowable names (view y) in subst P (sym is) (showable_at view names xs i x all l)
 
--- an item's measure, and that of the items behind the first, are no greater than that of all items
+-- an item's measure, and that of the items after the first, are no greater than that of all items
 
 pub item_below : {X : Type 0} (measure : X → ℕ) (xs : List X) (i : ℕ) (x : X) → i < length xs → x ≡ get_or xs i x → measure x ≤ most measure xs
 item_below {X} measure xs i x l is = let P : X → Type 0 = λ y. measure y ≤ most measure xs in subst P (sym is) (at_most measure xs i x l)

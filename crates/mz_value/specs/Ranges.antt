@@ -6,7 +6,7 @@ use Rattle.mz_value.specs.declared.range_set.TheConstants.{LEAST, GREATEST}
 abbrev pub Range : Type 0
 Range = ℤ × ℤ
 
--- some integer above a range lies below all ranges behind it
+-- some integer above a range lies below all ranges after it
 abbrev pub IsApart : Range → List Range → Type 0
 IsApart r [] = Unit {0}
 IsApart r (s ∷ ss) = (r.1 +ℤ pos 1) <ℤ s.0

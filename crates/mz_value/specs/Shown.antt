@@ -18,7 +18,7 @@ listed ts = join (codes ", ") ts
 abbrev pub blanks : ℤ → List ℕ → List ℕ
 blanks width t = replicate (nat_abs width - length t) 32
 
--- blanks stand in front, behind where the width is negative
+-- blanks come first, or last where the width is negative
 abbrev pub padded : ℤ → List ℕ → List ℕ
 padded width t = if int_lt width (pos 0) then t ++ blanks width t else blanks width t ++ t
 
@@ -37,7 +37,7 @@ name_at labels k = slice_index_or labels (nat_abs (k -ℤ pos 1)) []
 abbrev pub shown_bool : Bool → List ℕ
 shown_bool b = if b then codes "true" else codes "false"
 
--- the integers from n on, so many
+-- this many integers from n on
 abbrev pub numbers_from : ℤ → ℕ → List ℤ
 numbers_from n zero = []
 numbers_from n (suc count) = n ∷ numbers_from (n +ℤ pos 1) count

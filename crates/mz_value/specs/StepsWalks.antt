@@ -3,7 +3,7 @@ use Rattle.std.specs.Prelude.{◌≡◌, refl, ℤ, pos, List, [], ◌∷◌, �
 use Rattle.std.specs.Int.{int_max, int_min}
 use Rattle.mz_value.specs.Ranges.{Range, range_of, greatest}
 
--- a range, and what is behind it in its list, merged with another list by their least elements
+-- a range, and what is after it in its list, merged with another list by their least elements
 unfoldable pub merged_from : Range → (List Range → List Range) → List Range → List Range
 merged_from r behind [] = r ∷ behind []
 merged_from r behind (s ∷ ss) = if int_le r.0 s.0 then r ∷ behind (s ∷ ss) else s ∷ merged_from r behind ss
@@ -13,7 +13,7 @@ unfoldable pub merged : List Range → List Range → List Range
 merged [] ss = ss
 merged (r ∷ rs) ss = merged_from r (merged rs) ss
 
--- a range grows over those behind it that overlap or touch it
+-- a range grows over those after it that overlap or touch it
 unfoldable pub joined_from : Range → List Range → List Range
 joined_from r [] = r ∷ []
 joined_from r (s ∷ ss) = if int_le s.0 (r.1 +ℤ pos 1) then joined_from (r.0, int_max r.1 s.1) ss else r ∷ joined_from s ss
@@ -23,7 +23,7 @@ unfoldable pub joined : List Range → List Range
 joined [] = []
 joined (r ∷ rs) = joined_from r rs
 
--- what a range, and what is behind it in its list, has in common with another list
+-- what a range, and what is after it in its list, has in common with another list
 unfoldable pub common_from : Range → (List Range → List Range) → List Range → List Range
 common_from r behind [] = []
 common_from r behind (s ∷ ss) = range_of (int_max r.0 s.0) (int_min r.1 s.1) ++ (if int_lt r.1 s.1 then behind (s ∷ ss) else common_from r behind ss)

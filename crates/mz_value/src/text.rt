@@ -10,7 +10,7 @@ use crate::value::{TextValue, Value};
 use itoa::Buffer;
 use std::alloc::{AllocError, Global};
 
-/// `x` in decimal, with blanks up to `width` columns: in front of the number, behind it where
+/// `x` in decimal, with blanks up to `width` columns: before the number, after it where
 /// `width` is negative.
 pub fn show_int(alloc: Global, width: i64, x: i64) -> Result<TextValue, AllocError>
     ensures { IfOk result (λ t. text_bytes t ≡ padded width (signed_decimal x)) }
@@ -29,7 +29,7 @@ pub fn show_int(alloc: Global, width: i64, x: i64) -> Result<TextValue, AllocErr
     Ok(TextValue { text })
 }
 
-/// Appends so many blanks.
+/// Appends this many blanks.
 fn push_blanks(count: u64, out: &mut String) -> Result<(), AllocError>
     ensures { OnOk result (string_bytes out.new ≡ string_bytes out.old ++ replicate count 32) }
 {

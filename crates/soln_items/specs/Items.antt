@@ -116,7 +116,7 @@ interval_at bs = do
 abbrev pub with_first : ℤ → List ℤ × List ℕ → List ℤ × List ℕ
 with_first x r = (x ∷ r.0, r.1)
 
--- int { "," int }, up to so many
+-- int { "," int }, up to this many
 unfoldable pub ints_at : ℕ → List ℕ → Read (List ℤ)
 ints_at zero bs = None
 ints_at (suc most) bs = do

@@ -69,7 +69,7 @@ fn run_out(ended: bool, lines: u32, block: &mut Option<Vec<Given>>, bad: &mut Op
     }
 }
 
-/// The answer, before which so many lines stand.
+/// The answer, before which this many lines stand.
 pub(crate) fn settle(
     stop: Stop,
     ended: bool,

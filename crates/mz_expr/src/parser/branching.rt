@@ -38,7 +38,7 @@ impl<F: Fn(Global, &mut Cursor<'_>, Entry) -> Result<Operand, Stop>> Descent<F> 
         Ok(other(at, make_if(self.alloc, at, cases, last)?))
     }
 
-    /// A condition, and what stands behind its `then`.
+    /// A condition, and what follows its `then`.
     #[tactic(auto, using(mz_grammar::proofs::ListEquations::branch_reads))]
     fn branch(&self, cur: &mut Cursor<'_>) -> Result<(Expr, Expr), Stop>
         requires { MayRead self.now.room self.now.entry (F.pre self.now.reader) (F.post self.now.reader) cur.old }
@@ -50,7 +50,7 @@ impl<F: Fn(Global, &mut Cursor<'_>, Entry) -> Result<Operand, Stop>> Descent<F> 
         Ok((condition.take(), e))
     }
 
-    /// The other branches up to the `endif`, behind those that were read.
+    /// The other branches up to the `endif`, after those that were read.
     #[tactic(auto, using(mz_grammar::proofs::ListEquations::branches_reads, crate::proofs::Loops::branches_push, mz_cursor::proofs::Steps::nothing_behind))]
     fn branches(
         &self,

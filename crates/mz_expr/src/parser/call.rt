@@ -42,7 +42,7 @@ impl<F: Fn(Global, &mut Cursor<'_>, Entry) -> Result<Operand, Stop>> Descent<F> 
         self.called(cur, name, at, args)
     }
 
-    /// A call, behind its arguments.
+    /// A call, after its arguments.
     fn called(
         &self,
         cur: &mut Cursor<'_>,
@@ -117,7 +117,7 @@ impl<F: Fn(Global, &mut Cursor<'_>, Entry) -> Result<Operand, Stop>> Descent<F> 
         Ok(all)
     }
 
-    /// The set, behind its `in`, of names that end with a comma.
+    /// The set, after its `in`, of names that end with a comma.
     #[tactic(auto)]
     fn waited(&self, cur: &mut Cursor<'_>) -> Result<Argument, Stop>
         requires may { MayRead self.now.room self.now.entry (F.pre self.now.reader) (F.post self.now.reader) cur.old }

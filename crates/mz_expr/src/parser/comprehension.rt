@@ -74,7 +74,7 @@ impl<F: Fn(Global, &mut Cursor<'_>, Entry) -> Result<Operand, Stop>> Descent<F> 
     }
 }
 
-/// Names, each behind a comma, behind those that were read.
+/// Names, each after a comma, after those that were read.
 #[tactic(auto, using(mz_grammar::proofs::ListEquations::more_names_reads, mz_cursor::proofs::Steps::prefix_more, mz_cursor::proofs::Steps::nothing_behind))]
 fn more_names(
     alloc: Global,

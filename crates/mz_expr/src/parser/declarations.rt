@@ -28,7 +28,7 @@ impl<F: Fn(Global, &mut Cursor<'_>, Entry) -> Result<Operand, Stop>> Descent<F> 
         self.declared(cur, ty)
     }
 
-    /// A declaration, behind its type.
+    /// A declaration, after its type.
     #[tactic(auto, using(mz_grammar::proofs::ItemEquations::declared_reads))]
     pub fn declared(&self, cur: &mut Cursor<'_>, ty: TypeText) -> Result<Decl, Stop>
         requires { MayRead self.now.room self.now.entry (F.pre self.now.reader) (F.post self.now.reader) cur.old }
@@ -41,7 +41,7 @@ impl<F: Fn(Global, &mut Cursor<'_>, Entry) -> Result<Operand, Stop>> Descent<F> 
         Ok(make_declaration(ty, name, span, value))
     }
 
-    /// What stands behind the `=` of a declaration, if there is one.
+    /// What follows the `=` of a declaration, if there is one.
     #[tactic(auto, using(mz_grammar::proofs::ItemEquations::value_reads))]
     fn value(&self, cur: &mut Cursor<'_>) -> Result<Option<Expr>, Stop>
         requires { MayRead self.now.room self.now.entry (F.pre self.now.reader) (F.post self.now.reader) cur.old }

@@ -49,7 +49,7 @@ fn tighter(l: Level) -> Entry
 }
 
 impl<F: Fn(Global, &mut Cursor<'_>, Entry) -> Result<Operand, Stop>> Descent<F> {
-    /// What reads all that stands where so many tokens may still be opened.
+    /// What reads all that stands where this many tokens may still be opened.
     pub fn outside(alloc: Global, room: u32, reader: F) -> Descent<F>
         requires { room ≤ OPEN_LIMIT }
         ensures { result ≡ record { alloc = alloc; room = suc room; entry = Entry.Unit; reader = reader } }
@@ -62,7 +62,7 @@ impl<F: Fn(Global, &mut Cursor<'_>, Entry) -> Result<Operand, Stop>> Descent<F> 
         }
     }
 
-    /// What is read behind a token that was opened.
+    /// What is read after a token that was opened.
     #[tactic(auto, using(crate::proofs::Descents::below_room))]
     pub fn inside(&self, cur: &mut Cursor<'_>, entry: Entry) -> Result<Operand, Stop>
         requires { MayRead self.now.room self.now.entry (F.pre self.now.reader) (F.post self.now.reader) cur.old }

@@ -31,7 +31,7 @@ impl<F: Fn(Global, &mut Cursor<'_>, Entry) -> Result<Operand, Stop>> Descent<F> 
         Ok(x.into_expr(self.alloc)?)
     }
 
-    /// An expression of this level or a tighter one: what stands in front of the operators, and then level by level those that
+    /// An expression of this level or a tighter one: what comes before the operators, and then level by level those that
     /// stand there, each level looser than the last.
     #[tactic(auto, using(crate::proofs::Climbs::climbs))]
     pub fn level(&self, cur: &mut Cursor<'_>, l: Level) -> Result<Operand, Stop>
@@ -47,7 +47,7 @@ impl<F: Fn(Global, &mut Cursor<'_>, Entry) -> Result<Operand, Stop>> Descent<F> 
         Ok(x)
     }
 
-    /// An operand with the operators of one level behind it.
+    /// An operand with the operators of one level after it.
     fn with_operators(
         &self,
         cur: &mut Cursor<'_>,
@@ -61,7 +61,7 @@ impl<F: Fn(Global, &mut Cursor<'_>, Entry) -> Result<Operand, Stop>> Descent<F> 
         Ok(chained(self.alloc, first, links)?)
     }
 
-    /// The operators of one level in a row, each with the operand behind it.
+    /// The operators of one level in a row, each with the operand after it.
     #[tactic(auto, using(mz_grammar::proofs::Equations::operators_reads, mz_cursor::proofs::Steps::prefix_push, std::proofs::lemmas::List::map_push, mz_cursor::proofs::Steps::nothing_behind, mz_cursor::proofs::Steps::no_prefix))]
     fn operators(&self, cur: &mut Cursor<'_>, l: Level) -> Result<Vec<(BinOp, Expr)>, Stop>
         requires { MayBegin (Entry.Level l) self.now.room self.now.entry (F.pre self.now.reader) (F.post self.now.reader) cur.old }
@@ -110,7 +110,7 @@ impl<F: Fn(Global, &mut Cursor<'_>, Entry) -> Result<Operand, Stop>> Descent<F> 
         Ok(unless_annotated(self.alloc, annotated, x)?)
     }
 
-    /// The accesses behind a head. Each `[` stays open up to the last `]`.
+    /// The accesses after a head. Each `[` stays open up to the last `]`.
     #[tactic(auto, using(mz_grammar::proofs::Equations::accesses_reads, mz_cursor::proofs::Steps::open_more, mz_cursor::proofs::Steps::open_none))]
     fn accesses(&self, cur: &mut Cursor<'_>, first: Operand) -> Result<Operand, Stop>
         requires { MayOpen self.now.room self.now.entry (F.pre self.now.reader) (F.post self.now.reader) cur.old }

@@ -27,7 +27,7 @@ use mz_tree::{
 use std::alloc::Global;
 
 impl<F: Fn(Global, &mut Cursor<'_>, Entry) -> Result<Operand, Stop>> Descent<F> {
-    /// The rest of a text behind pieces that were read: expressions and pieces up to its last one.
+    /// The rest of a text after pieces that were read: expressions and pieces up to its last one.
     #[tactic(auto, using(mz_grammar::proofs::ListEquations::text_rest_reads, mz_cursor::proofs::Steps::prefix_push, std::proofs::lemmas::List::map_push, mz_cursor::proofs::Steps::nothing_behind, mz_cursor::proofs::Steps::prefix_prefix))]
     pub fn text_rest(
         &self,
@@ -51,7 +51,7 @@ impl<F: Fn(Global, &mut Cursor<'_>, Entry) -> Result<Operand, Stop>> Descent<F> 
         }
     }
 
-    /// Elements up to the closing token, behind those that were read.
+    /// Elements up to the closing token, after those that were read.
     #[tactic(auto, using(mz_grammar::proofs::Equations::elements_reads, mz_cursor::proofs::Steps::prefix_push, std::proofs::lemmas::List::map_push, mz_cursor::proofs::Steps::nothing_behind))]
     fn elements(
         &self,
@@ -74,7 +74,7 @@ impl<F: Fn(Global, &mut Cursor<'_>, Entry) -> Result<Operand, Stop>> Descent<F> 
         Ok(all)
     }
 
-    /// An element that was read, and those behind it up to the closing token.
+    /// An element that was read, and those after it up to the closing token.
     #[tactic(auto, using(mz_cursor::proofs::Steps::prefix_push, std::proofs::lemmas::List::map_push, mz_cursor::proofs::Steps::nothing_behind))]
     fn elements_behind(&self, cur: &mut Cursor<'_>, c: Closing, e: Expr) -> Result<Vec<Expr>, Stop>
         requires { MayRead self.now.room self.now.entry (F.pre self.now.reader) (F.post self.now.reader) cur.old }
@@ -148,7 +148,7 @@ impl<F: Fn(Global, &mut Cursor<'_>, Entry) -> Result<Operand, Stop>> Descent<F> 
         self.more_rows(cur, all)
     }
 
-    /// Rows, each behind a `|`, up to the `|]`, behind those that were read.
+    /// Rows, each after a `|`, up to the `|]`, after those that were read.
     #[tactic(auto, using(mz_grammar::proofs::ListEquations::more_rows_reads, mz_cursor::proofs::Steps::prefix_push, std::proofs::lemmas::List::map_push, mz_cursor::proofs::Steps::nothing_behind))]
     fn more_rows(
         &self,
@@ -187,7 +187,7 @@ impl<F: Fn(Global, &mut Cursor<'_>, Entry) -> Result<Operand, Stop>> Descent<F> 
         self.cells(cur, all)
     }
 
-    /// The elements of a row, each behind a comma, behind those that were read.
+    /// The elements of a row, each after a comma, after those that were read.
     #[tactic(auto, using(mz_grammar::proofs::ListEquations::cells_reads, mz_cursor::proofs::Steps::prefix_push, std::proofs::lemmas::List::map_push, mz_cursor::proofs::Steps::nothing_behind))]
     fn cells(&self, cur: &mut Cursor<'_>, before: Vec<Expr>) -> Result<Vec<Expr>, Stop>
         requires { MayRead self.now.room self.now.entry (F.pre self.now.reader) (F.post self.now.reader) cur.old }
@@ -206,7 +206,7 @@ impl<F: Fn(Global, &mut Cursor<'_>, Entry) -> Result<Operand, Stop>> Descent<F> 
     }
 }
 
-/// The last piece of a text, behind those that were read.
+/// The last piece of a text, after those that were read.
 #[tactic(auto, using(std::proofs::lemmas::List::map_push))]
 fn last_piece(cur: &mut Cursor<'_>, before: Vec<TextPart>) -> Result<Vec<TextPart>, Stop>
     ensures reads { Gives (λ v. map part v.items) cur.new.end cur.new.rest.now result (on (tail_of (tok_at cur.old.rest.now)) (stuck syntax cur.old.rest.now) (λ n. Ok (map part before.items ++ (pure.plain n ∷ []), behind cur.old.rest.now))) }

@@ -56,7 +56,7 @@ pub fn declaration(alloc: Global, cur: &mut Cursor<'_>) -> Result<Decl, Stop>
     Descent::outside(alloc, cur.room, descend).declaration(cur)
 }
 
-/// A declaration, behind its type.
+/// A declaration, after its type.
 pub fn declared(alloc: Global, cur: &mut Cursor<'_>, ty: TypeText) -> Result<Decl, Stop>
     ensures { Reads declaration (reads (parts.declared (written ty))) cur.old cur.new result }
 {

@@ -4,7 +4,7 @@ use Rattle.std.proofs.lemmas.List.{length-take}
 use Rattle.std.specs.Option.{option_map}
 use Rattle.mz_io.proofs.disk_files.within.Goals as goal
 
--- a front that is shorter than it may be is the whole
+-- a prefix that is shorter than it may be is the whole
 whole_prefix : (whole prefix : List ℕ) (most : ℕ) → prefix ≡ take most whole → length prefix < most → prefix ≡ whole
 whole_prefix whole prefix most is short =
     grind (arith, common_steps, length-take most whole)

@@ -24,7 +24,7 @@ loop-alloc-preserved c = record {
   shorter = omega (arith, c.in_ok-separator.ensures.shorter, c.in_ok-d.ensures.shorter);
 }
 
--- no parameter stands behind a comma, or none at all
+-- no parameter follows a comma, or none at all
 pub returns : goal.returns
 returns c = record {
   reads = sym c.loop-alloc.invariant.reads ∙ prefix_alone _ _ _ (no_param _ _ _ _ _ c.tok.ensures c.is_sym.ensures c.loop-alloc-test.false c.skip.ensures.rest);
