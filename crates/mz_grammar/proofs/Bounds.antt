@@ -25,13 +25,13 @@ use Rattle.mz_grammar.specs.Arguments.{trees_of, generators_behind, generators_o
 use Rattle.mz_grammar.specs.Tests.{closes, is_left_out}
 use Rattle.mz_grammar.specs.Model.{Ruled, behind}
 
--- the height of what an expression was read as, of arguments, and of the items of a file
-abbrev pub reading_height : Operand → ℕ
-reading_height x = height (tree_of x)
+-- the height of an operand, of arguments, and of the items of a file
+abbrev pub operand_height : Operand → ℕ
+operand_height x = height (tree_of x)
 
 abbrev pub argument_height : Argument → ℕ
-argument_height (unguarded x) = reading_height x
-argument_height (guarded x e) = max (reading_height x) (height e)
+argument_height (unguarded x) = operand_height x
+argument_height (guarded x e) = max (operand_height x) (height e)
 argument_height (strict g) = generator_height g
 
 abbrev pub arguments_height : List Argument → ℕ
@@ -84,17 +84,17 @@ Bounded Parts.unmarked room t = written_height t ≤ most room
 Bounded Parts.base room b = based_height b.1 ≤ most room
 Bounded (Parts.index_types n) room bs = bases_height (bases bs) ≤ most room
 Bounded Parts.expr room e = height e ≤ most room
-Bounded (Parts.level l) room x = reading_height x ≤ suc (unit_most room + tighter l)
-Bounded (Parts.operand l) room x = reading_height x ≤ unit_most room + tighter l
+Bounded (Parts.level l) room x = operand_height x ≤ suc (unit_most room + tighter l)
+Bounded (Parts.operand l) room x = operand_height x ≤ unit_most room + tighter l
 Bounded (Parts.operators l) room ls = links_height (links ls) ≤ unit_most room + tighter l
-Bounded Parts.unit room x = reading_height x ≤ unit_most room
-Bounded Parts.atom room x = reading_height x ≤ unit_most room
+Bounded Parts.unit room x = operand_height x ≤ unit_most room
+Bounded Parts.atom room x = operand_height x ≤ unit_most room
 -- round a head or a shorter access
-Bounded (Parts.accesses x) room y = (b : ℕ) → reading_height x ≤ b → head_most room ≤ b → reading_height y ≤ b + room
+Bounded (Parts.accesses x) room y = (b : ℕ) → operand_height x ≤ b → head_most room ≤ b → operand_height y ≤ b + room
 Bounded Parts.indices room es = trees_height (trees es) ≤ most room
 Bounded Parts.more_indices room es = trees_height (trees es) ≤ most room
-Bounded Parts.head room x = reading_height x ≤ head_most room
-Bounded (Parts.named n s) room x = reading_height x ≤ head_most room
+Bounded Parts.head room x = operand_height x ≤ head_most room
+Bounded (Parts.named n s) room x = operand_height x ≤ head_most room
 Bounded (Parts.arguments t) room xs = arguments_height xs ≤ most room
 Bounded Parts.text_rest room ps = parts_height (parts ps) ≤ most room
 Bounded (Parts.elements c) room es = trees_height (trees es) ≤ most room
@@ -182,12 +182,12 @@ pub behind_kept : {n : Place} (start room : ℕ) (c : Closing) (more done : Rule
 behind_kept start room c more done h g = λ o. tested start room (is_sym SComma o) _ _ (λ s. h) (tested start room (closes c o) _ _ (λ s. g) (tested start room (is_left_out c o) leave_out refuse tt tt))
 
 -- Operators stand one higher than the operands.
-related_height : (n : Name) (s : Span) (o : BinOp) (e : Tree) → reading_height (related n s o e) ≡ suc (max 1 (max (height e) 0))
+related_height : (n : Name) (s : Span) (o : BinOp) (e : Tree) → operand_height (related n s o e) ≡ suc (max 1 (max (height e) 0))
 unfolding height shape_height links_height
 related_height n s op.Member e = refl
 related_height n s _ e = refl
 
-pub chained_height : (x : Operand) (ls : List (BinOp × Tree)) (b : ℕ) → reading_height x ≤ b → links_height (links ls) ≤ b → reading_height (chained x ls) ≤ suc b
+pub chained_height : (x : Operand) (ls : List (BinOp × Tree)) (b : ℕ) → operand_height x ≤ b → links_height (links ls) ≤ b → operand_height (chained x ls) ≤ suc b
 unfolding height shape_height links_height
 chained_height x [] b h g = omega arith
 chained_height (name n s) (l ∷ []) b h g = rw (related_height n s l.0 l.1) (one_higher _ _ h g)
@@ -201,12 +201,12 @@ on_map Q R f (Some x) q h = h x q
 pub trees_of_height : (b : ℕ) (xs : List Argument) → arguments_height xs ≤ b → OnSome (λ es. trees_height (trees es) ≤ b) (trees_of xs)
 unfolding trees_height
 trees_of_height b [] h = omega arith
-trees_of_height b (unguarded x ∷ rest) h = on_map _ _ _ (trees_of rest) (trees_of_height b rest (right_of (reading_height x) _ h)) (λ es he. max-le (left_of (reading_height x) _ h) he)
+trees_of_height b (unguarded x ∷ rest) h = on_map _ _ _ (trees_of rest) (trees_of_height b rest (right_of (operand_height x) _ h)) (λ es he. max-le (left_of (operand_height x) _ h) he)
 trees_of_height b (guarded x c ∷ rest) h = tt
 trees_of_height b (strict g ∷ rest) h = tt
 
 -- the set that a name is in
-member_height : (n : Name) (s : Span) (e : Tree) (b : ℕ) → reading_height (member n s e) ≤ b → height e ≤ b
+member_height : (n : Name) (s : Span) (e : Tree) (b : ℕ) → operand_height (member n s e) ≤ b → height e ≤ b
 unfolding height shape_height links_height
 member_height n s e b h = let k : max 1 (max (height e) 0) ≤ b = omega arith in left_of (height e) 0 (right_of 1 _ k)
 

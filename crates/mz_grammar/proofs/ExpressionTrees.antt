@@ -54,7 +54,7 @@ module _ (Named : Name → Type 0) (Placed : Span → Type 0) where
   unfolding OfTree
   unit_kept = λ o holds. found (prefix_of o) _ _ (λ x h. h) (λ op. λ s at. λ x h. (at, (at, Of.of_tree Named Placed x h)))
 
-  unless_annotated_kept : (annotated : Bool) (x : Operand) → Of.OfReading Named Placed x → Of.OfReading Named Placed (unless_annotated annotated x)
+  unless_annotated_kept : (annotated : Bool) (x : Operand) → Of.OfOperand Named Placed x → Of.OfOperand Named Placed (unless_annotated annotated x)
   unless_annotated_kept true x h = (Of.placed Named Placed x h, Of.of_tree Named Placed x h)
   unless_annotated_kept false x h = h
 

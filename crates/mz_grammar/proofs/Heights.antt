@@ -23,7 +23,7 @@ use Rattle.mz_grammar.specs.Parts.{Operand, Argument}
 use Rattle.mz_grammar.specs.Arguments.{awaits_in, takes_where, trees_of, generators_of}
 use Rattle.mz_grammar.specs.Tests.{closes, ident_of, middle_of, tail_of, ends_row}
 use Rattle.mz_grammar.specs.Model.{operand_rule, operators_rule, unit_rule, atom_rule, unless_annotated, accesses_rule, indices_rule, more_indices_rule, annotations_rule, marks_rule, head_symbol, head_word, head_token, called, named_rule, guarded_rest, arguments_rule, text_rest_rule, elements_rule, array_body_rule, set_body_rule, rows_body_rule, more_rows_rule, row_rule, cells_rule, generator_rule, more_names_rule, filter_rule, generators_rule, branch_rule, branches_rule, let_items_rule, let_item_rule}
-use Rattle.mz_grammar.proofs.Bounds.{Kept, reading_height, argument_height, arguments_height, unit_most, head_most, tighter, one_higher, one_branch, most_is, level_fits, more_room, one_form, tested, found, found_with, behind_kept, trees_of_height, generators_of_height, strict_height}
+use Rattle.mz_grammar.proofs.Bounds.{Kept, operand_height, argument_height, arguments_height, unit_most, head_most, tighter, one_higher, one_branch, most_is, level_fits, more_room, one_form, tested, found, found_with, behind_kept, trees_of_height, generators_of_height, strict_height}
 
 pub operand_kept : (l : Level) (room : ℕ) → Kept room room (operand_rule l)
 unfolding tighter
@@ -49,7 +49,7 @@ unfolding height shape_height unit_most
 unit_kept zero = λ o. found 0 0 (prefix_of o) _ _ (λ x h. h) (λ op. tt)
 unit_kept (suc room) = λ o. found (suc room) (suc room) (prefix_of o) _ _ (λ x h. h) (λ op. λ s. λ x h. let e = most_is room in omega arith)
 
-unless_annotated_height : (annotated : Bool) (x : Operand) (b : ℕ) → reading_height x ≤ b → reading_height (unless_annotated annotated x) ≤ b
+unless_annotated_height : (annotated : Bool) (x : Operand) (b : ℕ) → operand_height x ≤ b → operand_height (unless_annotated annotated x) ≤ b
 unless_annotated_height true x b h = h
 unless_annotated_height false x b h = h
 
@@ -71,7 +71,7 @@ pub accesses_kept : (x : Operand) (room : ℕ) → Kept room room (accesses_rule
 unfolding height shape_height head_most
 accesses_kept x zero = λ o. tested 0 0 (is_sym SLBrack o) _ _ tt (λ b h g. omega arith)
 accesses_kept x (suc room) = λ o. tested (suc room) (suc room) (is_sym SLBrack o) _ _
-    (λ s. λ es hes. λ y hy. λ b h g. let m : most room ≤ b = omega arith in let k = hy (suc b) (one_higher (reading_height x) _ h (le_trans hes m)) (head_below room b m) in omega arith)
+    (λ s. λ es hes. λ y hy. λ b h g. let m : most room ≤ b = omega arith in let k = hy (suc b) (one_higher (operand_height x) _ h (le_trans hes m)) (head_below room b m) in omega arith)
     (λ b h g. omega arith)
 
 pub indices_kept : (room : ℕ) → Kept room room indices_rule

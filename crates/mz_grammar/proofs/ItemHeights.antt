@@ -23,7 +23,7 @@ use Rattle.mz_grammar.specs.Parts.{Place, Value, Operand}
 use Rattle.mz_grammar.specs.Tests.{ItemKind, an_include, a_constraint, a_solve, an_output, a_predicate, a_test, a_function, an_annotation, an_enum, item_of, ident_of, text_of, begins_base, begins_type}
 use Rattle.mz_grammar.specs.Model.{rule, declaration_rule, declared_rule, value_rule, type_rule, index_types_rule, element_rule, unmarked_rule, base_rule, params_rule, param_list_rule, param_rule, function_rule, by_expression, item_by, item_rule, goal_rule, cases_rule, case_names_rule, file_rule, more_items_rule}
 use Rattle.mz_tree.specs.Tree.{array_type, marked}
-use Rattle.mz_grammar.proofs.Bounds.{Bounded, Kept, reading_height, highest, right_of, level_fits, more_room, tested, found, behind_kept, chained_height, items_highest}
+use Rattle.mz_grammar.proofs.Bounds.{Bounded, Kept, operand_height, highest, right_of, level_fits, more_room, tested, found, behind_kept, chained_height, items_highest}
 use Rattle.mz_grammar.proofs.Heights.{operand_kept, operators_kept, unit_kept, atom_kept, accesses_kept, indices_kept, more_indices_kept, annotations_kept, marks_kept, head_kept, named_kept, arguments_kept, text_rest_kept, elements_kept, array_body_kept, set_body_kept, rows_body_kept, more_rows_kept, row_kept, cells_kept, generator_kept, more_names_kept, filter_kept, generators_kept, branch_kept, branches_kept, let_items_kept, let_item_kept}
 
 -- Types and declarations
@@ -102,7 +102,7 @@ base_of_height : (s : Span) (e : Tree) (b : ℕ) → height e ≤ b → written_
 unfolding written_height dims_height based_height
 base_of_height s e b h = max-le (omega arith) h
 
-by_expression_kept : (x : Operand) (room : ℕ) → reading_height x ≤ most room → (o : Option Tok) → Kept room room (by_expression x o)
+by_expression_kept : (x : Operand) (room : ℕ) → operand_height x ≤ most room → (o : Option Tok) → Kept room room (by_expression x o)
 by_expression_kept (Parts.name n s) room h o = tested room room (is_sym SEq o) _ _ (λ q. λ e g. g) (λ d g. g (base_of_height s _ _ h))
 by_expression_kept (Parts.member n s e) room h o = λ d g. g (base_of_height s _ _ h)
 by_expression_kept (Parts.other s e) room h o = λ d g. g (base_of_height s _ _ h)

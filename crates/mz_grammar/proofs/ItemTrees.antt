@@ -114,7 +114,7 @@ module _ (Named : Name → Type 0) (Placed : Span → Type 0) where
   unfolding OfTree
   of_base s e at h = (at, tt, h)
 
-  by_expression_kept : (x : Operand) → Of.OfReading Named Placed x → (o : Option Tok) → Kept (by_expression x o)
+  by_expression_kept : (x : Operand) → Of.OfOperand Named Placed x → (o : Option Tok) → Kept (by_expression x o)
   by_expression_kept (Parts.name n s) h o = tested (is_sym SEq o) _ _ (λ q u. λ e g. (h.0, h.1, g)) (λ d g. g (of_base s _ h.1 (Of.of_tree Named Placed (Parts.name n s) h)))
   by_expression_kept (Parts.member n s e) h o = λ d g. g (of_base s _ h.1 (Of.of_tree Named Placed (Parts.member n s e) h))
   by_expression_kept (Parts.other s e) h o = λ d g. g (of_base s _ h.0 h.1)

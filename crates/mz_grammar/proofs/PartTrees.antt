@@ -35,14 +35,14 @@ module _ (Named : Name → Type 0) (Placed : Span → Type 0) where
   abbrev pub Spots : List (Name × Span) → Type 0
   Spots ns = All (IsSpot Named Placed) ns
 
-  abbrev pub OfReading : Operand → Type 0
-  OfReading (name n s) = Named n × Placed s
-  OfReading (member n s e) = Named n × Placed s × OfTree Named Placed e
-  OfReading (other s e) = Placed s × OfTree Named Placed e
+  abbrev pub OfOperand : Operand → Type 0
+  OfOperand (name n s) = Named n × Placed s
+  OfOperand (member n s e) = Named n × Placed s × OfTree Named Placed e
+  OfOperand (other s e) = Placed s × OfTree Named Placed e
 
   abbrev pub OfArgument : Argument → Type 0
-  OfArgument (unguarded x) = OfReading x
-  OfArgument (guarded x e) = OfReading x × OfTree Named Placed e
+  OfArgument (unguarded x) = OfOperand x
+  OfArgument (guarded x e) = OfOperand x × OfTree Named Placed e
   OfArgument (strict g) = OfGenerator Named Placed g
 
   abbrev pub OfArguments : List Argument → Type 0
@@ -69,16 +69,16 @@ module _ (Named : Name → Type 0) (Placed : Span → Type 0) where
   Holds Parts.base b = Placed b.0 × OfBased Named Placed b.1
   Holds (Parts.index_types n) bs = OfBases Named Placed (bases bs)
   Holds Parts.expr e = OfTree Named Placed e
-  Holds (Parts.level l) x = OfReading x
-  Holds (Parts.operand l) x = OfReading x
+  Holds (Parts.level l) x = OfOperand x
+  Holds (Parts.operand l) x = OfOperand x
   Holds (Parts.operators l) ls = OfLinks Named Placed (links ls)
-  Holds Parts.unit x = OfReading x
-  Holds Parts.atom x = OfReading x
-  Holds (Parts.accesses x) y = OfReading x → OfReading y
+  Holds Parts.unit x = OfOperand x
+  Holds Parts.atom x = OfOperand x
+  Holds (Parts.accesses x) y = OfOperand x → OfOperand y
   Holds Parts.indices es = OfTrees Named Placed (trees es)
   Holds Parts.more_indices es = OfTrees Named Placed (trees es)
-  Holds Parts.head x = OfReading x
-  Holds (Parts.named n s) x = Named n → Placed s → OfReading x
+  Holds Parts.head x = OfOperand x
+  Holds (Parts.named n s) x = Named n → Placed s → OfOperand x
   Holds (Parts.arguments t) xs = OfArguments xs
   Holds Parts.text_rest ps = OfParts Named Placed (parts ps)
   Holds (Parts.elements c) es = OfTrees Named Placed (trees es)
@@ -149,23 +149,23 @@ module _ (Named : Name → Type 0) (Placed : Span → Type 0) where
   pub behind_kept : {n : Place} (c : Closing) (more done : Ruled n) → Kept more → Kept done → Kept (behind c more done)
   behind_kept c more done h g = λ o holds. tested (is_sym SComma o) _ _ (λ s at. h) (tested (closes c o) _ _ (λ s at. g) (tested (is_left_out c o) leave_out refuse tt tt))
 
-  pub placed : (x : Operand) → OfReading x → Placed (at_of x)
+  pub placed : (x : Operand) → OfOperand x → Placed (at_of x)
   placed (name n s) h = h.1
   placed (member n s e) h = h.1
   placed (other s e) h = h.0
 
-  pub of_tree : (x : Operand) → OfReading x → OfTree Named Placed (tree_of x)
+  pub of_tree : (x : Operand) → OfOperand x → OfTree Named Placed (tree_of x)
   unfolding OfTree
   of_tree (name n s) h = (h.1, h.0)
   of_tree (member n s e) h = (h.1, ((h.1, h.0), (h.2, tt)))
   of_tree (other s e) h = h.1
 
-  related_of : (n : Name) (s : Span) (o : BinOp) (e : Tree) → Named n → Placed s → OfTree Named Placed e → OfReading (related n s o e)
+  related_of : (n : Name) (s : Span) (o : BinOp) (e : Tree) → Named n → Placed s → OfTree Named Placed e → OfOperand (related n s o e)
   unfolding OfTree
   related_of n s op.Member e h at g = (h, at, g)
   related_of n s _ e h at g = (at, (at, ((at, h), (g, tt))))
 
-  pub chained_of : (x : Operand) (ls : List (BinOp × Tree)) → OfReading x → OfLinks Named Placed (links ls) → OfReading (chained x ls)
+  pub chained_of : (x : Operand) (ls : List (BinOp × Tree)) → OfOperand x → OfLinks Named Placed (links ls) → OfOperand (chained x ls)
   unfolding OfTree
   chained_of x [] h g = h
   chained_of (name n s) (l ∷ []) h g = related_of n s l.0 l.1 h.0 h.1 g.0

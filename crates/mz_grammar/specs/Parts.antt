@@ -9,7 +9,7 @@ use Rattle.mz_grammar.specs.declared.level.Level.{Level}
 use Rattle.mz_grammar.specs.declared.list.Closing.{Closing}
 use Rattle.mz_grammar.specs.declared.list.Generators.{Generators}
 
--- What an expression was read as. A name alone and a name in a set may become generators of a call.
+-- An expression. A name alone and a name in a set may become generators of a call.
 -- The place is that of the first token, a parenthesis too.
 pub data Operand : Type 0 where
   name : Name → Span → Operand

@@ -1,4 +1,4 @@
-// What an expression was read as.
+// Operands: expressions that may become generators of a call.
 
 ghost use Rattle.std.specs.Prelude.{◌≡◌, ◌<◌, IfOk, map, length};
 ghost use Rattle.mz_tree.specs.Views.{tree, link};
