@@ -60,7 +60,7 @@ pub enum Kind {
     OutputUndefined,
     /// An exponent, or an argument that may not be negative, is below 0.
     NegativeArgument,
-    /// The input has a form that this compiler doesn't read yet.
+    /// The model has a part that is read and typed, and that this compiler doesn't build yet.
     NotBuilt,
 }
 

@@ -80,6 +80,7 @@ impl Names {
     pub fn find(&self, text: &str) -> Option<Name>
         ensures named { IfSome result (λ n. (n < length self.now) × (text_of self.now n ≡ text.now)) }
         ensures every { (n : ℕ) → n < length self.now → text_of self.now n ≡ text.now → result ≡ Some n }
+        ensures distinct { AreDistinct self.now }
     {
         let index = self.texts.get_index_of(text)?;
         Some(Name { index })
