@@ -172,7 +172,7 @@ no_prefix a r none n some long u = elim (cases_lt (length a) n) [
 valid_up_to : (c a r : List ℕ) → IsUtf8 c → ((n : ℕ) → 0 < n → IsUtf8 (take n (a ++ r)) → ⊥) → 0 < length a → utf8_valid_len (c ++ a) ≡ length c
 valid_up_to c a r u none long = utf8_valid_len-IsValidUpTo (c ++ a) (length c) (record {
   short = omega (arith, length-append c a);
-  prefix = subst IsUtf8 (sym (take_at c a (length c) refl)) u;
+  front = subst IsUtf8 (sym (take_at c a (length c) refl)) u;
   longest = λ m more w.
       let same : m ≡ length c + (m - length c) = omega arith in
       no_prefix a r none (m - length c) (omega arith) long (utf8_behind c (take (m - length c) a) u (subst IsUtf8 (ap (λ (k : ℕ). take k (c ++ a)) same ∙ take-append-add c a (m - length c)) w));
