@@ -67,7 +67,7 @@ impl<F: Fn(Global, &mut Cursor<'_>, Entry) -> Result<Operand, Stop>> Descent<F> 
         requires { MayBegin (Entry.Level l) self.now.room self.now.entry (F.pre self.now.reader) (F.post self.now.reader) cur.old }
         ensures { Passes (λ v. map link v.items) (reads (parts.operators l)) cur.old cur.new result }
     {
-        let mut all = Vec::new(self.alloc);
+        let mut all = Vec::with_capacity(self.alloc, 1)?;
         while let Some(op) = binary_of(l, cur.tok()) {
             cur.skip();
             let x = self.operand(cur, l)?;
@@ -134,7 +134,7 @@ impl<F: Fn(Global, &mut Cursor<'_>, Entry) -> Result<Operand, Stop>> Descent<F> 
         requires { MayRead self.now.room self.now.entry (F.pre self.now.reader) (F.post self.now.reader) cur.old }
         ensures { Reads (λ v. map tree v.items) (reads parts.indices) cur.old cur.new result }
     {
-        let mut all = Vec::new(self.alloc);
+        let mut all = Vec::with_capacity(self.alloc, 1)?;
         loop {
             if is_sym(Symbol::SDots, cur.tok()) {
                 return Err(cur.left_out());
