@@ -2,3 +2,4 @@ pub mod Disjunctions
 pub mod Pairing
 pub mod Choosing
 pub mod Preceding
+pub mod IntegerRows

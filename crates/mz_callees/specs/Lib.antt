@@ -3,3 +3,4 @@ pub mod Pairs
 pub mod Rows
 pub mod StepsLeftOut
 pub mod StepsChains
+pub mod StepsIntegers

@@ -47,7 +47,7 @@ fn call_node(alloc: Global, span: Span, es: Vec<Core>, c: Candidate) -> Result<C
 fn types_of(alloc: Global, es: &[Core]) -> Result<Vec<TypeInst>, Memory>
     ensures { IfOk result (λ v. map plain_type v.items ≡ map type_of (map tree es.now)) }
 {
-    let mut types = Vec::new(alloc);
+    let mut types = Vec::with_capacity(alloc, es.len())?;
     for e in es {
         types.push(copy_type(alloc, type_of(e))?)?;
     }

@@ -6,13 +6,15 @@ ghost use Rattle.mz_core.specs.Paths.{path_links};
 ghost use Rattle.mz_core.specs.Tree.{type_of};
 ghost use Rattle.mz_core.specs.TreeViews.{tree, step};
 ghost use Rattle.mz_checks.specs.Coerced.{coercions_to, bottom_type};
-ghost use Rattle.mz_checks.specs.Chains.{row_number, step_of, operated, then_step, from_left, from_right_at, chain_node, appended};
+ghost use Rattle.mz_checks.specs.Calls.{row_of};
+ghost use Rattle.mz_checks.specs.Chains.{row_number, operator_name, step_of, operated, then_step, from_left, from_right_at, chain_node, appended};
 ghost use Rattle.mz_checks.specs.Passes.{Passes};
 ghost use Rattle.mz_callees.specs.Rows.{IsRow};
 ghost use Rattle.mz_callees.specs.StepsChains.{preceded};
 ghost use Rattle.mz_callees.specs.Views.{candidate, operand, chained, chained_back};
 
 use crate::calls::row_of;
+use crate::integers::{integer_candidate, is_one_var, row_between};
 use crate::operators::operator_name;
 use crate::pairs::Candidate;
 use mz_base::{Memory, Span, Stop};
@@ -90,6 +92,24 @@ fn two_types(alloc: Global, t: &TypeInst, u: &TypeInst) -> Result<Vec<TypeInst>,
     Ok(vec![in alloc; first, second]?)
 }
 
+/// The row of an operator between operands of these types: between integers it is known, else it is the best of those that accept them.
+fn operator_row(
+    alloc: Global,
+    span: Span,
+    op: BinOp,
+    left: &TypeInst,
+    right: &TypeInst,
+) -> Result<Candidate, Stop>
+    ensures row { IfOk result (λ c. IsRow c.callee) }
+    ensures passes { Passes candidate result (row_of span (operator_name op) (plain_type left.now ∷ plain_type right.now ∷ [])) }
+{
+    if let Some(row) = row_between(op, left, right) {
+        return Ok(integer_candidate(alloc, is_one_var(left, right), row)?);
+    }
+    let types = two_types(alloc, left, right)?;
+    row_of(alloc, span, operator_name(op), types.as_slice())
+}
+
 /// An operator between operands of these types. NoOverload, Ambiguous or LeftOut at it, where there is no best row.
 #[tactic(auto, unfolding(mz_checks::specs::Chains::operated))]
 fn operated(
@@ -102,8 +122,7 @@ fn operated(
 ) -> Result<CoreStep, Stop>
     ensures { Passes step result (operated span op (plain_type left.now) (plain_type right.now) (tree e)) }
 {
-    let types = two_types(alloc, left, right)?;
-    let c = row_of(alloc, span, operator_name(op), types.as_slice())?;
+    let c = operator_row(alloc, span, op, left, right)?;
     Ok(step_of(alloc, left, right, e, c)?)
 }
 
@@ -124,10 +143,8 @@ impl Chained {
         ensures { IfOk result (λ c. chained c ≡ record { ty = type_of (tree e.now); done = [] }) }
     {
         let ty = copy_type(alloc, type_of(e))?;
-        Ok(Chained {
-            ty,
-            done: Vec::new(alloc),
-        })
+        let done = Vec::with_capacity(alloc, 1)?;
+        Ok(Chained { ty, done })
     }
 
     /// One more operator of a chain that groups to the left, after those that are typed, each at the chain's place.

@@ -5,6 +5,7 @@ mod best;
 mod calls;
 mod candidates;
 mod chains;
+mod integers;
 mod left_out;
 mod operators;
 mod pairs;

@@ -41,7 +41,7 @@ fn index_fitted(alloc: Global, span: Span, e: Core, x: Ix) -> Result<Core, Stop>
 fn indices_fitted(alloc: Global, span: Span, es: Vec<Core>, xs: &[Ix]) -> Result<Vec<Core>, Stop>
     ensures { Passes (λ v. map tree v.items) result (indices_fitted span (map tree es.items) xs.now) }
 {
-    let mut all = Vec::new(alloc);
+    let mut all = Vec::with_capacity(alloc, es.len())?;
     let mut i = 0usize;
     for e in es {
         if i >= xs.len() {

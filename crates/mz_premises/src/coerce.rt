@@ -64,7 +64,7 @@ pub fn coerced(alloc: Global, e: Core, t: &TypeInst) -> Result<Core, Memory>
 pub fn each_to(alloc: Global, t: &TypeInst, es: Vec<Core>) -> Result<Vec<Core>, Memory>
     ensures { IfOk result (λ v. map tree v.items ≡ each_to (plain_type t.now) (map tree es.items)) }
 {
-    let mut all = Vec::new(alloc);
+    let mut all = Vec::with_capacity(alloc, es.len())?;
     for e in es {
         all.push(coerced(alloc, e, t)?)?;
     }
@@ -76,7 +76,7 @@ pub fn each_to(alloc: Global, t: &TypeInst, es: Vec<Core>) -> Result<Vec<Core>, 
 pub fn all_coerced(alloc: Global, es: Vec<Core>, ts: &[TypeInst]) -> Result<Vec<Core>, Memory>
     ensures { IfOk result (λ v. map tree v.items ≡ all_coerced (map tree es.items) (map plain_type ts.now)) }
 {
-    let mut all = Vec::new(alloc);
+    let mut all = Vec::with_capacity(alloc, es.len())?;
     let mut i = 0usize;
     for e in es {
         if i < ts.len() {

@@ -259,7 +259,7 @@ fn check_all(
     ensures passes { Passes (λ v. map tree v.items) result (parts (map (expression (known context.now)) es.now) scope.old) }
     ensures kept { OnOk result (scope.new ≡ scope.old) }
 {
-    let mut all = Vec::new(alloc);
+    let mut all = Vec::with_capacity(alloc, es.len())?;
     for e in es {
         let part = check(alloc, context, scope, e)?;
         all.push(part)?;
