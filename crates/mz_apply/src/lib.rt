@@ -10,7 +10,7 @@ mod numbers;
 mod rows;
 
 pub use applied::{apply, apply_row};
-pub use costs::{cost, cost_of};
+pub use costs::{cost, cost_of, counts_from};
 pub use faults::{is_applied, is_failed};
 pub use law::{lines_are_the_tables, rows_lead_back};
 pub use numbers::number_of;

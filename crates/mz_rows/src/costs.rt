@@ -5,7 +5,7 @@ ghost use Rattle.mz_value.specs.Contents.{int};
 ghost use Rattle.mz_meaning.specs.Operations as operations;
 ghost use Rattle.mz_cells.specs.Views.{cell_of, cells_of, item_content};
 
-use mz_apply::cost_of;
+use mz_apply::{cost_of, counts_from};
 use mz_cells::{Item, Known, length_of};
 use mz_operations::Row;
 use std::alloc::{AllocError, Global};
@@ -54,20 +54,41 @@ fn size_of(k: &Known) -> u64
     }
 }
 
-/// What a row of one argument costs: at most 2^62. Takes no memory.
-pub fn cost_of_one(row: Row, a: &Known) -> u64
+fn cost_by_size(row: Row, a: &Known) -> u64
     ensures { result ≡ operations.row_cost row (cell_of a.now ∷ []) }
 {
     let sizes = [size_of(a)];
     cost_of(row, &sizes)
 }
 
-/// What a row of two arguments costs: at most 2^62. Takes no memory.
-pub fn cost_of_two(row: Row, a: &Known, b: &Known) -> u64
+/// What a row of one argument costs: at most 2^62. Takes no memory, and reads a set only where its
+/// elements count.
+#[tactic(auto, unfolding(mz_operations::specs::Costs::cost))]
+pub fn cost_of_one(row: Row, a: &Known) -> u64
+    ensures { result ≡ operations.row_cost row (cell_of a.now ∷ []) }
+{
+    match counts_from(row) {
+        None => 1,
+        Some(_) => cost_by_size(row, a),
+    }
+}
+
+fn cost_by_sizes(row: Row, a: &Known, b: &Known) -> u64
     ensures { result ≡ operations.row_cost row (cell_of a.now ∷ cell_of b.now ∷ []) }
 {
     let sizes = [size_of(a), size_of(b)];
     cost_of(row, &sizes)
+}
+
+/// What a row of two arguments costs, as `cost_of_one` says.
+#[tactic(auto, unfolding(mz_operations::specs::Costs::cost))]
+pub fn cost_of_two(row: Row, a: &Known, b: &Known) -> u64
+    ensures { result ≡ operations.row_cost row (cell_of a.now ∷ cell_of b.now ∷ []) }
+{
+    match counts_from(row) {
+        None => 1,
+        Some(_) => cost_by_sizes(row, a, b),
+    }
 }
 
 fn sizes_of(alloc: Global, cells: &[Known]) -> Result<Vec<u64>, AllocError>

@@ -91,7 +91,7 @@ fn limited_cell(base: Base, at: Span, n: i128) -> Result<Known, Stop>
 
 /// The cell of what a row gives, where it is no integer outside the limit.
 #[tactic(auto, unfolding(mz_operations::specs::Answers::limited))]
-fn scalar_cell(base: Base, at: Span, v: Option<Scalar>) -> Result<Known, Stop>
+pub(crate) fn scalar_cell(base: Base, at: Span, v: Option<Scalar>) -> Result<Known, Stop>
     ensures { Tells cell_of result (par_answer base at (limited (option_map scalar_content v))) }
 {
     match v {

@@ -9,6 +9,7 @@ mod limits;
 mod numbers;
 mod opened;
 mod row_of;
+mod sets;
 mod showing;
 
 pub use costs::{cost_of_all, cost_of_one, cost_of_two};

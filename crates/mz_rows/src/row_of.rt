@@ -15,14 +15,15 @@ ghost use Rattle.mz_rows.specs.Steps as steps;
 use crate::applied::par_row;
 use crate::integers::{integer_of, row_of_integers};
 use crate::opened::open_row;
+use crate::sets::{row_of_extreme, row_of_member};
 use mz_base::{Span, Stop};
 use mz_cells::{Known, all_par, given, is_par};
 use mz_core::{Base, TypeInst};
-use mz_operations::Row;
+use mz_operations::{Row, ScalarRow};
 use mz_value::{Cases, Value};
 use std::alloc::{AllocError, Global};
 
-fn par_of_one(
+fn values_of_one(
     alloc: Global,
     cases: &Cases,
     row: Row,
@@ -35,6 +36,24 @@ fn par_of_one(
     let v = given(alloc, a)?;
     let args = [v];
     par_row(alloc, cases, row, base, at, &args)
+}
+
+/// A row of one par cell.
+#[tactic(auto, unfolding(mz_operations::specs::Answers::is_mismatched, mz_operations::specs::Answers::negative, mz_operations::specs::Answers::is_failed))]
+fn par_of_one(
+    alloc: Global,
+    cases: &Cases,
+    row: Row,
+    base: Base,
+    at: Span,
+    a: Known,
+) -> Result<Known, Stop>
+    ensures { Tells cell_of result (par_row (case_names cases.now) row base at (value_of (cell_of a) ∷ [])) }
+{
+    match row {
+        Row::Scalar(ScalarRow::SetExtreme(side)) => row_of_extreme(side, base, at, &a),
+        _ => values_of_one(alloc, cases, row, base, at, a),
+    }
 }
 
 /// What a row gives of this argument, at a node of this type, before its type is stamped on it. An
@@ -57,7 +76,7 @@ pub fn row_of_one(
     }
 }
 
-fn par_of_two(
+fn values_of_two(
     alloc: Global,
     cases: &Cases,
     row: Row,
@@ -72,6 +91,25 @@ fn par_of_two(
     let y = given(alloc, b)?;
     let args = [x, y];
     par_row(alloc, cases, row, base, at, &args)
+}
+
+/// A row of two par cells.
+#[tactic(auto, unfolding(mz_operations::specs::Answers::is_mismatched, mz_operations::specs::Answers::negative, mz_operations::specs::Answers::is_failed))]
+fn par_of_two(
+    alloc: Global,
+    cases: &Cases,
+    row: Row,
+    base: Base,
+    at: Span,
+    a: Known,
+    b: Known,
+) -> Result<Known, Stop>
+    ensures { Tells cell_of result (par_row (case_names cases.now) row base at (value_of (cell_of a) ∷ value_of (cell_of b) ∷ [])) }
+{
+    match row {
+        Row::Scalar(ScalarRow::In) => row_of_member(base, at, &a, &b),
+        _ => values_of_two(alloc, cases, row, base, at, a, b),
+    }
 }
 
 /// Whether both cells are par.

@@ -5,7 +5,7 @@ use Rattle.mz_meaning.specs.Cells.{value_of}
 use Rattle.mz_meaning.specs.Operations.{par_row}
 use Rattle.mz_cells.specs.Views.{cell_of}
 use Rattle.mz_cells.specs.Meets.{Tells}
-use Rattle.mz_rows.proofs.row_of.par_of_two.Goals as goal
+use Rattle.mz_rows.proofs.row_of.values_of_two.Goals as goal
 
 pub returns : goal.returns
 returns c =
