@@ -10,3 +10,4 @@ pub mod Blames
 pub mod ModelBlames
 pub mod DataDeeper
 pub mod ModelDeeper
+pub mod Holds

@@ -1,5 +1,5 @@
 -- What holds of the grammars and of the lines of their EBNF.
-use Rattle.std.specs.Prelude.{◌≡◌, ◌<◌, ℕ, suc, Bool, List, [], Some}
+use Rattle.std.specs.Prelude.{◌≡◌, ◌<◌, ℕ, suc, Bool, List, [], Some, All}
 use Rattle.mz_base.specs.declared.fault.Span.{Span}
 use Rattle.mz_lexer.specs.declared.token.Token.{Token}
 use Rattle.mz_tree.specs.Tree.{Name, Tree, Declaration, Written}
@@ -9,11 +9,13 @@ use Rattle.mz_cursor.specs.Rules.{Reason, left_out}
 use Rattle.mz_cursor.specs.Promise.{IsWithin, IsLongestPrefix, IsFault}
 use Rattle.mz_grammar.specs.Data.{Dimensions, dimensions_of, rule, file}
 use Rattle.mz_tree.specs.Items.{ItemTree}
+use Rattle.mz_tree.specs.Kinds.{OfItem}
 use Rattle.mz_grammar.specs.Parts as model_part
 use Rattle.mz_grammar.specs.Model as model
 use Rattle.mz_syntax.specs.DataSyntax.{DerivesFile}
 use Rattle.mz_syntax.specs.ModelSyntax.{Ending, Derives, DerivesModel, expr, decl, type, marks, anns}
 use Rattle.mz_syntax.specs.LeftOut.{IsLeftOut}
+use Rattle.mz_syntax.specs.TokenParts.{IsNameOf, IsPlaceOf, OfGiven}
 
 -- an array call has a dimension at least
 abbrev pub ArePositive : Dimensions → Type 0
@@ -45,6 +47,13 @@ MoreMayBeOpenInData = (names : List (List ℕ)) (k : ℕ) (tokens : List Token) 
 
 abbrev pub MoreMayBeOpen : Type 0
 MoreMayBeOpen = (k : ℕ) (tokens : List Token) (items : List ItemTree) → DerivesModel k tokens items → DerivesModel (suc k) tokens items
+
+-- Every name and every place in what is derived of a list of tokens is that of one of them.
+abbrev pub ModelsHaveTokenParts : Type 0
+ModelsHaveTokenParts = (k : ℕ) (tokens : List Token) (items : List ItemTree) → DerivesModel k tokens items → All (OfItem (IsNameOf tokens) (IsPlaceOf tokens)) items
+
+abbrev pub DataFilesHaveTokenParts : Type 0
+DataFilesHaveTokenParts = (dimensions : Dimensions) (k : ℕ) (tokens : List Token) (items : List Given) → DerivesFile dimensions k tokens items → All (OfGiven (IsNameOf tokens) (IsPlaceOf tokens)) items
 
 -- What the rules take of a model, where this many tokens may be open at once, the EBNF derives with no more open.
 abbrev pub ModelsAreDerived : Type 0

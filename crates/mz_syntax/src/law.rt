@@ -1,6 +1,6 @@
 // What holds of the grammars and of the lines of their EBNF.
 
-ghost use Rattle.mz_syntax.specs.Promise.{AnnotationsAreDerived, DataFilesAreDerived, DataItemsAreDerived, DeclarationsAreDerived, DerivedDataFilesAreTaken, DerivesOneDataFile, ExpressionsAreDerived, LeftOutIsAForm, MarksAreDerived, ModelsAreDerived, MoreMayBeOpen, MoreMayBeOpenInData, NoDerivedDataFileIsRefused, TypesAreDerived};
+ghost use Rattle.mz_syntax.specs.Promise.{AnnotationsAreDerived, DataFilesAreDerived, DataFilesHaveTokenParts, DataItemsAreDerived, DeclarationsAreDerived, DerivedDataFilesAreTaken, DerivesOneDataFile, ExpressionsAreDerived, LeftOutIsAForm, MarksAreDerived, ModelsAreDerived, ModelsHaveTokenParts, MoreMayBeOpen, MoreMayBeOpenInData, NoDerivedDataFileIsRefused, TypesAreDerived};
 
 /// What the rules take of a data file is derived by the lines of the EBNF, with no more tokens open at once than there is room for.
 pub fn data_files_are_derived()
@@ -38,4 +38,10 @@ pub fn left_out_is_a_form()
 pub fn more_may_be_open()
     ensures data_files { MoreMayBeOpenInData }
     ensures models { MoreMayBeOpen }
+{}
+
+/// Every name and every place in what the EBNF derives of a list of tokens is that of one of these tokens.
+pub fn names_and_places_are_tokens()
+    ensures models { ModelsHaveTokenParts }
+    ensures data_files { DataFilesHaveTokenParts }
 {}

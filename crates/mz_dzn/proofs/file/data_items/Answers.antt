@@ -21,10 +21,10 @@ pub returns-clause-derived : goal.returns-clause-derived
 returns-clause-derived c = data_items_derived c.args.names.now OPEN_LIMIT c.args.tokens.now (map given c.in_ok-items.items.items) (returns-clause-answers c)
 
 pub returns-clause-named : goal.returns-clause-named
-returns-clause-named c = λ all. whole_within c.args.names.now (dimensions_of c.args.names.now) OPEN_LIMIT c.args.tokens.now (map given c.in_ok-items.items.items) (returns-clause-answers c) all
+returns-clause-named c = whole_within c.args.names.now (returns-clause-derived c)
 
 pub returns-clause-placed : goal.returns-clause-placed
-returns-clause-placed c = λ number all. whole_placed number (dimensions_of c.args.names.now) OPEN_LIMIT c.args.tokens.now (map given c.in_ok-items.items.items) (returns-clause-answers c) all
+returns-clause-placed c = λ number. whole_placed number (returns-clause-derived c)
 
 pub returns-in_err-items-clause-answers : goal.returns-in_err-items-clause-answers
 returns-in_err-items-clause-answers c =
