@@ -1,6 +1,8 @@
 -- What a whole file is read to, from what its reader gives.
-use Rattle.std.proofs.Common.{◌≡◌, ℕ, List, [], ◌++◌, map, ◌≤◌, refl, sym, ap, ◌∙◌, append-nil, subst}
-use Rattle.std.specs.Prelude.{Ok, Err, Result, Vec, OnOk, IfOk}
+use Rattle.std.proofs.Common.{◌≡◌, ℕ, List, [], ◌∷◌, ◌++◌, map, ◌≤◌, refl, sym, ap, ◌∙◌, append-nil, subst, arith}
+use Rattle.std.specs.Prelude.{Ok, Err, Result, Vec, OnOk, IfOk, All}
+use Rattle.std.proofs.Math.Nat.{max-le}
+use Rattle.std.proofs.lemmas.List.Elements.{All-head, All-tail}
 use Rattle.mz_base.specs.declared.limit.TheConstants.{OPEN_LIMIT}
 use Rattle.mz_tree.specs.declared.height.TheConstants.{HEIGHT_LIMIT}
 use Rattle.mz_base.specs.declared.fault.Span.{Span}
@@ -8,15 +10,16 @@ use Rattle.mz_base.specs.declared.stop.Stop.{Stop}
 use Rattle.mz_base.specs.declared.stop.Stop.TheVariants.{Refused, Memory}
 use Rattle.mz_lexer.specs.declared.token.Token.{Token}
 use Rattle.mz_tree.specs.declared.item.Item.{Item}
-use Rattle.mz_tree.specs.Items.{ItemTree, item, items_height}
+use Rattle.mz_tree.specs.Height.{most, most_in_a_file}
+use Rattle.mz_tree.specs.Items.{ItemTree, item, item_height, items_height}
 use Rattle.mz_cursor.specs.Promise.{Gives, IsLongestPrefix}
 use Rattle.mz_grammar.specs.Model.{rule}
 use Rattle.mz_grammar.specs.Parts
 use Rattle.mz_grammar.specs.Reading.{reads}
 use Rattle.mz_grammar.proofs.Viability.{answers}
-use Rattle.mz_grammar.proofs.ItemHeights.{items_are_bounded}
 use Rattle.mz_syntax.specs.ModelSyntax.{DerivesModel}
 use Rattle.mz_syntax.proofs.ModelMeans.{models_derived}
+use Rattle.mz_syntax.proofs.Heights.{items_are_high}
 use Rattle.mz_parser.specs.Model.{IsModel, IsItems}
 
 -- a prefix that nothing follows is the whole file
@@ -44,7 +47,11 @@ pub derived : {Z : Type 0} (end : Span) (tokens : List Token) (result : Result (
 derived end tokens (Ok items) r = models_derived OPEN_LIMIT tokens (map item items.items) r
 derived end tokens (Err s) r = tt
 
--- the items of a file are at most so high
-pub bounded : {Z : Type 0} (end : Span) (tokens : List Token) (result : Result (Vec Item Z) Stop) → IsItems end tokens result → IfOk result (λ items. items_height items.items ≤ HEIGHT_LIMIT)
-bounded end tokens (Ok items) r = items_are_bounded items.items refl r
-bounded end tokens (Err s) r = tt
+-- the items that lie in memory are at most so high
+items_high : (b : ℕ) (is : List Item) → All (λ i. item_height i ≤ b) (map item is) → items_height is ≤ b
+items_high b [] h = omega arith
+items_high b (i ∷ is) h = max-le (All-head (λ i. item_height i ≤ b) (item i) (map item is) h) (items_high b is (All-tail (λ i. item_height i ≤ b) (item i) (map item is) h))
+
+pub bounded : {Z : Type 0} (tokens : List Token) (result : Result (Vec Item Z) Stop) → IfOk result (λ items. DerivesModel OPEN_LIMIT tokens (map item items.items)) → IfOk result (λ items. items_height items.items ≤ HEIGHT_LIMIT)
+bounded tokens (Ok items) d = rw most_in_a_file at (items_high (most OPEN_LIMIT) items.items (items_are_high OPEN_LIMIT tokens (map item items.items) d))
+bounded tokens (Err s) d = tt

@@ -11,3 +11,4 @@ pub mod ModelBlames
 pub mod DataDeeper
 pub mod ModelDeeper
 pub mod Holds
+pub mod Heights

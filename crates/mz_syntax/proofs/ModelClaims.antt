@@ -338,12 +338,12 @@ abbrev number : Option Level → ℕ
 number None = 0
 number (Some m) = level_number m
 
-tighter_number : (l m : Level) → tighter_level l ≡ Some m → level_number m ≡ suc (level_number l)
+pub tighter_number : (l m : Level) → tighter_level l ≡ Some m → level_number m ≡ suc (level_number l)
 tighter_number level_is.Iff m e = sym (ap number e)
 tighter_number level_is.Concat m e = absurd (no_some e)
 tighter_number _ m e = sym (ap number e)
 
-concat_number : (l : Level) → tighter_level l ≡ None → suc (level_number l) ≡ 13
+pub concat_number : (l : Level) → tighter_level l ≡ None → suc (level_number l) ≡ 13
 concat_number level_is.Concat e = refl
 concat_number level_is.Iff e = absurd (cc)
 concat_number _ e = absurd (cc)

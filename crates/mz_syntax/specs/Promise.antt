@@ -1,5 +1,5 @@
 -- What holds of the grammars and of the lines of their EBNF.
-use Rattle.std.specs.Prelude.{◌≡◌, ◌<◌, ℕ, suc, Bool, List, [], Some, All}
+use Rattle.std.specs.Prelude.{◌≡◌, ◌<◌, ◌≤◌, ℕ, suc, Bool, List, [], Some, All}
 use Rattle.mz_base.specs.declared.fault.Span.{Span}
 use Rattle.mz_lexer.specs.declared.token.Token.{Token}
 use Rattle.mz_tree.specs.Tree.{Name, Tree, Declaration, Written}
@@ -8,7 +8,8 @@ use Rattle.mz_cursor.specs.Tokens.{place_or}
 use Rattle.mz_cursor.specs.Rules.{Reason, left_out}
 use Rattle.mz_cursor.specs.Promise.{IsWithin, IsLongestPrefix, IsFault}
 use Rattle.mz_grammar.specs.Data.{Dimensions, dimensions_of, rule, file}
-use Rattle.mz_tree.specs.Items.{ItemTree}
+use Rattle.mz_tree.specs.Items.{ItemTree, item_height}
+use Rattle.mz_tree.specs.Height.{most}
 use Rattle.mz_tree.specs.Kinds.{OfItem}
 use Rattle.mz_grammar.specs.Parts as model_part
 use Rattle.mz_grammar.specs.Model as model
@@ -54,6 +55,10 @@ ModelsHaveTokenParts = (k : ℕ) (tokens : List Token) (items : List ItemTree) �
 
 abbrev pub DataFilesHaveTokenParts : Type 0
 DataFilesHaveTokenParts = (dimensions : Dimensions) (k : ℕ) (tokens : List Token) (items : List Given) → DerivesFile dimensions k tokens items → All (OfGiven (IsNameOf tokens) (IsPlaceOf tokens)) items
+
+-- What is derived of a model where this many tokens may be open at once is at most so high.
+abbrev pub ModelsAreBounded : Type 0
+ModelsAreBounded = (k : ℕ) (tokens : List Token) (items : List ItemTree) → DerivesModel k tokens items → All (λ i. item_height i ≤ most k) items
 
 -- What the rules take of a model, where this many tokens may be open at once, the EBNF derives with no more open.
 abbrev pub ModelsAreDerived : Type 0

@@ -1,6 +1,6 @@
 // What holds of the grammars and of the lines of their EBNF.
 
-ghost use Rattle.mz_syntax.specs.Promise.{AnnotationsAreDerived, DataFilesAreDerived, DataFilesHaveTokenParts, DataItemsAreDerived, DeclarationsAreDerived, DerivedDataFilesAreTaken, DerivesOneDataFile, ExpressionsAreDerived, LeftOutIsAForm, MarksAreDerived, ModelsAreDerived, ModelsHaveTokenParts, MoreMayBeOpen, MoreMayBeOpenInData, NoDerivedDataFileIsRefused, TypesAreDerived};
+ghost use Rattle.mz_syntax.specs.Promise.{AnnotationsAreDerived, DataFilesAreDerived, DataFilesHaveTokenParts, DataItemsAreDerived, DeclarationsAreDerived, DerivedDataFilesAreTaken, DerivesOneDataFile, ExpressionsAreDerived, LeftOutIsAForm, MarksAreDerived, ModelsAreBounded, ModelsAreDerived, ModelsHaveTokenParts, MoreMayBeOpen, MoreMayBeOpenInData, NoDerivedDataFileIsRefused, TypesAreDerived};
 
 /// What the rules take of a data file is derived by the lines of the EBNF, with no more tokens open at once than there is room for.
 pub fn data_files_are_derived()
@@ -44,4 +44,9 @@ pub fn more_may_be_open()
 pub fn names_and_places_are_tokens()
     ensures models { ModelsHaveTokenParts }
     ensures data_files { DataFilesHaveTokenParts }
+{}
+
+/// The expressions in what the EBNF derives of a model are nested at most as deep as the tokens that may be open at once allow.
+pub fn models_are_bounded()
+    ensures { ModelsAreBounded }
 {}

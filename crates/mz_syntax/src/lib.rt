@@ -4,6 +4,6 @@
 mod law;
 
 pub use law::{
-    data_files_are_derived, derived_data_files_are_taken, left_out_is_a_form, models_are_derived,
-    more_may_be_open, names_and_places_are_tokens, parts_are_derived,
+    data_files_are_derived, derived_data_files_are_taken, left_out_is_a_form, models_are_bounded,
+    models_are_derived, more_may_be_open, names_and_places_are_tokens, parts_are_derived,
 };

@@ -10,4 +10,4 @@ pub returns-clause-derived : goal.returns-clause-derived
 returns-clause-derived c = derived _ _ _ (returns-clause-reads c)
 
 pub returns-clause-bounded : goal.returns-clause-bounded
-returns-clause-bounded c = bounded _ _ _ (returns-clause-reads c)
+returns-clause-bounded c = bounded _ _ (returns-clause-derived c)
