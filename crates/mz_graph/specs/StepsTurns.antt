@@ -12,7 +12,7 @@ pub record Line : Type 0 where
   pub order : List ℕ
 
 abbrev pub line : Turns → Line
-line t = record { passed = t.passed.items; waiting = graph_of t.waiting.rows.items; done = t.done.items; ready = t.ready.keys; order = t.order.items }
+line t = record { passed = t.passed.items; waiting = graph_of t.waiting.items; done = t.done.items; ready = t.ready.keys; order = t.order.items }
 
 abbrev pub is_done : List Bool → ℕ → Bool
 is_done done x = slice_index_or done x false

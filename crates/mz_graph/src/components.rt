@@ -43,6 +43,6 @@ pub fn components_of(alloc: Global, graph: &[Vec<usize>]) -> Result<Components, 
     }
     Ok(Components {
         of,
-        leaders: search.leaders,
+        leaders: search.into_leaders(),
     })
 }

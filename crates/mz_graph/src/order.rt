@@ -22,5 +22,5 @@ pub fn order_of(alloc: Global, graph: &[Vec<usize>]) -> Result<Vec<usize>, Alloc
             break;
         }
     }
-    Ok(turns.order)
+    Ok(turns.into_order())
 }

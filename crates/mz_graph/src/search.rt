@@ -19,7 +19,6 @@ pub enum Visit {
 }
 
 /// A path of components: the nodes of each reach all of its own and of the later ones.
-#[derive(Drop)]
 pub struct Search {
     pub visits: Vec<Visit>,
     /// The nodes of the path.
@@ -32,6 +31,19 @@ pub struct Search {
     pub floors: Vec<usize>,
     /// A node of each component that has its number.
     pub leaders: Vec<usize>,
+}
+
+impl Drop for Search {
+    fn drop(self) {
+        let Search {
+            visits: _visits,
+            path: _path,
+            work: _work,
+            starts: _starts,
+            floors: _floors,
+            leaders: _leaders,
+        } = self;
+    }
 }
 
 /// Gives these nodes a number.
@@ -58,6 +70,21 @@ impl Search {
             floors: Vec::new(alloc),
             leaders: Vec::new(alloc),
         })
+    }
+
+    /// A node of each component that has its number.
+    pub fn into_leaders(self) -> Vec<usize>
+        ensures { result ≡ self.leaders }
+    {
+        let Search {
+            visits: _visits,
+            path: _path,
+            work: _work,
+            starts: _starts,
+            floors: _floors,
+            leaders,
+        } = self;
+        leaders
     }
 
     /// Puts `x` on the path, as a component of its own.

@@ -4,20 +4,31 @@ ghost use Rattle.std.specs.Prelude.{◌≡◌, ◌+◌, ◌-◌, ◌<◌, ◌≤
 ghost use Rattle.mz_graph.specs.Graph.{heads, graph_of, IsGraph};
 ghost use Rattle.mz_graph.specs.StepsTurns.{line, HasRows, Stands, IsFirstPending, AreBelow, from_on, Turned, IsNew};
 
-use crate::rows::Rows;
+use crate::rows::{append_to, empty_rows, take_row};
 use std::alloc::{AllocError, Global};
 use std::collections::BTreeSet;
 
 /// Nodes that wait for their turn.
-#[derive(Drop)]
 pub struct Turns {
     /// For each node how many of its heads are known to be done: those before it in its list.
     pub passed: Vec<usize>,
     /// For each node those that wait for it.
-    pub waiting: Rows,
+    pub waiting: Vec<Vec<usize>>,
     pub done: Vec<bool>,
     pub ready: BTreeSet<usize>,
     pub order: Vec<usize>,
+}
+
+impl Drop for Turns {
+    fn drop(self) {
+        let Turns {
+            passed: _passed,
+            waiting: _waiting,
+            done: _done,
+            ready: _ready,
+            order: _order,
+        } = self;
+    }
 }
 
 /// The place, from `from` on, of the first head that had no turn.
@@ -40,7 +51,7 @@ impl Turns {
         ensures fresh { IfOk result (λ t. IsNew count (line t)) }
     {
         let passed = vec![in alloc; 0; count]?;
-        let waiting = Rows::new(alloc, count)?;
+        let waiting = empty_rows(alloc, count)?;
         let done = vec![in alloc; false; count]?;
         Ok(Turns {
             passed,
@@ -49,6 +60,20 @@ impl Turns {
             ready: BTreeSet::new(alloc),
             order: Vec::new(alloc),
         })
+    }
+
+    /// The nodes that had their turn, in this order.
+    pub fn into_order(self) -> Vec<usize>
+        ensures { result ≡ self.order }
+    {
+        let Turns {
+            passed: _passed,
+            waiting: _waiting,
+            done: _done,
+            ready: _ready,
+            order,
+        } = self;
+        order
     }
 
     /// Makes `x` ready, or lets it wait for the first of its heads that had no turn.
@@ -64,7 +89,7 @@ impl Turns {
         match first_pending(row, self.done.as_slice(), self.passed[x]) {
             Some(k) => {
                 self.passed[x] = k;
-                self.waiting.push(row[k], x)?;
+                append_to(&mut self.waiting, row[k], x)?;
             }
             None => {
                 self.ready.insert(x)?;
@@ -99,7 +124,7 @@ impl Turns {
         let Some(x) = self.ready.pop_first() else {
             return Ok(false);
         };
-        let waited = self.waiting.take(alloc, x);
+        let waited = take_row(alloc, &mut self.waiting, x);
         self.done[x] = true;
         self.order.push(x)?;
         for y in &waited {

@@ -1,13 +1,13 @@
 // Functions, their components and the declarations as one graph.
 
-ghost use Rattle.std.specs.Prelude.{◌≡◌, ℕ, ◌+◌, ◌<◌, ◌≤◌, ◌^◌, ◌∷◌, ◌++◌, [], length, IfOk, OnOk, slice_set, replicate};
+ghost use Rattle.std.specs.Prelude.{◌≡◌, ℕ, ◌+◌, ◌<◌, ◌≤◌, ◌^◌, ◌++◌, length, IfOk, OnOk};
 ghost use Rattle.std.specs.List.{flat_map};
 ghost use Rattle.mz_graph.specs.Graph.{graph_of, heads, IsIn, AreComponents, number_of};
 ghost use Rattle.mz_order.specs.Depends.{AllBelow, AreUses};
 ghost use Rattle.mz_order.specs.Members.{AreMembers};
 ghost use Rattle.mz_order.specs.StepsLayers.{other, raised, row_heads, in_layers, AreRows, AreLayers};
 
-use mz_graph::Components;
+use mz_graph::{Components, append_to, empty_rows};
 use std::alloc::{AllocError, Global};
 
 /// Adds the components of these functions, numbered from `first` on, but for the component `own`.
@@ -94,27 +94,6 @@ fn rows_of(
         rows.push(row)?;
     }
     Ok(rows)
-}
-
-/// `count` empty lists.
-pub fn empty_rows(alloc: Global, count: usize) -> Result<Vec<Vec<usize>>, AllocError>
-    ensures { IfOk result (λ v. graph_of v.items ≡ replicate count []) }
-{
-    let mut rows = Vec::new(alloc);
-    for _ in 0..count {
-        rows.push(Vec::new(alloc))?;
-    }
-    Ok(rows)
-}
-
-/// Appends `x` to the list of `at`.
-fn append_to(rows: &mut Vec<Vec<usize>>, at: usize, x: usize) -> Result<(), AllocError>
-    requires { at < length (graph_of rows.old.items) }
-    ensures { OnOk result (graph_of rows.new.items ≡ slice_set (graph_of rows.old.items) at (heads (graph_of rows.old.items) at ++ x ∷ [])) }
-{
-    let row = &mut rows[at];
-    row.push(x)?;
-    Ok(())
 }
 
 /// For each of `count` sets its members. `of` has for each number the set that it is in.

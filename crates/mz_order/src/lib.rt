@@ -10,4 +10,4 @@ mod layers;
 pub use cycle::first_on_cycle;
 pub use evaluation::{Evaluation, evaluation_order};
 pub use law::{layered_order, needed_first};
-pub use layers::{empty_rows, members_of};
+pub use layers::members_of;

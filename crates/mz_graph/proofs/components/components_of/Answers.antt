@@ -1,4 +1,4 @@
-use Rattle.std.proofs.Common.{refl, ◌≤◌, length, arith}
+use Rattle.std.proofs.Common.{ap, ◌≤◌, length, arith}
 use Rattle.mz_graph.specs.Graph.{graph_of}
 use Rattle.mz_graph.proofs.Tables.{as_many}
 use Rattle.mz_graph.specs.StepsSearch.{trail}
@@ -17,4 +17,4 @@ loop-visit-preserved c = one_number_more c.loop-visit.of.items c.push.new.self.i
 pub returns : goal.returns
 returns c =
     let all : length (graph_of c.args.graph.now) ≤ c.loop-x.x = omega (arith, as_many c.args.graph.now, c.loop-x-test.false) in
-    code_components (graph_of c.args.graph.now) (trail c.loop-x.search) c.loop-visit.of.items c.deref-visit-items.result.now c.loop-visit.visit-index (length c.loop-x.search.leaders.items) c.requires c.loop-x.invariant.holds c.loop-x.invariant.empty (λ x h. c.loop-x.invariant.visited x (omega (arith, h, all))) c.deref-visit-items.ensures.value c.loop-visit.invariant c.loop-visit-test.false refl
+    code_components (graph_of c.args.graph.now) (trail c.loop-x.search) c.loop-visit.of.items c.deref-visit-items.result.now c.loop-visit.visit-index (length c.into_leaders.result.items) c.requires c.loop-x.invariant.holds c.loop-x.invariant.empty (λ x h. c.loop-x.invariant.visited x (omega (arith, h, all))) c.deref-visit-items.ensures.value c.loop-visit.invariant c.loop-visit-test.false (ap (λ z. length z.items) c.into_leaders.ensures)

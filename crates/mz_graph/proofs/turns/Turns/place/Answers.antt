@@ -16,18 +16,18 @@ first_pending-requires c =
     let m = ap length c.as_slice.ensures.value in
     omega (arith, k, m, c.requires.rows.done)
 
-pub push-requires : goal.push-requires
-push-requires c =
+pub append_to-requires : goal.append_to-requires
+append_to-requires c =
     let h : c.args.x < length c.args.graph.now = omega (arith, as_many c.args.graph.now) in
     let e = c.as_slice-row.ensures.value ∙ sym (row_read c.args.graph.now c.args.x c.index-graph-x.result h c.index-graph-x.is) in
     let k = c.requires.graph c.args.x _ (subst (λ z. IsIn (slice_index_or c.as_slice-row.result.now c.in-Some.k 0) z) e (in_at c.as_slice-row.result.now c.in-Some.k 0 c.in-Some.ensures.within)) in
     omega (arith, k, c.requires.rows.waiting)
 
-pub returns-in_ok-push-in-Some-clause-stands : goal.returns-in_ok-push-in-Some-clause-stands
-returns-in_ok-push-in-Some-clause-stands c =
+pub returns-in_ok-append_to-in-Some-clause-stands : goal.returns-in_ok-append_to-in-Some-clause-stands
+returns-in_ok-append_to-in-Some-clause-stands c =
     let h : c.args.x < length c.args.graph.now = omega (arith, as_many c.args.graph.now) in
     let passed : c.args.x < length c.args.self.now.passed.items = omega (arith, c.requires.rows.passed) in
-    code_waits (graph_of c.args.graph.now) (line c.args.self.now) c.args.x c.in-Some.k (slice_index_or c.as_slice-row.result.now c.in-Some.k 0) c.index.result.now c.as_slice-row.result.now c.as_slice.result.now (graph_of c.push.new.self.rows.items)
+    code_waits (graph_of c.args.graph.now) (line c.args.self.now) c.args.x c.in-Some.k (slice_index_or c.as_slice-row.result.now c.in-Some.k 0) c.index.result.now c.as_slice-row.result.now c.as_slice.result.now (graph_of c.append_to.new.rows.items)
     c.requires.graph
     c.requires.rows
     (c.as_slice-row.ensures.value ∙ sym (row_read c.args.graph.now c.args.x c.index-graph-x.result h c.index-graph-x.is))
@@ -35,7 +35,7 @@ returns-in_ok-push-in-Some-clause-stands c =
     (c.index.ensures ∙ get_or_default_zero c.args.self.now.passed.items c.args.x c.index.result.now passed)
     c.in-Some.ensures
     refl
-    c.in_ok-push-in-Some.ensures
+    c.in_ok-append_to-in-Some.ensures
 
 pub returns-in_ok-insert-in-None-clause-stands : goal.returns-in_ok-insert-in-None-clause-stands
 returns-in_ok-insert-in-None-clause-stands c =

@@ -5,8 +5,8 @@ use Rattle.mz_graph.proofs.Membership.{in_rest}
 use Rattle.mz_graph.proofs.Placing.{code_turn, turn_rows, first_counted, one_turn_less}
 use Rattle.mz_graph.proofs.turns.Turns.turn.Goals as goal
 
-pub take-waited-requires : goal.take-waited-requires
-take-waited-requires c =
+pub take_row-waited-requires : goal.take_row-waited-requires
+take_row-waited-requires c =
     let h = first_counted (graph_of c.args.graph.now) (line c.args.self.now) c.in-Some.x c.pop_first.new.self.keys c.requires.stands c.in-Some.ensures.removal in
     omega (arith, h, c.requires.rows.waiting)
 
@@ -17,8 +17,8 @@ index_mut-requires c =
 
 pub loop-y-init : goal.loop-y-init
 loop-y-init c = record {
-  rows = turn_rows (graph_of c.args.graph.now) (line c.args.self.now) c.in-Some.x c.pop_first.new.self.keys c.push.new.self.items (graph_of c.take-waited.new.self.rows.items) c.requires.rows c.take-waited.ensures.rest;
-  stands = code_turn (graph_of c.args.graph.now) (line c.args.self.now) c.in-Some.x c.pop_first.new.self.keys c.deref-y-items.result.now c.push.new.self.items (graph_of c.take-waited.new.self.rows.items) c.requires.rows c.requires.stands c.in-Some.ensures.removal c.in-Some.ensures.all_above (c.deref-y-items.ensures.value ∙ c.take-waited.ensures.row) c.in_ok-push.ensures.items c.take-waited.ensures.rest;
+  rows = turn_rows (graph_of c.args.graph.now) (line c.args.self.now) c.in-Some.x c.pop_first.new.self.keys c.push.new.self.items (graph_of c.take_row-waited.new.rows.items) c.requires.rows c.take_row-waited.ensures.rest;
+  stands = code_turn (graph_of c.args.graph.now) (line c.args.self.now) c.in-Some.x c.pop_first.new.self.keys c.deref-y-items.result.now c.push.new.self.items (graph_of c.take_row-waited.new.rows.items) c.requires.rows c.requires.stands c.in-Some.ensures.removal c.in-Some.ensures.all_above (c.deref-y-items.ensures.value ∙ c.take_row-waited.ensures.row) c.in_ok-push.ensures.items c.take_row-waited.ensures.rest;
   done = refl;
 }
 

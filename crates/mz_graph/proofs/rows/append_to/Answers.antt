@@ -1,6 +1,6 @@
 use Rattle.std.proofs.Common.{◌<◌, ◌∷◌, ◌++◌, [], length, ap, sym, ◌∙◌, arith}
 use Rattle.mz_graph.proofs.Tables.{written, row_read, as_many}
-use Rattle.mz_order.proofs.layers.append_to.Goals as goal
+use Rattle.mz_graph.proofs.rows.append_to.Goals as goal
 
 pub returns : goal.returns
 returns c =

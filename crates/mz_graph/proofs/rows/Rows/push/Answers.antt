@@ -1,8 +1,0 @@
-use Rattle.std.proofs.Common.{◌<◌, ◌∷◌, ◌++◌, [], length, ap, sym, ◌∙◌, arith}
-use Rattle.mz_graph.proofs.Tables.{written, row_read, as_many}
-use Rattle.mz_graph.proofs.rows.Rows.push.Goals as goal
-
-pub returns : goal.returns
-returns c =
-    let h : c.args.at < length c.args.self.now.rows.items = omega (arith, as_many c.args.self.now.rows.items) in
-    written c.args.self.now.rows.items c.args.at c.push.new.self _ (c.in_ok-push.ensures.items ∙ ap (λ z. z ++ c.args.x ∷ []) (sym (row_read c.args.self.now.rows.items c.args.at c.index_mut-row.result.now h c.index_mut-row.ensures.value)))

@@ -1,6 +1,0 @@
-use Rattle.std.proofs.Common.{ap, ◌∙◌}
-use Rattle.mz_graph.proofs.Tables.{written}
-use Rattle.mz_graph.proofs.rows.Rows.take.Goals as goal
-
-pub returns-clause-rest : goal.returns-clause-rest
-returns-clause-rest c = written c.args.self.now.rows.items c.args.at c.replace.new.dest _ (ap (λ v. v.items) c.replace.ensures.after ∙ c.new.ensures.items)
