@@ -4,7 +4,7 @@ use Rattle.mz_tree.specs.Items.{goal as goal_of}
 use Rattle.mz_context.specs.Known.{known}
 use Rattle.mz_check.specs.StepsMeeting.{met_of}
 use Rattle.mz_check.proofs.Keeping.{none_asked, one_asked}
-use Rattle.mz_check.proofs.sections.objective.Goals as goal
+use Rattle.mz_check.proofs.sections.asked_goal.Goals as goal
 
 pub returns-in-None : goal.returns-in-None
 returns-in-None c = none_asked (known c.args.context.now) (goal_of c.args.g.now) (option_map met_of c.args.first.now) (option_map met_of c.args.first.now) c.in-None.ensures refl
