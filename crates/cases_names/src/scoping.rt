@@ -33,14 +33,14 @@ pub fn print(
     }
 }
 
-fn print_scoped(page: &mut Page, scoped: &Scoped) {
+fn print_scoped(page: &mut Page, scoped: &Scoped<'_>) {
     page.put("  ok");
     for e in scoped.enums.as_slice() {
         page.put(format_args!(" enum({})", e.cases.len()));
     }
     for d in scoped.decls.as_slice() {
         page.put(" ");
-        put_place(page, d.span);
+        put_place(page, d.decl.span);
         if d.value.is_some() {
             page.put("=");
         }

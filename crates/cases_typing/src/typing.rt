@@ -98,7 +98,7 @@ fn print_written(
 /// What the last constraint is typed to, where all types of the model are known.
 fn print_constraint(
     alloc: Global,
-    scoped: &Scoped,
+    scoped: &Scoped<'_>,
     context: &Context<'_>,
     scope: Scope,
     text: &str,
@@ -112,13 +112,13 @@ fn print_constraint(
         return Ok(());
     }
     let last = all.len() - 1;
-    print_expression(alloc, context, &all[last], scope, count, text, page)
+    print_expression(alloc, context, all[last], scope, count, text, page)
 }
 
 /// What the result of the last function is typed to, where all types of the model are known.
 fn print_result(
     alloc: Global,
-    scoped: &Scoped,
+    scoped: &Scoped<'_>,
     context: &Context<'_>,
     text: &str,
     page: &mut Page,
@@ -137,7 +137,7 @@ fn print_result(
 /// What a case is typed to.
 pub fn print(
     alloc: Global,
-    scoped: &Scoped,
+    scoped: &Scoped<'_>,
     names: &Names,
     kind: Kind,
     text: &str,

@@ -17,7 +17,11 @@ use std::alloc::Global;
 /// Refused, in this order, each over the whole in the order of the text, where data comes after the model: a reserved name, a name that
 /// is declared or given a value a second time, a missing or a second solve item, an unknown name, data that doesn't fit an enum, a
 /// declaration or an enum that lacks its value, and what is cyclic. The place of a refusal lies in one of the files.
-pub fn scoped_model(alloc: Global, read: &SourcesWithData, names: &Names) -> Result<Scoped, Stop>
+pub fn scoped_model<'a>(
+    alloc: Global,
+    read: &'a SourcesWithData,
+    names: &Names,
+) -> Result<Scoped<'a>, Stop>
     requires { IsRead names.now read.now }
     ensures scoped { IfOk result (λ s. IsScopedModel names.now (files_read names.now read.now) (items_read read.now) (scoped_tree s)) }
     ensures ranked { IfOk result (λ s. AreRanked (scoped_tree s)) }

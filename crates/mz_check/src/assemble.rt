@@ -4,9 +4,8 @@ ghost use Rattle.std.specs.Prelude.{◌≡◌, ℕ, ◌++◌, false, nat_eq, map
 ghost use Rattle.std.specs.Option.{option_map};
 ghost use Rattle.mz_core.specs.TreeViews.{tree, decl, declared_type};
 ghost use Rattle.mz_core.specs.Program.{function};
-ghost use Rattle.mz_tree.specs.Views.{declaration};
 ghost use Rattle.mz_tree.specs.Items.{function_of};
-ghost use Rattle.mz_scoped.specs.Scoped.{scoped_tree};
+ghost use Rattle.mz_scoped.specs.Scoped.{scoped_decl, lent_function, scoped_tree};
 ghost use Rattle.mz_checks.specs.Models.{entry_of};
 ghost use Rattle.mz_checks.specs.Checks.{sections};
 ghost use Rattle.mz_context.specs.Headings.{heading, tested};
@@ -19,8 +18,8 @@ use indexmap::IndexMap;
 use mz_base::{Fault, Memory};
 use mz_context::{Context, Heading, TypeTables};
 use mz_core::{Core, CoreDecl, CoreFunction, CoreType};
-use mz_scoped::Scoped;
-use mz_tree::{Decl, Function};
+use mz_scoped::{Scoped, ScopedDecl};
+use mz_tree::Function;
 use mz_typed::make_declaration;
 use std::alloc::Global;
 
@@ -65,10 +64,10 @@ fn take_heading(headings: &mut IndexMap<u64, Result<Heading, Fault>>, f: u64) ->
 }
 
 /// A declaration with its type and its value.
-fn made_decl(number: u64, d: &Decl, t: CoreType, value: Option<Core>) -> CoreDecl
-    ensures { decl result ≡ decl_with number (declaration d.now) (declared_type t) (option_map tree value) }
+fn made_decl(number: u64, d: &ScopedDecl<'_>, t: CoreType, value: Option<Core>) -> CoreDecl
+    ensures { decl result ≡ decl_with number (scoped_decl d.now) (declared_type t) (option_map tree value) }
 {
-    make_declaration(number, d.name, d.span, t, value)
+    make_declaration(number, d.decl.name, d.decl.span, t, value)
 }
 
 /// A function with its types and its body.
@@ -89,10 +88,10 @@ fn add_decl(
     all: &mut Vec<CoreDecl>,
     types: &mut IndexMap<u64, Result<CoreType, Fault>>,
     number: u64,
-    d: &Decl,
+    d: &ScopedDecl<'_>,
     value: Option<Core>,
 ) -> Result<(), Memory>
-    ensures made { OnOk result (map decl all.new.items ≡ map decl all.old.items ++ decl_by (entry_of number (answers declared_type types.old.entries)) number (declaration d.now) (option_map tree value)) }
+    ensures made { OnOk result (map decl all.new.items ≡ map decl all.old.items ++ decl_by (entry_of number (answers declared_type types.old.entries)) number (scoped_decl d.now) (option_map tree value)) }
     ensures others { OnOk result ((k : ℕ) → nat_eq number k ≡ false → entry_of k (answers declared_type types.new.entries) ≡ entry_of k (answers declared_type types.old.entries)) }
 {
     match take_type(types, number) {
@@ -128,11 +127,11 @@ fn add_function(
 fn add_decl_at(
     all: &mut Vec<CoreDecl>,
     types: &mut IndexMap<u64, Result<CoreType, Fault>>,
-    decls: &[Decl],
+    decls: &[ScopedDecl<'_>],
     number: usize,
     value: Option<Core>,
 ) -> Result<(), Memory>
-    ensures made { OnOk result (map decl all.new.items ≡ map decl all.old.items ++ at_number decl_by (answers declared_type types.old.entries) number (slice_get (map declaration decls.now) number) (option_map tree value)) }
+    ensures made { OnOk result (map decl all.new.items ≡ map decl all.old.items ++ at_number decl_by (answers declared_type types.old.entries) number (slice_get (map scoped_decl decls.now) number) (option_map tree value)) }
     ensures others { OnOk result ((k : ℕ) → nat_eq number k ≡ false → entry_of k (answers declared_type types.new.entries) ≡ entry_of k (answers declared_type types.old.entries)) }
 {
     match decls.get(number) {
@@ -145,11 +144,11 @@ fn add_decl_at(
 fn add_function_at(
     all: &mut Vec<CoreFunction>,
     headings: &mut IndexMap<u64, Result<Heading, Fault>>,
-    functions: &[Function],
+    functions: &[&Function],
     number: usize,
     body: Core,
 ) -> Result<(), Memory>
-    ensures made { OnOk result (map function all.new.items ≡ map function all.old.items ++ at_number function_by (answers heading headings.old.entries) number (slice_get (map function_of functions.now) number) (tree body)) }
+    ensures made { OnOk result (map function all.new.items ≡ map function all.old.items ++ at_number function_by (answers heading headings.old.entries) number (slice_get (map lent_function functions.now) number) (tree body)) }
     ensures others { OnOk result ((k : ℕ) → nat_eq number k ≡ false → entry_of k (answers heading headings.new.entries) ≡ entry_of k (answers heading headings.old.entries)) }
 {
     match functions.get(number) {
@@ -161,11 +160,11 @@ fn add_function_at(
 /// The declarations with their types and their values.
 fn made_decls(
     alloc: Global,
-    decls: &[Decl],
+    decls: &[ScopedDecl<'_>],
     mut types: IndexMap<u64, Result<CoreType, Fault>>,
     values: Vec<Option<Core>>,
 ) -> Result<Vec<CoreDecl>, Memory>
-    ensures { IfOk result (λ v. map decl v.items ≡ from_number decl_by (answers declared_type types.entries) 0 (map declaration decls.now) (map (option_map tree) values.items)) }
+    ensures { IfOk result (λ v. map decl v.items ≡ from_number decl_by (answers declared_type types.entries) 0 (map scoped_decl decls.now) (map (option_map tree) values.items)) }
 {
     let mut all = Vec::new(alloc);
     let mut number = 0;
@@ -179,11 +178,11 @@ fn made_decls(
 /// The functions with their types and their bodies.
 fn made_functions(
     alloc: Global,
-    functions: &[Function],
+    functions: &[&Function],
     mut headings: IndexMap<u64, Result<Heading, Fault>>,
     bodies: Vec<Core>,
 ) -> Result<Vec<CoreFunction>, Memory>
-    ensures { IfOk result (λ v. map function v.items ≡ from_number function_by (answers heading headings.entries) 0 (map function_of functions.now) (map tree bodies.items)) }
+    ensures { IfOk result (λ v. map function v.items ≡ from_number function_by (answers heading headings.entries) 0 (map lent_function functions.now) (map tree bodies.items)) }
 {
     let mut all = Vec::new(alloc);
     let mut number = 0;
@@ -197,7 +196,7 @@ fn made_functions(
 /// The typed sections of a model, from its typed items and what is known of it.
 pub(crate) fn assembled(
     alloc: Global,
-    scoped: &Scoped,
+    scoped: &Scoped<'_>,
     context: Context<'_>,
     items: TypedItems,
 ) -> Result<TypedSections, Memory>

@@ -18,7 +18,7 @@ use std::alloc::Global;
 /// What is known of a model when its types are typed in this order.
 pub(crate) fn typed_context<'a>(
     alloc: Global,
-    scoped: &Scoped,
+    scoped: &Scoped<'_>,
     names: &'a Names,
     order: &[Subject],
 ) -> Result<Context<'a>, Memory>

@@ -5,9 +5,10 @@ ghost use Rattle.std.specs.Option.{option_map};
 ghost use Rattle.mz_core.specs.Types.{plain_type};
 ghost use Rattle.mz_core.specs.TreeViews.{tree, decl};
 ghost use Rattle.mz_core.specs.Program.{goal as typed_goal};
-ghost use Rattle.mz_tree.specs.Views.{tree as source, declaration};
+ghost use Rattle.mz_tree.specs.Views.{tree as source};
 ghost use Rattle.mz_tree.specs.Tree.{just};
 ghost use Rattle.mz_tree.specs.Items.{function_of, goal as goal_of};
+ghost use Rattle.mz_scoped.specs.Scoped.{scoped_decl, lent_tree};
 ghost use Rattle.mz_checks.specs.Checks.{tree_place, value_place};
 ghost use Rattle.mz_checks.specs.Models.{bind};
 ghost use Rattle.mz_checks.specs.Items.{value_of, constraint, objective, goal, output, with_params, texts_like, texts_fitted};
@@ -21,7 +22,8 @@ use mz_base::{Memory, Span, Stop};
 use mz_context::{Context, Scope, param_type, type_in};
 use mz_core::{Base, Core, CoreDecl, CoreGoal, TypeInst, copy_type, make_type};
 use mz_premises::{condition, dims_of, fitted, is_scalar, mismatch, typed_as};
-use mz_tree::{Decl, Expr, Function, Goal};
+use mz_scoped::ScopedDecl;
+use mz_tree::{Expr, Function, Goal};
 use mz_typed::{place_of, type_of};
 use mz_typing::check as check_expression;
 use std::alloc::Global;
@@ -48,10 +50,10 @@ fn value_by(
     context: &Context<'_>,
     number: u64,
     span: Span,
-    e: &Option<Expr>,
+    e: Option<&Expr>,
 ) -> Result<Option<Core>, Stop>
-    requires { IsNamedValue (length (known context.now).texts) (option_map source e.now) }
-    ensures { Passes (option_map tree) result (value_by (known context.now) number span (option_map source e.now)) }
+    requires { IsNamedValue (length (known context.now).texts) (option_map lent_tree e) }
+    ensures { Passes (option_map tree) result (value_by (known context.now) number span (option_map lent_tree e.entry)) }
 {
     let t = context.type_of_decl(span, number)?;
     match e {
@@ -65,12 +67,12 @@ pub(crate) fn value(
     alloc: Global,
     context: &Context<'_>,
     number: u64,
-    d: &Decl,
+    d: &ScopedDecl<'_>,
 ) -> Result<Option<Core>, Stop>
-    requires { IsNamedDeclaration (length (known context.now).texts) (declaration d.now) }
-    ensures { Passes (option_map tree) result (value_in (known context.now) number (declaration d.now)) }
+    requires { IsNamedDeclaration (length (known context.now).texts) (scoped_decl d.now) }
+    ensures { Passes (option_map tree) result (value_in (known context.now) number (scoped_decl d.now)) }
 {
-    value_by(alloc, context, number, d.span, &d.value)
+    value_by(alloc, context, number, d.decl.span, d.value)
 }
 
 /// A parameter comes into scope.
@@ -187,8 +189,8 @@ pub(crate) fn expr_place(e: &Expr) -> Span
 }
 
 /// The place of a value; where there is none, the other place.
-fn place_or(at: Span, e: &Option<Expr>) -> Span
-    ensures { result ≡ place_or at (option_map source e.now) }
+fn place_or(at: Span, e: Option<&Expr>) -> Span
+    ensures { result ≡ place_or at (option_map lent_tree e.entry) }
 {
     match e {
         Some(e) => expr_place(e),
@@ -197,8 +199,8 @@ fn place_or(at: Span, e: &Option<Expr>) -> Span
 }
 
 /// Where the value of a declaration is met: at the value, which for an assigned one is at the assignment; where it has none, at its name.
-pub(crate) fn value_place(d: &Decl) -> Span
-    ensures { result ≡ value_place (declaration d.now) }
+pub(crate) fn value_place(d: &ScopedDecl<'_>) -> Span
+    ensures { result ≡ value_place (scoped_decl d.now) }
 {
-    place_or(d.span, &d.value)
+    place_or(d.decl.span, d.value)
 }

@@ -58,7 +58,7 @@ fn all_cases(alloc: Global, names: &Names, enums: &[ScopedEnum]) -> Result<Cases
 /// The program of these sections. Its declarations stand in source order.
 pub(crate) fn program_of(
     alloc: Global,
-    scoped: &Scoped,
+    scoped: &Scoped<'_>,
     names: &Names,
     sections: TypedSections,
 ) -> Result<Program, Memory>

@@ -4,9 +4,8 @@ ghost use Rattle.std.specs.Prelude.{◌≡◌, All, length, map, IfOk};
 ghost use Rattle.std.specs.Option.{option_map};
 ghost use Rattle.mz_core.specs.TreeViews.{tree};
 ghost use Rattle.mz_core.specs.Program.{goal as typed_goal};
-ghost use Rattle.mz_tree.specs.Views.{tree as source, declaration};
-ghost use Rattle.mz_tree.specs.Items.{function_of, goal as goal_of};
-ghost use Rattle.mz_scoped.specs.Scoped.{scoped_tree};
+ghost use Rattle.mz_tree.specs.Items.{goal as goal_of};
+ghost use Rattle.mz_scoped.specs.Scoped.{scoped_decl, lent_function, lent_tree, asked, scoped_tree};
 ghost use Rattle.mz_checks.specs.Items.{constraint, goal, output};
 ghost use Rattle.mz_checks.specs.Checks.{numbered, tree_place, goal_place, none_met, items_met};
 ghost use Rattle.mz_checks.specs.Passes.{Passes};
@@ -23,19 +22,19 @@ use crate::parts::TypedItems;
 use mz_base::{Memory, Span, Stop};
 use mz_context::Context;
 use mz_core::{Core, CoreGoal};
-use mz_scoped::Scoped;
-use mz_tree::{Decl, Expr, Function, Goal};
+use mz_scoped::{Scoped, ScopedDecl};
+use mz_tree::{Expr, Function, Goal};
 use std::alloc::Global;
 
 /// The values of declarations; those that are refused are noted.
 fn values(
     alloc: Global,
     context: &Context<'_>,
-    decls: &[Decl],
+    decls: &[ScopedDecl<'_>],
     first: &mut Option<Met>,
 ) -> Result<Vec<Option<Core>>, Memory>
-    requires { All (IsNamedDeclaration (length (known context.now).texts)) (map declaration decls.now) }
-    ensures { IfOk result (λ v. AreTested value_at (value_of_each (known context.now)) (numbered (map declaration decls.now)) (option_map met_of first.old) (option_map met_of first.new) (map (option_map tree) v.items)) }
+    requires { All (IsNamedDeclaration (length (known context.now).texts)) (map scoped_decl decls.now) }
+    ensures { IfOk result (λ v. AreTested value_at (value_of_each (known context.now)) (numbered (map scoped_decl decls.now)) (option_map met_of first.old) (option_map met_of first.new) (map (option_map tree) v.items)) }
 {
     let mut all = Vec::new(alloc);
     for (k, d) in decls.iter().enumerate() {
@@ -49,11 +48,11 @@ fn values(
 fn bodies(
     alloc: Global,
     context: &Context<'_>,
-    functions: &[Function],
+    functions: &[&Function],
     first: &mut Option<Met>,
 ) -> Result<Vec<Core>, Memory>
-    requires { All (IsNamedFunction (length (known context.now).texts)) (map function_of functions.now) }
-    ensures { IfOk result (λ v. AreTested body_at (body_of_each (known context.now)) (numbered (map function_of functions.now)) (option_map met_of first.old) (option_map met_of first.new) (map tree v.items)) }
+    requires { All (IsNamedFunction (length (known context.now).texts)) (map lent_function functions.now) }
+    ensures { IfOk result (λ v. AreTested body_at (body_of_each (known context.now)) (numbered (map lent_function functions.now)) (option_map met_of first.old) (option_map met_of first.new) (map tree v.items)) }
 {
     let mut all = Vec::new(alloc);
     for (k, f) in functions.iter().enumerate() {
@@ -67,11 +66,11 @@ fn bodies(
 fn constraints(
     alloc: Global,
     context: &Context<'_>,
-    es: &[Expr],
+    es: &[&Expr],
     first: &mut Option<Met>,
 ) -> Result<Vec<Core>, Memory>
-    requires { All (IsNamed (length (known context.now).texts)) (map source es.now) }
-    ensures { IfOk result (λ v. AreTested tree_place (constraint (known context.now)) (map source es.now) (option_map met_of first.old) (option_map met_of first.new) (map tree v.items)) }
+    requires { All (IsNamed (length (known context.now).texts)) (map lent_tree es.now) }
+    ensures { IfOk result (λ v. AreTested tree_place (constraint (known context.now)) (map lent_tree es.now) (option_map met_of first.old) (option_map met_of first.new) (map tree v.items)) }
 {
     let mut all = Vec::new(alloc);
     for e in es {
@@ -85,11 +84,11 @@ fn constraints(
 fn outputs(
     alloc: Global,
     context: &Context<'_>,
-    es: &[Expr],
+    es: &[&Expr],
     first: &mut Option<Met>,
 ) -> Result<Vec<Core>, Memory>
-    requires { All (IsNamed (length (known context.now).texts)) (map source es.now) }
-    ensures { IfOk result (λ v. AreTested tree_place (output (known context.now)) (map source es.now) (option_map met_of first.old) (option_map met_of first.new) (map tree v.items)) }
+    requires { All (IsNamed (length (known context.now).texts)) (map lent_tree es.now) }
+    ensures { IfOk result (λ v. AreTested tree_place (output (known context.now)) (map lent_tree es.now) (option_map met_of first.old) (option_map met_of first.new) (map tree v.items)) }
 {
     let mut all = Vec::new(alloc);
     for e in es {
@@ -127,8 +126,8 @@ fn kept_goal(
     }
 }
 
-/// What is asked for; where it is refused, that is noted.
-fn objective(
+/// What a solve item asks for; where it is refused, that is noted.
+fn asked_goal(
     alloc: Global,
     context: &Context<'_>,
     g: &Goal,
@@ -147,10 +146,26 @@ fn objective(
     }
 }
 
+/// What is asked for; where it is refused, that is noted. Without a solve item, to satisfy.
+fn objective(
+    alloc: Global,
+    context: &Context<'_>,
+    g: Option<&Goal>,
+    first: &mut Option<Met>,
+) -> Result<CoreGoal, Memory>
+    requires { IsNamedGoal (length (known context.now).texts) (asked g) }
+    ensures { IfOk result (λ v. IsGoalTested (known context.now) (asked g.entry) (option_map met_of first.old) (option_map met_of first.new) (typed_goal v)) }
+{
+    match g {
+        None => Ok(CoreGoal::Satisfy),
+        Some(g) => asked_goal(alloc, context, g, first),
+    }
+}
+
 /// All values, bodies and items, typed each for itself; those that are refused are noted.
 fn all_items(
     alloc: Global,
-    scoped: &Scoped,
+    scoped: &Scoped<'_>,
     context: &Context<'_>,
     first: &mut Option<Met>,
 ) -> Result<TypedItems, Memory>
@@ -160,7 +175,7 @@ fn all_items(
     let values = values(alloc, context, scoped.decls.as_slice(), first)?;
     let bodies = bodies(alloc, context, scoped.functions.as_slice(), first)?;
     let constraints = constraints(alloc, context, scoped.constraints.as_slice(), first)?;
-    let goal = objective(alloc, context, &scoped.goal, first)?;
+    let goal = objective(alloc, context, scoped.goal, first)?;
     let outputs = outputs(alloc, context, scoped.outputs.as_slice(), first)?;
     Ok(TypedItems {
         values,
@@ -174,7 +189,7 @@ fn all_items(
 /// All values, bodies and items. The fault that is met first is the answer, if there is one.
 pub(crate) fn typed_items(
     alloc: Global,
-    scoped: &Scoped,
+    scoped: &Scoped<'_>,
     context: &Context<'_>,
 ) -> Result<TypedItems, Stop>
     requires { AreNamed (length (known context.now).texts) (scoped_tree scoped.now) }

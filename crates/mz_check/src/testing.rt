@@ -21,18 +21,18 @@ use mz_scoped::Scoped;
 use std::alloc::Global;
 
 /// The place of a declaration.
-fn decl_place(scoped: &Scoped, d: u64) -> Span
+fn decl_place(scoped: &Scoped<'_>, d: u64) -> Span
     ensures { result ≡ place_of (decl_at (scoped_tree scoped.now).decls d) }
 {
     match scoped.decls.get(d as usize) {
-        Some(d) => d.span,
+        Some(d) => d.decl.span,
         None => Span::start(0),
     }
 }
 
 /// The fault that is met first, among these of the types of declarations too.
 #[tactic(auto, unfolding(crate::specs::StepsMeeting::after))]
-fn of_decls(scoped: &Scoped, refused: &[(u64, Fault)], first: Option<Met>) -> Option<Met>
+fn of_decls(scoped: &Scoped<'_>, refused: &[(u64, Fault)], first: Option<Met>) -> Option<Met>
     ensures { option_map met_of result ≡ after (option_map met_of first) (map (decl_met_at (scoped_tree scoped.now)) refused.now) }
 {
     let mut found = first;
@@ -45,7 +45,7 @@ fn of_decls(scoped: &Scoped, refused: &[(u64, Fault)], first: Option<Met>) -> Op
 
 /// The fault that is met first, among these of the types of functions too.
 #[tactic(auto, unfolding(crate::specs::StepsMeeting::after))]
-fn of_functions(scoped: &Scoped, refused: &[(u64, Fault)], first: Option<Met>) -> Option<Met>
+fn of_functions(scoped: &Scoped<'_>, refused: &[(u64, Fault)], first: Option<Met>) -> Option<Met>
     ensures { option_map met_of result ≡ after (option_map met_of first) (map (function_met_at (scoped_tree scoped.now)) refused.now) }
 {
     let mut found = first;
@@ -57,7 +57,11 @@ fn of_functions(scoped: &Scoped, refused: &[(u64, Fault)], first: Option<Met>) -
 }
 
 /// The fault of a type that is met first, if there is one.
-pub(crate) fn test_types(alloc: Global, scoped: &Scoped, context: &Context<'_>) -> Result<(), Stop>
+pub(crate) fn test_types(
+    alloc: Global,
+    scoped: &Scoped<'_>,
+    context: &Context<'_>,
+) -> Result<(), Stop>
     ensures { Passes (λ _. tt) result (none_met (types_met (scoped_tree scoped.now) (known context.now))) }
 {
     let types = context.refused_types(alloc)?;
@@ -70,7 +74,7 @@ pub(crate) fn test_types(alloc: Global, scoped: &Scoped, context: &Context<'_>) 
 /// The fault of the first function that is declared twice, if there is one.
 pub(crate) fn test_duplicates(
     alloc: Global,
-    scoped: &Scoped,
+    scoped: &Scoped<'_>,
     context: &Context<'_>,
 ) -> Result<(), Stop>
     requires named { AreNamed (length (known context.now).texts) (scoped_tree scoped.now) }

@@ -54,7 +54,7 @@ fn with_data(sections: TypedSections, values: Vec<(u64, Core)>) -> TypedSections
 #[tactic(auto, unfolding(mz_datum::specs::WithData::checked_given))]
 fn checked_sections(
     alloc: Global,
-    scoped: &Scoped,
+    scoped: &Scoped<'_>,
     context: Context<'_>,
 ) -> Result<TypedSections, Stop>
     requires named { AreNamed (length (known context).texts) (scoped_tree scoped.now) }
@@ -72,7 +72,7 @@ fn checked_sections(
 /// The typed sections of a model with its data, whose types are typed in this order.
 fn sections_in_order(
     alloc: Global,
-    scoped: &Scoped,
+    scoped: &Scoped<'_>,
     names: &Names,
     order: &[Subject],
 ) -> Result<TypedSections, Stop>
@@ -90,7 +90,7 @@ fn sections_in_order(
 /// items are typed, in source order. A declaration's value is the written one, or the one from data.
 ///
 /// `names` has the texts of all names in the model, of which no two in the shared space are the same.
-pub fn check(alloc: Global, scoped: &Scoped, names: &Names) -> Result<Program, Stop>
+pub fn check(alloc: Global, scoped: &Scoped<'_>, names: &Names) -> Result<Program, Stop>
     requires distinct { AreDistinct (shared_names (scoped_tree scoped.now)) }
     requires ranked { AreRanked (scoped_tree scoped.now) }
     requires named { AreNamed (length names.now) (scoped_tree scoped.now) }

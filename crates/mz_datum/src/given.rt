@@ -3,6 +3,7 @@
 ghost use Rattle.std.specs.Prelude.{◌≡◌, map};
 ghost use Rattle.mz_core.specs.TreeViews.{tree};
 ghost use Rattle.mz_tree.specs.Data.{given};
+ghost use Rattle.mz_scoped.specs.Scoped.{lent_given};
 ghost use Rattle.mz_checks.specs.Passes.{Passes};
 ghost use Rattle.mz_context.specs.Known.{known};
 ghost use Rattle.mz_datum.specs.WithData.{declared_as, given_value, given_values};
@@ -50,9 +51,9 @@ pub fn given_value(
 pub fn given_values(
     alloc: Global,
     context: &Context<'_>,
-    items: &[DataItem],
+    items: &[&DataItem],
 ) -> Result<Vec<(u64, Core)>, Stop>
-    ensures { Passes (λ v. map typed_item v.items) result (given_values (known context.now) (map given items.now)) }
+    ensures { Passes (λ v. map typed_item v.items) result (given_values (known context.now) (map lent_given items.now)) }
 {
     let mut all = Vec::new(alloc);
     for item in items {

@@ -9,7 +9,7 @@ use Rattle.mz_tree.specs.Tree.{Declaration, Written}
 use Rattle.mz_tree.specs.Views.{declaration, written}
 use Rattle.mz_tree.proofs.Looks.{declaration_is}
 use Rattle.mz_tree.specs.Kinds.{OfTree, OfDeclaration}
-use Rattle.mz_scoped.specs.Parts.{name_of, decl_at, function_at}
+use Rattle.mz_scoped.specs.Parts.{decl_at, function_at}
 use Rattle.mz_scoped.specs.Scoped.{ScopedTree}
 use Rattle.mz_checks.specs.Headings.{written_in}
 use Rattle.mz_typing.specs.Naming.{IsNamedType}
@@ -28,10 +28,7 @@ pub function_named : (k f : ℕ) (s : ScopedTree) → AreNamed k s → f < lengt
 function_named k f s h low = h.functions f _ low
 
 -- a declaration of the code
-pub name_declared : (d : Decl) → name_of (declaration d) ≡ (out-Decl d).name
-name_declared d = ap name_of (declaration_is d)
-
-pub written_declared : (d : Decl) → written_in (declaration d) ≡ written (out-Decl d).ty
+written_declared : (d : Decl) → written_in (declaration d) ≡ written (out-Decl d).ty
 written_declared d = ap written_in (declaration_is d)
 
 pub written_named : (k : ℕ) (d : Decl) → IsNamedDeclaration k (declaration d) → IsNamedType k (written (out-Decl d).ty)

@@ -137,7 +137,7 @@ fn taken_at(
 /// The first function with parameters that is declared twice: DuplicateName at its name.
 pub fn duplicate(
     alloc: Global,
-    scoped: &Scoped,
+    scoped: &Scoped<'_>,
     context: &Context<'_>,
 ) -> Result<Option<Fault>, Memory>
     requires named { AreNamed (length (known context.now).texts) (scoped_tree scoped.now) }

@@ -2,9 +2,8 @@
 
 ghost use Rattle.std.specs.Prelude.{◌≡◌, ◌∷◌, [], ◌++◌, map, IfOk, OnOk};
 ghost use Rattle.std.specs.List.{flat_map};
-ghost use Rattle.mz_tree.specs.Views.{declaration};
 ghost use Rattle.mz_tree.specs.Items.{function_of};
-ghost use Rattle.mz_scoped.specs.Scoped.{scoped_tree, enum_tree, shared_names, AreDistinct};
+ghost use Rattle.mz_scoped.specs.Scoped.{scoped_decl, lent_function, scoped_tree, enum_tree, shared_names, AreDistinct};
 ghost use Rattle.mz_checks.specs.Checks.{numbered, case_meaning, enum_meanings, decl_meaning, bare_meaning, with_parameters, untyped};
 ghost use Rattle.mz_context.specs.Known.{known};
 ghost use Rattle.mz_headings.specs.Meanings.{meanings_of};
@@ -12,8 +11,8 @@ ghost use Rattle.mz_headings.specs.Meanings.{meanings_of};
 use mz_base::{Memory, Name, Names, Span};
 use mz_checks::Meaning;
 use mz_context::{Context, FunctionNames, Meanings, Overloads};
-use mz_scoped::{Scoped, ScopedEnum};
-use mz_tree::{Decl, Function};
+use mz_scoped::{Scoped, ScopedDecl, ScopedEnum};
+use mz_tree::Function;
 use std::alloc::Global;
 
 /// Adds the cases of an enum.
@@ -45,16 +44,16 @@ fn add_enums(all: &mut Vec<(Name, Meaning)>, enums: &[ScopedEnum]) -> Result<(),
 }
 
 /// Adds a declaration.
-fn add_decl(all: &mut Vec<(Name, Meaning)>, number: u64, d: &Decl) -> Result<(), Memory>
-    ensures { OnOk result (all.new.items ≡ all.old.items ++ decl_meaning (number, declaration d.now) ∷ []) }
+fn add_decl(all: &mut Vec<(Name, Meaning)>, number: u64, d: &ScopedDecl<'_>) -> Result<(), Memory>
+    ensures { OnOk result (all.new.items ≡ all.old.items ++ decl_meaning (number, scoped_decl d.now) ∷ []) }
 {
-    all.push((d.name, Meaning::Decl(number)))?;
+    all.push((d.decl.name, Meaning::Decl(number)))?;
     Ok(())
 }
 
 /// Adds declarations.
-fn add_decls(all: &mut Vec<(Name, Meaning)>, decls: &[Decl]) -> Result<(), Memory>
-    ensures { OnOk result (all.new.items ≡ all.old.items ++ map decl_meaning (numbered (map declaration decls.now))) }
+fn add_decls(all: &mut Vec<(Name, Meaning)>, decls: &[ScopedDecl<'_>]) -> Result<(), Memory>
+    ensures { OnOk result (all.new.items ≡ all.old.items ++ map decl_meaning (numbered (map scoped_decl decls.now))) }
 {
     for (k, d) in decls.iter().enumerate() {
         add_decl(all, k as u64, d)?;
@@ -73,8 +72,8 @@ fn add_bare(all: &mut Vec<(Name, Meaning)>, number: u64, f: &Function) -> Result
 }
 
 /// Adds the functions without parameters.
-fn add_all_bare(all: &mut Vec<(Name, Meaning)>, functions: &[Function]) -> Result<(), Memory>
-    ensures { OnOk result (all.new.items ≡ all.old.items ++ flat_map bare_meaning (numbered (map function_of functions.now))) }
+fn add_all_bare(all: &mut Vec<(Name, Meaning)>, functions: &[&Function]) -> Result<(), Memory>
+    ensures { OnOk result (all.new.items ≡ all.old.items ++ flat_map bare_meaning (numbered (map lent_function functions.now))) }
 {
     for (k, f) in functions.iter().enumerate() {
         add_bare(all, k as u64, f)?;
@@ -93,8 +92,8 @@ fn add_overload(all: &mut Vec<(Name, u64)>, number: u64, f: &Function) -> Result
 }
 
 /// The functions with parameters, each by its name and its number.
-fn overloads(alloc: Global, functions: &[Function]) -> Result<Vec<(Name, u64)>, Memory>
-    ensures { IfOk result (λ v. v.items ≡ flat_map with_parameters (numbered (map function_of functions.now))) }
+fn overloads(alloc: Global, functions: &[&Function]) -> Result<Vec<(Name, u64)>, Memory>
+    ensures { IfOk result (λ v. v.items ≡ flat_map with_parameters (numbered (map lent_function functions.now))) }
 {
     let mut all = Vec::new(alloc);
     for (k, f) in functions.iter().enumerate() {
@@ -104,8 +103,8 @@ fn overloads(alloc: Global, functions: &[Function]) -> Result<Vec<(Name, u64)>, 
 }
 
 /// The names of functions, one for each.
-fn function_names(alloc: Global, functions: &[Function]) -> Result<Vec<Name>, Memory>
-    ensures { IfOk result (λ v. v.items ≡ map (λ f. f.name) (map function_of functions.now)) }
+fn function_names(alloc: Global, functions: &[&Function]) -> Result<Vec<Name>, Memory>
+    ensures { IfOk result (λ v. v.items ≡ map (λ f. f.name) (map lent_function functions.now)) }
 {
     let mut all = Vec::new(alloc);
     for f in functions {
@@ -115,7 +114,7 @@ fn function_names(alloc: Global, functions: &[Function]) -> Result<Vec<Name>, Me
 }
 
 /// What the names of the shared space stand for.
-fn meanings(alloc: Global, scoped: &Scoped) -> Result<Meanings, Memory>
+fn meanings(alloc: Global, scoped: &Scoped<'_>) -> Result<Meanings, Memory>
     requires { AreDistinct (shared_names (scoped_tree scoped.now)) }
     ensures { IfOk result (λ m. m ≡ meanings_of (scoped_tree scoped.now)) }
 {
@@ -128,7 +127,11 @@ fn meanings(alloc: Global, scoped: &Scoped) -> Result<Meanings, Memory>
 
 /// What is known of a scoped model before any type is typed.
 #[tactic(auto, unfolding(mz_checks::specs::Checks::untyped))]
-pub fn untyped<'a>(alloc: Global, scoped: &Scoped, names: &'a Names) -> Result<Context<'a>, Memory>
+pub fn untyped<'a>(
+    alloc: Global,
+    scoped: &Scoped<'_>,
+    names: &'a Names,
+) -> Result<Context<'a>, Memory>
     requires { AreDistinct (shared_names (scoped_tree scoped.now)) }
     ensures { IfOk result (λ c. known c ≡ untyped names.now (scoped_tree scoped.now)) }
 {

@@ -2,10 +2,9 @@
 
 ghost use Rattle.std.specs.Prelude.{◌≡◌, ◌<◌, length, map, slice_get, IfOk, OnOk};
 ghost use Rattle.mz_core.specs.TreeViews.{declared_type};
-ghost use Rattle.mz_tree.specs.Views.{declaration};
 ghost use Rattle.mz_tree.specs.Items.{function_of};
 ghost use Rattle.mz_scoped.specs.Parts.{decl_at, function_at};
-ghost use Rattle.mz_scoped.specs.Scoped.{scoped_tree};
+ghost use Rattle.mz_scoped.specs.Scoped.{scoped_decl, lent_function, scoped_tree};
 ghost use Rattle.mz_type_order.specs.Subjects.{subject, IsOf, AreOf};
 ghost use Rattle.mz_checks.specs.Models.{outermost};
 ghost use Rattle.mz_checks.specs.Typing.{check_written};
@@ -20,8 +19,8 @@ use crate::headings::heading;
 use mz_base::{Fault, Memory, Stop};
 use mz_context::{Context, Heading};
 use mz_core::CoreType;
-use mz_scoped::Scoped;
-use mz_tree::{Decl, Function};
+use mz_scoped::{Scoped, ScopedDecl};
+use mz_tree::Function;
 use mz_type_order::Subject;
 use mz_typing::check_written;
 use std::alloc::Global;
@@ -52,13 +51,13 @@ fn heading_answer(h: Result<Heading, Stop>) -> Result<Result<Heading, Fault>, Me
 fn type_of(
     alloc: Global,
     context: &Context<'_>,
-    d: &Decl,
+    d: &ScopedDecl<'_>,
 ) -> Result<Result<CoreType, Fault>, Memory>
-    requires { IsNamedDeclaration (length (known context.now).texts) (declaration d.now) }
-    ensures { IfOk result (λ t. tested declared_type t ≡ check_written (known context.now) (written_in (declaration d.now)) (outermost (known context.now))) }
+    requires { IsNamedDeclaration (length (known context.now).texts) (scoped_decl d.now) }
+    ensures { IfOk result (λ t. tested declared_type t ≡ check_written (known context.now) (written_in (scoped_decl d.now)) (outermost (known context.now))) }
 {
     let mut scope = context.outermost(alloc);
-    let t = check_written(alloc, context, &mut scope, &d.ty);
+    let t = check_written(alloc, context, &mut scope, &d.decl.ty);
     let answer = type_answer(t)?;
     Ok(answer)
 }
@@ -78,23 +77,28 @@ fn types_of(
 }
 
 /// A declaration by its place.
-fn decl_at(scoped: &Scoped, d: u64) -> &Decl
+fn decl_at<'s, 'a>(scoped: &'s Scoped<'a>, d: u64) -> &'s ScopedDecl<'a>
     requires { d < length (scoped_tree scoped.now).decls }
-    ensures { declaration result.now ≡ decl_at (scoped_tree scoped.now).decls d }
+    ensures { scoped_decl result.now ≡ decl_at (scoped_tree scoped.now).decls d }
 {
     &scoped.decls[d as usize]
 }
 
 /// A function by its place.
-fn function_at(scoped: &Scoped, f: u64) -> &Function
+fn function_at<'a>(scoped: &Scoped<'a>, f: u64) -> &'a Function
     requires { f < length (scoped_tree scoped.now).functions }
     ensures { function_of result.now ≡ function_at (scoped_tree scoped.now).functions f }
 {
-    &scoped.functions[f as usize]
+    scoped.functions[f as usize]
 }
 
 /// Adds the type of a declaration.
-fn add_decl(alloc: Global, scoped: &Scoped, context: &mut Context<'_>, d: u64) -> Result<(), Memory>
+fn add_decl(
+    alloc: Global,
+    scoped: &Scoped<'_>,
+    context: &mut Context<'_>,
+    d: u64,
+) -> Result<(), Memory>
     requires counted { d < length (scoped_tree scoped.now).decls }
     requires named { AreNamed (length (known context.old).texts) (scoped_tree scoped.now) }
     requires new { IsNew (known context.old) (of_decl d) }
@@ -107,7 +111,7 @@ fn add_decl(alloc: Global, scoped: &Scoped, context: &mut Context<'_>, d: u64) -
 /// Adds the types of a function.
 fn add_function(
     alloc: Global,
-    scoped: &Scoped,
+    scoped: &Scoped<'_>,
     context: &mut Context<'_>,
     f: u64,
 ) -> Result<(), Memory>
@@ -123,7 +127,7 @@ fn add_function(
 /// Adds the types of one subject.
 fn add_subject(
     alloc: Global,
-    scoped: &Scoped,
+    scoped: &Scoped<'_>,
     context: &mut Context<'_>,
     x: &Subject,
 ) -> Result<(), Memory>
@@ -141,7 +145,7 @@ fn add_subject(
 /// Adds the types of the subject at this place, where there is one.
 fn add_at(
     alloc: Global,
-    scoped: &Scoped,
+    scoped: &Scoped<'_>,
     context: &mut Context<'_>,
     order: &[Subject],
     k: usize,
@@ -160,7 +164,7 @@ fn add_at(
 /// Adds the types of these subjects in their order, each once. A type that is refused is kept as its fault.
 pub fn with_types(
     alloc: Global,
-    scoped: &Scoped,
+    scoped: &Scoped<'_>,
     context: &mut Context<'_>,
     order: &[Subject],
 ) -> Result<(), Memory>

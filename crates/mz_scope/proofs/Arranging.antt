@@ -4,18 +4,17 @@ use Rattle.std.specs.Prelude.{All, Result, Ok, Err, IfOk, IfErr}
 use Rattle.std.proofs.lemmas.List.{drop_more, length-map, get_or-map, map-append}
 use Rattle.mz_base.specs.declared.fault.Span.{Span}
 use Rattle.mz_base.specs.declared.fault.Fault.{Fault}
+use Rattle.std.specs.Borrow.{Bor}
 use Rattle.std.specs.Global.{Global}
 use Rattle.mz_base.specs.declared.kind.Kind.TheVariants.{Cyclic}
 use Rattle.mz_base.specs.declared.stop.Stop.{Stop}
 use Rattle.mz_base.specs.declared.stop.Stop.TheVariants.{Refused, Memory}
 use Rattle.mz_base.specs.Faults.{fault_at, IfRefused}
-use Rattle.mz_tree.specs.declared.expr.Decl.{Decl, out-Decl}
+use Rattle.mz_tree.specs.declared.expr.Form.TheViews.{out-Decl}
 use Rattle.mz_tree.specs.declared.item.Function.{Function}
 use Rattle.mz_tree.specs.Tree.{Declaration}
-use Rattle.mz_tree.specs.Items.{ItemTree, function_of}
-use Rattle.mz_tree.specs.Views.{declaration}
+use Rattle.mz_tree.specs.Items.{ItemTree}
 use Rattle.mz_tree.specs.Data.{Given}
-use Rattle.mz_tree.proofs.Looks.{declaration_is}
 use Rattle.mz_graph.specs.Graph.{IsIn}
 use Rattle.mz_graph.proofs.Membership.{in_at}
 use Rattle.mz_occurrence.specs.Given.{occurrences}
@@ -28,8 +27,9 @@ use Rattle.mz_dependency.specs.declared.sequence.Sequence.{Sequence}
 use Rattle.mz_dependency.specs.declared.sequence.Sequence.TheVariants.{Ordered, CyclicDecl, CyclicFunction}
 use Rattle.mz_dependency.specs.Answer.{IsAnswer}
 use Rattle.mz_scoped.specs.declared.parts.ModelParts.{ModelParts}
+use Rattle.mz_scoped.specs.declared.scoped.ScopedDecl.{ScopedDecl}
 use Rattle.mz_scoped.specs.Parts.{name_of, place_of, decl_at, function_at}
-use Rattle.mz_scoped.specs.Scoped.{ScopedTree, AreDistinct, shared_names, parts_tree, source_parts, IsScoped, AreRanked, IsCyclic, at_decl, at_function}
+use Rattle.mz_scoped.specs.Scoped.{ScopedTree, AreDistinct, shared_names, scoped_decl, lent_function, parts_tree, source_parts, IsScoped, AreRanked, IsCyclic, at_decl, at_function}
 use Rattle.mz_scope.specs.StepsScope.{IsArranged, HasCycle, of_decl, of_function}
 use Rattle.mz_scope.proofs.Turned.{in_order_counted, all_counted}
 use Rattle.mz_scope.proofs.Distinct.{HavePassed}
@@ -114,36 +114,33 @@ ranked t s k =
 
 -- what the code reads of the parts
 
-place_is : (d : Decl) → place_of (declaration d) ≡ (out-Decl d).span
-place_is d = ap (λ z. place_of z) (declaration_is d)
+pub decl_counted : (ds : List ScopedDecl) (k : ℕ) → k < length (map decl_sketch (map scoped_decl ds)) → k < length ds
+decl_counted ds k l = let a = length-map (map scoped_decl ds) decl_sketch in let b = length-map ds scoped_decl in omega (arith, a, b, l)
 
-pub decl_counted : (ds : List Decl) (k : ℕ) → k < length (map decl_sketch (map declaration ds)) → k < length ds
-decl_counted ds k l = let a = length-map (map declaration ds) decl_sketch in let b = length-map ds declaration in omega (arith, a, b, l)
+pub function_counted : (fs : List (Bor Function)) (k : ℕ) → k < length (map function_sketch (map lent_function fs)) → k < length fs
+function_counted fs k l = let a = length-map (map lent_function fs) function_sketch in let b = length-map fs lent_function in omega (arith, a, b, l)
 
-pub function_counted : (fs : List Function) (k : ℕ) → k < length (map function_sketch (map function_of fs)) → k < length fs
-function_counted fs k l = let a = length-map (map function_of fs) function_sketch in let b = length-map fs function_of in omega (arith, a, b, l)
+pub decl_place : (ds : List ScopedDecl) (k : ℕ) (d : ScopedDecl) → k < length ds → d ≡ get_or ds k d → (out-Decl d.decl.now).span ≡ place_of (decl_at (map scoped_decl ds) k)
+decl_place ds k d l e = sym (ap (λ z. place_of z) (get_or-map scoped_decl ds k d (decl_at [] 0) l ∙ ap (λ z. scoped_decl z) (sym e)))
 
-pub decl_place : (ds : List Decl) (k : ℕ) (d : Decl) → k < length ds → d ≡ get_or ds k d → (out-Decl d).span ≡ place_of (decl_at (map declaration ds) k)
-decl_place ds k d l e = sym (ap (λ z. place_of z) (get_or-map declaration ds k d (decl_at [] 0) l ∙ ap (λ z. declaration z) (sym e)) ∙ place_is d)
-
-pub function_place : (fs : List Function) (k : ℕ) (f : Function) → k < length fs → f ≡ get_or fs k f → f.span ≡ (function_at (map function_of fs) k).span
-function_place fs k f l e = sym (ap (λ z. z.span) (get_or-map function_of fs k f (function_at [] 0) l ∙ ap (λ z. function_of z) (sym e)))
+pub function_place : (fs : List (Bor Function)) (k : ℕ) (f : Bor Function) → k < length fs → f ≡ get_or fs k f → f.now.span ≡ (function_at (map lent_function fs) k).span
+function_place fs k f l e = sym (ap (λ z. z.span) (get_or-map lent_function fs k f (function_at [] 0) l ∙ ap (λ z. lent_function z) (sym e)))
 
 -- what an order, or what has none, says of the parts
 
 pub within_parts : (p : ModelParts) (s : Sequence) (order : Vec ℕ Global) (read : List ℕ) → IsAnswer (map decl_sketch (parts_tree p).decls) (map function_sketch (parts_tree p).functions) s → s ≡ Ordered order → read ≡ order.items → All (λ k. k < length p.decls.items) read
 within_parts p s order read k e r =
     let q : IsSequence (map decl_sketch (parts_tree p).decls) (map function_sketch (parts_tree p).functions) order.items = subst (λ z. IsAnswer (map decl_sketch (parts_tree p).decls) (map function_sketch (parts_tree p).functions) z) e k in
-    let n : length (map decl_sketch (map declaration p.decls.items)) ≡ length p.decls.items = length-map (map declaration p.decls.items) decl_sketch ∙ length-map p.decls.items declaration in
-    subst (λ z. All (λ k. k < length p.decls.items) z) (sym r) (subst (λ z. All (λ k. k < z) order.items) n (all_counted (length (map decl_sketch (map declaration p.decls.items))) order.items q.is))
+    let n : length (map decl_sketch (map scoped_decl p.decls.items)) ≡ length p.decls.items = length-map (map scoped_decl p.decls.items) decl_sketch ∙ length-map p.decls.items scoped_decl in
+    subst (λ z. All (λ k. k < length p.decls.items) z) (sym r) (subst (λ z. All (λ k. k < z) order.items) n (all_counted (length (map decl_sketch (map scoped_decl p.decls.items))) order.items q.is))
 
-pub cyclic_decl : (p : ModelParts) (s : Sequence) (d : ℕ) (x : Decl) (at : Span) (stop : Stop) → IsAnswer (map decl_sketch (parts_tree p).decls) (map function_sketch (parts_tree p).functions) s → s ≡ CyclicDecl d → x ≡ get_or p.decls.items d x → at ≡ (out-Decl x).span → stop ≡ Refused (fault_at Cyclic at) → IfRefused stop (HasCycle (parts_tree p))
+pub cyclic_decl : (p : ModelParts) (s : Sequence) (d : ℕ) (x : ScopedDecl) (at : Span) (stop : Stop) → IsAnswer (map decl_sketch (parts_tree p).decls) (map function_sketch (parts_tree p).functions) s → s ≡ CyclicDecl d → x ≡ get_or p.decls.items d x → at ≡ (out-Decl x.decl.now).span → stop ≡ Refused (fault_at Cyclic at) → IfRefused stop (HasCycle (parts_tree p))
 cyclic_decl p s d x at stop k e i a r =
     let q : IsStuckAt (map decl_sketch (parts_tree p).decls) (map function_sketch (parts_tree p).functions) d = subst (λ z. IsAnswer (map decl_sketch (parts_tree p).decls) (map function_sketch (parts_tree p).functions) z) e k in
     let l = decl_counted p.decls.items d q.first.counted in
     subst (λ z. IfRefused z (HasCycle (parts_tree p))) (sym (r ∙ ap (λ z. Refused (fault_at Cyclic z)) (a ∙ decl_place p.decls.items d x l i))) (of_decl d q)
 
-pub cyclic_function : (p : ModelParts) (s : Sequence) (f : ℕ) (x : Function) (stop : Stop) → IsAnswer (map decl_sketch (parts_tree p).decls) (map function_sketch (parts_tree p).functions) s → s ≡ CyclicFunction f → x ≡ get_or p.functions.items f x → stop ≡ Refused (fault_at Cyclic x.span) → IfRefused stop (HasCycle (parts_tree p))
+pub cyclic_function : (p : ModelParts) (s : Sequence) (f : ℕ) (x : Bor Function) (stop : Stop) → IsAnswer (map decl_sketch (parts_tree p).decls) (map function_sketch (parts_tree p).functions) s → s ≡ CyclicFunction f → x ≡ get_or p.functions.items f x → stop ≡ Refused (fault_at Cyclic x.now.span) → IfRefused stop (HasCycle (parts_tree p))
 cyclic_function p s f x stop k e i r =
     let q : IsBackAt (map decl_sketch (parts_tree p).decls) (map function_sketch (parts_tree p).functions) f = subst (λ z. IsAnswer (map decl_sketch (parts_tree p).decls) (map function_sketch (parts_tree p).functions) z) e k in
     let l = function_counted p.functions.items f q.counted in

@@ -5,14 +5,12 @@ ghost use Rattle.mz_base.specs.Faults.{IfRefused, fault_at};
 ghost use Rattle.mz_base.specs.declared.kind.Kind.TheVariants.{Cyclic};
 ghost use Rattle.mz_base.specs.declared.stop.Stop.TheVariants.{Refused};
 ghost use Rattle.mz_tree.specs.Data.{given};
-ghost use Rattle.mz_tree.specs.Items.{function_of};
-ghost use Rattle.mz_tree.specs.Views.{declaration};
 ghost use Rattle.mz_occurrence.specs.Given.{occurrences};
 ghost use Rattle.mz_occurrence.specs.StepsWalk.{items_of};
 ghost use Rattle.mz_uses.specs.Sketches.{sketch, decl_sketch, function_sketch};
 ghost use Rattle.mz_dependency.specs.Answer.{IsAnswer};
 ghost use Rattle.mz_dependency.specs.Dependencies.{AreDeclarations};
-ghost use Rattle.mz_scoped.specs.Scoped.{scoped_tree, parts_tree, IsScoped, AreRanked};
+ghost use Rattle.mz_scoped.specs.Scoped.{scoped_decl, lent_function, scoped_tree, parts_tree, IsScoped, AreRanked};
 ghost use Rattle.mz_scope.specs.Scope.{IsRefused};
 ghost use Rattle.mz_scope.specs.StepsScope.{IsArranged, HasCycle};
 ghost use Rattle.mz_spaces.specs.Tests.{AreNamed, refusal_of};
@@ -20,27 +18,27 @@ ghost use Rattle.mz_spaces.specs.Tests.{AreNamed, refusal_of};
 use crate::testing::test_names;
 use mz_base::{Fault, Kind, Memory, Names, Span, Stop};
 use mz_dependency::{Sequence, sequence_of};
-use mz_scoped::{ModelParts, Scoped, arranged, model_parts};
+use mz_scoped::{ModelParts, Scoped, ScopedDecl, arranged, model_parts};
 use mz_sketch::{sketch_of_decl, sketch_of_function};
-use mz_tree::{Data, Decl, Function, Sources};
+use mz_tree::{Data, Function, Sources};
 use mz_uses::Sketch;
 use std::alloc::Global;
 
 /// What each declaration uses.
-fn decl_sketches(alloc: Global, decls: &[Decl]) -> Result<Vec<Sketch>, Memory>
-    ensures { IfOk result (λ v. map sketch v.items ≡ map decl_sketch (map declaration decls.now)) }
+fn decl_sketches(alloc: Global, decls: &[ScopedDecl<'_>]) -> Result<Vec<Sketch>, Memory>
+    ensures { IfOk result (λ v. map sketch v.items ≡ map decl_sketch (map scoped_decl decls.now)) }
 {
     let mut all = Vec::new(alloc);
     for d in decls {
-        let o = sketch_of_decl(alloc, d)?;
+        let o = sketch_of_decl(alloc, d.decl, d.value)?;
         all.push(o)?;
     }
     Ok(all)
 }
 
 /// What each function uses.
-fn function_sketches(alloc: Global, functions: &[Function]) -> Result<Vec<Sketch>, Memory>
-    ensures { IfOk result (λ v. map sketch v.items ≡ map function_sketch (map function_of functions.now)) }
+fn function_sketches(alloc: Global, functions: &[&Function]) -> Result<Vec<Sketch>, Memory>
+    ensures { IfOk result (λ v. map sketch v.items ≡ map function_sketch (map lent_function functions.now)) }
 {
     let mut all = Vec::new(alloc);
     for f in functions {
@@ -58,23 +56,27 @@ fn cyclic(at: Span) -> Stop
 }
 
 /// The parts with their declarations in this order, or the refusal of what has none.
-fn in_sequence(alloc: Global, parts: ModelParts, sequence: Sequence) -> Result<Scoped, Stop>
+fn in_sequence<'a>(
+    alloc: Global,
+    parts: ModelParts<'a>,
+    sequence: Sequence,
+) -> Result<Scoped<'a>, Stop>
     requires { IsAnswer (map decl_sketch (parts_tree parts).decls) (map function_sketch (parts_tree parts).functions) sequence }
-    ensures arranged { IfOk result (λ s. IsArranged (parts_tree parts) (scoped_tree s)) }
-    ensures cyclic { IfErr result (λ s. IfRefused s (HasCycle (parts_tree parts))) }
+    ensures arranged { IfOk result (λ s. IsArranged (parts_tree parts.entry) (scoped_tree s)) }
+    ensures cyclic { IfErr result (λ s. IfRefused s (HasCycle (parts_tree parts.entry))) }
 {
     match sequence {
         Sequence::Ordered(order) => {
             let scoped = arranged(alloc, parts, order.as_slice())?;
             Ok(scoped)
         }
-        Sequence::CyclicDecl(d) => Err(cyclic(parts.decls[d].span)),
+        Sequence::CyclicDecl(d) => Err(cyclic(parts.decls[d].decl.span)),
         Sequence::CyclicFunction(f) => Err(cyclic(parts.functions[f].span)),
     }
 }
 
 /// The order in which the declarations of these parts are evaluated, or what has none.
-fn sequence_in(alloc: Global, parts: &ModelParts) -> Result<Sequence, Memory>
+fn sequence_in(alloc: Global, parts: &ModelParts<'_>) -> Result<Sequence, Memory>
     requires { AreDeclarations (map decl_sketch (parts_tree parts.now).decls) }
     ensures { IfOk result (IsAnswer (map decl_sketch (parts_tree parts.now).decls) (map function_sketch (parts_tree parts.now).functions)) }
 {
@@ -89,13 +91,13 @@ fn sequence_in(alloc: Global, parts: &ModelParts) -> Result<Sequence, Memory>
 /// Refused, in this order, each over the whole in the order of the text: a reserved name, a name that is declared or given a value
 /// a second time, a missing or a second solve item, an unknown name, data that doesn't fit an enum, a declaration or an enum that
 /// lacks its value, and what is cyclic: the first declaration that never has its turn, or else the first function whose types lead
-/// back to its name. After an error nothing is kept.
-pub fn scope(
+/// back to its name. The model refers to the trees of the files and of the data, and copies none.
+pub fn scope<'a>(
     alloc: Global,
-    sources: &Sources,
-    given_data: &Data,
+    sources: &'a Sources,
+    given_data: &'a Data,
     names: &Names,
-) -> Result<Scoped, Stop>
+) -> Result<Scoped<'a>, Stop>
     requires { AreNamed names.now (occurrences (items_of sources.now.files.items) (map given given_data.now.items.items)) }
     ensures tested { IfOk result (λ _. refusal_of names.now sources.now.files.items given_data.now.items.items ≡ None) }
     ensures scoped { IfOk result (λ s. IsScoped (items_of sources.now.files.items) (map given given_data.now.items.items) (scoped_tree s)) }

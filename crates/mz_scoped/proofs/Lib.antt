@@ -1,4 +1,3 @@
-pub mod Arranging
 pub mod Assigning
 pub mod Gathering
 pub mod Tables

@@ -1,18 +1,27 @@
 -- What the scoped model of a model and its data is.
-use Rattle.std.specs.Prelude.{◌≡◌, ℕ, List, [], ◌∷◌, ◌++◌, Bool, true, false, map}
+use Rattle.std.specs.Prelude.{◌≡◌, ℕ, List, [], ◌∷◌, ◌++◌, Bool, true, false, Option, Some, None, map}
+use Rattle.std.specs.Borrow.{Bor}
+use Rattle.std.specs.Option.{option_map}
 use Rattle.std.specs.List.{flat_map, All}
 use Rattle.mz_base.specs.declared.fault.Fault.{Fault}
 use Rattle.mz_base.specs.declared.kind.Kind.TheVariants.{Cyclic}
 use Rattle.mz_base.specs.Faults.{fault_at}
-use Rattle.mz_tree.specs.Tree.{Name, Tree, Declaration}
-use Rattle.mz_tree.specs.Items.{GoalTree, FunctionTree, ItemTree, function_of, goal}
-use Rattle.mz_tree.specs.Views.{tree, declaration}
+use Rattle.mz_tree.specs.declared.expr.Form.TheViews.{out-Decl}
+use Rattle.mz_tree.specs.declared.expr.Expr.{Expr}
+use Rattle.mz_tree.specs.declared.item.Function.{Function}
+use Rattle.mz_tree.specs.declared.item.Goal.{Goal}
+use Rattle.mz_tree.specs.declared.data.DataItem.{DataItem}
+use Rattle.mz_tree.specs.Tree as pure
+use Rattle.mz_tree.specs.Tree.{Name, Tree, Declaration, maybe}
+use Rattle.mz_tree.specs.Items.{GoalTree, FunctionTree, ItemTree, function_of, goal, satisfy}
+use Rattle.mz_tree.specs.Views.{tree, written}
 use Rattle.mz_tree.specs.Data.{Given, given}
 use Rattle.mz_occurrence.specs.Sets.{holds}
 use Rattle.mz_uses.specs.Sketches.{Sketch, decl_sketch, function_sketch, has_parameters}
 use Rattle.mz_dependency.specs.Dependencies.{IsSequence, IsStuckAt, IsBackAt, AreRanks}
 use Rattle.mz_scoped.specs.declared.parts.ModelParts.{ModelParts}
 use Rattle.mz_scoped.specs.declared.scoped.Scoped.{Scoped}
+use Rattle.mz_scoped.specs.declared.scoped.ScopedDecl.{ScopedDecl}
 use Rattle.mz_scoped.specs.declared.scoped.ScopedEnum.{ScopedEnum}
 use Rattle.mz_scoped.specs.Parts.{EnumTree, decls_of, functions_of, constraint_in, output_in, goal_of, enums_of, given_of, name_of, place_of, decl_at, function_at}
 
@@ -29,27 +38,46 @@ pub record ScopedTree : Type 0 where
 abbrev pub enum_tree : ScopedEnum → EnumTree
 enum_tree e = record { name = e.name; span = e.span; cases = e.cases.items }
 
+-- what references stand for
+abbrev pub lent_function : Bor Function → FunctionTree
+lent_function f = function_of f.now
+
+abbrev pub lent_tree : Bor Expr → Tree
+lent_tree e = tree e.now
+
+abbrev pub lent_given : Bor DataItem → Given
+lent_given d = given d.now
+
+-- a declaration with its value
+abbrev pub scoped_decl : ScopedDecl → Declaration
+scoped_decl d = pure.declaration (written (out-Decl d.decl.now).ty) (out-Decl d.decl.now).name (out-Decl d.decl.now).span (maybe (option_map lent_tree d.value))
+
+-- what is asked for; without a solve item, to satisfy
+abbrev pub asked : Option (Bor Goal) → GoalTree
+asked None = satisfy
+asked (Some g) = goal g.now
+
 abbrev pub scoped_tree : Scoped → ScopedTree
 scoped_tree s = record {
   enums = map enum_tree s.enums.items;
-  decls = map declaration s.decls.items;
-  functions = map function_of s.functions.items;
-  constraints = map tree s.constraints.items;
-  goal = goal s.goal;
-  outputs = map tree s.outputs.items;
-  given = map given s.given.items;
+  decls = map scoped_decl s.decls.items;
+  functions = map lent_function s.functions.items;
+  constraints = map lent_tree s.constraints.items;
+  goal = asked s.goal;
+  outputs = map lent_tree s.outputs.items;
+  given = map lent_given s.given.items;
 }
 
 -- the parts, gathered in the order of the text, without where they lie in memory
 abbrev pub parts_tree : ModelParts → ScopedTree
 parts_tree p = record {
   enums = map enum_tree p.enums.items;
-  decls = map declaration p.decls.items;
-  functions = map function_of p.functions.items;
-  constraints = map tree p.constraints.items;
-  goal = goal p.goal;
-  outputs = map tree p.outputs.items;
-  given = map given p.given.items;
+  decls = map scoped_decl p.decls.items;
+  functions = map lent_function p.functions.items;
+  constraints = map lent_tree p.constraints.items;
+  goal = asked p.goal;
+  outputs = map lent_tree p.outputs.items;
+  given = map lent_given p.given.items;
 }
 
 -- the parts of a model with its data, each in the order of the text

@@ -1,5 +1,5 @@
--- Mirror of src/arrange.rt, src/decls.rt, src/enums.rt and src/items.rt; private clauses only.
-use Rattle.std.specs.Prelude.{ℕ, ◌+◌, Bool, true, false, if◌then◌else◌, List, [], ◌∷◌, Option, Some, None, nat_eq}
+-- Mirror of src/decls.rt, src/enums.rt and src/items.rt; private clauses only.
+use Rattle.std.specs.Prelude.{List, [], ◌∷◌, Option, Some, None}
 use Rattle.mz_base.specs.declared.fault.Span.{Span}
 use Rattle.mz_tree.specs.Tree as pure
 use Rattle.mz_tree.specs.Tree.{Name, Maybe, Declaration}
@@ -40,8 +40,3 @@ goal_asked i = None
 unfoldable pub first_goal : List ItemTree → Option GoalTree
 first_goal [] = None
 first_goal (i ∷ is) = or_next (goal_asked i) (first_goal is)
-
--- these are the numbers from k on, each in its turn
-unfoldable pub counts_from : ℕ → List ℕ → Bool
-counts_from k [] = true
-counts_from k (x ∷ xs) = if nat_eq x k then counts_from (k + 1) xs else false

@@ -8,13 +8,14 @@ ghost use Rattle.mz_tree.specs.Views.{tree, declaration};
 ghost use Rattle.mz_tree.specs.Items.{item as tree_of};
 ghost use Rattle.mz_occurrence.specs.StepsWalk.{items_of};
 ghost use Rattle.mz_scoped.specs.Parts.{decls_of};
+ghost use Rattle.mz_scoped.specs.Scoped.{scoped_decl};
 ghost use Rattle.mz_scoped.specs.StepsParts.{filled_by, own_or, filled_in};
 ghost use Rattle.mz_scoped.specs.StepsTables.{value_found};
 
 use crate::assigned::{Assigned, assigned_in};
+use crate::scoped::ScopedDecl;
 use mz_base::Memory;
-use mz_copy::{copy_expression, copy_type};
-use mz_tree::{Decl, Expr, Item, SourceFile, make_declaration};
+use mz_tree::{Decl, Expr, Item, SourceFile};
 use std::alloc::Global;
 
 /// A declaration's own value, or else the assigned one.
@@ -28,46 +29,41 @@ fn value_of<'a>(d: &'a Decl, table: &Assigned<'a>) -> Option<&'a Expr>
     }
 }
 
-/// A copy of a declaration, with its value.
+/// A declaration, with its value.
 #[tactic(auto, unfolding(mz_tree::specs::Views::declaration, mz_tree::specs::Views::tree, mz_tree::specs::Views::written))]
-fn filled(alloc: Global, d: &Decl, table: &Assigned<'_>) -> Result<Decl, Memory>
-    ensures { IfOk result (λ copy. declaration copy ≡ filled_by (value_found table.now) (declaration d.now)) }
+fn filled<'a>(d: &'a Decl, table: &Assigned<'a>) -> ScopedDecl<'a>
+    ensures { scoped_decl result ≡ filled_by (value_found table.now) (declaration d.now) }
 {
-    let ty = copy_type(alloc, &d.ty)?;
-    match value_of(d, table) {
-        Some(e) => {
-            let value = copy_expression(alloc, e)?;
-            Ok(make_declaration(ty, d.name, d.span, Some(value)))
-        }
-        None => Ok(make_declaration(ty, d.name, d.span, None)),
-    }
+    let value = value_of(d, table);
+    ScopedDecl { decl: d, value }
 }
 
-fn add_decls(
-    alloc: Global,
-    out: &mut Vec<Decl>,
-    table: &Assigned<'_>,
-    items: &[Item],
+fn add_decls<'a>(
+    out: &mut Vec<ScopedDecl<'a>>,
+    table: &Assigned<'a>,
+    items: &'a [Item],
 ) -> Result<(), Memory>
-    ensures { OnOk result (map declaration out.new.items ≡ map declaration out.old.items ++ flat_map (λ i. filled_in (value_found table.now) (tree_of i)) items.now) }
+    ensures { OnOk result (map scoped_decl out.new.items ≡ map scoped_decl out.old.items ++ flat_map (λ i. filled_in (value_found table.now) (tree_of i)) items.now) }
 {
     for item in items {
         if let Item::Decl(d) = item {
-            let copy = filled(alloc, d, table)?;
-            out.push(copy)?;
+            out.push(filled(d, table))?;
         }
     }
     Ok(())
 }
 
 /// The declarations of these files, each with its own or the assigned value.
-pub(crate) fn decls_of(alloc: Global, files: &[SourceFile]) -> Result<Vec<Decl>, Memory>
-    ensures { IfOk result (λ out. map declaration out.items ≡ decls_of (items_of files.now)) }
+pub(crate) fn decls_of<'a>(
+    alloc: Global,
+    files: &'a [SourceFile],
+) -> Result<Vec<ScopedDecl<'a>>, Memory>
+    ensures { IfOk result (λ out. map scoped_decl out.items ≡ decls_of (items_of files.now)) }
 {
     let table = assigned_in(alloc, files)?;
     let mut out = Vec::new(alloc);
     for file in files {
-        add_decls(alloc, &mut out, &table, file.items.as_slice())?;
+        add_decls(&mut out, &table, file.items.as_slice())?;
     }
     Ok(out)
 }

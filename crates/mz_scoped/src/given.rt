@@ -5,10 +5,10 @@ ghost use Rattle.std.specs.List.{flat_map};
 ghost use Rattle.mz_tree.specs.Data.{given};
 ghost use Rattle.mz_occurrence.specs.Sets.{holds};
 ghost use Rattle.mz_scoped.specs.Parts.{unless};
+ghost use Rattle.mz_scoped.specs.Scoped.{lent_given};
 
 use crate::scoped::ScopedEnum;
 use mz_base::{Memory, Name};
-use mz_copy::copy_data_item;
 use mz_occurrence::NameSet;
 use mz_tree::DataItem;
 use std::alloc::Global;
@@ -24,30 +24,29 @@ fn names_of(alloc: Global, enums: &[ScopedEnum]) -> Result<Vec<Name>, Memory>
 }
 
 /// The items of the data whose names are not in the set.
-fn items_besides(
+fn items_besides<'a>(
     alloc: Global,
     names: &NameSet,
-    items: &[DataItem],
-) -> Result<Vec<DataItem>, Memory>
-    ensures { IfOk result (λ out. map given out.items ≡ flat_map (λ d. unless (holds d.name names.now) (given d)) items.now) }
+    items: &'a [DataItem],
+) -> Result<Vec<&'a DataItem>, Memory>
+    ensures { IfOk result (λ out. map lent_given out.items ≡ flat_map (λ d. unless (holds d.name names.now) (given d)) items.now) }
 {
     let mut out = Vec::new(alloc);
     for d in items {
         if !names.has(d.name) {
-            let copy = copy_data_item(alloc, d)?;
-            out.push(copy)?;
+            out.push(d)?;
         }
     }
     Ok(out)
 }
 
 /// The items of the data for other names than those of these enums.
-pub(crate) fn given_of(
+pub(crate) fn given_of<'a>(
     alloc: Global,
     enums: &[ScopedEnum],
-    items: &[DataItem],
-) -> Result<Vec<DataItem>, Memory>
-    ensures { IfOk result (λ out. map given out.items ≡ flat_map (λ d. unless (holds d.name (map (λ e. e.name) enums.now)) (given d)) items.now) }
+    items: &'a [DataItem],
+) -> Result<Vec<&'a DataItem>, Memory>
+    ensures { IfOk result (λ out. map lent_given out.items ≡ flat_map (λ d. unless (holds d.name (map (λ e. e.name) enums.now)) (given d)) items.now) }
 {
     let names = names_of(alloc, enums)?;
     let set = NameSet::of(alloc, names.as_slice())?;

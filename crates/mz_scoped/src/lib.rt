@@ -14,4 +14,4 @@ mod scoped;
 
 pub use arrange::arranged;
 pub use parts::{ModelParts, model_parts};
-pub use scoped::{Scoped, ScopedEnum};
+pub use scoped::{Scoped, ScopedDecl, ScopedEnum};

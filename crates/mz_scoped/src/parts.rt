@@ -9,34 +9,34 @@ use crate::decls::decls_of;
 use crate::enums::enums_of;
 use crate::given::given_of;
 use crate::items::{constraints_of, functions_of, goal_of, outputs_of};
-use crate::scoped::ScopedEnum;
+use crate::scoped::{ScopedDecl, ScopedEnum};
 use mz_base::Memory;
-use mz_tree::{Data, DataItem, Decl, Expr, Function, Goal, Sources};
+use mz_tree::{Data, DataItem, Expr, Function, Goal, Sources};
 use std::alloc::Global;
 
 /// The parts of a model with its data, each in the order of the text, the files one after the other.
 #[derive(Drop)]
-pub struct ModelParts {
+pub struct ModelParts<'a> {
     /// The enums, with the cases that their items or the data give.
     pub enums: Vec<ScopedEnum>,
-    /// Each declaration at top level. The value that an assignment item gives is the declaration's.
-    pub decls: Vec<Decl>,
-    pub functions: Vec<Function>,
-    pub constraints: Vec<Expr>,
-    /// What the first solve item asks for.
-    pub goal: Goal,
-    pub outputs: Vec<Expr>,
+    /// Each declaration at top level.
+    pub decls: Vec<ScopedDecl<'a>>,
+    pub functions: Vec<&'a Function>,
+    pub constraints: Vec<&'a Expr>,
+    /// What the first solve item asks for. None, where there is no solve item.
+    pub goal: Option<&'a Goal>,
+    pub outputs: Vec<&'a Expr>,
     /// The items of the data, but for those of enums.
-    pub given: Vec<DataItem>,
+    pub given: Vec<&'a DataItem>,
 }
 
-/// The parts of a model with its data, copied. Where a name has two assignment items, or two items of the data, the first counts.
+/// The parts of a model with its data. Where a name has two assignment items, or two items of the data, the first counts.
 /// It fails only where memory runs out.
-pub fn model_parts(
+pub fn model_parts<'a>(
     alloc: Global,
-    sources: &Sources,
-    given_data: &Data,
-) -> Result<ModelParts, Memory>
+    sources: &'a Sources,
+    given_data: &'a Data,
+) -> Result<ModelParts<'a>, Memory>
     ensures { IfOk result (λ p. parts_tree p ≡ source_parts (items_of sources.now.files.items) (map given given_data.now.items.items)) }
 {
     let files = sources.files.as_slice();
@@ -47,7 +47,7 @@ pub fn model_parts(
     let constraints = constraints_of(alloc, files)?;
     let outputs = outputs_of(alloc, files)?;
     let given = given_of(alloc, enums.as_slice(), items)?;
-    let goal = goal_of(alloc, files)?;
+    let goal = goal_of(files);
     Ok(ModelParts {
         enums,
         decls,

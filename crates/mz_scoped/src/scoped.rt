@@ -11,18 +11,26 @@ pub struct ScopedEnum {
     pub cases: Vec<(Name, Span)>,
 }
 
+/// A declaration at top level, with its value: its own, or else the one that an assignment item gives.
+#[derive(Clone, Copy)]
+pub struct ScopedDecl<'a> {
+    pub decl: &'a Decl,
+    pub value: Option<&'a Expr>,
+}
+
 /// A model whose names are tested and whose declarations stand in the order of evaluation. All else stands in the order of the
-/// text, the files one after the other.
+/// text, the files one after the other. It refers to the trees of the files and of the data, and copies none.
 #[derive(Drop)]
-pub struct Scoped {
+pub struct Scoped<'a> {
     /// The enums: the number of one is its place here, from 0.
     pub enums: Vec<ScopedEnum>,
-    /// Each declaration at top level, in order of evaluation. The value that an assignment item gives is the declaration's.
-    pub decls: Vec<Decl>,
-    pub functions: Vec<Function>,
-    pub constraints: Vec<Expr>,
-    pub goal: Goal,
-    pub outputs: Vec<Expr>,
+    /// Each declaration at top level, in order of evaluation.
+    pub decls: Vec<ScopedDecl<'a>>,
+    pub functions: Vec<&'a Function>,
+    pub constraints: Vec<&'a Expr>,
+    /// What the first solve item asks for. None, where there is no solve item.
+    pub goal: Option<&'a Goal>,
+    pub outputs: Vec<&'a Expr>,
     /// The items of the data, but for those of enums.
-    pub given: Vec<DataItem>,
+    pub given: Vec<&'a DataItem>,
 }

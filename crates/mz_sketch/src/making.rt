@@ -5,24 +5,25 @@ ghost use Rattle.mz_tree.specs.Views.{declaration};
 ghost use Rattle.mz_tree.specs.Items.{function_of};
 ghost use Rattle.mz_uses.specs.Sketches.{sketch, decl_sketch, function_sketch, in_parameter, in_parameters, with_parameters};
 ghost use Rattle.mz_uses.specs.Uses.{with_declaration};
+ghost use Rattle.mz_sketch.specs.Valued.{valued};
 
 use crate::hidden::Hidden;
 use crate::walk::{in_expression, in_type};
 use mz_base::Memory;
-use mz_tree::{Decl, Function};
+use mz_tree::{Decl, Expr, Function};
 use mz_uses::{NameUse, Sketch};
 use std::alloc::Global;
 
-/// What a declaration uses.
+/// What a declaration uses that has this value, in place of its own.
 #[tactic(auto, unfolding(mz_uses::specs::Uses::in_tree, mz_tree::specs::Views::declaration, mz_tree::specs::Views::written, mz_tree::specs::Views::tree))]
-pub fn sketch_of_decl(alloc: Global, d: &Decl) -> Result<Sketch, Memory>
-    ensures { IfOk result (λ o. sketch o ≡ decl_sketch (declaration d.now)) }
+pub fn sketch_of_decl(alloc: Global, d: &Decl, value: Option<&Expr>) -> Result<Sketch, Memory>
+    ensures { IfOk result (λ o. sketch o ≡ decl_sketch (valued d.now value.entry)) }
 {
     let mut hidden = Hidden::new(alloc);
     let mut types = Vec::new(alloc);
     let mut rest = Vec::new(alloc);
     in_type(&mut types, &mut hidden, &d.ty)?;
-    if let Some(value) = &d.value {
+    if let Some(value) = value {
         in_expression(&mut rest, &mut hidden, value)?;
     }
     Ok(Sketch {

@@ -1,37 +1,35 @@
 // The order of types.
 
 ghost use Rattle.std.specs.Prelude.{◌≡◌, map, ◌++◌, IfOk, OnOk};
-ghost use Rattle.mz_tree.specs.Views.{declaration};
-ghost use Rattle.mz_tree.specs.Items.{function_of};
 ghost use Rattle.mz_uses.specs.Sketches.{sketch, decl_sketch, function_sketch};
-ghost use Rattle.mz_scoped.specs.Scoped.{scoped_tree, shared_names, AreDistinct, AreRanked};
+ghost use Rattle.mz_scoped.specs.Scoped.{scoped_decl, lent_function, scoped_tree, shared_names, AreDistinct, AreRanked};
 ghost use Rattle.mz_type_order.specs.Subjects.{subject, subject_at, subjects_in, IsOrderOf};
 
 use crate::subject::Subject;
 use mz_base::Memory;
 use mz_dependency::type_graph;
 use mz_graph::order_of;
-use mz_scoped::Scoped;
+use mz_scoped::{Scoped, ScopedDecl};
 use mz_sketch::{sketch_of_decl, sketch_of_function};
-use mz_tree::{Decl, Function};
+use mz_tree::Function;
 use mz_uses::Sketch;
 use std::alloc::Global;
 
 /// What each declaration uses.
-fn decl_sketches(alloc: Global, decls: &[Decl]) -> Result<Vec<Sketch>, Memory>
-    ensures { IfOk result (λ v. map sketch v.items ≡ map decl_sketch (map declaration decls.now)) }
+fn decl_sketches(alloc: Global, decls: &[ScopedDecl<'_>]) -> Result<Vec<Sketch>, Memory>
+    ensures { IfOk result (λ v. map sketch v.items ≡ map decl_sketch (map scoped_decl decls.now)) }
 {
     let mut all = Vec::new(alloc);
     for d in decls {
-        let o = sketch_of_decl(alloc, d)?;
+        let o = sketch_of_decl(alloc, d.decl, d.value)?;
         all.push(o)?;
     }
     Ok(all)
 }
 
 /// What each function uses.
-fn function_sketches(alloc: Global, functions: &[Function]) -> Result<Vec<Sketch>, Memory>
-    ensures { IfOk result (λ v. map sketch v.items ≡ map function_sketch (map function_of functions.now)) }
+fn function_sketches(alloc: Global, functions: &[&Function]) -> Result<Vec<Sketch>, Memory>
+    ensures { IfOk result (λ v. map sketch v.items ≡ map function_sketch (map lent_function functions.now)) }
 {
     let mut all = Vec::new(alloc);
     for f in functions {
@@ -78,7 +76,7 @@ fn subjects_in(
 }
 
 /// All declarations and functions, each once and after those that its types refer to.
-pub fn type_order(alloc: Global, scoped: &Scoped) -> Result<Vec<Subject>, Memory>
+pub fn type_order(alloc: Global, scoped: &Scoped<'_>) -> Result<Vec<Subject>, Memory>
     requires distinct { AreDistinct (shared_names (scoped_tree scoped.now)) }
     requires ranked { AreRanked (scoped_tree scoped.now) }
     ensures { IfOk result (λ v. IsOrderOf (scoped_tree scoped.now) (map subject v.items)) }

@@ -1,5 +1,5 @@
 use Rattle.std.proofs.Common.{◌-◌, rules, arith, length}
-use Rattle.mz_tree.specs.Items.{function_of}
+use Rattle.mz_scoped.specs.Scoped.{lent_function}
 use Rattle.mz_context.specs.Known.{known}
 use Rattle.mz_headings.specs.Naming.{IsNamedFunction}
 use Rattle.cases_typing.proofs.Contexts.{last_in}
@@ -7,5 +7,5 @@ use Rattle.cases_typing.proofs.typing.print_result.Goals as goal
 
 pub print_written-requires : goal.print_written-requires
 print_written-requires c =
-    let f = last_in (IsNamedFunction (length (known c.args.context.now).texts)) function_of c.as_slice-all.result.now c.args.scoped.now.functions.items (length c.as_slice-all.result.now - 1) c.index-all-last.result c.as_slice-all.ensures.value c.requires.functions (search (rules, arith)) in
+    let f = last_in (IsNamedFunction (length (known c.args.context.now).texts)) lent_function c.as_slice-all.result.now c.args.scoped.now.functions.items (length c.as_slice-all.result.now - 1) c.index-all-last.result c.as_slice-all.ensures.value c.requires.functions (search (rules, arith)) in
     f.result

@@ -3,14 +3,14 @@ use Rattle.std.proofs.lemmas.List.{nil_from_length}
 use Rattle.std.specs.Option.{option_map}
 use Rattle.std.specs.Vec.Iter.{into_iter_items}
 use Rattle.mz_core.specs.TreeViews.{tree, decl, declared_type}
-use Rattle.mz_tree.specs.Views.{declaration}
+use Rattle.mz_scoped.specs.Scoped.{scoped_decl}
 use Rattle.mz_context.specs.Known.{answers}
 use Rattle.mz_check.specs.StepsTaking.{decl_by}
 use Rattle.mz_check.proofs.Taking.{made_at_first, made_next, made_at_last, next_fits}
 use Rattle.mz_check.proofs.assemble.made_decls.Goals as goal
 
 pub loop-value-init : goal.loop-value-init
-loop-value-init c = made_at_first decl_by (option_map tree) (answers declared_type c.args.types.entries) (map declaration c.args.decls.now) c.args.values.items (into_iter_items c.into_iter-value-iterator.result) (map decl c.new-all.result.items) c.into_iter-value-iterator.ensures.into_iter_gives.0 (ap (map decl) c.new-all.ensures.items)
+loop-value-init c = made_at_first decl_by (option_map tree) (answers declared_type c.args.types.entries) (map scoped_decl c.args.decls.now) c.args.values.items (into_iter_items c.into_iter-value-iterator.result) (map decl c.new-all.result.items) c.into_iter-value-iterator.ensures.into_iter_gives.0 (ap (map decl) c.new-all.ensures.items)
 
 pub overflow_add-number : goal.overflow_add-number
 overflow_add-number c =
@@ -20,8 +20,8 @@ overflow_add-number c =
 
 pub loop-value-preserved : goal.loop-value-preserved
 loop-value-preserved c =
-    made_next decl_by (option_map tree) (answers declared_type c.args.types.entries) (map declaration c.args.decls.now) c.args.values.items (answers declared_type c.loop-value.types.entries) _ (into_iter_items c.loop-value.value-iterator) (into_iter_items c.next.new.self) c.loop-value.number (map decl c.loop-value.all.items) _ c.in-Some.value
+    made_next decl_by (option_map tree) (answers declared_type c.args.types.entries) (map scoped_decl c.args.decls.now) c.args.values.items (answers declared_type c.loop-value.types.entries) _ (into_iter_items c.loop-value.value-iterator) (into_iter_items c.next.new.self) c.loop-value.number (map decl c.loop-value.all.items) _ c.in-Some.value
     c.loop-value.invariant c.in-Some.ensures.steps.0 c.in_ok-add_decl_at.ensures.made c.in_ok-add_decl_at.ensures.others
 
 pub returns : goal.returns
-returns c = made_at_last decl_by (option_map tree) (answers declared_type c.args.types.entries) (map declaration c.args.decls.now) c.args.values.items (answers declared_type c.loop-value.types.entries) (into_iter_items c.loop-value.value-iterator) c.loop-value.number (map decl c.loop-value.all.items) c.loop-value.invariant (nil_from_length (into_iter_items c.loop-value.value-iterator) (sym c.loop-value.value-iterator.rest.ok.0 ∙ c.in-None.ensures.steps.0))
+returns c = made_at_last decl_by (option_map tree) (answers declared_type c.args.types.entries) (map scoped_decl c.args.decls.now) c.args.values.items (answers declared_type c.loop-value.types.entries) (into_iter_items c.loop-value.value-iterator) c.loop-value.number (map decl c.loop-value.all.items) c.loop-value.invariant (nil_from_length (into_iter_items c.loop-value.value-iterator) (sym c.loop-value.value-iterator.rest.ok.0 ∙ c.in-None.ensures.steps.0))

@@ -1,13 +1,11 @@
-use Rattle.std.proofs.Common.{List, map, subst}
+use Rattle.std.proofs.Common.{Bor, List, map, subst}
 use Rattle.std.specs.Option.{option_map}
 use Rattle.mz_core.specs.TreeViews.{tree}
 use Rattle.mz_core.specs.Program.{goal as typed_goal}
-use Rattle.mz_tree.specs.declared.expr.Decl.{Decl}
 use Rattle.mz_tree.specs.declared.expr.Expr.{Expr}
 use Rattle.mz_tree.specs.declared.item.Function.{Function}
-use Rattle.mz_tree.specs.Views.{tree as source, declaration}
-use Rattle.mz_tree.specs.Items.{function_of}
-use Rattle.mz_scoped.specs.Scoped.{scoped_tree}
+use Rattle.mz_scoped.specs.declared.scoped.ScopedDecl.{ScopedDecl}
+use Rattle.mz_scoped.specs.Scoped.{scoped_decl, lent_function, lent_tree, scoped_tree}
 use Rattle.mz_checks.specs.Items.{constraint, output}
 use Rattle.mz_checks.specs.Checks.{numbered, tree_place}
 use Rattle.mz_context.specs.Known.{known}
@@ -28,8 +26,8 @@ returns c =
     parting.all_tested (scoped_tree c.args.scoped.now) m
     (record { values = map (option_map tree) c.in_ok-values.values.items; bodies = map tree c.in_ok-bodies.bodies.items; constraints = map tree c.in_ok-constraints.constraints.items; goal = typed_goal c.in_ok-goal.goal; outputs = map tree c.in_ok-outputs.outputs.items })
     before first second third fourth last
-    (subst (λ (ds : List Decl). AreTested value_at (value_of_each m) (numbered (map declaration ds)) before first (map (option_map tree) c.in_ok-values.values.items)) c.as_slice.ensures.value c.in_ok-values.ensures)
-    (subst (λ (fs : List Function). AreTested body_at (body_of_each m) (numbered (map function_of fs)) first second (map tree c.in_ok-bodies.bodies.items)) c.as_slice-2.ensures.value c.in_ok-bodies.ensures)
-    (subst (λ (es : List Expr). AreTested tree_place (constraint m) (map source es) second third (map tree c.in_ok-constraints.constraints.items)) c.as_slice-3.ensures.value c.in_ok-constraints.ensures)
+    (subst (λ (ds : List ScopedDecl). AreTested value_at (value_of_each m) (numbered (map scoped_decl ds)) before first (map (option_map tree) c.in_ok-values.values.items)) c.as_slice.ensures.value c.in_ok-values.ensures)
+    (subst (λ (fs : List (Bor Function)). AreTested body_at (body_of_each m) (numbered (map lent_function fs)) first second (map tree c.in_ok-bodies.bodies.items)) c.as_slice-2.ensures.value c.in_ok-bodies.ensures)
+    (subst (λ (es : List (Bor Expr)). AreTested tree_place (constraint m) (map lent_tree es) second third (map tree c.in_ok-constraints.constraints.items)) c.as_slice-3.ensures.value c.in_ok-constraints.ensures)
     c.in_ok-goal.ensures
-    (subst (λ (es : List Expr). AreTested tree_place (output m) (map source es) fourth last (map tree c.in_ok-outputs.outputs.items)) c.as_slice-4.ensures.value c.in_ok-outputs.ensures)
+    (subst (λ (es : List (Bor Expr)). AreTested tree_place (output m) (map lent_tree es) fourth last (map tree c.in_ok-outputs.outputs.items)) c.as_slice-4.ensures.value c.in_ok-outputs.ensures)

@@ -1,7 +1,7 @@
 use Rattle.std.proofs.Common.{length}
 use Rattle.std.specs.Option.{option_map}
 use Rattle.mz_core.specs.TreeViews.{tree}
-use Rattle.mz_tree.specs.Items.{function_of}
+use Rattle.mz_scoped.specs.Scoped.{lent_function}
 use Rattle.mz_context.specs.Known.{known}
 use Rattle.mz_headings.specs.Naming.{IsNamedFunction}
 use Rattle.mz_headings.proofs.Named.{named_item}
@@ -11,12 +11,12 @@ use Rattle.mz_check.proofs.Keeping.{next_numbered, end_numbered}
 use Rattle.mz_check.proofs.sections.bodies.Goals as goal
 
 pub body-b-requires : goal.body-b-requires
-body-b-requires c = named_item (IsNamedFunction (length (known c.args.context.now).texts)) function_of c.args.functions.now c.loop-k.k c.index-functions-k.result c.requires c.loop-k-test.true c.index-functions-k.is
+body-b-requires c = named_item (IsNamedFunction (length (known c.args.context.now).texts)) lent_function c.args.functions.now c.loop-k.k c.index-functions-k.result c.requires c.loop-k-test.true c.index-functions-k.is
 
 pub loop-k-preserved : goal.loop-k-preserved
 loop-k-preserved c =
-    next_numbered tree body_at (body_of_each (known c.args.context.now)) function_of c.args.functions.now c.loop-k.k c.index-functions-k.result (option_map met_of c.args.first.now) (option_map met_of c.loop-k.first) (option_map met_of c.keep_tree.new.first) c.body-b.result c.expr_place.result c.loop-k.all.items c.keep_tree.new.all.items
+    next_numbered tree body_at (body_of_each (known c.args.context.now)) lent_function c.args.functions.now c.loop-k.k c.index-functions-k.result (option_map met_of c.args.first.now) (option_map met_of c.loop-k.first) (option_map met_of c.keep_tree.new.first) c.body-b.result c.expr_place.result c.loop-k.all.items c.keep_tree.new.all.items
     c.loop-k.invariant c.loop-k-test.true c.index-functions-k.is c.body-b.ensures c.expr_place.ensures c.in_ok-keep_tree.ensures
 
 pub returns : goal.returns
-returns c = end_numbered body_at (body_of_each (known c.args.context.now)) function_of c.args.functions.now c.loop-k.k (option_map met_of c.args.first.now) (option_map met_of c.loop-k.first) _ c.loop-k.invariant c.loop-k-test.false
+returns c = end_numbered body_at (body_of_each (known c.args.context.now)) lent_function c.args.functions.now c.loop-k.k (option_map met_of c.args.first.now) (option_map met_of c.loop-k.first) _ c.loop-k.invariant c.loop-k-test.false

@@ -2,7 +2,7 @@ use Rattle.std.proofs.Common.{map, drop}
 use Rattle.std.specs.List.{enumerate_from}
 use Rattle.std.specs.Option.{option_map}
 use Rattle.mz_core.specs.TreeViews.{tree}
-use Rattle.mz_tree.specs.Items.{function_of}
+use Rattle.mz_scoped.specs.Scoped.{lent_function}
 use Rattle.mz_checks.specs.Checks.{numbered}
 use Rattle.mz_context.specs.Known.{known}
 use Rattle.mz_check.specs.StepsMeeting.{met_of}
@@ -11,4 +11,4 @@ use Rattle.mz_check.proofs.Keeping.{AreTestedBut}
 use Rattle.mz_check.proofs.sections.bodies.Given as goal
 
 abbrev pub invariant-loop-k : goal.invariant-loop-k
-invariant-loop-k l = AreTestedBut body_at (body_of_each (known l.context)) (numbered (map function_of l.functions)) (enumerate_from l.k (map function_of (drop l.k l.functions))) (option_map met_of l.fn.first) (option_map met_of l.first) (map tree l.all.items)
+invariant-loop-k l = AreTestedBut body_at (body_of_each (known l.context)) (numbered (map lent_function l.functions)) (enumerate_from l.k (map lent_function (drop l.k l.functions))) (option_map met_of l.fn.first) (option_map met_of l.first) (map tree l.all.items)

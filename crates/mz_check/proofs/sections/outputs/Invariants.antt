@@ -1,7 +1,7 @@
 use Rattle.std.proofs.Common.{map, drop}
 use Rattle.std.specs.Option.{option_map}
 use Rattle.mz_core.specs.TreeViews.{tree}
-use Rattle.mz_tree.specs.Views.{tree as source}
+use Rattle.mz_scoped.specs.Scoped.{lent_tree}
 use Rattle.mz_checks.specs.Items.{output}
 use Rattle.mz_checks.specs.Checks.{tree_place}
 use Rattle.mz_context.specs.Known.{known}
@@ -10,4 +10,4 @@ use Rattle.mz_check.proofs.Keeping.{AreTestedBut}
 use Rattle.mz_check.proofs.sections.outputs.Given as goal
 
 abbrev pub invariant-loop-e : goal.invariant-loop-e
-invariant-loop-e l = AreTestedBut tree_place (output (known l.context)) (map source l.es) (map source (drop l.e-index l.es)) (option_map met_of l.fn.first) (option_map met_of l.first) (map tree l.all.items)
+invariant-loop-e l = AreTestedBut tree_place (output (known l.context)) (map lent_tree l.es) (map lent_tree (drop l.e-index l.es)) (option_map met_of l.fn.first) (option_map met_of l.first) (map tree l.all.items)

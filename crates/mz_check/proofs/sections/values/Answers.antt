@@ -1,7 +1,7 @@
 use Rattle.std.proofs.Common.{length}
 use Rattle.std.specs.Option.{option_map}
 use Rattle.mz_core.specs.TreeViews.{tree}
-use Rattle.mz_tree.specs.Views.{declaration}
+use Rattle.mz_scoped.specs.Scoped.{scoped_decl}
 use Rattle.mz_context.specs.Known.{known}
 use Rattle.mz_headings.specs.Naming.{IsNamedDeclaration}
 use Rattle.mz_headings.proofs.Named.{named_item}
@@ -11,12 +11,12 @@ use Rattle.mz_check.proofs.Keeping.{next_numbered, end_numbered}
 use Rattle.mz_check.proofs.sections.values.Goals as goal
 
 pub value-v-requires : goal.value-v-requires
-value-v-requires c = named_item (IsNamedDeclaration (length (known c.args.context.now).texts)) declaration c.args.decls.now c.loop-k.k c.index-decls-k.result c.requires c.loop-k-test.true c.index-decls-k.is
+value-v-requires c = named_item (IsNamedDeclaration (length (known c.args.context.now).texts)) scoped_decl c.args.decls.now c.loop-k.k c.index-decls-k.result c.requires c.loop-k-test.true c.index-decls-k.is
 
 pub loop-k-preserved : goal.loop-k-preserved
 loop-k-preserved c =
-    next_numbered (option_map tree) value_at (value_of_each (known c.args.context.now)) declaration c.args.decls.now c.loop-k.k c.index-decls-k.result (option_map met_of c.args.first.now) (option_map met_of c.loop-k.first) (option_map met_of c.keep_value.new.first) c.value-v.result c.value_place.result c.loop-k.all.items c.keep_value.new.all.items
+    next_numbered (option_map tree) value_at (value_of_each (known c.args.context.now)) scoped_decl c.args.decls.now c.loop-k.k c.index-decls-k.result (option_map met_of c.args.first.now) (option_map met_of c.loop-k.first) (option_map met_of c.keep_value.new.first) c.value-v.result c.value_place.result c.loop-k.all.items c.keep_value.new.all.items
     c.loop-k.invariant c.loop-k-test.true c.index-decls-k.is c.value-v.ensures c.value_place.ensures c.in_ok-keep_value.ensures
 
 pub returns : goal.returns
-returns c = end_numbered value_at (value_of_each (known c.args.context.now)) declaration c.args.decls.now c.loop-k.k (option_map met_of c.args.first.now) (option_map met_of c.loop-k.first) _ c.loop-k.invariant c.loop-k-test.false
+returns c = end_numbered value_at (value_of_each (known c.args.context.now)) scoped_decl c.args.decls.now c.loop-k.k (option_map met_of c.args.first.now) (option_map met_of c.loop-k.first) _ c.loop-k.invariant c.loop-k-test.false

@@ -2,7 +2,7 @@ use Rattle.std.proofs.Common.{map, drop}
 use Rattle.std.specs.List.{enumerate_from}
 use Rattle.std.specs.Option.{option_map}
 use Rattle.mz_core.specs.TreeViews.{tree}
-use Rattle.mz_tree.specs.Views.{declaration}
+use Rattle.mz_scoped.specs.Scoped.{scoped_decl}
 use Rattle.mz_checks.specs.Checks.{numbered}
 use Rattle.mz_context.specs.Known.{known}
 use Rattle.mz_check.specs.StepsMeeting.{met_of}
@@ -11,4 +11,4 @@ use Rattle.mz_check.proofs.Keeping.{AreTestedBut}
 use Rattle.mz_check.proofs.sections.values.Given as goal
 
 abbrev pub invariant-loop-k : goal.invariant-loop-k
-invariant-loop-k l = AreTestedBut value_at (value_of_each (known l.context)) (numbered (map declaration l.decls)) (enumerate_from l.k (map declaration (drop l.k l.decls))) (option_map met_of l.fn.first) (option_map met_of l.first) (map (option_map tree) l.all.items)
+invariant-loop-k l = AreTestedBut value_at (value_of_each (known l.context)) (numbered (map scoped_decl l.decls)) (enumerate_from l.k (map scoped_decl (drop l.k l.decls))) (option_map met_of l.fn.first) (option_map met_of l.first) (map (option_map tree) l.all.items)

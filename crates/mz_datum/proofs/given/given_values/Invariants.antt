@@ -1,5 +1,5 @@
 use Rattle.std.proofs.Common.{◌≡◌, [], map, drop}
-use Rattle.mz_tree.specs.Data.{given}
+use Rattle.mz_scoped.specs.Scoped.{lent_given}
 use Rattle.mz_checks.specs.Tests.{loop, one_more}
 use Rattle.mz_context.specs.Known.{known}
 use Rattle.mz_datum.specs.WithData.{given_value}
@@ -7,4 +7,4 @@ use Rattle.mz_datum.specs.Views.{typed_item}
 use Rattle.mz_datum.proofs.given.given_values.Given as goal
 
 abbrev pub invariant-loop-item : goal.invariant-loop-item
-invariant-loop-item l = loop (one_more (given_value (known l.context))) [] (map given l.items) ≡ loop (one_more (given_value (known l.context))) (map typed_item l.all.items) (map given (drop l.item-index l.items))
+invariant-loop-item l = loop (one_more (given_value (known l.context))) [] (map lent_given l.items) ≡ loop (one_more (given_value (known l.context))) (map typed_item l.all.items) (map lent_given (drop l.item-index l.items))

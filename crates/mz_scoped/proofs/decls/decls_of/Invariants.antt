@@ -1,10 +1,10 @@
 use Rattle.std.proofs.Common.{◌≡◌, ◌++◌, drop, map}
 use Rattle.std.specs.List.{flat_map}
-use Rattle.mz_tree.specs.Views.{declaration}
 use Rattle.mz_tree.specs.Items.{item}
+use Rattle.mz_scoped.specs.Scoped.{scoped_decl}
 use Rattle.mz_scoped.specs.StepsParts.{filled_in}
 use Rattle.mz_scoped.specs.StepsTables.{value_found}
 use Rattle.mz_scoped.proofs.decls.decls_of.Given as goal
 
 abbrev pub invariant-loop-file : goal.invariant-loop-file
-invariant-loop-file l = map declaration l.out.items ++ flat_map (λ f. flat_map (λ i. filled_in (value_found l.table) (item i)) f.items.items) (drop l.file-index l.files) ≡ flat_map (λ f. flat_map (λ i. filled_in (value_found l.table) (item i)) f.items.items) l.files
+invariant-loop-file l = map scoped_decl l.out.items ++ flat_map (λ f. flat_map (λ i. filled_in (value_found l.table) (item i)) f.items.items) (drop l.file-index l.files) ≡ flat_map (λ f. flat_map (λ i. filled_in (value_found l.table) (item i)) f.items.items) l.files

@@ -3,7 +3,8 @@ use Rattle.std.specs.List.{flat_map}
 use Rattle.mz_tree.specs.Data.{given}
 use Rattle.mz_occurrence.specs.Sets.{holds}
 use Rattle.mz_scoped.specs.Parts.{unless}
+use Rattle.mz_scoped.specs.Scoped.{lent_given}
 use Rattle.mz_scoped.proofs.given.items_besides.Given as goal
 
 abbrev pub invariant-loop-d : goal.invariant-loop-d
-invariant-loop-d l = map given l.out.items ++ flat_map (λ d. unless (holds d.name l.names) (given d)) (drop l.d-index l.items) ≡ flat_map (λ d. unless (holds d.name l.names) (given d)) l.items
+invariant-loop-d l = map lent_given l.out.items ++ flat_map (λ d. unless (holds d.name l.names) (given d)) (drop l.d-index l.items) ≡ flat_map (λ d. unless (holds d.name l.names) (given d)) l.items

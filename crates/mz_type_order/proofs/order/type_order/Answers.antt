@@ -2,12 +2,10 @@ use Rattle.std.proofs.Common.{◌≡◌, ◌∙◌, ℕ, ◌+◌, ◌-◌, List,
 use Rattle.std.proofs.lemmas.List.{length-map}
 use Rattle.mz_graph.specs.Graph.{Graph, graph_of, IsGraph, Edge}
 use Rattle.mz_graph.specs.Order.{IsOrder}
-use Rattle.mz_tree.specs.Views.{declaration}
-use Rattle.mz_tree.specs.Items.{function_of}
 use Rattle.mz_uses.specs.declared.sketch.Sketch.{Sketch as CodeSketch}
 use Rattle.mz_uses.specs.Sketches.{Sketch, sketch, decl_sketch, function_sketch}
 use Rattle.mz_dependency.specs.Dependencies.{AreDeclarations}
-use Rattle.mz_scoped.specs.Scoped.{scoped_tree}
+use Rattle.mz_scoped.specs.Scoped.{scoped_decl, lent_function, scoped_tree}
 use Rattle.mz_type_order.specs.Subjects.{subjects_in, IsOrderOf}
 use Rattle.mz_type_order.proofs.Declared as declared
 use Rattle.mz_type_order.proofs.Sorting as sorting
@@ -16,7 +14,7 @@ use Rattle.mz_type_order.proofs.order.type_order.Goals as goal
 pub type_graph-requires : goal.type_graph-requires
 type_graph-requires c =
     subst (λ (ds : List Sketch). AreDeclarations ds)
-    (sym (ap (λ (os : List CodeSketch). map sketch os) c.as_slice-3.ensures.value ∙ c.in_ok-decls.ensures ∙ ap (λ ds. map decl_sketch (map declaration ds)) c.as_slice.ensures.value))
+    (sym (ap (λ (os : List CodeSketch). map sketch os) c.as_slice-3.ensures.value ∙ c.in_ok-decls.ensures ∙ ap (λ ds. map decl_sketch (map scoped_decl ds)) c.as_slice.ensures.value))
     (declared.declarations (scoped_tree c.args.scoped.now) c.requires.distinct)
 
 pub order_of-requires : goal.order_of-requires
@@ -38,8 +36,8 @@ returns c =
     (subst (λ (order : List ℕ). IsOrderOf (scoped_tree c.args.scoped.now) (subjects_in c.len-3.result (c.len.result - c.len-2.result) order)) (sym c.as_slice-6.ensures.value)
     (sorting.order_found (scoped_tree c.args.scoped.now) ds fs types c.in_ok-order.order.items c.len-3.result (c.len.result - c.len-2.result)
     (record { sized = sized; are = c.in_ok-graph.ensures.types })
-    (ap (λ (os : List CodeSketch). map sketch os) c.as_slice-3.ensures.value ∙ c.in_ok-decls.ensures ∙ ap (λ ds. map decl_sketch (map declaration ds)) c.as_slice.ensures.value)
-    (ap (λ (os : List CodeSketch). map sketch os) c.as_slice-4.ensures.value ∙ c.in_ok-functions.ensures ∙ ap (λ ds. map function_sketch (map function_of ds)) c.as_slice-2.ensures.value)
+    (ap (λ (os : List CodeSketch). map sketch os) c.as_slice-3.ensures.value ∙ c.in_ok-decls.ensures ∙ ap (λ ds. map decl_sketch (map scoped_decl ds)) c.as_slice.ensures.value)
+    (ap (λ (os : List CodeSketch). map sketch os) c.as_slice-4.ensures.value ∙ c.in_ok-functions.ensures ∙ ap (λ ds. map function_sketch (map lent_function ds)) c.as_slice-2.ensures.value)
     c.requires.ranked
     (subst (λ (g : Graph). IsOrder (Edge g) (length g) c.in_ok-order.order.items) same c.in_ok-order.ensures)
     counted based))
