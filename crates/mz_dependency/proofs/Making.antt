@@ -16,7 +16,7 @@ use Rattle.mz_uses.specs.declared.sketch.Sketch.{Sketch as CodeSketch}
 use Rattle.mz_uses.specs.Sketches.{Sketch, sketch}
 use Rattle.mz_dependency.specs.Dependencies.{meant_by}
 use Rattle.mz_dependency.specs.StepsPlaces.{if_in, names_in, callee, or_zero}
-use Rattle.mz_dependency.specs.StepsGraphs.{name_count, base_of, numbers_of, numbers_by, call_rows, mention_rows, type_rows, HasMembers, AreGraphs}
+use Rattle.mz_dependency.specs.StepsGraphs.{name_count, base_of, numbers_of, numbers_by, call_rows, mention_rows, type_rows, HasMembers, HasMembersBetween, AreGraphs}
 use Rattle.mz_dependency.proofs.Gathering.{dropped}
 use Rattle.mz_dependency.proofs.Building.{number_counted}
 
@@ -75,6 +75,10 @@ numbered bare applied of count functions p q r c f l =
     let w : count ≡ name_count (map sketch functions) = c ∙ ap (λ z. length z + length applied) p ∙ ap (λ z. length (names_in false [] (map sketch functions)) + length z) q in
     omega (arith, n, same, w)
 
+-- members after a graph that is known
+pub members_after : (own rows : Graph) (of : List ℕ) (count : ℕ) (g : Graph) → own ≡ rows → HasMembers own of count g → HasMembers rows of count g
+members_after own rows of count g e h = subst (λ z. HasMembers z of count g) e h
+
 -- the graphs, by what they are made of
 
 module _ (decls functions : List CodeSketch) (bare applied named of : List ℕ) (first count base : ℕ) (p : bare ≡ names_in false [] (map sketch functions)) (q : applied ≡ names_in true [] (map sketch functions)) (m : named ≡ names_in false [] (map sketch decls)) (r : of ≡ numbers_by bare applied (map sketch functions)) (f : first ≡ length functions) (n : count ≡ length bare + length applied) (b : base ≡ first + count) where
@@ -110,18 +114,20 @@ module _ (decls functions : List CodeSketch) (bare applied named of : List ℕ) 
       (subst (λ z. AreMembers (numbers_of (map sketch functions)) z (length (numbers_of (map sketch functions))) g) count_is
       (subst (λ z. AreMembers z count (length z) g) of_is k))
 
-  pub graphs_made : (own_calls own_mentions own_types front decl_types calls mentions decl_calls decl_mentions types : Graph) → own_calls ≡ call_rows first bare applied (map sketch functions) → HasMembers own_calls of count calls → own_mentions ≡ mention_rows named (map sketch functions) → mentions ≡ own_mentions ++ replicate count [] → own_types ≡ type_rows first base bare applied named (map sketch functions) → HasMembers own_types of count front → decl_types ≡ type_rows first base bare applied named (map sketch decls) → types ≡ front ++ decl_types → decl_calls ≡ call_rows first bare applied (map sketch decls) → decl_mentions ≡ mention_rows named (map sketch decls) → AreGraphs (map sketch decls) (map sketch functions) calls mentions decl_calls decl_mentions types
-  graphs_made own_calls own_mentions own_types front decl_types calls mentions decl_calls decl_mentions types oc hc om hm ot ht dt jt dc dm = record {
-    members = hc.members;
-    sorted = members_same hc.members hc.sorted;
-    again = ht.members;
-    sorted_again = members_same ht.members ht.sorted;
-    calls_are = hc.is ∙ ap (λ z. z ++ hc.members) (oc ∙ calls_same (map sketch functions));
-    mentions_are = hm ∙ ap (λ z. z ++ replicate count []) (om ∙ ap (λ z. mention_rows z (map sketch functions)) m) ∙ ap (λ z. mention_rows (names_in false [] (map sketch decls)) (map sketch functions) ++ replicate z []) count_is;
-    decl_calls_are = dc ∙ calls_same (map sketch decls);
-    decl_mentions_are = dm ∙ ap (λ z. mention_rows z (map sketch decls)) m;
-    types_are = jt ∙ ap (λ z. z ++ decl_types) (ht.is ∙ ap (λ z. z ++ ht.members) (ot ∙ types_same (map sketch functions))) ∙ ap (λ z. (type_rows (length (map sketch functions)) (base_of (map sketch functions)) (names_in false [] (map sketch functions)) (names_in true [] (map sketch functions)) (names_in false [] (map sketch decls)) (map sketch functions) ++ ht.members) ++ z) (dt ∙ types_same (map sketch decls));
-  }
+  pub graphs_made : (calls mentions decl_calls decl_mentions types : Graph) → HasMembers (call_rows first bare applied (map sketch functions)) of count calls → mentions ≡ mention_rows named (map sketch functions) ++ replicate count [] → HasMembersBetween (type_rows first base bare applied named (map sketch functions)) of count (type_rows first base bare applied named (map sketch decls)) types → decl_calls ≡ call_rows first bare applied (map sketch decls) → decl_mentions ≡ mention_rows named (map sketch decls) → AreGraphs (map sketch decls) (map sketch functions) calls mentions decl_calls decl_mentions types
+  graphs_made calls mentions decl_calls decl_mentions types hc hm ht dc dm =
+      let known : Graph = type_rows (length (map sketch functions)) (base_of (map sketch functions)) (names_in false [] (map sketch functions)) (names_in true [] (map sketch functions)) (names_in false [] (map sketch decls)) (map sketch functions) in
+      record {
+        members = hc.members;
+        sorted = members_same hc.members hc.sorted;
+        again = ht.before.members;
+        sorted_again = members_same ht.before.members ht.before.sorted;
+        calls_are = hc.is ∙ ap (λ z. z ++ hc.members) (calls_same (map sketch functions));
+        mentions_are = hm ∙ ap (λ z. mention_rows z (map sketch functions) ++ replicate count []) m ∙ ap (λ z. mention_rows (names_in false [] (map sketch decls)) (map sketch functions) ++ replicate z []) count_is;
+        decl_calls_are = dc ∙ calls_same (map sketch decls);
+        decl_mentions_are = dm ∙ ap (λ z. mention_rows z (map sketch decls)) m;
+        types_are = ht.is ∙ ap (λ z. z ++ type_rows first base bare applied named (map sketch decls)) (ht.before.is ∙ ap (λ z. z ++ ht.before.members) (types_same (map sketch functions))) ∙ ap (λ z. (known ++ ht.before.members) ++ z) (types_same (map sketch decls));
+      }
 
 -- what is said of four graphs is said of graphs that are equal to them
 pub of_four : (P : Graph → Graph → Graph → Graph → Type 0) (a b c d a_of b_of c_of d_of : Graph) → P a b c d → a_of ≡ a → b_of ≡ b → c_of ≡ c → d_of ≡ d → P a_of b_of c_of d_of

@@ -52,6 +52,19 @@ pub record HasMembers (front : Graph) (of : List ℕ) (count : ℕ) (g : Graph) 
   pub sorted : AreMembers of count (length of) members
   pub is : g ≡ front ++ members
 
+-- the same, with a graph after it
+pub record HasMembersBetween (front : Graph) (of : List ℕ) (count : ℕ) (back g : Graph) : Type 0 where
+  pub begins : Graph
+  pub before : HasMembers front of count begins
+  pub is : g ≡ begins ++ back
+
+-- the names that uses are looked up in, and the number of each function's name
+pub record AreTables (decls functions : List Sketch) (bare applied named of : List ℕ) : Type 0 where
+  pub bare_are : bare ≡ names_in false [] functions
+  pub applied_are : applied ≡ names_in true [] functions
+  pub named_are : named ≡ names_in false [] decls
+  pub numbers_are : of ≡ numbers_by bare applied functions
+
 pub record AreGraphs (decls functions : List Sketch) (calls mentions decl_calls decl_mentions types : Graph) : Type 0 where
   pub members : Graph
   pub sorted : AreMembers (numbers_of functions) (name_count functions) (length functions) members

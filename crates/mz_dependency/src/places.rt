@@ -12,9 +12,14 @@ use std::alloc::Global;
 use std::marker::Model;
 
 /// Names, each once, in the order in which they came.
-#[derive(Drop)]
 pub(crate) struct Places {
     names: IndexSet<Name>,
+}
+
+impl Drop for Places {
+    fn drop(self) {
+        let Places { names: _names } = self;
+    }
 }
 
 impl Model for Places {

@@ -12,7 +12,6 @@ use mz_uses::{NameUse, Sketch};
 use std::alloc::Global;
 
 /// The names that uses are looked up in.
-#[derive(Drop)]
 pub(crate) struct Tables {
     /// Of functions without parameters.
     pub bare: Places,
@@ -20,6 +19,16 @@ pub(crate) struct Tables {
     pub applied: Places,
     /// Of declarations.
     pub decls: Places,
+}
+
+impl Drop for Tables {
+    fn drop(self) {
+        let Tables {
+            bare: _bare,
+            applied: _applied,
+            decls: _decls,
+        } = self;
+    }
 }
 
 /// The use that means this declaration or function.

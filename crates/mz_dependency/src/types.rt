@@ -25,5 +25,5 @@ pub fn type_graph(
     ensures types { IfOk result (λ g. AreTypes (map sketch decls.now) (map sketch functions.now) (node_of (map sketch functions.now)) (base_of (map sketch functions.now)) (graph_of g.items)) }
 {
     let graphs = graphs_of(alloc, decls, functions)?;
-    Ok(graphs.types)
+    Ok(graphs.into_types())
 }
