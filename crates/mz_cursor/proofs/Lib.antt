@@ -2,6 +2,4 @@ pub mod Laws
 pub mod Viable
 pub mod Longer
 pub mod Answering
-pub mod Keeps
-pub mod TokenParts
 pub mod Steps

@@ -9,12 +9,6 @@ pub mod Viability
 pub mod Equations
 pub mod ListEquations
 pub mod ItemEquations
-pub mod Bounds
-pub mod Heights
-pub mod ItemHeights
-pub mod PartTrees
-pub mod ExpressionTrees
-pub mod ItemTrees
 pub mod DataFalls
 pub mod DataFaults
 pub mod DataPartEnds
