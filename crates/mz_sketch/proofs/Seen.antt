@@ -1,5 +1,6 @@
 -- What an expression uses, by its form, where two parts or more are read one after the other.
-use Rattle.std.proofs.Common.{◌≡◌, suc, Bool, false, arith, length, List, [], ◌∷◌, ◌++◌, refl, ap, sym, ◌∙◌, map, append_assoc, Vec, Box, Option, Some}
+use Rattle.std.proofs.Common.{◌≡◌, suc, Bool, false, arith, length, List, [], ◌∷◌, ◌++◌, refl, ap, sym, ◌∙◌, map, append_assoc, Vec, Box, Option, Some, Result, OnOk}
+use Rattle.std.proofs.lemmas.Result.{on_ok_weaker}
 use Rattle.std.specs.Global.{Global}
 use Rattle.std.specs.List.{flat_map}
 use Rattle.std.specs.Prelude.{nat_eq}
@@ -29,6 +30,17 @@ after_both old first all a b whole p q r = q ∙ ap (λ z. z ++ b) p ∙ append_
 -- a part, and one under the names that it hides
 pub after_scope : (old first all a whole : List NameUse) (g with_it : List Name) (f : List Name → List NameUse) → first ≡ old ++ a → all ≡ first ++ f g → g ≡ with_it → whole ≡ a ++ f with_it → all ≡ old ++ whole
 after_scope old first all a whole g with_it f p q i r = after_both old first all a (f with_it) whole p (q ∙ ap (λ z. first ++ f z) i) r
+
+-- the same, where the last part is read by the call that answers
+
+pub both_on_ok : {T E : Type 0} (r : Result T E) (old first all a b whole : List NameUse) → first ≡ old ++ a → OnOk r (all ≡ first ++ b) → whole ≡ a ++ b → OnOk r (all ≡ old ++ whole)
+both_on_ok r old first all a b whole p q e = on_ok_weaker r (λ h. after_both old first all a b whole p h e) q
+
+pub scope_on_ok : {T E : Type 0} (r : Result T E) (old first all a whole : List NameUse) (g with_it : List Name) (f : List Name → List NameUse) → first ≡ old ++ a → OnOk r (all ≡ first ++ f g) → g ≡ with_it → whole ≡ a ++ f with_it → OnOk r (all ≡ old ++ whole)
+scope_on_ok r old first all a whole g with_it f p q i e = on_ok_weaker r (λ h. after_scope old first all a whole g with_it f p h i e) q
+
+pub kept_on_ok : {T E : Type 0} (r : Result T E) (old first all : List Name) → first ≡ old → OnOk r (all ≡ first) → OnOk r (all ≡ old)
+kept_on_ok r old first all p q = on_ok_weaker r (λ h. h ∙ p) q
 
 array_comp_is : (x : Box Expr Global) (gs : Vec Gen Global) → shape (forms.ArrayComp x gs) ≡ pure.array_comp (tree x.value) (pure.gens (map generator gs.items))
 unfolding tree shape let_of part based declaration generator written

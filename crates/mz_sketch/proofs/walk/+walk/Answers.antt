@@ -5,7 +5,7 @@ use Rattle.mz_tree.specs.Views.{tree, part, generator, let_of, based, link, bran
 use Rattle.mz_uses.specs.Uses.{applied, in_links, in_branches, in_tree, in_trees, in_part, in_generator, in_gens, in_let, in_lets, in_based, with_generator, with_gens, with_let, with_lets}
 use Rattle.mz_sketch.proofs.Lists.{one_read, all_read, trees_flat, links_flat, branches_flat, parts_flat, bases_flat, step, gens_from, with_gens_from, lets_from, with_lets_from, gens_read, lets_read, with_gens_read, with_lets_read}
 use Rattle.mz_sketch.proofs.Extending.{begins_gens, begins_lets, left_after}
-use Rattle.mz_sketch.proofs.Seen.{after_both, after_scope, in_array_comp, in_set_comp, in_let_form, in_rows_form, in_gen_call, in_chain, empty_same, in_call, in_access, in_if}
+use Rattle.mz_sketch.proofs.Seen.{after_both, after_scope, both_on_ok, scope_on_ok, kept_on_ok, in_array_comp, in_set_comp, in_let_form, in_rows_form, in_gen_call, in_chain, empty_same, in_call, in_access, in_if}
 use Rattle.mz_sketch.proofs.walk.+walk.Goals as goal
 
 pub in_all-loop-e-preserved : goal.in_all-loop-e-preserved
@@ -83,17 +83,26 @@ in_expression-returns-in_ok-in_expression-in-Let-clause-uses t c = after_scope c
 pub in_expression-returns-in_ok-in_expression-in-Let-clause-hidden : goal.in_expression-returns-in_ok-in_expression-in-Let-clause-hidden
 in_expression-returns-in_ok-in_expression-in-Let-clause-hidden t c = left_after c.args.hidden.now (with_lets c.args.hidden.now (lets (map let_of c.as_slice-in-Let.result.now))) c.in_let_items.new.hidden c.in_expression-in-Let.new.hidden c.leave-in-Let.new.self c.len-depth-in-Let.result c.len-depth-in-Let.ensures (begins_lets c.args.hidden.now (lets (map let_of c.as_slice-in-Let.result.now))) c.in_ok-in_let_items-in-Let.ensures.hidden c.in_ok-in_expression-in-Let.ensures.hidden c.leave-in-Let.ensures
 
-pub in_expression-returns-in_ok-in_operands-in-Chain-clause-uses : goal.in_expression-returns-in_ok-in_operands-in-Chain-clause-uses
-in_expression-returns-in_ok-in_operands-in-Chain-clause-uses t c = after_scope c.args.out.now.items c.in_expression-in-Chain.new.out.items c.in_operands.new.out.items (in_tree c.args.hidden.now (tree c.deref-in-Chain.result.now)) (in_tree c.args.hidden.now (tree c.args.e.now)) c.in_expression-in-Chain.new.hidden c.args.hidden.now (λ z. in_links z (links (map link c.as_slice-in-Chain.result.now))) c.in_ok-in_expression-in-Chain.ensures.uses c.in_ok-in_operands-in-Chain.ensures.uses c.in_ok-in_expression-in-Chain.ensures.hidden (in_chain c.args.hidden.now c.args.e.now c.deref-in-Chain.result.now c.in-Chain.x c.in-Chain.rest c.as_slice-in-Chain.result.now c.in-Chain.is c.deref-in-Chain.ensures c.as_slice-in-Chain.ensures.value)
+pub in_expression-returns-in_ok-in_expression-in-Chain-clause-uses : goal.in_expression-returns-in_ok-in_expression-in-Chain-clause-uses
+in_expression-returns-in_ok-in_expression-in-Chain-clause-uses t c = scope_on_ok c.in_operands.result c.args.out.now.items c.in_expression-in-Chain.new.out.items c.in_operands.new.out.items (in_tree c.args.hidden.now (tree c.deref-in-Chain.result.now)) (in_tree c.args.hidden.now (tree c.args.e.now)) c.in_expression-in-Chain.new.hidden c.args.hidden.now (λ z. in_links z (links (map link c.as_slice-in-Chain.result.now))) c.in_ok-in_expression-in-Chain.ensures.uses c.in_operands.ensures.uses c.in_ok-in_expression-in-Chain.ensures.hidden (in_chain c.args.hidden.now c.args.e.now c.deref-in-Chain.result.now c.in-Chain.x c.in-Chain.rest c.as_slice-in-Chain.result.now c.in-Chain.is c.deref-in-Chain.ensures c.as_slice-in-Chain.ensures.value)
 
-pub in_expression-returns-in_ok-in_all-in-Access-clause-uses : goal.in_expression-returns-in_ok-in_all-in-Access-clause-uses
-in_expression-returns-in_ok-in_all-in-Access-clause-uses t c = after_scope c.args.out.now.items c.in_expression-in-Access.new.out.items c.in_all-in-Access.new.out.items (in_tree c.args.hidden.now (tree c.deref-in-Access.result.now)) (in_tree c.args.hidden.now (tree c.args.e.now)) c.in_expression-in-Access.new.hidden c.args.hidden.now (λ z. in_trees z (trees (map tree c.as_slice-in-Access.result.now))) c.in_ok-in_expression-in-Access.ensures.uses c.in_ok-in_all-in-Access.ensures.uses c.in_ok-in_expression-in-Access.ensures.hidden (in_access c.args.hidden.now c.args.e.now c.deref-in-Access.result.now c.in-Access.x c.in-Access.xs c.as_slice-in-Access.result.now c.in-Access.is c.deref-in-Access.ensures c.as_slice-in-Access.ensures.value)
+pub in_expression-returns-in_ok-in_expression-in-Chain-clause-hidden : goal.in_expression-returns-in_ok-in_expression-in-Chain-clause-hidden
+in_expression-returns-in_ok-in_expression-in-Chain-clause-hidden t c = kept_on_ok c.in_operands.result c.args.hidden.now c.in_expression-in-Chain.new.hidden c.in_operands.new.hidden c.in_ok-in_expression-in-Chain.ensures.hidden c.in_operands.ensures.hidden
 
-pub in_expression-returns-in_ok-in_expression-in-If-clause-uses : goal.in_expression-returns-in_ok-in_expression-in-If-clause-uses
-in_expression-returns-in_ok-in_expression-in-If-clause-uses t c = after_scope c.args.out.now.items c.in_choices.new.out.items c.in_expression-in-Some.new.out.items (in_branches c.args.hidden.now (branches (map branch c.as_slice-in-If.result.now))) (in_tree c.args.hidden.now (tree c.args.e.now)) c.in_choices.new.hidden c.args.hidden.now (λ z. in_tree z (tree c.deref-in-Some.result.now)) c.in_ok-in_choices-in-If.ensures.uses c.in_ok-in_expression-in-If.ensures.uses c.in_ok-in_choices-in-If.ensures.hidden (in_if c.args.hidden.now c.args.e.now c.deref-in-Some.result.now c.in-Some.x c.in-If.bs c.as_slice-in-If.result.now c.in-If.other c.in-If.is c.in-Some.is c.deref-in-Some.ensures c.as_slice-in-If.ensures.value)
+pub in_expression-returns-in_ok-in_expression-in-Access-clause-uses : goal.in_expression-returns-in_ok-in_expression-in-Access-clause-uses
+in_expression-returns-in_ok-in_expression-in-Access-clause-uses t c = scope_on_ok c.in_all-in-Access.result c.args.out.now.items c.in_expression-in-Access.new.out.items c.in_all-in-Access.new.out.items (in_tree c.args.hidden.now (tree c.deref-in-Access.result.now)) (in_tree c.args.hidden.now (tree c.args.e.now)) c.in_expression-in-Access.new.hidden c.args.hidden.now (λ z. in_trees z (trees (map tree c.as_slice-in-Access.result.now))) c.in_ok-in_expression-in-Access.ensures.uses c.in_all-in-Access.ensures.uses c.in_ok-in_expression-in-Access.ensures.hidden (in_access c.args.hidden.now c.args.e.now c.deref-in-Access.result.now c.in-Access.x c.in-Access.xs c.as_slice-in-Access.result.now c.in-Access.is c.deref-in-Access.ensures c.as_slice-in-Access.ensures.value)
+
+pub in_expression-returns-in_ok-in_expression-in-Access-clause-hidden : goal.in_expression-returns-in_ok-in_expression-in-Access-clause-hidden
+in_expression-returns-in_ok-in_expression-in-Access-clause-hidden t c = kept_on_ok c.in_all-in-Access.result c.args.hidden.now c.in_expression-in-Access.new.hidden c.in_all-in-Access.new.hidden c.in_ok-in_expression-in-Access.ensures.hidden c.in_all-in-Access.ensures.hidden
+
+pub in_expression-returns-in-Some-clause-uses : goal.in_expression-returns-in-Some-clause-uses
+in_expression-returns-in-Some-clause-uses t c = scope_on_ok c.in_expression-in-Some.result c.args.out.now.items c.in_choices.new.out.items c.in_expression-in-Some.new.out.items (in_branches c.args.hidden.now (branches (map branch c.as_slice-in-If.result.now))) (in_tree c.args.hidden.now (tree c.args.e.now)) c.in_choices.new.hidden c.args.hidden.now (λ z. in_tree z (tree c.deref-in-Some.result.now)) c.in_ok-in_choices-in-If.ensures.uses c.in_expression-in-Some.ensures.uses c.in_ok-in_choices-in-If.ensures.hidden (in_if c.args.hidden.now c.args.e.now c.deref-in-Some.result.now c.in-Some.x c.in-If.bs c.as_slice-in-If.result.now c.in-If.other c.in-If.is c.in-Some.is c.deref-in-Some.ensures c.as_slice-in-If.ensures.value)
+
+pub in_expression-returns-in-Some-clause-hidden : goal.in_expression-returns-in-Some-clause-hidden
+in_expression-returns-in-Some-clause-hidden t c = kept_on_ok c.in_expression-in-Some.result c.args.hidden.now c.in_choices.new.hidden c.in_expression-in-Some.new.hidden c.in_ok-in_choices-in-If.ensures.hidden c.in_expression-in-Some.ensures.hidden
 
 pub in_expression-returns-after-loop-row-clause-uses : goal.in_expression-returns-after-loop-row-clause-uses
 in_expression-returns-after-loop-row-clause-uses t c = all_read (λ x. in_trees c.args.hidden.now (trees (map tree x.items))) c.as_slice-row-items.result.now c.loop-row.row-index c.args.out.now.items c.loop-row.out.items _ c.loop-row.invariant.uses c.loop-row-test.false (in_rows_form c.args.hidden.now c.args.e.now c.in-Rows.rs c.as_slice-row-items.result.now c.in-Rows.is c.as_slice-row-items.ensures.value)
 
-pub in_expression-returns-in_ok-in_all-in-Call-clause-uses : goal.in_expression-returns-in_ok-in_all-in-Call-clause-uses
-in_expression-returns-in_ok-in_all-in-Call-clause-uses t c = after_both c.args.out.now.items c.applied.new.out.items c.in_all.new.out.items (applied c.args.hidden.now c.in-Call.n c.is_empty.result) (in_trees c.args.hidden.now (trees (map tree c.as_slice-in-Call.result.now))) (in_tree c.args.hidden.now (tree c.args.e.now)) c.in_ok-applied-in-Call.ensures c.in_ok-in_all-in-Call.ensures.uses (in_call c.args.hidden.now c.args.e.now c.in-Call.n c.in-Call.xs c.as_slice-in-Call.result.now c.is_empty.result c.in-Call.is c.as_slice-in-Call.ensures.value (c.is_empty.ensures ∙ ap (λ z. nat_eq z 0) (sym c.as_slice-in-Call.ensures.len) ∙ sym (empty_same c.as_slice-in-Call.result.now)))
+pub in_expression-returns-in_ok-applied-in-Call-clause-uses : goal.in_expression-returns-in_ok-applied-in-Call-clause-uses
+in_expression-returns-in_ok-applied-in-Call-clause-uses t c = both_on_ok c.in_all.result c.args.out.now.items c.applied.new.out.items c.in_all.new.out.items (applied c.args.hidden.now c.in-Call.n c.is_empty.result) (in_trees c.args.hidden.now (trees (map tree c.as_slice-in-Call.result.now))) (in_tree c.args.hidden.now (tree c.args.e.now)) c.in_ok-applied-in-Call.ensures c.in_all.ensures.uses (in_call c.args.hidden.now c.args.e.now c.in-Call.n c.in-Call.xs c.as_slice-in-Call.result.now c.is_empty.result c.in-Call.is c.as_slice-in-Call.ensures.value (c.is_empty.ensures ∙ ap (λ z. nat_eq z 0) (sym c.as_slice-in-Call.ensures.len) ∙ sym (empty_same c.as_slice-in-Call.result.now)))
