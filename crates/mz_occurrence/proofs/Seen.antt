@@ -1,5 +1,6 @@
 -- The occurrences in an expression, by its form.
-use Rattle.std.proofs.Common.{◌≡◌, ℤ, Bool, List, [], ◌∷◌, ◌++◌, refl, ap, sym, ◌∙◌, map, append_assoc, append-nil, Vec, Box, Option, Some, None}
+use Rattle.std.proofs.Common.{◌≡◌, ℤ, Bool, List, [], ◌∷◌, ◌++◌, refl, ap, sym, ◌∙◌, map, append_assoc, append-nil, Vec, Box, Option, Some, None, Result, OnOk}
+use Rattle.std.proofs.lemmas.Result.{on_ok_weaker}
 use Rattle.std.specs.Global.{Global}
 use Rattle.std.specs.List.{flat_map}
 use Rattle.mz_tree.specs.declared.expr.Expr.{Expr}
@@ -41,6 +42,17 @@ after_both old first all a b whole p q r = q ∙ ap (λ z. z ++ b) p ∙ append_
 pub after_three : (old first second all a b c whole : List Occurrence) → first ≡ old ++ a → second ≡ first ++ b → all ≡ second ++ c → whole ≡ a ++ (b ++ c) → all ≡ old ++ whole
 after_three old first second all a b c whole p q s r =
     s ∙ ap (λ z. z ++ c) (q ∙ ap (λ z. z ++ b) p) ∙ append_assoc (old ++ a) b c ∙ append_assoc old a (b ++ c) ∙ ap (λ z. old ++ z) (sym r)
+
+-- The same, where the last part is read by the call that answers
+
+pub one_on_ok : {T E : Type 0} (r : Result T E) (old all a whole : List Occurrence) → OnOk r (all ≡ old ++ a) → whole ≡ a → OnOk r (all ≡ old ++ whole)
+one_on_ok r old all a whole p e = on_ok_weaker r (λ h. after_one old all a whole h e) p
+
+pub both_on_ok : {T E : Type 0} (r : Result T E) (old first all a b whole : List Occurrence) → first ≡ old ++ a → OnOk r (all ≡ first ++ b) → whole ≡ a ++ b → OnOk r (all ≡ old ++ whole)
+both_on_ok r old first all a b whole p q e = on_ok_weaker r (λ h. after_both old first all a b whole p h e) q
+
+pub three_on_ok : {T E : Type 0} (r : Result T E) (old first second all a b c whole : List Occurrence) → first ≡ old ++ a → second ≡ first ++ b → OnOk r (all ≡ second ++ c) → whole ≡ a ++ (b ++ c) → OnOk r (all ≡ old ++ whole)
+three_on_ok r old first second all a b c whole p q s e = on_ok_weaker r (λ h. after_three old first second all a b c whole p q h e) s
 
 -- Forms in which no name is used
 

@@ -44,15 +44,16 @@ fn in_top(out: &mut Vec<Occurrence>, d: &Decl) -> Result<(), Memory>
     match &d.value {
         Some(value) => {
             note(out, Role::Valued, d.name, d.span)?;
-            in_expression(out, value)?;
+            in_expression(out, value)
         }
         None => {
-            if !d.ty.var {
-                note(out, Role::Wanting, d.name, d.span)?;
+            if d.ty.var {
+                Ok(())
+            } else {
+                note(out, Role::Wanting, d.name, d.span)
             }
         }
     }
-    Ok(())
 }
 
 /// Adds a case.
@@ -125,23 +126,22 @@ fn in_item(out: &mut Vec<Occurrence>, item: &Item) -> Result<(), Memory>
     ensures { OnOk result (out.new.items ≡ out.old.items ++ in_item (tree_of item.now)) }
 {
     match item {
-        Item::Include(_, _) => {}
-        Item::Decl(d) => in_top(out, d)?,
+        Item::Include(_, _) => Ok(()),
+        Item::Decl(d) => in_top(out, d),
         Item::Assign(name, span, e) => {
             note(out, Role::Valued, *name, *span)?;
-            in_expression(out, e)?;
+            in_expression(out, e)
         }
-        Item::Constraint(e) => in_expression(out, e)?,
-        Item::Solve(_, goal) => in_goal(out, goal)?,
-        Item::Output(e) => in_expression(out, e)?,
-        Item::Function(f) => in_function(out, f)?,
+        Item::Constraint(e) => in_expression(out, e),
+        Item::Solve(_, goal) => in_goal(out, goal),
+        Item::Output(e) => in_expression(out, e),
+        Item::Function(f) => in_function(out, f),
         Item::Enum(name, span, cases) => {
             note(out, Role::Declared, *name, *span)?;
-            in_enum(out, *name, *span, cases)?;
+            in_enum(out, *name, *span, cases)
         }
-        Item::Annotation(_) => {}
+        Item::Annotation(_) => Ok(()),
     }
-    Ok(())
 }
 
 fn in_items(out: &mut Vec<Occurrence>, items: &[Item]) -> Result<(), Memory>

@@ -6,7 +6,7 @@ ghost use Rattle.mz_occurrence.specs.Roles.{occurs};
 use mz_base::{Memory, Name, Span};
 
 /// What a name is there for, at one place.
-#[derive(Clone, Copy, Debug, PartialEq, Eq)]
+#[derive(Clone, Copy)]
 pub enum Role {
     /// A variable, an enum, a case or a function without parameters is declared.
     Declared,
@@ -31,7 +31,7 @@ pub enum Role {
 }
 
 /// A name at a place, and what it is there for.
-#[derive(Clone, Copy, Debug, PartialEq, Eq)]
+#[derive(Clone, Copy)]
 pub struct Occurrence {
     pub role: Role,
     pub name: Name,

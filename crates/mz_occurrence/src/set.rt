@@ -9,9 +9,14 @@ use std::alloc::Global;
 use std::marker::Model;
 
 /// A set of names.
-#[derive(Drop)]
 pub struct NameSet {
     names: IndexSet<Name>,
+}
+
+impl Drop for NameSet {
+    fn drop(self) {
+        let NameSet { names: _names } = self;
+    }
 }
 
 impl Model for NameSet {

@@ -16,58 +16,59 @@ pub(crate) fn in_expression(out: &mut Vec<Occurrence>, e: &Expr) -> Result<(), M
     ensures { OnOk result (out.new.items ≡ out.old.items ++ in_tree (tree e.now)) }
 {
     match &e.form {
-        Form::Int(_) => {}
-        Form::Bool(_) => {}
-        Form::Absent => {}
-        Form::Text(_) => {}
-        Form::Ident(n) => note(out, Role::Used, *n, e.span)?,
-        Form::Interp(ps) => in_pieces(out, ps.as_slice())?,
-        Form::Unary(_, x) => in_expression(out, x)?,
+        Form::Int(_) => Ok(()),
+        Form::Bool(_) => Ok(()),
+        Form::Absent => Ok(()),
+        Form::Text(_) => Ok(()),
+        Form::Ident(n) => note(out, Role::Used, *n, e.span),
+        Form::Interp(ps) => in_pieces(out, ps.as_slice()),
+        Form::Unary(_, x) => in_expression(out, x),
         Form::Chain(x, rest) => {
             in_expression(out, x)?;
-            in_operands(out, rest.as_slice())?;
+            in_operands(out, rest.as_slice())
         }
         Form::Call(n, xs) => {
             note(out, Role::Used, *n, e.span)?;
-            in_all(out, xs.as_slice())?;
+            in_all(out, xs.as_slice())
         }
         Form::GenCall(n, gs, x) => {
             note(out, Role::Used, *n, e.span)?;
             in_generators(out, gs.as_slice())?;
-            in_expression(out, x)?;
+            in_expression(out, x)
         }
         Form::Access(x, xs) => {
             in_expression(out, x)?;
-            in_all(out, xs.as_slice())?;
+            in_all(out, xs.as_slice())
         }
-        Form::Array(xs) => in_all(out, xs.as_slice())?,
+        Form::Array(xs) => in_all(out, xs.as_slice()),
         Form::Rows(rs) => {
             for row in rs.as_slice() {
                 in_all(out, row.as_slice())?;
             }
+            Ok(())
         }
-        Form::Set(xs) => in_all(out, xs.as_slice())?,
+        Form::Set(xs) => in_all(out, xs.as_slice()),
         Form::ArrayComp(x, gs) => {
             in_expression(out, x)?;
-            in_generators(out, gs.as_slice())?;
+            in_generators(out, gs.as_slice())
         }
         Form::SetComp(x, gs) => {
             in_expression(out, x)?;
-            in_generators(out, gs.as_slice())?;
+            in_generators(out, gs.as_slice())
         }
         Form::If(bs, other) => {
             in_choices(out, bs.as_slice())?;
-            if let Some(x) = other {
-                in_expression(out, x)?;
+            match other {
+                Some(x) => in_expression(out, x),
+                None => Ok(()),
             }
         }
         Form::Let(ls, x) => {
             in_let_items(out, ls.as_slice())?;
-            in_expression(out, x)?;
+            in_expression(out, x)
         }
-        Form::Whole => {}
+        Form::Whole => Ok(()),
     }
-    Ok(())
 }
 
 #[cycle(walk)]

@@ -9,9 +9,14 @@ use std::alloc::Global;
 use std::marker::Model;
 
 /// The names that are hidden at a place, each once, in the order in which they came to be hidden.
-#[derive(Drop)]
 pub(crate) struct Hidden {
     names: IndexSet<Name>,
+}
+
+impl Drop for Hidden {
+    fn drop(self) {
+        let Hidden { names: _names } = self;
+    }
 }
 
 impl Model for Hidden {

@@ -22,20 +22,20 @@ pub(crate) fn in_expression(
     ensures hidden { OnOk result (hidden.new ≡ hidden.old) }
 {
     match &e.form {
-        Form::Int(_) => {}
-        Form::Bool(_) => {}
-        Form::Absent => {}
-        Form::Text(_) => {}
-        Form::Ident(n) => mention(out, hidden, *n)?,
-        Form::Interp(ps) => in_pieces(out, hidden, ps.as_slice())?,
-        Form::Unary(_, x) => in_expression(out, hidden, x)?,
+        Form::Int(_) => Ok(()),
+        Form::Bool(_) => Ok(()),
+        Form::Absent => Ok(()),
+        Form::Text(_) => Ok(()),
+        Form::Ident(n) => mention(out, hidden, *n),
+        Form::Interp(ps) => in_pieces(out, hidden, ps.as_slice()),
+        Form::Unary(_, x) => in_expression(out, hidden, x),
         Form::Chain(x, rest) => {
             in_expression(out, hidden, x)?;
-            in_operands(out, hidden, rest.as_slice())?;
+            in_operands(out, hidden, rest.as_slice())
         }
         Form::Call(n, xs) => {
             applied(out, hidden, *n, xs.is_empty())?;
-            in_all(out, hidden, xs.as_slice())?;
+            in_all(out, hidden, xs.as_slice())
         }
         Form::GenCall(n, gs, x) => {
             let depth = hidden.len();
@@ -43,34 +43,39 @@ pub(crate) fn in_expression(
             in_generators(out, hidden, gs.as_slice())?;
             in_expression(out, hidden, x)?;
             hidden.leave(depth);
+            Ok(())
         }
         Form::Access(x, xs) => {
             in_expression(out, hidden, x)?;
-            in_all(out, hidden, xs.as_slice())?;
+            in_all(out, hidden, xs.as_slice())
         }
-        Form::Array(xs) => in_all(out, hidden, xs.as_slice())?,
+        Form::Array(xs) => in_all(out, hidden, xs.as_slice()),
         Form::Rows(rs) => {
             for row in rs.as_slice() {
                 in_all(out, hidden, row.as_slice())?;
             }
+            Ok(())
         }
-        Form::Set(xs) => in_all(out, hidden, xs.as_slice())?,
+        Form::Set(xs) => in_all(out, hidden, xs.as_slice()),
         Form::ArrayComp(x, gs) => {
             let depth = hidden.len();
             in_generators(out, hidden, gs.as_slice())?;
             in_expression(out, hidden, x)?;
             hidden.leave(depth);
+            Ok(())
         }
         Form::SetComp(x, gs) => {
             let depth = hidden.len();
             in_generators(out, hidden, gs.as_slice())?;
             in_expression(out, hidden, x)?;
             hidden.leave(depth);
+            Ok(())
         }
         Form::If(bs, other) => {
             in_choices(out, hidden, bs.as_slice())?;
-            if let Some(x) = other {
-                in_expression(out, hidden, x)?;
+            match other {
+                Some(x) => in_expression(out, hidden, x),
+                None => Ok(()),
             }
         }
         Form::Let(ls, x) => {
@@ -78,10 +83,10 @@ pub(crate) fn in_expression(
             in_let_items(out, hidden, ls.as_slice())?;
             in_expression(out, hidden, x)?;
             hidden.leave(depth);
+            Ok(())
         }
-        Form::Whole => {}
+        Form::Whole => Ok(()),
     }
-    Ok(())
 }
 
 #[cycle(walk)]

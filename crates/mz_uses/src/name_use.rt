@@ -3,7 +3,7 @@
 use mz_base::Name;
 
 /// What a name is used for.
-#[derive(Clone, Copy, Debug, PartialEq, Eq)]
+#[derive(Clone, Copy)]
 pub enum NameUse {
     /// A variable, an enum, a case or a function without parameters is mentioned: by its bare name, or by `f()`.
     Mention(Name),

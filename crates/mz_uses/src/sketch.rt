@@ -4,7 +4,7 @@ use crate::name_use::NameUse;
 use mz_base::Name;
 
 /// What a declaration or a function uses of the names outside.
-#[derive(Debug, Drop)]
+#[derive(Drop)]
 pub struct Sketch {
     pub name: Name,
     /// Whether it is a function with parameters.

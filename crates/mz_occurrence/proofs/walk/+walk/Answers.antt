@@ -5,7 +5,7 @@ use Rattle.mz_occurrence.specs.declared.occurrence.Role.TheVariants.{Used}
 use Rattle.mz_occurrence.specs.Roles.{occurs}
 use Rattle.mz_occurrence.specs.Occurrences.{in_tree, in_trees, in_links, in_part, in_parts, in_generator, in_gens, in_let, in_lets, in_branches, in_based}
 use Rattle.mz_occurrence.proofs.Lists.{all_read, trees_flat, links_flat, branches_flat, parts_flat, gens_flat, lets_flat, bases_flat}
-use Rattle.mz_occurrence.proofs.Seen.{after_none, after_one, after_both, after_three, in_int_form, in_bool_form, in_absent_form, in_text_form, in_whole_form, in_ident_form, in_interp_form, in_unary_form, in_chain_form, in_call_form, in_gen_call_form, in_access_form, in_array_form, in_rows_form, in_set_form, in_array_comp, in_set_comp, in_let_form, in_if_form, in_if_alone}
+use Rattle.mz_occurrence.proofs.Seen.{after_none, after_one, one_on_ok, both_on_ok, three_on_ok, in_int_form, in_bool_form, in_absent_form, in_text_form, in_whole_form, in_ident_form, in_interp_form, in_unary_form, in_chain_form, in_call_form, in_gen_call_form, in_access_form, in_array_form, in_rows_form, in_set_form, in_array_comp, in_set_comp, in_let_form, in_if_form, in_if_alone}
 use Rattle.mz_occurrence.proofs.walk.+walk.Goals as goal
 
 pub in_all-returns : goal.in_all-returns
@@ -44,91 +44,91 @@ in_expression-returns-in-Text t c = after_none c.args.out.now.items (in_tree (tr
 pub in_expression-returns-in-Whole : goal.in_expression-returns-in-Whole
 in_expression-returns-in-Whole t c = after_none c.args.out.now.items (in_tree (tree c.args.e.now)) (in_whole_form c.args.e.now c.in-Whole.is)
 
-pub in_expression-returns-in_ok-note-in-Ident : goal.in_expression-returns-in_ok-note-in-Ident
-in_expression-returns-in_ok-note-in-Ident t c =
-    after_one c.args.out.now.items c.note.new.out.items (occurs Used c.in-Ident.n c.args.e.now.span ∷ []) (in_tree (tree c.args.e.now))
-    c.in_ok-note-in-Ident.ensures (in_ident_form c.args.e.now c.in-Ident.n c.in-Ident.is)
+pub in_expression-returns-in-Ident : goal.in_expression-returns-in-Ident
+in_expression-returns-in-Ident t c =
+    one_on_ok c.note.result c.args.out.now.items c.note.new.out.items (occurs Used c.in-Ident.n c.args.e.now.span ∷ []) (in_tree (tree c.args.e.now))
+    c.note.ensures (in_ident_form c.args.e.now c.in-Ident.n c.in-Ident.is)
 
-pub in_expression-returns-in_ok-in_pieces-in-Interp : goal.in_expression-returns-in_ok-in_pieces-in-Interp
-in_expression-returns-in_ok-in_pieces-in-Interp t c =
-    after_one c.args.out.now.items c.in_pieces.new.out.items (in_parts (parts (map part c.as_slice.result.now))) (in_tree (tree c.args.e.now))
-    c.in_ok-in_pieces-in-Interp.ensures (in_interp_form c.args.e.now c.in-Interp.ps c.as_slice.result.now c.in-Interp.is c.as_slice.ensures.value)
+pub in_expression-returns-in-Interp : goal.in_expression-returns-in-Interp
+in_expression-returns-in-Interp t c =
+    one_on_ok c.in_pieces.result c.args.out.now.items c.in_pieces.new.out.items (in_parts (parts (map part c.as_slice.result.now))) (in_tree (tree c.args.e.now))
+    c.in_pieces.ensures (in_interp_form c.args.e.now c.in-Interp.ps c.as_slice.result.now c.in-Interp.is c.as_slice.ensures.value)
 
-pub in_expression-returns-in_ok-in_expression-in-Unary : goal.in_expression-returns-in_ok-in_expression-in-Unary
-in_expression-returns-in_ok-in_expression-in-Unary t c =
-    after_one c.args.out.now.items c.in_expression.new.out.items (in_tree (tree c.deref.result.now)) (in_tree (tree c.args.e.now))
-    c.in_ok-in_expression-in-Unary.ensures (in_unary_form c.args.e.now c.deref.result.now c.in-Unary.field-0 c.in-Unary.x c.in-Unary.is c.deref.ensures)
+pub in_expression-returns-in-Unary : goal.in_expression-returns-in-Unary
+in_expression-returns-in-Unary t c =
+    one_on_ok c.in_expression.result c.args.out.now.items c.in_expression.new.out.items (in_tree (tree c.deref.result.now)) (in_tree (tree c.args.e.now))
+    c.in_expression.ensures (in_unary_form c.args.e.now c.deref.result.now c.in-Unary.field-0 c.in-Unary.x c.in-Unary.is c.deref.ensures)
 
-pub in_expression-returns-in_ok-in_operands-in-Chain : goal.in_expression-returns-in_ok-in_operands-in-Chain
-in_expression-returns-in_ok-in_operands-in-Chain t c =
-    after_both c.args.out.now.items c.in_expression-in-Chain.new.out.items c.in_operands.new.out.items
+pub in_expression-returns-in_ok-in_expression-in-Chain : goal.in_expression-returns-in_ok-in_expression-in-Chain
+in_expression-returns-in_ok-in_expression-in-Chain t c =
+    both_on_ok c.in_operands.result c.args.out.now.items c.in_expression-in-Chain.new.out.items c.in_operands.new.out.items
     (in_tree (tree c.deref-in-Chain.result.now)) (in_links (links (map link c.as_slice-in-Chain.result.now))) (in_tree (tree c.args.e.now))
-    c.in_ok-in_expression-in-Chain.ensures c.in_ok-in_operands-in-Chain.ensures
+    c.in_ok-in_expression-in-Chain.ensures c.in_operands.ensures
     (in_chain_form c.args.e.now c.deref-in-Chain.result.now c.in-Chain.x c.in-Chain.rest c.as_slice-in-Chain.result.now c.in-Chain.is c.deref-in-Chain.ensures c.as_slice-in-Chain.ensures.value)
 
-pub in_expression-returns-in_ok-in_all-in-Call : goal.in_expression-returns-in_ok-in_all-in-Call
-in_expression-returns-in_ok-in_all-in-Call t c =
-    after_both c.args.out.now.items c.note-in-Call.new.out.items c.in_all.new.out.items
+pub in_expression-returns-in_ok-note-in-Call : goal.in_expression-returns-in_ok-note-in-Call
+in_expression-returns-in_ok-note-in-Call t c =
+    both_on_ok c.in_all.result c.args.out.now.items c.note-in-Call.new.out.items c.in_all.new.out.items
     (occurs Used c.in-Call.n c.args.e.now.span ∷ []) (in_trees (trees (map tree c.as_slice-in-Call.result.now))) (in_tree (tree c.args.e.now))
-    c.in_ok-note-in-Call.ensures c.in_ok-in_all-in-Call.ensures
+    c.in_ok-note-in-Call.ensures c.in_all.ensures
     (in_call_form c.args.e.now c.in-Call.n c.in-Call.xs c.as_slice-in-Call.result.now c.in-Call.is c.as_slice-in-Call.ensures.value)
 
-pub in_expression-returns-in_ok-in_expression-in-GenCall : goal.in_expression-returns-in_ok-in_expression-in-GenCall
-in_expression-returns-in_ok-in_expression-in-GenCall t c =
-    after_three c.args.out.now.items c.note-in-GenCall.new.out.items c.in_generators.new.out.items c.in_expression-in-GenCall.new.out.items
+pub in_expression-returns-in_ok-in_generators-in-GenCall : goal.in_expression-returns-in_ok-in_generators-in-GenCall
+in_expression-returns-in_ok-in_generators-in-GenCall t c =
+    three_on_ok c.in_expression-in-GenCall.result c.args.out.now.items c.note-in-GenCall.new.out.items c.in_generators.new.out.items c.in_expression-in-GenCall.new.out.items
     (occurs Used c.in-GenCall.n c.args.e.now.span ∷ []) (in_gens (gens (map generator c.as_slice-in-GenCall.result.now))) (in_tree (tree c.deref-in-GenCall.result.now)) (in_tree (tree c.args.e.now))
-    c.in_ok-note-in-GenCall.ensures c.in_ok-in_generators-in-GenCall.ensures c.in_ok-in_expression-in-GenCall.ensures
+    c.in_ok-note-in-GenCall.ensures c.in_ok-in_generators-in-GenCall.ensures c.in_expression-in-GenCall.ensures
     (in_gen_call_form c.args.e.now c.deref-in-GenCall.result.now c.in-GenCall.n c.in-GenCall.gs c.in-GenCall.x c.as_slice-in-GenCall.result.now c.in-GenCall.is c.deref-in-GenCall.ensures c.as_slice-in-GenCall.ensures.value)
 
-pub in_expression-returns-in_ok-in_all-in-Access : goal.in_expression-returns-in_ok-in_all-in-Access
-in_expression-returns-in_ok-in_all-in-Access t c =
-    after_both c.args.out.now.items c.in_expression-in-Access.new.out.items c.in_all-in-Access.new.out.items
+pub in_expression-returns-in_ok-in_expression-in-Access : goal.in_expression-returns-in_ok-in_expression-in-Access
+in_expression-returns-in_ok-in_expression-in-Access t c =
+    both_on_ok c.in_all-in-Access.result c.args.out.now.items c.in_expression-in-Access.new.out.items c.in_all-in-Access.new.out.items
     (in_tree (tree c.deref-in-Access.result.now)) (in_trees (trees (map tree c.as_slice-in-Access.result.now))) (in_tree (tree c.args.e.now))
-    c.in_ok-in_expression-in-Access.ensures c.in_ok-in_all-in-Access.ensures
+    c.in_ok-in_expression-in-Access.ensures c.in_all-in-Access.ensures
     (in_access_form c.args.e.now c.deref-in-Access.result.now c.in-Access.x c.in-Access.xs c.as_slice-in-Access.result.now c.in-Access.is c.deref-in-Access.ensures c.as_slice-in-Access.ensures.value)
 
-pub in_expression-returns-in_ok-in_all-in-Array : goal.in_expression-returns-in_ok-in_all-in-Array
-in_expression-returns-in_ok-in_all-in-Array t c =
-    after_one c.args.out.now.items c.in_all-in-Array.new.out.items (in_trees (trees (map tree c.as_slice-in-Array.result.now))) (in_tree (tree c.args.e.now))
-    c.in_ok-in_all-in-Array.ensures (in_array_form c.args.e.now c.in-Array.xs c.as_slice-in-Array.result.now c.in-Array.is c.as_slice-in-Array.ensures.value)
+pub in_expression-returns-in-Array : goal.in_expression-returns-in-Array
+in_expression-returns-in-Array t c =
+    one_on_ok c.in_all-in-Array.result c.args.out.now.items c.in_all-in-Array.new.out.items (in_trees (trees (map tree c.as_slice-in-Array.result.now))) (in_tree (tree c.args.e.now))
+    c.in_all-in-Array.ensures (in_array_form c.args.e.now c.in-Array.xs c.as_slice-in-Array.result.now c.in-Array.is c.as_slice-in-Array.ensures.value)
 
 pub in_expression-returns-after-loop-row : goal.in_expression-returns-after-loop-row
 in_expression-returns-after-loop-row t c = all_read (λ x. in_trees (trees (map tree x.items))) c.as_slice-row-items.result.now c.loop-row.row-index c.args.out.now.items c.loop-row.out.items _ c.loop-row.invariant c.loop-row-test.false (in_rows_form c.args.e.now c.in-Rows.rs c.as_slice-row-items.result.now c.in-Rows.is c.as_slice-row-items.ensures.value)
 
-pub in_expression-returns-in_ok-in_all-in-Set : goal.in_expression-returns-in_ok-in_all-in-Set
-in_expression-returns-in_ok-in_all-in-Set t c =
-    after_one c.args.out.now.items c.in_all-in-Set.new.out.items (in_trees (trees (map tree c.as_slice-in-Set.result.now))) (in_tree (tree c.args.e.now))
-    c.in_ok-in_all-in-Set.ensures (in_set_form c.args.e.now c.in-Set.xs c.as_slice-in-Set.result.now c.in-Set.is c.as_slice-in-Set.ensures.value)
+pub in_expression-returns-in-Set : goal.in_expression-returns-in-Set
+in_expression-returns-in-Set t c =
+    one_on_ok c.in_all-in-Set.result c.args.out.now.items c.in_all-in-Set.new.out.items (in_trees (trees (map tree c.as_slice-in-Set.result.now))) (in_tree (tree c.args.e.now))
+    c.in_all-in-Set.ensures (in_set_form c.args.e.now c.in-Set.xs c.as_slice-in-Set.result.now c.in-Set.is c.as_slice-in-Set.ensures.value)
 
-pub in_expression-returns-in_ok-in_generators-in-ArrayComp : goal.in_expression-returns-in_ok-in_generators-in-ArrayComp
-in_expression-returns-in_ok-in_generators-in-ArrayComp t c =
-    after_both c.args.out.now.items c.in_expression-in-ArrayComp.new.out.items c.in_generators-in-ArrayComp.new.out.items
+pub in_expression-returns-in_ok-in_expression-in-ArrayComp : goal.in_expression-returns-in_ok-in_expression-in-ArrayComp
+in_expression-returns-in_ok-in_expression-in-ArrayComp t c =
+    both_on_ok c.in_generators-in-ArrayComp.result c.args.out.now.items c.in_expression-in-ArrayComp.new.out.items c.in_generators-in-ArrayComp.new.out.items
     (in_tree (tree c.deref-in-ArrayComp.result.now)) (in_gens (gens (map generator c.as_slice-in-ArrayComp.result.now))) (in_tree (tree c.args.e.now))
-    c.in_ok-in_expression-in-ArrayComp.ensures c.in_ok-in_generators-in-ArrayComp.ensures
+    c.in_ok-in_expression-in-ArrayComp.ensures c.in_generators-in-ArrayComp.ensures
     (in_array_comp c.args.e.now c.deref-in-ArrayComp.result.now c.in-ArrayComp.x c.in-ArrayComp.gs c.as_slice-in-ArrayComp.result.now c.in-ArrayComp.is c.deref-in-ArrayComp.ensures c.as_slice-in-ArrayComp.ensures.value)
 
-pub in_expression-returns-in_ok-in_generators-in-SetComp : goal.in_expression-returns-in_ok-in_generators-in-SetComp
-in_expression-returns-in_ok-in_generators-in-SetComp t c =
-    after_both c.args.out.now.items c.in_expression-in-SetComp.new.out.items c.in_generators-in-SetComp.new.out.items
+pub in_expression-returns-in_ok-in_expression-in-SetComp : goal.in_expression-returns-in_ok-in_expression-in-SetComp
+in_expression-returns-in_ok-in_expression-in-SetComp t c =
+    both_on_ok c.in_generators-in-SetComp.result c.args.out.now.items c.in_expression-in-SetComp.new.out.items c.in_generators-in-SetComp.new.out.items
     (in_tree (tree c.deref-in-SetComp.result.now)) (in_gens (gens (map generator c.as_slice-in-SetComp.result.now))) (in_tree (tree c.args.e.now))
-    c.in_ok-in_expression-in-SetComp.ensures c.in_ok-in_generators-in-SetComp.ensures
+    c.in_ok-in_expression-in-SetComp.ensures c.in_generators-in-SetComp.ensures
     (in_set_comp c.args.e.now c.deref-in-SetComp.result.now c.in-SetComp.x c.in-SetComp.gs c.as_slice-in-SetComp.result.now c.in-SetComp.is c.deref-in-SetComp.ensures c.as_slice-in-SetComp.ensures.value)
 
-pub in_expression-returns-in_ok-in_expression-in-Let : goal.in_expression-returns-in_ok-in_expression-in-Let
-in_expression-returns-in_ok-in_expression-in-Let t c =
-    after_both c.args.out.now.items c.in_let_items.new.out.items c.in_expression-in-Let.new.out.items
+pub in_expression-returns-in_ok-in_let_items-in-Let : goal.in_expression-returns-in_ok-in_let_items-in-Let
+in_expression-returns-in_ok-in_let_items-in-Let t c =
+    both_on_ok c.in_expression-in-Let.result c.args.out.now.items c.in_let_items.new.out.items c.in_expression-in-Let.new.out.items
     (in_lets (lets (map let_of c.as_slice-in-Let.result.now))) (in_tree (tree c.deref-in-Let.result.now)) (in_tree (tree c.args.e.now))
-    c.in_ok-in_let_items-in-Let.ensures c.in_ok-in_expression-in-Let.ensures
+    c.in_ok-in_let_items-in-Let.ensures c.in_expression-in-Let.ensures
     (in_let_form c.args.e.now c.deref-in-Let.result.now c.in-Let.x c.in-Let.ls c.as_slice-in-Let.result.now c.in-Let.is c.deref-in-Let.ensures c.as_slice-in-Let.ensures.value)
 
-pub in_expression-returns-in_ok-in_expression-in-If : goal.in_expression-returns-in_ok-in_expression-in-If
-in_expression-returns-in_ok-in_expression-in-If t c =
-    after_both c.args.out.now.items c.in_choices.new.out.items c.in_expression-in-Some.new.out.items
+pub in_expression-returns-in-Some : goal.in_expression-returns-in-Some
+in_expression-returns-in-Some t c =
+    both_on_ok c.in_expression-in-Some.result c.args.out.now.items c.in_choices.new.out.items c.in_expression-in-Some.new.out.items
     (in_branches (branches (map branch c.as_slice-in-If.result.now))) (in_tree (tree c.deref-in-Some.result.now)) (in_tree (tree c.args.e.now))
-    c.in_ok-in_choices-in-If.ensures c.in_ok-in_expression-in-If.ensures
+    c.in_ok-in_choices-in-If.ensures c.in_expression-in-Some.ensures
     (in_if_form c.args.e.now c.deref-in-Some.result.now c.in-Some.x c.in-If.bs c.as_slice-in-If.result.now c.in-If.other c.in-If.is c.in-Some.is c.deref-in-Some.ensures c.as_slice-in-If.ensures.value)
 
-pub in_expression-returns-in_default : goal.in_expression-returns-in_default
-in_expression-returns-in_default t c =
+pub in_expression-returns-in-None : goal.in_expression-returns-in-None
+in_expression-returns-in-None t c =
     after_one c.args.out.now.items c.in_choices.new.out.items (in_branches (branches (map branch c.as_slice-in-If.result.now))) (in_tree (tree c.args.e.now))
-    c.in_ok-in_choices-in-If.ensures (in_if_alone c.args.e.now c.in-If.bs c.as_slice-in-If.result.now c.in-If.other c.in-If.is c.in_default.is c.as_slice-in-If.ensures.value)
+    c.in_ok-in_choices-in-If.ensures (in_if_alone c.args.e.now c.in-If.bs c.as_slice-in-If.result.now c.in-If.other c.in-If.is c.in-None.is c.as_slice-in-If.ensures.value)

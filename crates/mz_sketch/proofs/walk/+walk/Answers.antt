@@ -1,11 +1,12 @@
 use Rattle.std.proofs.Common.{refl, false, ◌+◌, ◌++◌, drop, map, ap, sym, ◌∙◌}
 use Rattle.std.specs.Prelude.{nat_eq}
-use Rattle.mz_tree.specs.Tree.{trees, links, branches, gens, lets}
+use Rattle.std.proofs.lemmas.Result.{on_ok_weaker}
+use Rattle.mz_tree.specs.Tree.{trees, links, branches, parts, gens, lets}
 use Rattle.mz_tree.specs.Views.{tree, part, generator, let_of, based, link, branch}
-use Rattle.mz_uses.specs.Uses.{applied, in_links, in_branches, in_tree, in_trees, in_part, in_generator, in_gens, in_let, in_lets, in_based, with_generator, with_gens, with_let, with_lets}
+use Rattle.mz_uses.specs.Uses.{mention, applied, in_links, in_branches, in_tree, in_trees, in_part, in_parts, in_generator, in_gens, in_let, in_lets, in_based, with_generator, with_gens, with_let, with_lets}
 use Rattle.mz_sketch.proofs.Lists.{one_read, all_read, trees_flat, links_flat, branches_flat, parts_flat, bases_flat, step, gens_from, with_gens_from, lets_from, with_lets_from, gens_read, lets_read, with_gens_read, with_lets_read}
 use Rattle.mz_sketch.proofs.Extending.{begins_gens, begins_lets, left_after}
-use Rattle.mz_sketch.proofs.Seen.{after_both, after_scope, in_array_comp, in_set_comp, in_let_form, in_rows_form, in_gen_call, in_chain, empty_same, in_call, in_access, in_if}
+use Rattle.mz_sketch.proofs.Seen.{after_both, after_scope, both_on_ok, scope_on_ok, kept_on_ok, in_array_comp, in_set_comp, in_let_form, in_rows_form, in_gen_call, in_chain, empty_same, in_call, in_access, in_if, one_on_ok, after_none, after_one, in_int, in_bool, in_absent, in_text, in_whole, in_ident, in_interp, in_unary, in_array, in_set, in_if_alone}
 use Rattle.mz_sketch.proofs.walk.+walk.Goals as goal
 
 pub in_all-loop-e-preserved : goal.in_all-loop-e-preserved
@@ -83,17 +84,92 @@ in_expression-returns-in_ok-in_expression-in-Let-clause-uses t c = after_scope c
 pub in_expression-returns-in_ok-in_expression-in-Let-clause-hidden : goal.in_expression-returns-in_ok-in_expression-in-Let-clause-hidden
 in_expression-returns-in_ok-in_expression-in-Let-clause-hidden t c = left_after c.args.hidden.now (with_lets c.args.hidden.now (lets (map let_of c.as_slice-in-Let.result.now))) c.in_let_items.new.hidden c.in_expression-in-Let.new.hidden c.leave-in-Let.new.self c.len-depth-in-Let.result c.len-depth-in-Let.ensures (begins_lets c.args.hidden.now (lets (map let_of c.as_slice-in-Let.result.now))) c.in_ok-in_let_items-in-Let.ensures.hidden c.in_ok-in_expression-in-Let.ensures.hidden c.leave-in-Let.ensures
 
-pub in_expression-returns-in_ok-in_operands-in-Chain-clause-uses : goal.in_expression-returns-in_ok-in_operands-in-Chain-clause-uses
-in_expression-returns-in_ok-in_operands-in-Chain-clause-uses t c = after_scope c.args.out.now.items c.in_expression-in-Chain.new.out.items c.in_operands.new.out.items (in_tree c.args.hidden.now (tree c.deref-in-Chain.result.now)) (in_tree c.args.hidden.now (tree c.args.e.now)) c.in_expression-in-Chain.new.hidden c.args.hidden.now (λ z. in_links z (links (map link c.as_slice-in-Chain.result.now))) c.in_ok-in_expression-in-Chain.ensures.uses c.in_ok-in_operands-in-Chain.ensures.uses c.in_ok-in_expression-in-Chain.ensures.hidden (in_chain c.args.hidden.now c.args.e.now c.deref-in-Chain.result.now c.in-Chain.x c.in-Chain.rest c.as_slice-in-Chain.result.now c.in-Chain.is c.deref-in-Chain.ensures c.as_slice-in-Chain.ensures.value)
+pub in_expression-returns-in_ok-in_expression-in-Chain-clause-uses : goal.in_expression-returns-in_ok-in_expression-in-Chain-clause-uses
+in_expression-returns-in_ok-in_expression-in-Chain-clause-uses t c = scope_on_ok c.in_operands.result c.args.out.now.items c.in_expression-in-Chain.new.out.items c.in_operands.new.out.items (in_tree c.args.hidden.now (tree c.deref-in-Chain.result.now)) (in_tree c.args.hidden.now (tree c.args.e.now)) c.in_expression-in-Chain.new.hidden c.args.hidden.now (λ z. in_links z (links (map link c.as_slice-in-Chain.result.now))) c.in_ok-in_expression-in-Chain.ensures.uses c.in_operands.ensures.uses c.in_ok-in_expression-in-Chain.ensures.hidden (in_chain c.args.hidden.now c.args.e.now c.deref-in-Chain.result.now c.in-Chain.x c.in-Chain.rest c.as_slice-in-Chain.result.now c.in-Chain.is c.deref-in-Chain.ensures c.as_slice-in-Chain.ensures.value)
 
-pub in_expression-returns-in_ok-in_all-in-Access-clause-uses : goal.in_expression-returns-in_ok-in_all-in-Access-clause-uses
-in_expression-returns-in_ok-in_all-in-Access-clause-uses t c = after_scope c.args.out.now.items c.in_expression-in-Access.new.out.items c.in_all-in-Access.new.out.items (in_tree c.args.hidden.now (tree c.deref-in-Access.result.now)) (in_tree c.args.hidden.now (tree c.args.e.now)) c.in_expression-in-Access.new.hidden c.args.hidden.now (λ z. in_trees z (trees (map tree c.as_slice-in-Access.result.now))) c.in_ok-in_expression-in-Access.ensures.uses c.in_ok-in_all-in-Access.ensures.uses c.in_ok-in_expression-in-Access.ensures.hidden (in_access c.args.hidden.now c.args.e.now c.deref-in-Access.result.now c.in-Access.x c.in-Access.xs c.as_slice-in-Access.result.now c.in-Access.is c.deref-in-Access.ensures c.as_slice-in-Access.ensures.value)
+pub in_expression-returns-in_ok-in_expression-in-Chain-clause-hidden : goal.in_expression-returns-in_ok-in_expression-in-Chain-clause-hidden
+in_expression-returns-in_ok-in_expression-in-Chain-clause-hidden t c = kept_on_ok c.in_operands.result c.args.hidden.now c.in_expression-in-Chain.new.hidden c.in_operands.new.hidden c.in_ok-in_expression-in-Chain.ensures.hidden c.in_operands.ensures.hidden
 
-pub in_expression-returns-in_ok-in_expression-in-If-clause-uses : goal.in_expression-returns-in_ok-in_expression-in-If-clause-uses
-in_expression-returns-in_ok-in_expression-in-If-clause-uses t c = after_scope c.args.out.now.items c.in_choices.new.out.items c.in_expression-in-Some.new.out.items (in_branches c.args.hidden.now (branches (map branch c.as_slice-in-If.result.now))) (in_tree c.args.hidden.now (tree c.args.e.now)) c.in_choices.new.hidden c.args.hidden.now (λ z. in_tree z (tree c.deref-in-Some.result.now)) c.in_ok-in_choices-in-If.ensures.uses c.in_ok-in_expression-in-If.ensures.uses c.in_ok-in_choices-in-If.ensures.hidden (in_if c.args.hidden.now c.args.e.now c.deref-in-Some.result.now c.in-Some.x c.in-If.bs c.as_slice-in-If.result.now c.in-If.other c.in-If.is c.in-Some.is c.deref-in-Some.ensures c.as_slice-in-If.ensures.value)
+pub in_expression-returns-in_ok-in_expression-in-Access-clause-uses : goal.in_expression-returns-in_ok-in_expression-in-Access-clause-uses
+in_expression-returns-in_ok-in_expression-in-Access-clause-uses t c = scope_on_ok c.in_all-in-Access.result c.args.out.now.items c.in_expression-in-Access.new.out.items c.in_all-in-Access.new.out.items (in_tree c.args.hidden.now (tree c.deref-in-Access.result.now)) (in_tree c.args.hidden.now (tree c.args.e.now)) c.in_expression-in-Access.new.hidden c.args.hidden.now (λ z. in_trees z (trees (map tree c.as_slice-in-Access.result.now))) c.in_ok-in_expression-in-Access.ensures.uses c.in_all-in-Access.ensures.uses c.in_ok-in_expression-in-Access.ensures.hidden (in_access c.args.hidden.now c.args.e.now c.deref-in-Access.result.now c.in-Access.x c.in-Access.xs c.as_slice-in-Access.result.now c.in-Access.is c.deref-in-Access.ensures c.as_slice-in-Access.ensures.value)
+
+pub in_expression-returns-in_ok-in_expression-in-Access-clause-hidden : goal.in_expression-returns-in_ok-in_expression-in-Access-clause-hidden
+in_expression-returns-in_ok-in_expression-in-Access-clause-hidden t c = kept_on_ok c.in_all-in-Access.result c.args.hidden.now c.in_expression-in-Access.new.hidden c.in_all-in-Access.new.hidden c.in_ok-in_expression-in-Access.ensures.hidden c.in_all-in-Access.ensures.hidden
+
+pub in_expression-returns-in-Some-clause-uses : goal.in_expression-returns-in-Some-clause-uses
+in_expression-returns-in-Some-clause-uses t c = scope_on_ok c.in_expression-in-Some.result c.args.out.now.items c.in_choices.new.out.items c.in_expression-in-Some.new.out.items (in_branches c.args.hidden.now (branches (map branch c.as_slice-in-If.result.now))) (in_tree c.args.hidden.now (tree c.args.e.now)) c.in_choices.new.hidden c.args.hidden.now (λ z. in_tree z (tree c.deref-in-Some.result.now)) c.in_ok-in_choices-in-If.ensures.uses c.in_expression-in-Some.ensures.uses c.in_ok-in_choices-in-If.ensures.hidden (in_if c.args.hidden.now c.args.e.now c.deref-in-Some.result.now c.in-Some.x c.in-If.bs c.as_slice-in-If.result.now c.in-If.other c.in-If.is c.in-Some.is c.deref-in-Some.ensures c.as_slice-in-If.ensures.value)
+
+pub in_expression-returns-in-Some-clause-hidden : goal.in_expression-returns-in-Some-clause-hidden
+in_expression-returns-in-Some-clause-hidden t c = kept_on_ok c.in_expression-in-Some.result c.args.hidden.now c.in_choices.new.hidden c.in_expression-in-Some.new.hidden c.in_ok-in_choices-in-If.ensures.hidden c.in_expression-in-Some.ensures.hidden
 
 pub in_expression-returns-after-loop-row-clause-uses : goal.in_expression-returns-after-loop-row-clause-uses
 in_expression-returns-after-loop-row-clause-uses t c = all_read (λ x. in_trees c.args.hidden.now (trees (map tree x.items))) c.as_slice-row-items.result.now c.loop-row.row-index c.args.out.now.items c.loop-row.out.items _ c.loop-row.invariant.uses c.loop-row-test.false (in_rows_form c.args.hidden.now c.args.e.now c.in-Rows.rs c.as_slice-row-items.result.now c.in-Rows.is c.as_slice-row-items.ensures.value)
 
-pub in_expression-returns-in_ok-in_all-in-Call-clause-uses : goal.in_expression-returns-in_ok-in_all-in-Call-clause-uses
-in_expression-returns-in_ok-in_all-in-Call-clause-uses t c = after_both c.args.out.now.items c.applied.new.out.items c.in_all.new.out.items (applied c.args.hidden.now c.in-Call.n c.is_empty.result) (in_trees c.args.hidden.now (trees (map tree c.as_slice-in-Call.result.now))) (in_tree c.args.hidden.now (tree c.args.e.now)) c.in_ok-applied-in-Call.ensures c.in_ok-in_all-in-Call.ensures.uses (in_call c.args.hidden.now c.args.e.now c.in-Call.n c.in-Call.xs c.as_slice-in-Call.result.now c.is_empty.result c.in-Call.is c.as_slice-in-Call.ensures.value (c.is_empty.ensures ∙ ap (λ z. nat_eq z 0) (sym c.as_slice-in-Call.ensures.len) ∙ sym (empty_same c.as_slice-in-Call.result.now)))
+pub in_expression-returns-in_ok-applied-in-Call-clause-uses : goal.in_expression-returns-in_ok-applied-in-Call-clause-uses
+in_expression-returns-in_ok-applied-in-Call-clause-uses t c = both_on_ok c.in_all.result c.args.out.now.items c.applied.new.out.items c.in_all.new.out.items (applied c.args.hidden.now c.in-Call.n c.is_empty.result) (in_trees c.args.hidden.now (trees (map tree c.as_slice-in-Call.result.now))) (in_tree c.args.hidden.now (tree c.args.e.now)) c.in_ok-applied-in-Call.ensures c.in_all.ensures.uses (in_call c.args.hidden.now c.args.e.now c.in-Call.n c.in-Call.xs c.as_slice-in-Call.result.now c.is_empty.result c.in-Call.is c.as_slice-in-Call.ensures.value (c.is_empty.ensures ∙ ap (λ z. nat_eq z 0) (sym c.as_slice-in-Call.ensures.len) ∙ sym (empty_same c.as_slice-in-Call.result.now)))
+
+pub in_expression-returns-in-Int : goal.in_expression-returns-in-Int
+in_expression-returns-in-Int t c = record {
+  uses = after_none c.args.out.now.items (in_tree c.args.hidden.now (tree c.args.e.now)) (in_int c.args.hidden.now c.args.e.now _ c.in-Int.is);
+  hidden = refl;
+}
+
+pub in_expression-returns-in-Bool : goal.in_expression-returns-in-Bool
+in_expression-returns-in-Bool t c = record {
+  uses = after_none c.args.out.now.items (in_tree c.args.hidden.now (tree c.args.e.now)) (in_bool c.args.hidden.now c.args.e.now _ c.in-Bool.is);
+  hidden = refl;
+}
+
+pub in_expression-returns-in-Absent : goal.in_expression-returns-in-Absent
+in_expression-returns-in-Absent t c = record {
+  uses = after_none c.args.out.now.items (in_tree c.args.hidden.now (tree c.args.e.now)) (in_absent c.args.hidden.now c.args.e.now c.in-Absent.is);
+  hidden = refl;
+}
+
+pub in_expression-returns-in-Text : goal.in_expression-returns-in-Text
+in_expression-returns-in-Text t c = record {
+  uses = after_none c.args.out.now.items (in_tree c.args.hidden.now (tree c.args.e.now)) (in_text c.args.hidden.now c.args.e.now _ c.in-Text.is);
+  hidden = refl;
+}
+
+pub in_expression-returns-in-Whole : goal.in_expression-returns-in-Whole
+in_expression-returns-in-Whole t c = record {
+  uses = after_none c.args.out.now.items (in_tree c.args.hidden.now (tree c.args.e.now)) (in_whole c.args.hidden.now c.args.e.now c.in-Whole.is);
+  hidden = refl;
+}
+
+pub in_expression-returns-in-Ident : goal.in_expression-returns-in-Ident
+in_expression-returns-in-Ident t c = record {
+  uses = one_on_ok c.mention.result c.args.out.now.items c.mention.new.out.items (mention c.args.hidden.now c.in-Ident.n) (in_tree c.args.hidden.now (tree c.args.e.now)) c.mention.ensures (in_ident c.args.hidden.now c.args.e.now c.in-Ident.n c.in-Ident.is);
+  hidden = on_ok_weaker c.mention.result (λ _. refl) c.mention.ensures;
+}
+
+pub in_expression-returns-in-Interp : goal.in_expression-returns-in-Interp
+in_expression-returns-in-Interp t c = record {
+  uses = one_on_ok c.in_pieces.result c.args.out.now.items c.in_pieces.new.out.items (in_parts c.args.hidden.now (parts (map part c.as_slice.result.now))) (in_tree c.args.hidden.now (tree c.args.e.now)) c.in_pieces.ensures.uses (in_interp c.args.hidden.now c.args.e.now c.in-Interp.ps c.as_slice.result.now c.in-Interp.is c.as_slice.ensures.value);
+  hidden = c.in_pieces.ensures.hidden;
+}
+
+pub in_expression-returns-in-Unary : goal.in_expression-returns-in-Unary
+in_expression-returns-in-Unary t c = record {
+  uses = one_on_ok c.in_expression.result c.args.out.now.items c.in_expression.new.out.items (in_tree c.args.hidden.now (tree c.deref.result.now)) (in_tree c.args.hidden.now (tree c.args.e.now)) c.in_expression.ensures.uses (in_unary c.args.hidden.now c.args.e.now c.deref.result.now c.in-Unary.field-0 c.in-Unary.x c.in-Unary.is c.deref.ensures);
+  hidden = c.in_expression.ensures.hidden;
+}
+
+pub in_expression-returns-in-Array : goal.in_expression-returns-in-Array
+in_expression-returns-in-Array t c = record {
+  uses = one_on_ok c.in_all-in-Array.result c.args.out.now.items c.in_all-in-Array.new.out.items (in_trees c.args.hidden.now (trees (map tree c.as_slice-in-Array.result.now))) (in_tree c.args.hidden.now (tree c.args.e.now)) c.in_all-in-Array.ensures.uses (in_array c.args.hidden.now c.args.e.now c.in-Array.xs c.as_slice-in-Array.result.now c.in-Array.is c.as_slice-in-Array.ensures.value);
+  hidden = c.in_all-in-Array.ensures.hidden;
+}
+
+pub in_expression-returns-in-Set : goal.in_expression-returns-in-Set
+in_expression-returns-in-Set t c = record {
+  uses = one_on_ok c.in_all-in-Set.result c.args.out.now.items c.in_all-in-Set.new.out.items (in_trees c.args.hidden.now (trees (map tree c.as_slice-in-Set.result.now))) (in_tree c.args.hidden.now (tree c.args.e.now)) c.in_all-in-Set.ensures.uses (in_set c.args.hidden.now c.args.e.now c.in-Set.xs c.as_slice-in-Set.result.now c.in-Set.is c.as_slice-in-Set.ensures.value);
+  hidden = c.in_all-in-Set.ensures.hidden;
+}
+
+pub in_expression-returns-in-None : goal.in_expression-returns-in-None
+in_expression-returns-in-None t c = record {
+  uses = after_one c.args.out.now.items c.in_choices.new.out.items (in_branches c.args.hidden.now (branches (map branch c.as_slice-in-If.result.now))) (in_tree c.args.hidden.now (tree c.args.e.now)) c.in_ok-in_choices-in-If.ensures.uses (in_if_alone c.args.hidden.now c.args.e.now c.in-If.bs c.as_slice-in-If.result.now c.in-If.other c.in-If.is c.in-None.is c.as_slice-in-If.ensures.value);
+  hidden = c.in_ok-in_choices-in-If.ensures.hidden;
+}
