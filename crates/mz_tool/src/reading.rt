@@ -42,9 +42,7 @@ pub(crate) fn read_files<F: Files>(
         Ok(read) => read,
         Err(end) => return Err(end),
     };
-    // the model's name is in the table: interned again it changes nothing, and the clause says that texts differ
-    match names.intern(options.model) {
-        Ok(_) => Ok(read),
-        Err(_) => Err(GatherEnd::Memory),
-    }
+    // a search changes nothing, and its clause says that the table's texts differ
+    let _found = names.find(options.model);
+    Ok(read)
 }
