@@ -3,12 +3,15 @@
 // the type and the typed tree, or the refusal and its column.
 //
 // After `given ` stand a declared type, ` = ` and a value of a data file: the answer is what that is typed to for a declaration of the
-// type, in a model with some enums, declarations and functions. After `check ` stands a model of its own, with its data after ` ## ` and that of a second file after another ` ## `. Refusals
-// have the number of their file, the line and the column: the model's file is 0, and those of data come after it.
+// type, in a model with some enums, declarations and functions. After `check ` and `scope ` stands a model of its own, with the text of
+// a file `a.mzn`, which it may include, after ` @@ `, its data after ` ## ` and that of a second file after another ` ## `: `check` says
+// whether it is typed, `scope` what its names mean. Refusals have the number of their file, the line and the column: the model's file
+// is 0, and those of data come last.
 #![tactic(auto)]
 
 mod given;
 mod model;
+mod scoping;
 mod typed;
 mod types;
 mod typing;
@@ -28,6 +31,9 @@ fn answer(alloc: Global, model: &str, line: &str, page: &mut Page) -> Result<(),
     }
     if let Some(text) = line.strip_prefix("check ") {
         return with_data::print_checked(alloc, text, page);
+    }
+    if let Some(text) = line.strip_prefix("scope ") {
+        return with_data::print_scope_of(alloc, text, page);
     }
     model::print(alloc, model, line, page)
 }

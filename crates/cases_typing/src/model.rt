@@ -22,12 +22,28 @@ fn text_of(alloc: Global, model: &str, kind: Kind, text: &str) -> Result<String,
     Ok(format!(in alloc; "{model}\n{before}\n{text}\n{after}; solve satisfy;")?)
 }
 
-/// A file with this text.
-pub fn files_of(alloc: Global, text: &str) -> Result<MemFiles, Memory> {
-    let mut files = Vec::new(alloc);
-    let name = String::from_str(alloc, "m.mzn")?;
+/// Adds a file.
+fn push_file(
+    alloc: Global,
+    files: &mut Vec<(String, Vec<u8>)>,
+    name: &str,
+    text: &str,
+) -> Result<(), Memory> {
+    let name = String::from_str(alloc, name)?;
     let bytes = bytes_of(alloc, text)?;
     files.push((name, bytes))?;
+    Ok(())
+}
+
+/// The model, and after ` @@ ` the file `a.mzn`, which it may include; without one that file is empty.
+pub fn files_of(alloc: Global, text: &str) -> Result<MemFiles, Memory> {
+    let (model, included) = match text.split_once(" @@ ") {
+        Some((model, included)) => (model, included),
+        None => (text, ""),
+    };
+    let mut files = Vec::new(alloc);
+    push_file(alloc, &mut files, "m.mzn", model)?;
+    push_file(alloc, &mut files, "a.mzn", included)?;
     Ok(MemFiles::new(files, Vec::new(alloc)))
 }
 

@@ -1,4 +1,4 @@
-// What a model is typed to with its data.
+// What the names of a model with its data mean, and what it is typed to.
 
 ghost use Rattle.std.specs.Prelude.{length, map, All};
 ghost use Rattle.mz_tree.specs.Data.{given};
@@ -7,6 +7,7 @@ ghost use Rattle.mz_include.specs.Views.{AreKnown};
 
 use crate::given::all_data;
 use crate::model::files_of;
+use crate::scoping::print_scoped;
 use crate::typed::put_tree;
 use crate::types::put_type;
 use cases::Page;
@@ -18,9 +19,10 @@ use mz_scope::scope;
 use mz_tree::{Data, Sources};
 use std::alloc::Global;
 
-/// What is written of a program: the value of its last declaration, or that there is one.
+/// What is written of a model: its scope, the value of its last declaration, or that it is typed.
 #[derive(Clone, Copy, Debug, PartialEq, Eq)]
 enum Shown {
+    Scope,
     LastValue,
     IsTyped,
 }
@@ -53,11 +55,23 @@ fn print_last(program: &Program, page: &mut Page) {
     page.line("");
 }
 
-/// What a program has.
-fn print_program(program: &Program, shown: Shown, page: &mut Page) {
-    match shown {
-        Shown::LastValue => print_last(program, page),
-        Shown::IsTyped => page.line("  typed"),
+/// What the names of these files mean with their data.
+fn print_scope(
+    alloc: Global,
+    sources: &Sources,
+    given_data: &Data,
+    names: &Names,
+    page: &mut Page,
+) -> Result<(), Memory>
+    requires known { AreKnown names.now sources.now.files.items }
+    requires within { All (IsGivenWithin (length names.now)) (map given given_data.now.items.items) }
+{
+    match scope(alloc, sources, given_data, names) {
+        Ok(scoped) => {
+            print_scoped(page, &scoped);
+            Ok(())
+        }
+        Err(stop) => print_stop(page, stop),
     }
 }
 
@@ -75,7 +89,51 @@ fn typed(
     check(alloc, &scoped, names)
 }
 
-/// What these files are typed to with the data in a text, or that it isn't read.
+/// The program that these files are typed to with their data: the value of its last declaration, or that there is one.
+fn print_typed(
+    alloc: Global,
+    sources: &Sources,
+    given_data: &Data,
+    names: &Names,
+    shows_last: bool,
+    page: &mut Page,
+) -> Result<(), Memory>
+    requires known { AreKnown names.now sources.now.files.items }
+    requires within { All (IsGivenWithin (length names.now)) (map given given_data.now.items.items) }
+{
+    match typed(alloc, sources, given_data, names) {
+        Ok(program) => {
+            if shows_last {
+                print_last(&program, page);
+            } else {
+                page.line("  typed");
+            }
+            Ok(())
+        }
+        Err(stop) => print_stop(page, stop),
+    }
+}
+
+/// What is to be written of these files with their data.
+fn print_model(
+    alloc: Global,
+    sources: &Sources,
+    given_data: &Data,
+    names: &Names,
+    shown: Shown,
+    page: &mut Page,
+) -> Result<(), Memory>
+    requires known { AreKnown names.now sources.now.files.items }
+    requires within { All (IsGivenWithin (length names.now)) (map given given_data.now.items.items) }
+{
+    match shown {
+        Shown::Scope => print_scope(alloc, sources, given_data, names, page),
+        Shown::LastValue => print_typed(alloc, sources, given_data, names, true, page),
+        Shown::IsTyped => print_typed(alloc, sources, given_data, names, false, page),
+    }
+}
+
+/// What is to be written of these files with the data in a text, or that it isn't read.
 fn print_in(
     alloc: Global,
     sources: &Sources,
@@ -87,13 +145,7 @@ fn print_in(
     requires { AreKnown names.old sources.now.files.items }
 {
     match all_data(alloc, data, sources.files.len() as u64, names) {
-        Ok(data) => match typed(alloc, sources, &data, names) {
-            Ok(program) => {
-                print_program(&program, shown, page);
-                Ok(())
-            }
-            Err(stop) => print_stop(page, stop),
-        },
+        Ok(data) => print_model(alloc, sources, &data, names, shown, page),
         Err(Stop::Memory) => Err(Memory),
         Err(Stop::Refused(_)) => {
             page.line("  data not read");
@@ -102,7 +154,7 @@ fn print_in(
     }
 }
 
-/// What a model is typed to with the data in a text, or that they aren't read.
+/// What is to be written of a model with the data in a text, or that they aren't read.
 fn print_with(
     alloc: Global,
     model: &str,
@@ -145,11 +197,22 @@ pub fn print_given(alloc: Global, text: &str, page: &mut Page) -> Result<(), Mem
     )
 }
 
-/// Whether a model is typed with its data: `MODEL ## DATA`, or with the data of two files `MODEL ## DATA ## DATA`.
-pub fn print_checked(alloc: Global, text: &str, page: &mut Page) -> Result<(), Memory> {
-    let (model, data) = match text.split_once(" ## ") {
+/// A model, with its data after ` ## `.
+fn model_and_data(text: &str) -> (&str, &str) {
+    match text.split_once(" ## ") {
         Some((model, data)) => (model, data),
         None => (text, ""),
-    };
+    }
+}
+
+/// The scope of a model with its data: `MODEL ## DATA`.
+pub fn print_scope_of(alloc: Global, text: &str, page: &mut Page) -> Result<(), Memory> {
+    let (model, data) = model_and_data(text);
+    print_with(alloc, model, data, Shown::Scope, page)
+}
+
+/// Whether a model is typed with its data: `MODEL ## DATA`, or with the data of two files `MODEL ## DATA ## DATA`.
+pub fn print_checked(alloc: Global, text: &str, page: &mut Page) -> Result<(), Memory> {
+    let (model, data) = model_and_data(text);
     print_with(alloc, model, data, Shown::IsTyped, page)
 }
