@@ -1,20 +1,22 @@
--- The law: all nodes of a typed program respect par.
-use Rattle.std.proofs.Common.{◌≡◌, ℕ, List, [], ◌∷◌, ◌++◌, Ok, sym, subst}
+-- The law: all nodes of a program that is typed with its data respect par.
+use Rattle.std.proofs.Common.{◌≡◌, ℕ, ◌+◌, List, [], ◌∷◌, ◌++◌, Ok, map, sym, subst}
 use Rattle.std.specs.List.{flat_map, AllByRecursion}
 use Rattle.mz_core.specs.Tree.{Tree, Decl, DeclaredType, declares, maybe, maybes}
 use Rattle.mz_core.specs.Program.{Function, Goal, satisfy, minimize, maximize, PlainProgram}
 use Rattle.mz_scoped.specs.Scoped.{ScopedTree}
-use Rattle.mz_checks.specs.Tests.{Test, ◌>>=◌, ◌>>◌, each}
+use Rattle.mz_checks.specs.Tests.{Test, ◌>>=◌, each}
 use Rattle.mz_checks.specs.Models.{Model}
 use Rattle.mz_checks.specs.Headings.{Subject, with_types}
 use Rattle.mz_checks.specs.Items.{decl, function, constraint, goal, output}
-use Rattle.mz_checks.specs.Duplicates.{duplicate_after}
-use Rattle.mz_checks.specs.Checks.{numbered, none_met, types_met, items_met, no_fault, signed, untyped, Sections, sections, checked_with, checked, Checks}
+use Rattle.mz_checks.specs.Checks.{numbered, untyped, Sections, sections}
+use Rattle.mz_datum.specs.WithData.{given_values, with_value, with_values, checked_given, checked_with_data, ChecksWithData}
+use Rattle.mz_datum.proofs.Parted.{parted}
 use Rattle.mz_texts.proofs.Giving.{AllBy, all_both, Gives, gives_then, gives_after}
 use Rattle.mz_par.specs.Nodes.{nodes_in, in_maybe, in_maybes, in_decl, in_type, in_function, in_goal, nodes_of}
 use Rattle.mz_par.specs.Par.{RespectsPar}
 use Rattle.mz_par.proofs.Leaves.{IsSound, IsSoundType, IsSoundDecl, items_sound, maybe_sound, maybes_sound}
-use Rattle.mz_par.proofs.Models.{IsSoundFunction, IsSoundGoal, AreSoundSections, checked_sound}
+use Rattle.mz_par.proofs.Data.{IsSoundGiven, values_sound, decls_sound}
+use Rattle.mz_par.proofs.Models.{IsSoundFunction, IsSoundGoal, AreSoundSections, AreSoundTables, tables_sound, sections_sound}
 use Rattle.mz_par.proofs.Programs.{AreNumbered, decls_numbered, all_hold}
 
 -- ---- the nodes of sections
@@ -58,21 +60,52 @@ sections_numbered s m =
     gives_after HasNumbers (goal m s.goal) (outputs ds fs cs) (λ g.
     gives_after HasNumbers (each (output m) s.outputs) (last ds fs cs g) (λ os. a)))))
 
-checked_numbered : (texts : List (List ℕ)) (s : ScopedTree) (order : List Subject) → Gives (checked texts s order) HasNumbers
-unfolding checked checked_with
-checked_numbered texts s order =
-    let m = with_types s (untyped texts s) order in
-    let all : Test Sections = sections s m in
-    let tested : Test Sections = none_met (items_met s m) >> all in
-    let unrepeated : Test Sections = no_fault (duplicate_after m.texts [] (signed s m)) >> tested in
-    gives_after HasNumbers (none_met (types_met s m)) (λ u. unrepeated) (λ u.
-    gives_after HasNumbers (no_fault (duplicate_after m.texts [] (signed s m))) (λ v. tested) (λ v.
-    gives_after HasNumbers (none_met (items_met s m)) (λ w. all) (λ w. sections_numbered s m)))
-
--- ---- the whole
+-- ---- the sections with the values of data
 
 from_ok : {A : Type 0} (Q : A → Type 0) (t : Test A) (x : A) → t ≡ Ok x → Gives t Q → Q x
 from_ok Q t x e h = subst (λ r. Gives r Q) e h
+
+valued_sound : (vs : List (ℕ × Tree)) (all : Sections) → AllBy IsSoundGiven vs → AreSoundSections all → AreSoundSections (with_values vs all)
+unfolding with_values
+valued_sound vs all h k = record {
+  decls = decls_sound vs all.decls h k.decls;
+  functions = k.functions;
+  constraints = k.constraints;
+  goal = k.goal;
+  outputs = k.outputs;
+}
+
+given_sound : (s : ScopedTree) (m : Model) (all : Sections) → AreSoundTables m → checked_given s m ≡ Ok all → AreSoundSections all
+given_sound s m all tables e =
+    let p = parted s m all e in
+    let values = from_ok (AllBy IsSoundGiven) (given_values m s.given) p.values p.given (values_sound m s.given) in
+    let before = from_ok AreSoundSections (sections s m) p.before p.typed (sections_sound m tables s) in
+    subst AreSoundSections (sym p.is) (valued_sound p.values p.before values before)
+
+checked_sound : (texts : List (List ℕ)) (s : ScopedTree) (order : List Subject) (all : Sections) → checked_with_data texts s order ≡ Ok all → AreSoundSections all
+unfolding checked_with_data
+checked_sound texts s order all e = given_sound s (with_types s (untyped texts s) order) all (tables_sound texts s order) e
+
+-- a value changes no slot
+slots_stay : (vs : List (ℕ × Tree)) (k : ℕ) (ds : List Decl) → AreNumbered k ds → AreNumbered k (map (with_value vs) ds)
+slots_stay vs k [] h = tt
+slots_stay vs k (d ∷ ds) h = (h.0, slots_stay vs (k + 1) ds h.1)
+
+valued_numbered : (vs : List (ℕ × Tree)) (all : Sections) → HasNumbers all → HasNumbers (with_values vs all)
+unfolding with_values
+valued_numbered vs all h = slots_stay vs 0 all.decls h
+
+given_numbered : (s : ScopedTree) (m : Model) (all : Sections) → checked_given s m ≡ Ok all → HasNumbers all
+given_numbered s m all e =
+    let p = parted s m all e in
+    let before = from_ok HasNumbers (sections s m) p.before p.typed (sections_numbered s m) in
+    subst HasNumbers (sym p.is) (valued_numbered p.values p.before before)
+
+checked_numbered : (texts : List (List ℕ)) (s : ScopedTree) (order : List Subject) (all : Sections) → checked_with_data texts s order ≡ Ok all → HasNumbers all
+unfolding checked_with_data
+checked_numbered texts s order all e = given_numbered s (with_types s (untyped texts s) order) all e
+
+-- ---- the whole
 
 by_recursion : {A : Type 0} (Q : A → Type 0) (xs : List A) → AllBy Q xs → AllByRecursion Q xs
 by_recursion Q [] h = tt
@@ -90,9 +123,9 @@ program_nodes all p h ds fs cs g os =
     (all_both RespectsPar (in_goal p.goal) _ (goal_nodes p.goal (subst IsSoundGoal (sym g) h.goal))
     (all_nodes IsSound nodes_in tree_nodes p.outputs (subst (AllBy IsSound) (sym os) h.outputs)))))
 
-pub nodes_respect_par : (texts : List (List ℕ)) (s : ScopedTree) (p : PlainProgram) → Checks texts s p → AllByRecursion RespectsPar (nodes_of p)
+pub nodes_respect_par : (texts : List (List ℕ)) (s : ScopedTree) (p : PlainProgram) → ChecksWithData texts s p → AllByRecursion RespectsPar (nodes_of p)
 nodes_respect_par texts s p c =
-    let h = from_ok AreSoundSections (checked texts s c.order) c.all c.are (checked_sound texts s c.order) in
-    let numbers = from_ok HasNumbers (checked texts s c.order) c.all c.are (checked_numbered texts s c.order) in
+    let h = checked_sound texts s c.order c.all c.are in
+    let numbers = checked_numbered texts s c.order c.all c.are in
     let decls = all_hold p.decls c.all.decls p.order c.program.ordered c.program.counted numbers IsSoundDecl h.decls in
     by_recursion RespectsPar (nodes_of p) (program_nodes c.all p h decls c.program.functions c.program.constraints c.program.goal c.program.outputs)

@@ -20,8 +20,7 @@ use Rattle.mz_checks.specs.Lets.{new_name, decl_of}
 use Rattle.mz_checks.specs.Typing.{check, check_written}
 use Rattle.mz_checks.specs.Headings.{Parameters, param_next, heading, written_in, Subject, of_decl, of_function, with_type, with_types}
 use Rattle.mz_checks.specs.Items.{value_of, decl, with_params, function, constraint, objective, goal, texts_like, texts_fitted, output}
-use Rattle.mz_checks.specs.Duplicates.{duplicate_after}
-use Rattle.mz_checks.specs.Checks.{numbered, none_met, types_met, items_met, no_fault, signed, untyped, Sections, sections, checked_with, checked}
+use Rattle.mz_checks.specs.Checks.{numbered, untyped, Sections, sections}
 use Rattle.mz_texts.proofs.Giving.{AllBy, all_both, Gives, gives_then, gives_after, loop_gives, each_gives}
 use Rattle.mz_par.proofs.Leaves.{IsSound, AreSound, IsSoundMaybe, IsSoundType, IsSoundDecl, fitted_sound, condition_sound}
 use Rattle.mz_par.proofs.Typed.{tree_keeps, written_keeps}
@@ -88,6 +87,9 @@ all_typed s m (x ∷ xs) t = all_typed s (with_type s m x) xs (one_typed s m x t
 none_typed : (texts : List (List ℕ)) (s : ScopedTree) → AreSoundTables (untyped texts s)
 unfolding untyped
 none_typed texts s = record { types = tt; headings = tt }
+
+pub tables_sound : (texts : List (List ℕ)) (s : ScopedTree) (order : List Subject) → AreSoundTables (with_types s (untyped texts s) order)
+tables_sound texts s order = all_typed s (untyped texts s) order (none_typed texts s)
 
 found_case : {A : Type 0} (Q : A → Type 0) (at : Span) (b : Bool) (t : Test A) (o : Option (Test A)) → Gives t Q → Gives (typed_so_far at o) Q → Gives (typed_so_far at (cond b (Some t) o)) Q
 found_case Q at true t o h l = h
@@ -165,15 +167,3 @@ module _ (m : Model) (tables : AreSoundTables m) where
       gives_then IsSoundGoal AreSoundSections (goal m s.goal) (outputs ds fs cs) (goal_sound s.goal) (λ g d.
       gives_then AreSound AreSoundSections (each (output m) s.outputs) (last ds fs cs g) (each_sound IsSound (output m) output_sound s.outputs) (λ os e.
       record { decls = a; functions = b; constraints = c; goal = d; outputs = e })))))
-
-pub checked_sound : (texts : List (List ℕ)) (s : ScopedTree) (order : List Subject) → Gives (checked texts s order) AreSoundSections
-unfolding checked checked_with
-checked_sound texts s order =
-    let m = with_types s (untyped texts s) order in
-    let all : Test Sections = sections s m in
-    let tested : Test Sections = none_met (items_met s m) >> all in
-    let unrepeated : Test Sections = no_fault (duplicate_after m.texts [] (signed s m)) >> tested in
-    gives_after AreSoundSections (none_met (types_met s m)) (λ u. unrepeated) (λ u.
-    gives_after AreSoundSections (no_fault (duplicate_after m.texts [] (signed s m))) (λ v. tested) (λ v.
-    gives_after AreSoundSections (none_met (items_met s m)) (λ w. all) (λ w.
-    sections_sound m (all_typed s (untyped texts s) order (none_typed texts s)) s)))

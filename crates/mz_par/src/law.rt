@@ -4,11 +4,11 @@ ghost use Rattle.std.specs.Prelude.{ℕ, List};
 ghost use Rattle.std.specs.List.{AllByRecursion};
 ghost use Rattle.mz_core.specs.Program.{PlainProgram};
 ghost use Rattle.mz_scoped.specs.Scoped.{ScopedTree};
-ghost use Rattle.mz_checks.specs.Checks.{Checks};
+ghost use Rattle.mz_datum.specs.WithData.{ChecksWithData};
 ghost use Rattle.mz_par.specs.Nodes.{nodes_of};
 ghost use Rattle.mz_par.specs.Par.{RespectsPar};
 
-/// What a scoped model is typed to respects par: wherever an expression is typed par, it is a par node, under coercions that keep it par; and each declaration of a `let` that is typed par has a value.
+/// What a scoped model is typed to with its data respects par: wherever an expression is typed par, it is a par node, under coercions that keep it par; and each declaration of a `let` that is typed par has a value.
 pub fn typed_programs_respect_par()
-    ensures { (texts : List (List ℕ)) (s : ScopedTree) (p : PlainProgram) → Checks texts s p → AllByRecursion RespectsPar (nodes_of p) }
+    ensures { (texts : List (List ℕ)) (s : ScopedTree) (p : PlainProgram) → ChecksWithData texts s p → AllByRecursion RespectsPar (nodes_of p) }
 {}
