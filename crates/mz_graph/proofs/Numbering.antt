@@ -276,8 +276,10 @@ one_number_more of out vs i n d h p q r =
     r ∙ ap (λ z. z ++ n ∷ []) p ∙ ap (λ z. map number (take i vs) ++ z ∷ []) q
     ∙ sym (ap (λ z. map number z) (take_more vs i d h) ∙ map_push number (take i vs) (get_or vs i d))
 
-pub code_components : (g : Graph) (t : Trail) (of : List ℕ) (vs : List Visit) (i count : ℕ) → IsGraph g → Holds g [] t → length t.path ≡ 0 → ((x : ℕ) → x < length g → visit_of t.visits x ≡ Unvisited → ⊥) → vs ≡ t.visits → of ≡ map number (take i vs) → length vs ≤ i → count ≡ t.count → AreComponents g count of
-code_components g t of vs i count closed h e seen p q l c =
-    let whole : take i vs ≡ vs = take_all i vs l in
-    let is : of ≡ map number t.visits = q ∙ ap (λ z. map number z) (whole ∙ p) in
+pub all_numbers : (of : List ℕ) (vs : List Visit) (i : ℕ) → of ≡ map number (take i vs) → length vs ≤ i → of ≡ map number vs
+all_numbers of vs i q l = q ∙ ap (λ z. map number z) (take_all i vs l)
+
+pub code_components : (g : Graph) (t : Trail) (of : List ℕ) (vs : List Visit) (count : ℕ) → IsGraph g → Holds g [] t → length t.path ≡ 0 → ((x : ℕ) → x < length g → visit_of t.visits x ≡ Unvisited → ⊥) → vs ≡ t.visits → of ≡ map number vs → count ≡ t.count → AreComponents g count of
+code_components g t of vs count closed h e seen p q c =
+    let is : of ≡ map number t.visits = q ∙ ap (λ z. map number z) p in
     subst (λ z. AreComponents g z of) (sym c) (all_numbered g t of closed h e seen (ap length is ∙ length-map t.visits number) (λ x. ap (λ z. at z x) is ∙ numbers_read t.visits x))

@@ -1,5 +1,5 @@
 -- How far a search is with its nodes, and lists without their last item.
-use Rattle.std.proofs.Common.{◌≡◌, ℕ, zero, suc, ◌-◌, ◌<◌, inl, inr, List, [], ◌∷◌, ap, sym, ◌∙◌, subst, arith, length, get_or, set, take, drop}
+use Rattle.std.proofs.Common.{◌≡◌, ℕ, zero, suc, ◌-◌, ◌+◌, ◌<◌, inl, inr, List, [], ◌∷◌, ap, sym, ◌∙◌, subst, arith, length, get_or, set, take, drop}
 use Rattle.std.proofs.lemmas.List.{get_or-set_same, get_or-set_other, length-take-le, get_or-take, length-drop}
 use Rattle.std.proofs.lemmas.Grind.{get_or_default_zero}
 use Rattle.std.proofs.Math.Seq.{take-length}
@@ -7,7 +7,7 @@ use Rattle.mz_graph.specs.Graph.{Graph, Path, arrived, onward}
 use Rattle.mz_graph.specs.declared.search.Visit.{Visit}
 use Rattle.mz_graph.specs.declared.search.Visit.TheVariants.{Unvisited, OnPath, Numbered}
 use Rattle.mz_graph.specs.StepsSearch.{visit_of, at, IsPrefix, StayVisited}
-use Rattle.mz_graph.proofs.Membership.{same_or_not}
+use Rattle.mz_graph.proofs.Membership.{same_or_not, below_or_not}
 
 pub onto : {g : Graph} {x y z : ℕ} → Path g x y → Path g y z → Path g x z
 onto arrived q = q
@@ -71,3 +71,10 @@ pub last_read : (xs : List ℕ) (n k d : ℕ) → n ≡ length xs → k ≡ n - 
 last_read xs n k d e f h =
     let p : k ≡ length xs - 1 = omega (arith, e, f) in
     ap (λ z. get_or xs z d) p ∙ get_or_default_zero xs (length xs - 1) d (omega (arith, e, h))
+
+-- the nodes before a place are visited, and then the one at it
+pub one_more_visited : (old new : List Visit) (x : ℕ) → StayVisited old new → ((y : ℕ) → y < x → visit_of old y ≡ Unvisited → ⊥) → (visit_of new x ≡ Unvisited → ⊥) → (y : ℕ) → y < x + 1 → visit_of new y ≡ Unvisited → ⊥
+one_more_visited old new x stay before now y h e = elim (below_or_not y x) [
+  | inl k ↦ before y k (stay y e)
+  | inr k ↦ now (subst (λ z. visit_of new z ≡ Unvisited) (omega (arith, h, k)) e)
+]

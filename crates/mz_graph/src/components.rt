@@ -1,6 +1,6 @@
 // The strongly connected components of a graph.
 
-ghost use Rattle.std.specs.Prelude.{◌≡◌, length, IfOk};
+ghost use Rattle.std.specs.Prelude.{◌≡◌, ◌<◌, ◌^◌, map, IfOk};
 ghost use Rattle.mz_graph.specs.Graph.{graph_of, IsGraph, AreComponents};
 ghost use Rattle.mz_graph.specs.StepsSearch.{number};
 
@@ -12,8 +12,8 @@ use std::alloc::{AllocError, Global};
 pub struct Components {
     /// For each node the number of its component, from 0. No edge leads to a higher number.
     pub of: Vec<usize>,
-    /// For each component one of its nodes.
-    pub leaders: Vec<usize>,
+    /// How many components there are.
+    pub count: usize,
 }
 
 /// The number of a component that has one.
@@ -26,23 +26,32 @@ fn number(visit: Visit) -> usize
     }
 }
 
+/// The numbers that these have.
+fn numbers_of(alloc: Global, visits: &[Visit]) -> Result<Vec<usize>, AllocError>
+    ensures { IfOk result (λ of. of.items ≡ map number visits.now) }
+{
+    let mut of = Vec::new(alloc);
+    for visit in visits {
+        of.push(number(*visit))?;
+    }
+    Ok(of)
+}
+
 /// The components of nodes that reach each other.
 ///
 /// `graph` has for each node the nodes that its edges lead to. Time is linear in nodes and edges, and no call is nested.
 pub fn components_of(alloc: Global, graph: &[Vec<usize>]) -> Result<Components, AllocError>
     requires { IsGraph (graph_of graph.now) }
-    ensures { IfOk result (λ r. AreComponents (graph_of graph.now) (length r.leaders.items) r.of.items) }
+    ensures components { IfOk result (λ r. AreComponents (graph_of graph.now) r.count r.of.items) }
+    ensures few { IfOk result (λ r. r.count < 2 ^ 63) }
 {
     let mut search = Search::new(alloc, graph.len())?;
     for x in 0..graph.len() {
         search.explore(graph, x)?;
     }
-    let mut of = Vec::new(alloc);
-    for visit in &search.visits {
-        of.push(number(*visit))?;
-    }
+    let of = numbers_of(alloc, search.visits.as_slice())?;
     Ok(Components {
         of,
-        leaders: search.into_leaders(),
+        count: search.leaders.len(),
     })
 }

@@ -72,21 +72,6 @@ impl Search {
         })
     }
 
-    /// A node of each component that has its number.
-    pub fn into_leaders(self) -> Vec<usize>
-        ensures { result ≡ self.leaders }
-    {
-        let Search {
-            visits: _visits,
-            path: _path,
-            work: _work,
-            starts: _starts,
-            floors: _floors,
-            leaders,
-        } = self;
-        leaders
-    }
-
     /// Puts `x` on the path, as a component of its own.
     pub fn enter(&mut self, graph: &[Vec<usize>], x: usize) -> Result<(), AllocError>
         requires visits { x < length self.old.visits.items }

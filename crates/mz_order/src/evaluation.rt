@@ -68,7 +68,7 @@ pub fn evaluation_order(
     let parts = components_of(alloc, calls)?;
     let all = layers_of(alloc, calls, mentions, decl_calls, decl_mentions, &parts)?;
     let order = order_of(alloc, all.as_slice())?;
-    let decls = decls_of(alloc, order.as_slice(), calls.len() + parts.leaders.len())?;
+    let decls = decls_of(alloc, order.as_slice(), calls.len() + parts.count)?;
     match first_left(alloc, decls.as_slice(), decl_mentions.len())? {
         None => Ok(Evaluation::Ordered(decls)),
         Some(d) => Ok(Evaluation::Cyclic(d)),

@@ -122,11 +122,12 @@ pub(crate) fn layers_of(
     parts: &Components,
 ) -> Result<Vec<Vec<usize>>, AllocError>
     requires uses { AreUses (graph_of calls.now) (graph_of mentions.now) (graph_of decl_calls.now) (graph_of decl_mentions.now) }
-    requires parts { AreComponents (graph_of calls.now) (length parts.now.leaders.items) parts.now.of.items }
-    ensures { IfOk result (λ v. AreLayers (graph_of calls.now) (graph_of mentions.now) (graph_of decl_calls.now) (graph_of decl_mentions.now) parts.now.of.items (length (graph_of calls.now)) (length parts.now.leaders.items) (length (graph_of decl_mentions.now)) (graph_of v.items)) }
+    requires parts { AreComponents (graph_of calls.now) parts.now.count parts.now.of.items }
+    requires few { parts.now.count < 2 ^ 63 }
+    ensures { IfOk result (λ v. AreLayers (graph_of calls.now) (graph_of mentions.now) (graph_of decl_calls.now) (graph_of decl_mentions.now) parts.now.of.items (length (graph_of calls.now)) parts.now.count (length (graph_of decl_mentions.now)) (graph_of v.items)) }
 {
     let first = calls.len();
-    let count = parts.leaders.len();
+    let count = parts.count;
     let base = first + count;
     let none = vec![in alloc; count; decl_calls.len()]?;
     let mut all = rows_of(alloc, calls, mentions, &parts.of, &parts.of, first, base)?;

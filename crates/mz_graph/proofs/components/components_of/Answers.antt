@@ -1,20 +1,33 @@
-use Rattle.std.proofs.Common.{ap, ◌≤◌, length, arith}
+use Rattle.std.proofs.Common.{refl, ap, sym, subst, ◌≤◌, length, arith}
 use Rattle.mz_graph.specs.Graph.{graph_of}
-use Rattle.mz_graph.proofs.Tables.{as_many}
-use Rattle.mz_graph.specs.StepsSearch.{trail}
-use Rattle.mz_graph.proofs.Numbering.{one_number_more, code_components}
+use Rattle.mz_graph.proofs.Tables.{as_many, upto_as, below_upto, none_below}
+use Rattle.mz_graph.specs.StepsSearch.{trail, IsNew}
+use Rattle.mz_graph.proofs.Visits.{one_more_visited}
+use Rattle.mz_graph.proofs.Entering.{nothing_visited}
+use Rattle.mz_graph.proofs.Numbering.{code_components}
 use Rattle.mz_graph.proofs.components.components_of.Goals as goal
 
 pub explore-requires-clause-empty : goal.explore-requires-clause-empty
 explore-requires-clause-empty c = c.loop-x.invariant.empty
 
-pub loop-visit-init : goal.loop-visit-init
-loop-visit-init c = c.new-of.ensures.items
+pub loop-x-init : goal.loop-x-init
+loop-x-init c =
+    let start = trail c.in_ok-search.search in
+    record {
+      holds = nothing_visited (graph_of c.args.graph.now) start (subst (λ z. IsNew z start) (sym (as_many c.args.graph.now)) c.in_ok-search.ensures);
+      empty = ap length c.in_ok-search.ensures.path;
+      visited = λ y h e. none_below h refl;
+    }
 
-pub loop-visit-preserved : goal.loop-visit-preserved
-loop-visit-preserved c = one_number_more c.loop-visit.of.items c.push.new.self.items c.deref-visit-items.result.now c.loop-visit.visit-index c.number.result _ c.loop-visit-test.true c.loop-visit.invariant c.number.ensures c.in_ok-push.ensures.items
+pub loop-x-preserved : goal.loop-x-preserved
+loop-x-preserved c = record {
+  holds = c.in_ok-explore.ensures.holds;
+  empty = c.in_ok-explore.ensures.empty;
+  visited = one_more_visited c.loop-x.search.visits.items c.explore.new.self.visits.items c.loop-x.x c.in_ok-explore.ensures.visited c.loop-x.invariant.visited c.in_ok-explore.ensures.explored;
+}
 
-pub returns : goal.returns
-returns c =
-    let all : length (graph_of c.args.graph.now) ≤ c.loop-x.x = omega (arith, as_many c.args.graph.now, c.loop-x-test.false) in
-    code_components (graph_of c.args.graph.now) (trail c.loop-x.search) c.loop-visit.of.items c.deref-visit-items.result.now c.loop-visit.visit-index (length c.into_leaders.result.items) c.requires c.loop-x.invariant.holds c.loop-x.invariant.empty (λ x h. c.loop-x.invariant.visited x (omega (arith, h, all))) c.deref-visit-items.ensures.value c.loop-visit.invariant c.loop-visit-test.false (ap (λ z. length z.items) c.into_leaders.ensures)
+pub returns-clause-components : goal.returns-clause-components
+returns-clause-components c =
+    let all : length (graph_of c.args.graph.now) ≤ c.loop-x.x = upto_as c.loop-x-test.false (as_many c.args.graph.now) in
+    code_components (graph_of c.args.graph.now) (trail c.loop-x.search) c.in_ok-of.of.items c.as_slice.result.now c.len.result c.requires c.loop-x.invariant.holds c.loop-x.invariant.empty (λ x h. c.loop-x.invariant.visited x (below_upto h all))
+    c.as_slice.ensures.value c.in_ok-of.ensures (omega (arith, c.len.ensures))

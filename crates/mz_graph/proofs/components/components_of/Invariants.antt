@@ -1,7 +1,7 @@
-use Rattle.std.proofs.Common.{◌≡◌, ◌<◌, ℕ, [], length, take, map}
+use Rattle.std.proofs.Common.{◌≡◌, ◌<◌, ℕ, [], length}
 use Rattle.mz_graph.specs.Graph.{graph_of}
 use Rattle.mz_graph.specs.declared.search.Visit.TheVariants.{Unvisited}
-use Rattle.mz_graph.specs.StepsSearch.{trail, visit_of, Holds, number}
+use Rattle.mz_graph.specs.StepsSearch.{trail, visit_of, Holds}
 use Rattle.mz_graph.proofs.components.components_of.Given as goal
 
 abbrev pub invariant-loop-x : goal.invariant-loop-x
@@ -10,6 +10,3 @@ invariant-loop-x l = record {
   empty : length l.search.path.items ≡ 0;
   visited : (y : ℕ) → y < l.x → visit_of l.search.visits.items y ≡ Unvisited → ⊥;
 }
-
-abbrev pub invariant-loop-visit : goal.invariant-loop-visit
-invariant-loop-visit l = l.of.items ≡ map number (take l.visit-index l.visit-items)

@@ -7,23 +7,22 @@ use Rattle.mz_order.proofs.layers.layers_of.Goals as goal
 pub rows_of-requires-clause-mentioned : goal.rows_of-requires-clause-mentioned
 rows_of-requires-clause-mentioned c = λ x e a.
     let b = c.requires.uses.mentioned.below x e a in
-    omega (arith, b, as_many c.args.decl_mentions.now, c.len-count.ensures)
+    omega (arith, b, as_many c.args.decl_mentions.now)
 
 pub rows_of-requires-2-clause-mentioned : goal.rows_of-requires-2-clause-mentioned
 rows_of-requires-2-clause-mentioned c = λ x e a.
     let b = c.requires.uses.mentioned_by_decls.below x e a in
-    omega (arith, b, as_many c.args.decl_mentions.now, c.len-count.ensures)
+    omega (arith, b, as_many c.args.decl_mentions.now)
 
 pub returns : goal.returns
 returns c =
     let first : length c.args.calls.now ≡ length (graph_of c.args.calls.now) = sym (as_many c.args.calls.now) in
-    let count : c.len-count.result ≡ length c.args.parts.now.leaders.items = omega (arith, c.len-count.ensures) in
-    let base : length c.args.calls.now + c.len-count.result ≡ length (graph_of c.args.calls.now) + length c.args.parts.now.leaders.items = omega (arith, first, count) in
-    layered (graph_of c.args.calls.now) (graph_of c.args.mentions.now) (graph_of c.args.decl_calls.now) (graph_of c.args.decl_mentions.now) c.args.parts.now.of.items c.in_ok-none.none.items (length c.args.parts.now.leaders.items) (length (graph_of c.args.decl_mentions.now))
+    let base : length c.args.calls.now + c.args.parts.now.count ≡ length (graph_of c.args.calls.now) + c.args.parts.now.count = ap (λ z. z + c.args.parts.now.count) first in
+    layered (graph_of c.args.calls.now) (graph_of c.args.mentions.now) (graph_of c.args.decl_calls.now) (graph_of c.args.decl_mentions.now) c.args.parts.now.of.items c.in_ok-none.none.items c.args.parts.now.count (length (graph_of c.args.decl_mentions.now))
     (graph_of c.in_ok-all.all.items) (graph_of c.in_ok-members.members.items) (graph_of c.in_ok-decls.decls.items) (graph_of c.append-2.new.self.items)
     c.requires.parts c.requires.uses.called_by_decls
     (rows_same (graph_of c.args.calls.now) (graph_of c.args.mentions.now) c.args.parts.now.of.items c.args.parts.now.of.items _ _ _ _ _ _ (graph_of c.in_ok-all.all.items) c.in_ok-all.ensures first base refl)
-    (members_same c.args.parts.now.of.items _ _ _ _ (graph_of c.in_ok-members.members.items) c.in_ok-members.ensures count c.requires.parts.sized)
+    (members_same c.args.parts.now.of.items _ _ _ _ (graph_of c.in_ok-members.members.items) c.in_ok-members.ensures refl c.requires.parts.sized)
     (rows_same (graph_of c.args.decl_calls.now) (graph_of c.args.decl_mentions.now) c.args.parts.now.of.items c.in_ok-none.none.items _ _ _ _ _ _ (graph_of c.in_ok-decls.decls.items) c.in_ok-decls.ensures first base c.requires.uses.decls)
-    (past_all (length c.args.parts.now.leaders.items) (length (graph_of c.args.decl_mentions.now)) c.len-count.result (length c.args.decl_calls.now) c.in_ok-none.none.items (search rules) count (omega (arith, as_many c.args.decl_calls.now, c.requires.uses.decls)))
+    (past_all c.args.parts.now.count (length (graph_of c.args.decl_mentions.now)) c.args.parts.now.count (length c.args.decl_calls.now) c.in_ok-none.none.items (search rules) refl (omega (arith, as_many c.args.decl_calls.now, c.requires.uses.decls)))
     (ap (λ z. graph_of z) (c.in_ok-append-2.ensures.items ∙ ap (λ z. z ++ c.in_ok-decls.decls.items) c.in_ok-append.ensures.items) ∙ rows_of_both (c.in_ok-all.all.items ++ c.in_ok-members.members.items) c.in_ok-decls.decls.items ∙ ap (λ z. z ++ graph_of c.in_ok-decls.decls.items) (rows_of_both c.in_ok-all.all.items c.in_ok-members.members.items))
