@@ -1,3 +1,4 @@
+pub mod Declarations
 pub mod Gathered
 pub mod Holding
 pub mod Identifiers

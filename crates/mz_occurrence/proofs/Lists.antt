@@ -1,6 +1,8 @@
 -- Lists of parts, read one by one.
-use Rattle.std.proofs.Common.{◌≡◌, ℕ, zero, suc, ◌≤◌, List, [], ◌∷◌, ◌++◌, refl, ap, sym, ◌∙◌, map, length, drop, append_assoc, append-nil, arith}
+use Rattle.std.proofs.Common.{◌≡◌, ℕ, zero, suc, ◌+◌, ◌<◌, ◌≤◌, List, [], ◌∷◌, ◌++◌, refl, ap, sym, ◌∙◌, map, length, drop, get_or, append_assoc, append-nil, arith, Result, OnOk}
+use Rattle.std.proofs.lemmas.Result.{on_ok_weaker}
 use Rattle.std.specs.List.{flat_map}
+use Rattle.std.proofs.lemmas.List.{drop_more}
 use Rattle.mz_tree.specs.Tree as pure
 use Rattle.mz_tree.specs.Tree.{Tree, Part, Generator, Let, Based}
 use Rattle.mz_tree.specs.declared.expr.BinOp.{BinOp}
@@ -53,7 +55,12 @@ pub flat_of_both : {X Y : Type 0} (f : X → List Y) (g h : List X) → flat_map
 flat_of_both f [] h = refl
 flat_of_both f (x ∷ g) h = ap (λ z. f x ++ z) (flat_of_both f g h) ∙ sym (append_assoc (f x) (flat_map f g) (flat_map f h))
 
--- a loop over a list ends
+-- a loop over a list takes a step, and ends
+pub one_read : {X Y : Type 0} (f : X → List Y) (xs : List X) (i : ℕ) (x : X) (old out now : List Y) → old ++ flat_map f xs ≡ out ++ flat_map f (drop i xs) → i < length xs → x ≡ get_or xs i x → now ≡ out ++ f x → old ++ flat_map f xs ≡ now ++ flat_map f (drop (i + 1) xs)
+one_read {Y = Y} f xs i x old out now k h e g =
+    let rest : List Y = flat_map f (drop (i + 1) xs) in
+    k ∙ ap (λ z. out ++ flat_map f z) (drop_more xs i x h) ∙ ap (λ z. out ++ (f z ++ rest)) (sym e) ∙ sym (append_assoc out (f x) rest) ∙ ap (λ z. z ++ rest) (sym g)
+
 pub all_read : {X Y : Type 0} (f : X → List Y) (xs : List X) (i : ℕ) (old out all : List Y) → old ++ flat_map f xs ≡ out ++ flat_map f (drop i xs) → length xs ≤ i → all ≡ flat_map f xs → out ≡ old ++ all
 all_read f xs i old out all e h is =
     sym (nothing_more out) ∙ sym (e ∙ ap (λ z. out ++ flat_map f z) (dropped xs i h)) ∙ ap (λ z. old ++ z) (sym is)
@@ -71,9 +78,9 @@ pub flat_mapped : {X Y Z : Type 0} (f : Y → List Z) (g : X → Y) (xs : List X
 flat_mapped f g [] = refl
 flat_mapped f g (x ∷ xs) = ap (λ z. f (g x) ++ z) (flat_mapped f g xs)
 
-pub function_read : (old one two three four a b d : List Occurrence) (ps qs : List Decl) → one ≡ old ++ a → two ≡ one ++ b → three ≡ two ++ flat_map (λ p. in_parameter (declaration p)) ps → ps ≡ qs → four ≡ three ++ d → four ≡ old ++ (a ++ (b ++ (flat_map in_parameter (map declaration qs) ++ d)))
-function_read old one two three four a b d ps qs p q r e s =
+pub function_read : {T E : Type 0} (r : Result T E) (old one two three four a b d : List Occurrence) (ps qs : List Decl) → one ≡ old ++ a → two ≡ one ++ b → three ≡ two ++ flat_map (λ p. in_parameter (declaration p)) ps → ps ≡ qs → OnOk r (four ≡ three ++ d) → OnOk r (four ≡ old ++ (a ++ (b ++ (flat_map in_parameter (map declaration qs) ++ d))))
+function_read answer old one two three four a b d ps qs p q r e last =
     let c : List Occurrence = flat_map in_parameter (map declaration qs) in
     let is : flat_map (λ x. in_parameter (declaration x)) ps ≡ c = ap (λ z. flat_map (λ x. in_parameter (declaration x)) z) e ∙ sym (flat_mapped in_parameter declaration qs) in
-    s ∙ ap (λ z. z ++ d) (r ∙ ap (λ z. two ++ z) is) ∙ ap (λ z. (z ++ c) ++ d) (q ∙ ap (λ z. z ++ b) p)
-    ∙ append_assoc ((old ++ a) ++ b) c d ∙ append_assoc (old ++ a) b (c ++ d) ∙ append_assoc old a (b ++ (c ++ d))
+    on_ok_weaker answer (λ s. s ∙ ap (λ z. z ++ d) (r ∙ ap (λ z. two ++ z) is) ∙ ap (λ z. (z ++ c) ++ d) (q ∙ ap (λ z. z ++ b) p)
+    ∙ append_assoc ((old ++ a) ++ b) c d ∙ append_assoc (old ++ a) b (c ++ d) ∙ append_assoc old a (b ++ (c ++ d))) last

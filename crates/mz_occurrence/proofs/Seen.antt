@@ -3,22 +3,31 @@ use Rattle.std.proofs.Common.{◌≡◌, ℤ, Bool, List, [], ◌∷◌, ◌++�
 use Rattle.std.proofs.lemmas.Result.{on_ok_weaker}
 use Rattle.std.specs.Global.{Global}
 use Rattle.std.specs.List.{flat_map}
+use Rattle.std.specs.Option.{option_map}
+use Rattle.mz_base.specs.declared.fault.Span.{Span}
 use Rattle.mz_tree.specs.declared.expr.Expr.{Expr}
 use Rattle.mz_tree.specs.declared.expr.UnOp.{UnOp}
 use Rattle.mz_tree.specs.declared.expr.BinOp.{BinOp}
 use Rattle.mz_tree.specs.declared.expr.Gen.{Gen}
 use Rattle.mz_tree.specs.declared.expr.LetItem.{LetItem}
 use Rattle.mz_tree.specs.declared.expr.TextPart.{TextPart}
+use Rattle.mz_tree.specs.declared.expr.TextPart.TheVariants as pieces
+use Rattle.mz_tree.specs.declared.expr.LetItem.TheVariants as items
+use Rattle.mz_tree.specs.declared.expr.TypeBase.{TypeBase}
+use Rattle.mz_tree.specs.declared.expr.TypeBase.TheVariants as base_types
+use Rattle.mz_tree.specs.declared.expr.TypeText.{TypeText}
+use Rattle.mz_tree.specs.declared.expr.Decl.{Decl}
+use Rattle.mz_tree.specs.declared.expr.Form.TheViews.{out-Gen, out-TypeText}
 use Rattle.mz_tree.specs.declared.expr.Form.{Form, the_lemmas as form_lemmas}
 use Rattle.mz_tree.specs.declared.expr.Form.TheVariants as forms
 use Rattle.mz_tree.specs.Tree as pure
-use Rattle.mz_tree.specs.Tree.{Name, Shape}
-use Rattle.mz_tree.specs.Views.{tree, shape, let_of, part, generator, branch, link, tree_row}
-use Rattle.mz_tree.proofs.Looks.{tree_is, shape_is}
+use Rattle.mz_tree.specs.Tree.{Name, Shape, Part, Let, Based}
+use Rattle.mz_tree.specs.Views.{tree, shape, let_of, part, generator, based, declaration, written, branch, link, tree_row}
+use Rattle.mz_tree.proofs.Looks.{tree_is, shape_is, part_is, let_is, base_is, generator_is, written_is}
 use Rattle.mz_occurrence.specs.declared.occurrence.Occurrence.{Occurrence}
 use Rattle.mz_occurrence.specs.declared.occurrence.Role.TheVariants.{Used}
 use Rattle.mz_occurrence.specs.Roles.{occurs}
-use Rattle.mz_occurrence.specs.Occurrences.{in_tree, in_trees, in_shape, in_links, in_parts, in_gens, in_lets, in_branches}
+use Rattle.mz_occurrence.specs.Occurrences.{bound, in_tree, in_trees, in_shape, in_links, in_part, in_parts, in_generator, in_gens, in_let, in_lets, in_local, in_maybe, in_branches, in_written, in_dims, in_based, in_bases}
 use Rattle.mz_occurrence.proofs.Lists.{rows_flat}
 
 form_is : (e : Expr) (f : Form) (s : Shape) → e.form ≡ f → shape f ≡ s → in_tree (tree e) ≡ in_shape e.span s
@@ -42,6 +51,10 @@ after_both old first all a b whole p q r = q ∙ ap (λ z. z ++ b) p ∙ append_
 pub after_three : (old first second all a b c whole : List Occurrence) → first ≡ old ++ a → second ≡ first ++ b → all ≡ second ++ c → whole ≡ a ++ (b ++ c) → all ≡ old ++ whole
 after_three old first second all a b c whole p q s r =
     s ∙ ap (λ z. z ++ c) (q ∙ ap (λ z. z ++ b) p) ∙ append_assoc (old ++ a) b c ∙ append_assoc old a (b ++ c) ∙ ap (λ z. old ++ z) (sym r)
+
+-- two parts, one after the other, in a list that is read on
+pub read_both : (old first all a b : List Occurrence) → first ≡ old ++ a → all ≡ first ++ b → all ≡ old ++ (a ++ b)
+read_both old first all a b p q = q ∙ ap (λ z. z ++ b) p ∙ append_assoc old a b
 
 -- The same, where the last part is read by the call that answers
 
@@ -137,3 +150,64 @@ in_if_form e x b bs cs other h o p q = form_is e (forms.If bs (Some b)) (pure.ch
 pub in_if_alone : (e : Expr) (bs : Vec (Expr × Expr) Global) (cs : List (Expr × Expr)) (other : Option (Box Expr Global)) → e.form ≡ forms.If bs other → other ≡ None → cs ≡ bs.items → in_tree (tree e) ≡ in_branches (pure.branches (map branch cs))
 unfolding in_tree
 in_if_alone e bs cs other h o q = form_is e (forms.If bs None) (pure.choice (pure.branches (map branch bs.items)) pure.nothing) (h ∙ ap (λ z. forms.If bs z) o) (shape_is (forms.If bs None) ∙ simp form_lemmas refl) ∙ sym (after_none (in_branches (pure.branches (map branch bs.items))) [] refl) ∙ ap (λ z. in_branches (pure.branches (map branch z))) (sym q)
+
+-- Pieces of a text, items of a `let`, generators and types
+
+part_as : (p q : TextPart) (t : Part) → p ≡ q → part q ≡ t → in_part (part p) ≡ in_part t
+part_as p q t h e = ap (λ z. in_part (part z)) h ∙ ap in_part e
+
+pub in_plain_piece : (p : TextPart) (n : Name) → p ≡ pieces.Plain n → in_part (part p) ≡ []
+unfolding in_tree
+in_plain_piece p n h = part_as p (pieces.Plain n) (pure.plain n) h (part_is (pieces.Plain n) ∙ simp form_lemmas refl)
+
+pub in_shown_piece : (p : TextPart) (e : Expr) → p ≡ pieces.Shown e → in_part (part p) ≡ in_tree (tree e)
+unfolding in_tree
+in_shown_piece p e h = part_as p (pieces.Shown e) (pure.shown (tree e)) h (part_is (pieces.Shown e) ∙ simp form_lemmas refl)
+
+let_as : (l m : LetItem) (t : Let) → l ≡ m → let_of m ≡ t → in_let (let_of l) ≡ in_let t
+let_as l m t h e = ap (λ z. in_let (let_of z)) h ∙ ap in_let e
+
+pub in_decl_item : (l : LetItem) (d : Decl) → l ≡ items.Decl d → in_let (let_of l) ≡ in_local (declaration d)
+unfolding in_tree
+in_decl_item l d h = let_as l (items.Decl d) (pure.declared (declaration d)) h (let_is (items.Decl d) ∙ simp form_lemmas refl)
+
+pub in_constraint_item : (l : LetItem) (e : Expr) → l ≡ items.Constraint e → in_let (let_of l) ≡ in_tree (tree e)
+unfolding in_tree
+in_constraint_item l e h = let_as l (items.Constraint e) (pure.constrained (tree e)) h (let_is (items.Constraint e) ∙ simp form_lemmas refl)
+
+base_as : (b c : TypeBase) (t : Based) → b ≡ c → based c ≡ t → in_based (based b) ≡ in_based t
+base_as b c t h e = ap (λ z. in_based (based z)) h ∙ ap in_based e
+
+pub in_bool_base : (b : TypeBase) → b ≡ base_types.Bool → in_based (based b) ≡ []
+unfolding in_tree
+in_bool_base b h = base_as b base_types.Bool pure.base_bool h (base_is base_types.Bool ∙ simp form_lemmas refl)
+
+pub in_int_base : (b : TypeBase) → b ≡ base_types.Int → in_based (based b) ≡ []
+unfolding in_tree
+in_int_base b h = base_as b base_types.Int pure.base_int h (base_is base_types.Int ∙ simp form_lemmas refl)
+
+pub in_of_base : (b : TypeBase) (x : Box Expr Global) (e : Expr) → b ≡ base_types.Of x → e ≡ x.value → in_based (based b) ≡ in_tree (tree e)
+unfolding in_tree
+in_of_base b x e h p = base_as b (base_types.Of x) (pure.base_of (tree x.value)) h (base_is (base_types.Of x) ∙ simp form_lemmas refl) ∙ ap (λ z. in_tree (tree z)) (sym p)
+
+generator_as : (g : Gen) (c : Option Expr) → (out-Gen g).cond ≡ c → in_generator (generator g) ≡ map bound (out-Gen g).names.items ++ (in_tree (tree (out-Gen g).set) ++ in_maybe (pure.maybe (option_map tree c)))
+unfolding in_tree
+generator_as g c h = ap in_generator (generator_is g) ∙ ap (λ z. map bound (out-Gen g).names.items ++ (in_tree (tree (out-Gen g).set) ++ in_maybe (pure.maybe (option_map tree z)))) h
+
+pub in_generator_where : (g : Gen) (e : Expr) (ns : List (Name × Span)) → (out-Gen g).cond ≡ Some e → ns ≡ (out-Gen g).names.items → in_generator (generator g) ≡ map bound ns ++ (in_tree (tree (out-Gen g).set) ++ in_tree (tree e))
+unfolding in_tree
+in_generator_where g e ns h q = generator_as g (Some e) h ∙ ap (λ z. map bound z ++ (in_tree (tree (out-Gen g).set) ++ in_tree (tree e))) (sym q)
+
+pub in_generator_alone : (g : Gen) (ns : List (Name × Span)) → (out-Gen g).cond ≡ None → ns ≡ (out-Gen g).names.items → in_generator (generator g) ≡ map bound ns ++ in_tree (tree (out-Gen g).set)
+unfolding in_tree
+in_generator_alone g ns h q = generator_as g None h ∙ ap (λ z. map bound (out-Gen g).names.items ++ z) (sym (after_none (in_tree (tree (out-Gen g).set)) [] refl)) ∙ ap (λ z. map bound z ++ in_tree (tree (out-Gen g).set)) (sym q)
+
+pub in_array_type : (t : TypeText) (bs : Vec TypeBase Global) (cs : List TypeBase) → (out-TypeText t).dims ≡ Some bs → cs ≡ bs.items → in_written (written t) ≡ in_bases (pure.bases (map based cs)) ++ in_based (based (out-TypeText t).base)
+unfolding in_tree
+in_array_type t bs cs h q =
+    ap in_written (written_is t) ∙ ap (λ z. in_dims (pure.dims (option_map (λ v. map based v.items) z)) ++ in_based (based (out-TypeText t).base)) h
+    ∙ ap (λ z. in_bases (pure.bases (map based z)) ++ in_based (based (out-TypeText t).base)) (sym q)
+
+pub in_plain_type : (t : TypeText) → (out-TypeText t).dims ≡ None → in_written (written t) ≡ in_based (based (out-TypeText t).base)
+unfolding in_tree
+in_plain_type t h = ap in_written (written_is t) ∙ ap (λ z. in_dims (pure.dims (option_map (λ v. map based v.items) z)) ++ in_based (based (out-TypeText t).base)) h

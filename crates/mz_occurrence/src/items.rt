@@ -13,16 +13,15 @@ use mz_base::{Memory, Name, Span};
 use mz_tree::{Decl, Function, Goal, Item, SourceFile};
 
 /// Adds the occurrences of a parameter.
-#[tactic(auto, unfolding(crate::specs::Occurrences::in_tree, crate::specs::Occurrences::in_parameter, mz_tree::specs::Views::declaration, mz_tree::specs::Views::written, mz_tree::specs::Views::tree))]
 fn in_parameter(out: &mut Vec<Occurrence>, d: &Decl) -> Result<(), Memory>
     ensures { OnOk result (out.new.items ≡ out.old.items ++ in_parameter (declaration d.now)) }
 {
     in_type(out, &d.ty)?;
     note(out, Role::Local, d.name, d.span)?;
-    if let Some(value) = &d.value {
-        in_expression(out, value)?;
+    match &d.value {
+        Some(value) => in_expression(out, value),
+        None => Ok(()),
     }
-    Ok(())
 }
 
 fn in_parameters(out: &mut Vec<Occurrence>, params: &[Decl]) -> Result<(), Memory>
@@ -35,7 +34,6 @@ fn in_parameters(out: &mut Vec<Occurrence>, params: &[Decl]) -> Result<(), Memor
 }
 
 /// Adds the occurrences of a declaration at top level.
-#[tactic(auto, unfolding(crate::specs::Occurrences::in_tree, crate::specs::Occurrences::in_top, mz_tree::specs::Views::declaration, mz_tree::specs::Views::written, mz_tree::specs::Views::tree))]
 fn in_top(out: &mut Vec<Occurrence>, d: &Decl) -> Result<(), Memory>
     ensures { OnOk result (out.new.items ≡ out.old.items ++ in_top (declaration d.now)) }
 {
@@ -108,8 +106,7 @@ fn in_function(out: &mut Vec<Occurrence>, f: &Function) -> Result<(), Memory>
     in_type(out, &f.result)?;
     in_name(out, f)?;
     in_parameters(out, f.params.as_slice())?;
-    in_expression(out, &f.body)?;
-    Ok(())
+    in_expression(out, &f.body)
 }
 
 fn in_goal(out: &mut Vec<Occurrence>, goal: &Goal) -> Result<(), Memory>

@@ -4,7 +4,7 @@ ghost use Rattle.std.specs.Prelude.{◌≡◌, [], ◌∷◌, ◌++◌, OnOk, ma
 ghost use Rattle.std.specs.List.{flat_map};
 ghost use Rattle.mz_tree.specs.Tree.{trees, links, branches, parts, gens, lets, bases};
 ghost use Rattle.mz_tree.specs.Views.{tree, part, generator, let_of, declaration, written, based, link, branch};
-ghost use Rattle.mz_occurrence.specs.Occurrences.{bound, in_tree, in_trees, in_links, in_branches, in_parts, in_gens, in_lets, in_local, in_written, in_based, in_bases};
+ghost use Rattle.mz_occurrence.specs.Occurrences.{bound, in_tree, in_trees, in_links, in_branches, in_part, in_parts, in_generator, in_gens, in_let, in_lets, in_local, in_written, in_based, in_bases};
 
 use crate::occurrence::{Occurrence, Role, note};
 use mz_base::{Memory, Name, Span};
@@ -102,17 +102,24 @@ fn in_choices(out: &mut Vec<Occurrence>, choices: &[(Expr, Expr)]) -> Result<(),
     Ok(())
 }
 
-#[tactic(auto, unfolding(crate::specs::Occurrences::in_tree, mz_tree::specs::Views::tree, mz_tree::specs::Views::shape, mz_tree::specs::Views::let_of, mz_tree::specs::Views::part, mz_tree::specs::Views::based, mz_tree::specs::Views::declaration, mz_tree::specs::Views::generator, mz_tree::specs::Views::written))]
 #[cycle(walk)]
 fn in_pieces(out: &mut Vec<Occurrence>, pieces: &[TextPart]) -> Result<(), Memory>
     ensures { OnOk result (out.new.items ≡ out.old.items ++ in_parts (parts (map part pieces.now))) }
 {
     for piece in pieces {
-        if let TextPart::Shown(e) = piece {
-            in_expression(out, e)?;
-        }
+        in_piece(out, piece)?;
     }
     Ok(())
+}
+
+#[cycle(walk)]
+fn in_piece(out: &mut Vec<Occurrence>, piece: &TextPart) -> Result<(), Memory>
+    ensures { OnOk result (out.new.items ≡ out.old.items ++ in_part (part piece.now)) }
+{
+    match piece {
+        TextPart::Plain(_) => Ok(()),
+        TextPart::Shown(e) => in_expression(out, e),
+    }
 }
 
 /// Adds the names that a generator binds.
@@ -125,37 +132,49 @@ fn in_bound(out: &mut Vec<Occurrence>, names: &[(Name, Span)]) -> Result<(), Mem
     Ok(())
 }
 
-#[tactic(auto, unfolding(crate::specs::Occurrences::in_tree, mz_tree::specs::Views::tree, mz_tree::specs::Views::shape, mz_tree::specs::Views::let_of, mz_tree::specs::Views::part, mz_tree::specs::Views::based, mz_tree::specs::Views::declaration, mz_tree::specs::Views::generator, mz_tree::specs::Views::written))]
 #[cycle(walk)]
 fn in_generators(out: &mut Vec<Occurrence>, generators: &[Gen]) -> Result<(), Memory>
     ensures { OnOk result (out.new.items ≡ out.old.items ++ in_gens (gens (map generator generators.now))) }
 {
-    for generator in generators {
-        in_bound(out, generator.names.as_slice())?;
-        in_expression(out, &generator.set)?;
-        if let Some(condition) = &generator.cond {
-            in_expression(out, condition)?;
-        }
+    for g in generators {
+        in_generator(out, g)?;
     }
     Ok(())
 }
 
-#[tactic(auto, unfolding(crate::specs::Occurrences::in_tree, mz_tree::specs::Views::tree, mz_tree::specs::Views::shape, mz_tree::specs::Views::let_of, mz_tree::specs::Views::part, mz_tree::specs::Views::based, mz_tree::specs::Views::declaration, mz_tree::specs::Views::generator, mz_tree::specs::Views::written))]
+#[cycle(walk)]
+fn in_generator(out: &mut Vec<Occurrence>, g: &Gen) -> Result<(), Memory>
+    ensures { OnOk result (out.new.items ≡ out.old.items ++ in_generator (generator g.now)) }
+{
+    in_bound(out, g.names.as_slice())?;
+    in_expression(out, &g.set)?;
+    match &g.cond {
+        Some(condition) => in_expression(out, condition),
+        None => Ok(()),
+    }
+}
+
 #[cycle(walk)]
 fn in_let_items(out: &mut Vec<Occurrence>, items: &[LetItem]) -> Result<(), Memory>
     ensures { OnOk result (out.new.items ≡ out.old.items ++ in_lets (lets (map let_of items.now))) }
 {
     for item in items {
-        match item {
-            LetItem::Decl(d) => in_local(out, d)?,
-            LetItem::Constraint(e) => in_expression(out, e)?,
-        }
+        in_let_item(out, item)?;
     }
     Ok(())
 }
 
+#[cycle(walk)]
+fn in_let_item(out: &mut Vec<Occurrence>, item: &LetItem) -> Result<(), Memory>
+    ensures { OnOk result (out.new.items ≡ out.old.items ++ in_let (let_of item.now)) }
+{
+    match item {
+        LetItem::Decl(d) => in_local(out, d),
+        LetItem::Constraint(e) => in_expression(out, e),
+    }
+}
+
 /// Adds the occurrences of a declaration in a `let`.
-#[tactic(auto, unfolding(crate::specs::Occurrences::in_tree, mz_tree::specs::Views::tree, mz_tree::specs::Views::shape, mz_tree::specs::Views::let_of, mz_tree::specs::Views::part, mz_tree::specs::Views::based, mz_tree::specs::Views::declaration, mz_tree::specs::Views::generator, mz_tree::specs::Views::written))]
 #[cycle(walk)]
 fn in_local(out: &mut Vec<Occurrence>, d: &Decl) -> Result<(), Memory>
     ensures { OnOk result (out.new.items ≡ out.old.items ++ in_local (declaration d.now)) }
@@ -163,26 +182,29 @@ fn in_local(out: &mut Vec<Occurrence>, d: &Decl) -> Result<(), Memory>
     in_type(out, &d.ty)?;
     note(out, Role::Local, d.name, d.span)?;
     match &d.value {
-        Some(value) => in_expression(out, value)?,
+        Some(value) => in_expression(out, value),
         None => {
-            if !d.ty.var {
-                note(out, Role::Lacking, d.name, d.span)?;
+            if d.ty.var {
+                Ok(())
+            } else {
+                note(out, Role::Lacking, d.name, d.span)
             }
         }
     }
-    Ok(())
 }
 
 /// Adds the names that a written type uses.
-#[tactic(auto, unfolding(crate::specs::Occurrences::in_tree, mz_tree::specs::Views::tree, mz_tree::specs::Views::shape, mz_tree::specs::Views::let_of, mz_tree::specs::Views::part, mz_tree::specs::Views::based, mz_tree::specs::Views::declaration, mz_tree::specs::Views::generator, mz_tree::specs::Views::written))]
 #[cycle(walk)]
 pub(crate) fn in_type(out: &mut Vec<Occurrence>, t: &TypeText) -> Result<(), Memory>
     ensures { OnOk result (out.new.items ≡ out.old.items ++ in_written (written t.now)) }
 {
-    if let Some(dims) = &t.dims {
-        in_dims(out, dims.as_slice())?;
+    match &t.dims {
+        Some(dims) => {
+            in_dims(out, dims.as_slice())?;
+            in_base(out, &t.base)
+        }
+        None => in_base(out, &t.base),
     }
-    in_base(out, &t.base)
 }
 
 #[cycle(walk)]
@@ -195,7 +217,6 @@ fn in_dims(out: &mut Vec<Occurrence>, dims: &[TypeBase]) -> Result<(), Memory>
     Ok(())
 }
 
-#[tactic(auto, unfolding(crate::specs::Occurrences::in_tree, mz_tree::specs::Views::tree, mz_tree::specs::Views::shape, mz_tree::specs::Views::let_of, mz_tree::specs::Views::part, mz_tree::specs::Views::based, mz_tree::specs::Views::declaration, mz_tree::specs::Views::generator, mz_tree::specs::Views::written))]
 #[cycle(walk)]
 fn in_base(out: &mut Vec<Occurrence>, base: &TypeBase) -> Result<(), Memory>
     ensures { OnOk result (out.new.items ≡ out.old.items ++ in_based (based base.now)) }

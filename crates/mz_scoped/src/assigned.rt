@@ -16,10 +16,18 @@ use mz_tree::{Expr, Item, SourceFile};
 use std::alloc::Global;
 
 /// The values that assignment items give, in the order of the text, with the first place of each name.
-#[derive(Drop)]
 pub(crate) struct Assigned<'a> {
     places: Places,
     values: Vec<&'a Expr>,
+}
+
+impl<'a> Drop for Assigned<'a> {
+    fn drop(self) {
+        let Assigned {
+            places: _places,
+            values: _values,
+        } = self;
+    }
 }
 
 impl<'a> Assigned<'a> {

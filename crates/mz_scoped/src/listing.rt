@@ -11,10 +11,18 @@ use mz_tree::DataItem;
 use std::alloc::Global;
 
 /// The items of the data, with the first place of each name.
-#[derive(Drop)]
 pub(crate) struct Listing<'a> {
     places: Places,
     items: &'a [DataItem],
+}
+
+impl<'a> Drop for Listing<'a> {
+    fn drop(self) {
+        let Listing {
+            places: _places,
+            items: _items,
+        } = self;
+    }
 }
 
 impl<'a> Listing<'a> {

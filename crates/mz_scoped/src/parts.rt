@@ -41,11 +41,11 @@ pub fn model_parts<'a>(
 {
     let files = sources.files.as_slice();
     let items = given_data.items.as_slice();
-    let enums = enums_of(alloc, files, items)?;
     let decls = decls_of(alloc, files)?;
     let functions = functions_of(alloc, files)?;
     let constraints = constraints_of(alloc, files)?;
     let outputs = outputs_of(alloc, files)?;
+    let enums = enums_of(alloc, files, items)?;
     let given = given_of(alloc, enums.as_slice(), items)?;
     let goal = goal_of(files);
     Ok(ModelParts {

@@ -8,9 +8,14 @@ use mz_base::{Memory, Name};
 use std::alloc::Global;
 
 /// For each name of a list its first place there, from 0.
-#[derive(Drop)]
 pub(crate) struct Places {
     places: IndexMap<Name, usize>,
+}
+
+impl Drop for Places {
+    fn drop(self) {
+        let Places { places: _places } = self;
+    }
 }
 
 impl Places {

@@ -1,3 +1,4 @@
 pub mod Extending
 pub mod Lists
+pub mod Parts
 pub mod Seen

@@ -3,12 +3,12 @@
 ghost use Rattle.std.specs.Prelude.{◌≡◌, ◌++◌, ◌∷◌, OnOk, map};
 ghost use Rattle.mz_tree.specs.Tree.{trees, links, branches, parts, gens, lets, bases};
 ghost use Rattle.mz_tree.specs.Views.{tree, part, generator, let_of, declaration, written, based, link, branch};
-ghost use Rattle.mz_uses.specs.Uses.{with_bound, with_generator, with_gens, with_let, with_lets, in_tree, in_trees, in_links, in_branches, in_part, in_parts, in_generator, in_gens, in_let, in_lets, in_written, in_based, in_bases};
+ghost use Rattle.mz_uses.specs.Uses.{with_bound, with_generator, with_gens, with_declaration, with_let, with_lets, in_tree, in_trees, in_links, in_branches, in_part, in_parts, in_generator, in_gens, in_let, in_lets, in_declaration, in_written, in_based, in_bases};
 
 use crate::adding::{applied, mention};
 use crate::hidden::Hidden;
 use mz_base::{Memory, Name, Span};
-use mz_tree::{BinOp, Expr, Form, Gen, LetItem, TextPart, TypeBase, TypeText};
+use mz_tree::{BinOp, Decl, Expr, Form, Gen, LetItem, TextPart, TypeBase, TypeText};
 use mz_uses::NameUse;
 
 /// Adds the names that an expression uses where these are hidden.
@@ -137,11 +137,20 @@ fn in_pieces(out: &mut Vec<NameUse>, hidden: &mut Hidden, pieces: &[TextPart]) -
     ensures hidden { OnOk result (hidden.new ≡ hidden.old) }
 {
     for piece in pieces {
-        if let TextPart::Shown(e) = piece {
-            in_expression(out, hidden, e)?;
-        }
+        in_piece(out, hidden, piece)?;
     }
     Ok(())
+}
+
+#[cycle(walk)]
+fn in_piece(out: &mut Vec<NameUse>, hidden: &mut Hidden, piece: &TextPart) -> Result<(), Memory>
+    ensures uses { OnOk result (out.new.items ≡ out.old.items ++ in_part hidden.old (part piece.now)) }
+    ensures hidden { OnOk result (hidden.new ≡ hidden.old) }
+{
+    match piece {
+        TextPart::Plain(_) => Ok(()),
+        TextPart::Shown(e) => in_expression(out, hidden, e),
+    }
 }
 
 /// Hides the names that a generator binds.
@@ -162,10 +171,10 @@ fn in_one(out: &mut Vec<NameUse>, hidden: &mut Hidden, g: &Gen) -> Result<(), Me
 {
     in_expression(out, hidden, &g.set)?;
     hide_bound(hidden, g.names.as_slice())?;
-    if let Some(condition) = &g.cond {
-        in_expression(out, hidden, condition)?;
+    match &g.cond {
+        Some(condition) => in_expression(out, hidden, condition),
+        None => Ok(()),
     }
-    Ok(())
 }
 
 #[cycle(walk)]
@@ -186,16 +195,25 @@ fn in_let_item(out: &mut Vec<NameUse>, hidden: &mut Hidden, item: &LetItem) -> R
     ensures hidden { OnOk result (hidden.new ≡ with_let hidden.old (let_of item.now)) }
 {
     match item {
-        LetItem::Decl(d) => {
-            in_type(out, hidden, &d.ty)?;
-            if let Some(value) = &d.value {
-                in_expression(out, hidden, value)?;
-            }
-            hidden.hide(d.name)?;
-        }
-        LetItem::Constraint(e) => in_expression(out, hidden, e)?,
+        LetItem::Decl(d) => in_local(out, hidden, d),
+        LetItem::Constraint(e) => in_expression(out, hidden, e),
     }
-    Ok(())
+}
+
+/// Adds what a declaration in a `let` uses, and hides its name.
+#[cycle(walk)]
+fn in_local(out: &mut Vec<NameUse>, hidden: &mut Hidden, d: &Decl) -> Result<(), Memory>
+    ensures uses { OnOk result (out.new.items ≡ out.old.items ++ in_declaration hidden.old (declaration d.now)) }
+    ensures hidden { OnOk result (hidden.new ≡ with_declaration hidden.old (declaration d.now)) }
+{
+    in_type(out, hidden, &d.ty)?;
+    match &d.value {
+        Some(value) => {
+            in_expression(out, hidden, value)?;
+            hidden.hide(d.name)
+        }
+        None => hidden.hide(d.name),
+    }
 }
 
 #[cycle(walk)]
@@ -223,10 +241,13 @@ pub(crate) fn in_type(
     ensures uses { OnOk result (out.new.items ≡ out.old.items ++ in_written hidden.old (written t.now)) }
     ensures hidden { OnOk result (hidden.new ≡ hidden.old) }
 {
-    if let Some(dims) = &t.dims {
-        in_dims(out, hidden, dims.as_slice())?;
+    match &t.dims {
+        Some(dims) => {
+            in_dims(out, hidden, dims.as_slice())?;
+            in_base(out, hidden, &t.base)
+        }
+        None => in_base(out, hidden, &t.base),
     }
-    in_base(out, hidden, &t.base)
 }
 
 #[cycle(walk)]

@@ -1,30 +1,55 @@
 use Rattle.std.proofs.Common.{◌++◌, [], ◌∷◌, map}
-use Rattle.mz_tree.specs.Tree.{trees, links, parts, gens, lets, branches}
-use Rattle.mz_tree.specs.Views.{tree, part, generator, let_of, based, link, branch}
-use Rattle.mz_occurrence.specs.declared.occurrence.Role.TheVariants.{Used}
+use Rattle.mz_tree.specs.Tree.{trees, links, parts, gens, lets, branches, bases}
+use Rattle.mz_tree.specs.declared.expr.Form.TheViews.{out-Decl, out-Gen, out-TypeText}
+use Rattle.mz_tree.specs.Views.{tree, part, generator, let_of, declaration, written, based, link, branch}
+use Rattle.mz_occurrence.specs.declared.occurrence.Role.TheVariants.{Used, Local, Lacking}
 use Rattle.mz_occurrence.specs.Roles.{occurs}
-use Rattle.mz_occurrence.specs.Occurrences.{in_tree, in_trees, in_links, in_part, in_parts, in_generator, in_gens, in_let, in_lets, in_branches, in_based}
-use Rattle.mz_occurrence.proofs.Lists.{all_read, trees_flat, links_flat, branches_flat, parts_flat, gens_flat, lets_flat, bases_flat}
-use Rattle.mz_occurrence.proofs.Seen.{after_none, after_one, one_on_ok, both_on_ok, three_on_ok, in_int_form, in_bool_form, in_absent_form, in_text_form, in_whole_form, in_ident_form, in_interp_form, in_unary_form, in_chain_form, in_call_form, in_gen_call_form, in_access_form, in_array_form, in_rows_form, in_set_form, in_array_comp, in_set_comp, in_let_form, in_if_form, in_if_alone}
+use Rattle.mz_occurrence.specs.Occurrences.{bound, in_tree, in_trees, in_links, in_part, in_parts, in_generator, in_gens, in_let, in_lets, in_local, in_branches, in_written, in_based, in_bases}
+use Rattle.mz_occurrence.proofs.Lists.{one_read, all_read, trees_flat, links_flat, branches_flat, parts_flat, gens_flat, lets_flat, bases_flat}
+use Rattle.mz_occurrence.proofs.Seen.{after_none, after_one, after_both, read_both, one_on_ok, both_on_ok, three_on_ok, in_int_form, in_bool_form, in_absent_form, in_text_form, in_whole_form, in_ident_form, in_interp_form, in_unary_form, in_chain_form, in_call_form, in_gen_call_form, in_access_form, in_array_form, in_rows_form, in_set_form, in_array_comp, in_set_comp, in_let_form, in_if_form, in_if_alone, in_plain_piece, in_shown_piece, in_decl_item, in_constraint_item, in_bool_base, in_int_base, in_of_base, in_generator_where, in_generator_alone, in_array_type, in_plain_type}
+use Rattle.mz_occurrence.proofs.Declarations.{in_local_value, in_local_var, in_local_par}
 use Rattle.mz_occurrence.proofs.walk.+walk.Goals as goal
+
+pub in_all-loop-e-preserved : goal.in_all-loop-e-preserved
+in_all-loop-e-preserved t c = one_read (λ x. in_tree (tree x)) c.args.es.now c.loop-e.e-index c.e-item.result c.args.out.now.items c.loop-e.out.items c.in_expression.new.out.items c.loop-e.invariant c.loop-e-test.true c.e-item.is c.in_ok-in_expression.ensures
 
 pub in_all-returns : goal.in_all-returns
 in_all-returns t c = all_read (λ x. in_tree (tree x)) c.args.es.now c.loop-e.e-index c.args.out.now.items c.loop-e.out.items _ c.loop-e.invariant c.loop-e-test.false (trees_flat tree c.args.es.now)
 
+pub in_operands-loop-operand-preserved : goal.in_operands-loop-operand-preserved
+in_operands-loop-operand-preserved t c = one_read (λ x. in_tree (tree x.1)) c.args.rest.now c.loop-operand.operand-index c.operand-item.result c.args.out.now.items c.loop-operand.out.items c.in_expression.new.out.items c.loop-operand.invariant c.loop-operand-test.true c.operand-item.is c.in_ok-in_expression.ensures
+
 pub in_operands-returns : goal.in_operands-returns
 in_operands-returns t c = all_read (λ x. in_tree (tree x.1)) c.args.rest.now c.loop-operand.operand-index c.args.out.now.items c.loop-operand.out.items _ c.loop-operand.invariant c.loop-operand-test.false (links_flat link c.args.rest.now)
+
+pub in_choices-loop-choice-preserved : goal.in_choices-loop-choice-preserved
+in_choices-loop-choice-preserved t c =
+    one_read (λ x. in_tree (tree x.0) ++ in_tree (tree x.1)) c.args.choices.now c.loop-choice.choice-index c.choice-item.result c.args.out.now.items c.loop-choice.out.items c.in_expression-in-loop-choice.new.out.items c.loop-choice.invariant c.loop-choice-test.true c.choice-item.is
+    (read_both c.loop-choice.out.items c.in_expression.new.out.items c.in_expression-in-loop-choice.new.out.items (in_tree (tree (c.choice-item.result).0)) (in_tree (tree (c.choice-item.result).1)) c.in_ok-in_expression.ensures c.in_ok-in_expression-2.ensures)
 
 pub in_choices-returns : goal.in_choices-returns
 in_choices-returns t c = all_read (λ x. in_tree (tree x.0) ++ in_tree (tree x.1)) c.args.choices.now c.loop-choice.choice-index c.args.out.now.items c.loop-choice.out.items _ c.loop-choice.invariant c.loop-choice-test.false (branches_flat branch c.args.choices.now)
 
+pub in_pieces-loop-piece-preserved : goal.in_pieces-loop-piece-preserved
+in_pieces-loop-piece-preserved t c = one_read (λ x. in_part (part x)) c.args.pieces.now c.loop-piece.piece-index c.piece-item.result c.args.out.now.items c.loop-piece.out.items c.in_piece.new.out.items c.loop-piece.invariant c.loop-piece-test.true c.piece-item.is c.in_ok-in_piece.ensures
+
 pub in_pieces-returns : goal.in_pieces-returns
 in_pieces-returns t c = all_read (λ x. in_part (part x)) c.args.pieces.now c.loop-piece.piece-index c.args.out.now.items c.loop-piece.out.items _ c.loop-piece.invariant c.loop-piece-test.false (parts_flat part c.args.pieces.now)
 
+pub in_generators-loop-g-preserved : goal.in_generators-loop-g-preserved
+in_generators-loop-g-preserved t c = one_read (λ x. in_generator (generator x)) c.args.generators.now c.loop-g.g-index c.g-item.result c.args.out.now.items c.loop-g.out.items c.in_generator.new.out.items c.loop-g.invariant c.loop-g-test.true c.g-item.is c.in_ok-in_generator.ensures
+
 pub in_generators-returns : goal.in_generators-returns
-in_generators-returns t c = all_read (λ x. in_generator (generator x)) c.args.generators.now c.loop-generator.generator-index c.args.out.now.items c.loop-generator.out.items _ c.loop-generator.invariant c.loop-generator-test.false (gens_flat generator c.args.generators.now)
+in_generators-returns t c = all_read (λ x. in_generator (generator x)) c.args.generators.now c.loop-g.g-index c.args.out.now.items c.loop-g.out.items _ c.loop-g.invariant c.loop-g-test.false (gens_flat generator c.args.generators.now)
+
+pub in_let_items-loop-item-preserved : goal.in_let_items-loop-item-preserved
+in_let_items-loop-item-preserved t c = one_read (λ x. in_let (let_of x)) c.args.items.now c.loop-item.item-index c.item-item.result c.args.out.now.items c.loop-item.out.items c.in_let_item.new.out.items c.loop-item.invariant c.loop-item-test.true c.item-item.is c.in_ok-in_let_item.ensures
 
 pub in_let_items-returns : goal.in_let_items-returns
 in_let_items-returns t c = all_read (λ x. in_let (let_of x)) c.args.items.now c.loop-item.item-index c.args.out.now.items c.loop-item.out.items _ c.loop-item.invariant c.loop-item-test.false (lets_flat let_of c.args.items.now)
+
+pub in_dims-loop-dim-preserved : goal.in_dims-loop-dim-preserved
+in_dims-loop-dim-preserved t c = one_read (λ x. in_based (based x)) c.args.dims.now c.loop-dim.dim-index c.dim-item.result c.args.out.now.items c.loop-dim.out.items c.in_base.new.out.items c.loop-dim.invariant c.loop-dim-test.true c.dim-item.is c.in_ok-in_base.ensures
 
 pub in_dims-returns : goal.in_dims-returns
 in_dims-returns t c = all_read (λ x. in_based (based x)) c.args.dims.now c.loop-dim.dim-index c.args.out.now.items c.loop-dim.out.items _ c.loop-dim.invariant c.loop-dim-test.false (bases_flat based c.args.dims.now)
@@ -132,3 +157,75 @@ pub in_expression-returns-in-None : goal.in_expression-returns-in-None
 in_expression-returns-in-None t c =
     after_one c.args.out.now.items c.in_choices.new.out.items (in_branches (branches (map branch c.as_slice-in-If.result.now))) (in_tree (tree c.args.e.now))
     c.in_ok-in_choices-in-If.ensures (in_if_alone c.args.e.now c.in-If.bs c.as_slice-in-If.result.now c.in-If.other c.in-If.is c.in-None.is c.as_slice-in-If.ensures.value)
+
+pub in_piece-returns-in-Plain : goal.in_piece-returns-in-Plain
+in_piece-returns-in-Plain t c = after_none c.args.out.now.items (in_part (part c.args.piece.now)) (in_plain_piece c.args.piece.now _ c.in-Plain.is)
+
+pub in_piece-returns-in-Shown : goal.in_piece-returns-in-Shown
+in_piece-returns-in-Shown t c =
+    one_on_ok c.in_expression.result c.args.out.now.items c.in_expression.new.out.items (in_tree (tree c.in-Shown.e)) (in_part (part c.args.piece.now))
+    c.in_expression.ensures (in_shown_piece c.args.piece.now c.in-Shown.e c.in-Shown.is)
+
+pub in_generator-returns-in-Some : goal.in_generator-returns-in-Some
+in_generator-returns-in-Some t c =
+    three_on_ok c.in_expression-in-Some.result c.args.out.now.items c.in_bound.new.out.items c.in_expression.new.out.items c.in_expression-in-Some.new.out.items
+    (map bound c.as_slice.result.now) (in_tree (tree (out-Gen c.args.g.now).set)) (in_tree (tree c.in-Some.condition)) (in_generator (generator c.args.g.now))
+    c.in_ok-in_bound.ensures c.in_ok-in_expression.ensures c.in_expression-in-Some.ensures (in_generator_where c.args.g.now c.in-Some.condition c.as_slice.result.now c.in-Some.is c.as_slice.ensures.value)
+
+pub in_generator-returns-in-None : goal.in_generator-returns-in-None
+in_generator-returns-in-None t c =
+    after_both c.args.out.now.items c.in_bound.new.out.items c.in_expression.new.out.items
+    (map bound c.as_slice.result.now) (in_tree (tree (out-Gen c.args.g.now).set)) (in_generator (generator c.args.g.now))
+    c.in_ok-in_bound.ensures c.in_ok-in_expression.ensures (in_generator_alone c.args.g.now c.as_slice.result.now c.in-None.is c.as_slice.ensures.value)
+
+pub in_let_item-returns-in-Decl : goal.in_let_item-returns-in-Decl
+in_let_item-returns-in-Decl t c =
+    one_on_ok c.in_local.result c.args.out.now.items c.in_local.new.out.items (in_local (declaration c.in-Decl.d)) (in_let (let_of c.args.item.now))
+    c.in_local.ensures (in_decl_item c.args.item.now c.in-Decl.d c.in-Decl.is)
+
+pub in_let_item-returns-in-Constraint : goal.in_let_item-returns-in-Constraint
+in_let_item-returns-in-Constraint t c =
+    one_on_ok c.in_expression.result c.args.out.now.items c.in_expression.new.out.items (in_tree (tree c.in-Constraint.e)) (in_let (let_of c.args.item.now))
+    c.in_expression.ensures (in_constraint_item c.args.item.now c.in-Constraint.e c.in-Constraint.is)
+
+pub in_local-returns-in-Some : goal.in_local-returns-in-Some
+in_local-returns-in-Some t c =
+    let u = out-Decl c.args.d.now in
+    three_on_ok c.in_expression.result c.args.out.now.items c.in_type.new.out.items c.note.new.out.items c.in_expression.new.out.items
+    (in_written (written u.ty)) (occurs Local u.name u.span ∷ []) (in_tree (tree c.in-Some.value)) (in_local (declaration c.args.d.now))
+    c.in_ok-in_type.ensures c.in_ok-note.ensures c.in_expression.ensures (in_local_value c.args.d.now c.in-Some.value c.in-Some.is)
+
+pub in_local-returns-then-d : goal.in_local-returns-then-d
+in_local-returns-then-d t c =
+    let u = out-Decl c.args.d.now in
+    after_both c.args.out.now.items c.in_type.new.out.items c.note.new.out.items (in_written (written u.ty)) (occurs Local u.name u.span ∷ []) (in_local (declaration c.args.d.now))
+    c.in_ok-in_type.ensures c.in_ok-note.ensures (in_local_var c.args.d.now c.in-None.is c.if-d.true)
+
+pub in_local-returns-else-d : goal.in_local-returns-else-d
+in_local-returns-else-d t c =
+    let u = out-Decl c.args.d.now in
+    three_on_ok c.note-else-d.result c.args.out.now.items c.in_type.new.out.items c.note.new.out.items c.note-else-d.new.out.items
+    (in_written (written u.ty)) (occurs Local u.name u.span ∷ []) (occurs Lacking u.name u.span ∷ []) (in_local (declaration c.args.d.now))
+    c.in_ok-in_type.ensures c.in_ok-note.ensures c.note-else-d.ensures (in_local_par c.args.d.now c.in-None.is c.if-d.false)
+
+pub in_type-returns-in_ok-in_dims-in-Some : goal.in_type-returns-in_ok-in_dims-in-Some
+in_type-returns-in_ok-in_dims-in-Some t c =
+    both_on_ok c.in_base.result c.args.out.now.items c.in_dims.new.out.items c.in_base.new.out.items
+    (in_bases (bases (map based c.as_slice.result.now))) (in_based (based (out-TypeText c.args.t.now).base)) (in_written (written c.args.t.now))
+    c.in_ok-in_dims-in-Some.ensures c.in_base.ensures (in_array_type c.args.t.now c.in-Some.dims c.as_slice.result.now c.in-Some.is c.as_slice.ensures.value)
+
+pub in_type-returns-in-None : goal.in_type-returns-in-None
+in_type-returns-in-None t c =
+    one_on_ok c.in_base-in-None.result c.args.out.now.items c.in_base-in-None.new.out.items (in_based (based (out-TypeText c.args.t.now).base)) (in_written (written c.args.t.now))
+    c.in_base-in-None.ensures (in_plain_type c.args.t.now c.in-None.is)
+
+pub in_base-returns-in-Bool : goal.in_base-returns-in-Bool
+in_base-returns-in-Bool t c = after_none c.args.out.now.items (in_based (based c.args.base.now)) (in_bool_base c.args.base.now c.in-Bool.is)
+
+pub in_base-returns-in-Int : goal.in_base-returns-in-Int
+in_base-returns-in-Int t c = after_none c.args.out.now.items (in_based (based c.args.base.now)) (in_int_base c.args.base.now c.in-Int.is)
+
+pub in_base-returns-in-Of : goal.in_base-returns-in-Of
+in_base-returns-in-Of t c =
+    one_on_ok c.in_expression.result c.args.out.now.items c.in_expression.new.out.items (in_tree (tree c.deref.result.now)) (in_based (based c.args.base.now))
+    c.in_expression.ensures (in_of_base c.args.base.now c.in-Of.e c.deref.result.now c.in-Of.is c.deref.ensures)

@@ -20,8 +20,8 @@ invariant-in_choices-loop-choice l = l.fn.out.items ++ flat_map (λ x. in_tree (
 abbrev pub invariant-in_pieces-loop-piece : goal.invariant-in_pieces-loop-piece
 invariant-in_pieces-loop-piece l = l.fn.out.items ++ flat_map (λ x. in_part (part x)) l.pieces ≡ l.out.items ++ flat_map (λ x. in_part (part x)) (drop l.piece-index l.pieces)
 
-abbrev pub invariant-in_generators-loop-generator : goal.invariant-in_generators-loop-generator
-invariant-in_generators-loop-generator l = l.fn.out.items ++ flat_map (λ x. in_generator (generator x)) l.generators ≡ l.out.items ++ flat_map (λ x. in_generator (generator x)) (drop l.generator-index l.generators)
+abbrev pub invariant-in_generators-loop-g : goal.invariant-in_generators-loop-g
+invariant-in_generators-loop-g l = l.fn.out.items ++ flat_map (λ x. in_generator (generator x)) l.generators ≡ l.out.items ++ flat_map (λ x. in_generator (generator x)) (drop l.g-index l.generators)
 
 abbrev pub invariant-in_let_items-loop-item : goal.invariant-in_let_items-loop-item
 invariant-in_let_items-loop-item l = l.fn.out.items ++ flat_map (λ x. in_let (let_of x)) l.items ≡ l.out.items ++ flat_map (λ x. in_let (let_of x)) (drop l.item-index l.items)

@@ -1,10 +1,13 @@
 use Rattle.std.proofs.Common.{refl, false, ◌+◌, ◌++◌, drop, map, ap, sym, ◌∙◌}
 use Rattle.std.specs.Prelude.{nat_eq}
 use Rattle.std.proofs.lemmas.Result.{on_ok_weaker}
-use Rattle.mz_tree.specs.Tree.{trees, links, branches, parts, gens, lets}
-use Rattle.mz_tree.specs.Views.{tree, part, generator, let_of, based, link, branch}
-use Rattle.mz_uses.specs.Uses.{mention, applied, in_links, in_branches, in_tree, in_trees, in_part, in_parts, in_generator, in_gens, in_let, in_lets, in_based, with_generator, with_gens, with_let, with_lets}
+use Rattle.mz_tree.specs.Tree.{trees, links, branches, parts, gens, lets, bases}
+use Rattle.mz_tree.specs.declared.expr.Form.TheViews.{out-Decl, out-Gen, out-TypeText}
+use Rattle.mz_tree.specs.Views.{tree, part, generator, let_of, declaration, written, based, link, branch}
+use Rattle.mz_occurrence.specs.Sets.{with_name}
+use Rattle.mz_uses.specs.Uses.{mention, applied, in_links, in_branches, in_tree, in_trees, in_part, in_parts, in_generator, in_gens, in_let, in_lets, in_declaration, in_written, in_based, in_bases, with_bound, with_generator, with_gens, with_let, with_lets}
 use Rattle.mz_sketch.proofs.Lists.{one_read, all_read, trees_flat, links_flat, branches_flat, parts_flat, bases_flat, step, gens_from, with_gens_from, lets_from, with_lets_from, gens_read, lets_read, with_gens_read, with_lets_read}
+use Rattle.mz_sketch.proofs.Parts.{read_both, in_plain_piece, in_shown_piece, in_decl_item, with_decl_item, in_constraint_item, with_constraint_item, in_declaration_value, in_declaration_alone, with_declaration_is, in_generator_where, in_generator_alone, with_generator_is, in_array_type, in_plain_type, in_bool_base, in_int_base, in_of_base}
 use Rattle.mz_sketch.proofs.Extending.{begins_gens, begins_lets, left_after}
 use Rattle.mz_sketch.proofs.Seen.{after_both, after_scope, both_on_ok, scope_on_ok, kept_on_ok, in_array_comp, in_set_comp, in_let_form, in_rows_form, in_gen_call, in_chain, empty_same, in_call, in_access, in_if, one_on_ok, after_none, after_one, in_int, in_bool, in_absent, in_text, in_whole, in_ident, in_interp, in_unary, in_array, in_set, in_if_alone}
 use Rattle.mz_sketch.proofs.walk.+walk.Goals as goal
@@ -18,14 +21,46 @@ in_all-loop-e-preserved t c = record {
 pub in_all-returns-clause-uses : goal.in_all-returns-clause-uses
 in_all-returns-clause-uses t c = all_read (λ x. in_tree c.args.hidden.now (tree x)) c.args.es.now c.loop-e.e-index c.args.out.now.items c.loop-e.out.items _ c.loop-e.invariant.uses c.loop-e-test.false (trees_flat c.args.hidden.now tree c.args.es.now)
 
+pub in_operands-loop-operand-preserved : goal.in_operands-loop-operand-preserved
+in_operands-loop-operand-preserved t c = record {
+  uses = one_read (λ x. in_tree c.args.hidden.now (tree x.1)) c.args.rest.now c.loop-operand.operand-index c.operand-item.result c.args.out.now.items c.loop-operand.out.items c.in_expression.new.out.items c.loop-operand.invariant.uses c.loop-operand-test.true c.operand-item.is (c.in_ok-in_expression.ensures.uses ∙ ap (λ z. c.loop-operand.out.items ++ in_tree z (tree (c.operand-item.result).1)) c.loop-operand.invariant.hidden);
+  hidden = c.in_ok-in_expression.ensures.hidden ∙ c.loop-operand.invariant.hidden;
+}
+
 pub in_operands-returns-clause-uses : goal.in_operands-returns-clause-uses
 in_operands-returns-clause-uses t c = all_read (λ x. in_tree c.args.hidden.now (tree x.1)) c.args.rest.now c.loop-operand.operand-index c.args.out.now.items c.loop-operand.out.items _ c.loop-operand.invariant.uses c.loop-operand-test.false (links_flat c.args.hidden.now link c.args.rest.now)
+
+pub in_choices-loop-choice-preserved : goal.in_choices-loop-choice-preserved
+in_choices-loop-choice-preserved t c =
+    let h = c.args.hidden.now in
+    let first = tree (c.choice-item.result).0 in
+    let second = tree (c.choice-item.result).1 in
+    let kept = c.in_ok-in_expression.ensures.hidden ∙ c.loop-choice.invariant.hidden in
+    record {
+      uses = one_read (λ x. in_tree h (tree x.0) ++ in_tree h (tree x.1)) c.args.choices.now c.loop-choice.choice-index c.choice-item.result c.args.out.now.items c.loop-choice.out.items c.in_expression-in-loop-choice.new.out.items c.loop-choice.invariant.uses c.loop-choice-test.true c.choice-item.is
+          (read_both c.loop-choice.out.items c.in_expression.new.out.items c.in_expression-in-loop-choice.new.out.items (in_tree h first) (in_tree h second)
+          (c.in_ok-in_expression.ensures.uses ∙ ap (λ z. c.loop-choice.out.items ++ in_tree z first) c.loop-choice.invariant.hidden)
+          (c.in_ok-in_expression-2.ensures.uses ∙ ap (λ z. c.in_expression.new.out.items ++ in_tree z second) kept));
+      hidden = c.in_ok-in_expression-2.ensures.hidden ∙ kept;
+    }
 
 pub in_choices-returns-clause-uses : goal.in_choices-returns-clause-uses
 in_choices-returns-clause-uses t c = all_read (λ x. in_tree c.args.hidden.now (tree x.0) ++ in_tree c.args.hidden.now (tree x.1)) c.args.choices.now c.loop-choice.choice-index c.args.out.now.items c.loop-choice.out.items _ c.loop-choice.invariant.uses c.loop-choice-test.false (branches_flat c.args.hidden.now branch c.args.choices.now)
 
+pub in_pieces-loop-piece-preserved : goal.in_pieces-loop-piece-preserved
+in_pieces-loop-piece-preserved t c = record {
+  uses = one_read (λ x. in_part c.args.hidden.now (part x)) c.args.pieces.now c.loop-piece.piece-index c.piece-item.result c.args.out.now.items c.loop-piece.out.items c.in_piece.new.out.items c.loop-piece.invariant.uses c.loop-piece-test.true c.piece-item.is (c.in_ok-in_piece.ensures.uses ∙ ap (λ z. c.loop-piece.out.items ++ in_part z (part c.piece-item.result)) c.loop-piece.invariant.hidden);
+  hidden = c.in_ok-in_piece.ensures.hidden ∙ c.loop-piece.invariant.hidden;
+}
+
 pub in_pieces-returns-clause-uses : goal.in_pieces-returns-clause-uses
 in_pieces-returns-clause-uses t c = all_read (λ x. in_part c.args.hidden.now (part x)) c.args.pieces.now c.loop-piece.piece-index c.args.out.now.items c.loop-piece.out.items _ c.loop-piece.invariant.uses c.loop-piece-test.false (parts_flat c.args.hidden.now part c.args.pieces.now)
+
+pub in_dims-loop-dim-preserved : goal.in_dims-loop-dim-preserved
+in_dims-loop-dim-preserved t c = record {
+  uses = one_read (λ x. in_based c.args.hidden.now (based x)) c.args.dims.now c.loop-dim.dim-index c.dim-item.result c.args.out.now.items c.loop-dim.out.items c.in_base.new.out.items c.loop-dim.invariant.uses c.loop-dim-test.true c.dim-item.is (c.in_ok-in_base.ensures.uses ∙ ap (λ z. c.loop-dim.out.items ++ in_based z (based c.dim-item.result)) c.loop-dim.invariant.hidden);
+  hidden = c.in_ok-in_base.ensures.hidden ∙ c.loop-dim.invariant.hidden;
+}
 
 pub in_dims-returns-clause-uses : goal.in_dims-returns-clause-uses
 in_dims-returns-clause-uses t c = all_read (λ x. in_based c.args.hidden.now (based x)) c.args.dims.now c.loop-dim.dim-index c.args.out.now.items c.loop-dim.out.items _ c.loop-dim.invariant.uses c.loop-dim-test.false (bases_flat c.args.hidden.now based c.args.dims.now)
@@ -172,4 +207,117 @@ pub in_expression-returns-in-None : goal.in_expression-returns-in-None
 in_expression-returns-in-None t c = record {
   uses = after_one c.args.out.now.items c.in_choices.new.out.items (in_branches c.args.hidden.now (branches (map branch c.as_slice-in-If.result.now))) (in_tree c.args.hidden.now (tree c.args.e.now)) c.in_ok-in_choices-in-If.ensures.uses (in_if_alone c.args.hidden.now c.args.e.now c.in-If.bs c.as_slice-in-If.result.now c.in-If.other c.in-If.is c.in-None.is c.as_slice-in-If.ensures.value);
   hidden = c.in_ok-in_choices-in-If.ensures.hidden;
+}
+
+pub in_piece-returns-in-Plain : goal.in_piece-returns-in-Plain
+in_piece-returns-in-Plain t c = record {
+  uses = after_none c.args.out.now.items (in_part c.args.hidden.now (part c.args.piece.now)) (in_plain_piece c.args.hidden.now c.args.piece.now _ c.in-Plain.is);
+  hidden = refl;
+}
+
+pub in_piece-returns-in-Shown : goal.in_piece-returns-in-Shown
+in_piece-returns-in-Shown t c = record {
+  uses = one_on_ok c.in_expression.result c.args.out.now.items c.in_expression.new.out.items (in_tree c.args.hidden.now (tree c.in-Shown.e)) (in_part c.args.hidden.now (part c.args.piece.now)) c.in_expression.ensures.uses (in_shown_piece c.args.hidden.now c.args.piece.now c.in-Shown.e c.in-Shown.is);
+  hidden = c.in_expression.ensures.hidden;
+}
+
+pub in_one-returns-in-Some : goal.in_one-returns-in-Some
+in_one-returns-in-Some t c =
+    let h = c.args.hidden.now in
+    let g = c.args.g.now in
+    let names = c.as_slice.result.now in
+    let after = c.in_ok-hide_bound.ensures ∙ ap (λ z. with_bound z names) c.in_ok-in_expression.ensures.hidden in
+    record {
+      uses = scope_on_ok c.in_expression-in-Some.result c.args.out.now.items c.in_expression.new.out.items c.in_expression-in-Some.new.out.items (in_tree h (tree (out-Gen g).set)) (in_generator h (generator g)) c.hide_bound.new.hidden (with_bound h names) (λ z. in_tree z (tree c.in-Some.condition))
+          c.in_ok-in_expression.ensures.uses c.in_expression-in-Some.ensures.uses after (in_generator_where h g c.in-Some.condition names c.in-Some.is c.as_slice.ensures.value);
+      hidden = kept_on_ok c.in_expression-in-Some.result (with_generator h (generator g)) c.hide_bound.new.hidden c.in_expression-in-Some.new.hidden (after ∙ sym (with_generator_is h g names c.as_slice.ensures.value)) c.in_expression-in-Some.ensures.hidden;
+    }
+
+pub in_one-returns-in-None : goal.in_one-returns-in-None
+in_one-returns-in-None t c =
+    let h = c.args.hidden.now in
+    let g = c.args.g.now in
+    let names = c.as_slice.result.now in
+    record {
+      uses = after_one c.args.out.now.items c.in_expression.new.out.items (in_tree h (tree (out-Gen g).set)) (in_generator h (generator g)) c.in_ok-in_expression.ensures.uses (in_generator_alone h g c.in-None.is);
+      hidden = c.in_ok-hide_bound.ensures ∙ ap (λ z. with_bound z names) c.in_ok-in_expression.ensures.hidden ∙ sym (with_generator_is h g names c.as_slice.ensures.value);
+    }
+
+pub in_let_item-returns-in-Decl : goal.in_let_item-returns-in-Decl
+in_let_item-returns-in-Decl t c =
+    let h = c.args.hidden.now in
+    let l = c.args.item.now in
+    let d = c.in-Decl.d in
+    record {
+      uses = one_on_ok c.in_local.result c.args.out.now.items c.in_local.new.out.items (in_declaration h (declaration d)) (in_let h (let_of l)) c.in_local.ensures.uses (in_decl_item h l d c.in-Decl.is);
+      hidden = on_ok_weaker c.in_local.result (λ k. k ∙ sym (with_decl_item h l d c.in-Decl.is)) c.in_local.ensures.hidden;
+    }
+
+pub in_let_item-returns-in-Constraint : goal.in_let_item-returns-in-Constraint
+in_let_item-returns-in-Constraint t c =
+    let h = c.args.hidden.now in
+    let l = c.args.item.now in
+    let e = c.in-Constraint.e in
+    record {
+      uses = one_on_ok c.in_expression.result c.args.out.now.items c.in_expression.new.out.items (in_tree h (tree e)) (in_let h (let_of l)) c.in_expression.ensures.uses (in_constraint_item h l e c.in-Constraint.is);
+      hidden = on_ok_weaker c.in_expression.result (λ k. k ∙ sym (with_constraint_item h l e c.in-Constraint.is)) c.in_expression.ensures.hidden;
+    }
+
+pub in_local-returns-in_ok-in_expression-in-Some : goal.in_local-returns-in_ok-in_expression-in-Some
+in_local-returns-in_ok-in_expression-in-Some t c =
+    let h = c.args.hidden.now in
+    let d = c.args.d.now in
+    let e = tree c.in-Some.value in
+    let uses = after_both c.args.out.now.items c.in_type.new.out.items c.in_expression.new.out.items (in_written h (written (out-Decl d).ty)) (in_tree h e) (in_declaration h (declaration d)) c.in_ok-in_type.ensures.uses
+    (c.in_ok-in_expression-in-Some.ensures.uses ∙ ap (λ z. c.in_type.new.out.items ++ in_tree z e) c.in_ok-in_type.ensures.hidden) (in_declaration_value h d c.in-Some.value c.in-Some.is) in
+    record {
+      uses = on_ok_weaker c.hide.result (λ k. uses) c.hide.ensures;
+      hidden = on_ok_weaker c.hide.result (λ k. k ∙ ap (λ z. with_name z (out-Decl d).name) (c.in_ok-in_expression-in-Some.ensures.hidden ∙ c.in_ok-in_type.ensures.hidden) ∙ sym (with_declaration_is h d)) c.hide.ensures;
+    }
+
+pub in_local-returns-in-None : goal.in_local-returns-in-None
+in_local-returns-in-None t c =
+    let h = c.args.hidden.now in
+    let d = c.args.d.now in
+    let uses = after_one c.args.out.now.items c.in_type.new.out.items (in_written h (written (out-Decl d).ty)) (in_declaration h (declaration d)) c.in_ok-in_type.ensures.uses (in_declaration_alone h d c.in-None.is) in
+    record {
+      uses = on_ok_weaker c.hide-in-None.result (λ k. uses) c.hide-in-None.ensures;
+      hidden = on_ok_weaker c.hide-in-None.result (λ k. k ∙ ap (λ z. with_name z (out-Decl d).name) c.in_ok-in_type.ensures.hidden ∙ sym (with_declaration_is h d)) c.hide-in-None.ensures;
+    }
+
+pub in_type-returns-in_ok-in_dims-in-Some : goal.in_type-returns-in_ok-in_dims-in-Some
+in_type-returns-in_ok-in_dims-in-Some t c =
+    let h = c.args.hidden.now in
+    let ty = c.args.t.now in
+    record {
+      uses = scope_on_ok c.in_base.result c.args.out.now.items c.in_dims.new.out.items c.in_base.new.out.items (in_bases h (bases (map based c.as_slice.result.now))) (in_written h (written ty)) c.in_dims.new.hidden h (λ z. in_based z (based (out-TypeText ty).base))
+          c.in_ok-in_dims-in-Some.ensures.uses c.in_base.ensures.uses c.in_ok-in_dims-in-Some.ensures.hidden (in_array_type h ty c.in-Some.dims c.as_slice.result.now c.in-Some.is c.as_slice.ensures.value);
+      hidden = kept_on_ok c.in_base.result h c.in_dims.new.hidden c.in_base.new.hidden c.in_ok-in_dims-in-Some.ensures.hidden c.in_base.ensures.hidden;
+    }
+
+pub in_type-returns-in-None : goal.in_type-returns-in-None
+in_type-returns-in-None t c =
+    let h = c.args.hidden.now in
+    let ty = c.args.t.now in
+    record {
+      uses = one_on_ok c.in_base-in-None.result c.args.out.now.items c.in_base-in-None.new.out.items (in_based h (based (out-TypeText ty).base)) (in_written h (written ty)) c.in_base-in-None.ensures.uses (in_plain_type h ty c.in-None.is);
+      hidden = c.in_base-in-None.ensures.hidden;
+    }
+
+pub in_base-returns-in-Bool : goal.in_base-returns-in-Bool
+in_base-returns-in-Bool t c = record {
+  uses = after_none c.args.out.now.items (in_based c.args.hidden.now (based c.args.base.now)) (in_bool_base c.args.hidden.now c.args.base.now c.in-Bool.is);
+  hidden = refl;
+}
+
+pub in_base-returns-in-Int : goal.in_base-returns-in-Int
+in_base-returns-in-Int t c = record {
+  uses = after_none c.args.out.now.items (in_based c.args.hidden.now (based c.args.base.now)) (in_int_base c.args.hidden.now c.args.base.now c.in-Int.is);
+  hidden = refl;
+}
+
+pub in_base-returns-in-Of : goal.in_base-returns-in-Of
+in_base-returns-in-Of t c = record {
+  uses = one_on_ok c.in_expression.result c.args.out.now.items c.in_expression.new.out.items (in_tree c.args.hidden.now (tree c.deref.result.now)) (in_based c.args.hidden.now (based c.args.base.now)) c.in_expression.ensures.uses (in_of_base c.args.hidden.now c.args.base.now c.in-Of.e c.deref.result.now c.in-Of.is c.deref.ensures);
+  hidden = c.in_expression.ensures.hidden;
 }
