@@ -11,11 +11,12 @@ use Rattle.mz_meaning.specs.Chains.{operand_base, a_step_of}
 use Rattle.mz_meaning.specs.Forms.{World, coerced_by, operated}
 use Rattle.mz_meaning.specs.Walk.{Declared, levels}
 use Rattle.mz_chains.proofs.Runs.{then_again}
+use Rattle.mz_steps.specs.Operators.{operated_on}
 use Rattle.mz_unbuilt.specs.Comparisons.{is_par_constraint}
 use Rattle.mz_posting.specs.Roots.{roots}
 use Rattle.mz_posting.specs.Posted.{Whole, Pair, operand, compare, below, post, post_by, post_comparison}
 use Rattle.fz_program.specs.Flat.{Row}
-use Rattle.mz_direct.specs.Emission.{rows_of, write_next, name_side}
+use Rattle.mz_direct.specs.Emission.{rows_of, write_next, name_side, side, side_rows}
 use Rattle.mz_post.specs.Rows.{name_side_by}
 use Rattle.mz_post.specs.Steps.{compared, posted_by, form_rows, par_rows}
 
@@ -45,8 +46,9 @@ module _ {A B C D E P R : Type 0} (g : A → B → Run C) (h : A → B → C →
 abbrev a_chain : Span → PlainType → Tree → Step → Tree
 a_chain at t a s = node at t (chain a (a_step s.row s.ty s.left s.right s.operand no_steps))
 
-compared_is : (w : World) (xs : List Declared) (at : Span) (t : PlainType) (a : Tree) (s : Step) (env : Env) (st : State) → then_do (compare w below Untested at t a s env st) (λ q. give (rows_of xs (a_chain at t a s) q)) ≡ compared w xs at a s env st
-compared_is w xs at t a s env st =
+-- the same steps, with the rows made of the cells at the end
+by_cells : (w : World) (xs : List Declared) (at : Span) (t : PlainType) (a : Tree) (s : Step) (env : Env) (st : State) → then_do (compare w below Untested at t a s env st) (λ q. give (rows_of xs (a_chain at t a s) q)) ≡ then_do (operand w below Untested a env st) (λ x n. then_do (coerced_by w (place_of a) s.left x.1 n) (λ l m. then_do (operand w below Untested s.operand env m) (λ y z. then_do (operated_on w l (record { at = at; step = s }) y.1 z) (λ c. give (side_rows s.row (side xs a x.0) (side xs s.operand y.0))))))
+by_cells w xs at t a s env st =
     all_five
     (λ x l. operand w below Untested s.operand env)
     (λ x l y. coerced_by w (place_of s.operand) s.right y.1)
@@ -55,6 +57,31 @@ compared_is w xs at t a s env st =
     (rows_of xs (a_chain at t a s))
     (λ x. coerced_by w (place_of a) s.left x.1)
     (operand w below Untested a env st)
+
+-- a run of five steps, of which the first and the third give what is read of them
+
+module _ {A B D R S : Type 0} (u v : A → S) (f : S → Run B) (b : Run A) (h : B → S → Run D) (r : S → S → R) where
+  read_third : (x : A) (l : B) (c : Answer A) → then_do (then_do c (λ y. give (v y))) (λ q t. then_do (h l q t) (λ d. give (r (u x) q))) ≡ then_do c (λ y t. then_do (h l (v y) t) (λ d. give (r (u x) (v y))))
+  read_third x l (Out y t) = refl
+  read_third x l (Stopped e) = refl
+
+  read_then : (x : A) (l : Answer B) → then_do l (λ m t. then_do (then_do (b t) (λ y. give (v y))) (λ q z. then_do (h m q z) (λ d. give (r (u x) q)))) ≡ then_do l (λ m t. then_do (b t) (λ y z. then_do (h m (v y) z) (λ d. give (r (u x) (v y)))))
+  read_then x (Out m t) = read_third x m (b t)
+  read_then x (Stopped e) = refl
+
+  read_both : (a : Answer A) → then_do (then_do a (λ x. give (u x))) (λ p n. then_do (f p n) (λ m t. then_do (then_do (b t) (λ y. give (v y))) (λ q z. then_do (h m q z) (λ d. give (r p q))))) ≡ then_do a (λ x n. then_do (f (u x) n) (λ m t. then_do (b t) (λ y z. then_do (h m (v y) z) (λ d. give (r (u x) (v y))))))
+  read_both (Out x n) = read_then x (f (u x) n)
+  read_both (Stopped e) = refl
+
+compared_is : (w : World) (xs : List Declared) (at : Span) (t : PlainType) (a : Tree) (s : Step) (env : Env) (st : State) → then_do (compare w below Untested at t a s env st) (λ q. give (rows_of xs (a_chain at t a s) q)) ≡ compared w xs at a s env st
+compared_is w xs at t a s env st = by_cells w xs at t a s env st ∙ sym (read_both
+    (λ x. (side xs a x.0, x.1))
+    (λ y. (side xs s.operand y.0, y.1))
+    (λ p. coerced_by w (place_of a) s.left p.1)
+    (operand w below Untested s.operand env)
+    (λ l q. operated_on w l (record { at = at; step = s }) q.1)
+    (λ p q. side_rows s.row p.0 q.0)
+    (operand w below Untested a env st))
 
 comparison_is : (w : World) (xs : List Declared) (env : Env) (e : Tree) (st : State) → then_do (post_comparison w Untested env e st) (λ q. give (rows_of xs e q)) ≡ posted_by w xs (place_of e) (layer (shape_of e)) env st
 comparison_is w xs env (node at t (chain a (a_step r u l m b no_steps))) st = compared_is w xs at t a (a_step_of r u l m b) env st

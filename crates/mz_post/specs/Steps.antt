@@ -5,7 +5,7 @@ use Rattle.mz_core.specs.Program.{PlainProgram, plain_program}
 use Rattle.mz_core.specs.Tree.{Tree, Step, Decl, Layer, chain_form, place_of}
 use Rattle.mz_core.specs.TreeViews.{tree, decl}
 use Rattle.mz_meaning.specs.Runs.{Run, ◌>>=◌, ◌>>◌, give, spend, loop}
-use Rattle.mz_meaning.specs.Cells.{Env, Bare}
+use Rattle.mz_meaning.specs.Cells.{Env, Bare, Cell}
 use Rattle.mz_meaning.specs.Contexts.{Untested}
 use Rattle.mz_meaning.specs.Arrays.{Want, declared_count, fitted, suits}
 use Rattle.mz_meaning.specs.Forms.{World, Eval, coerced_by}
@@ -20,7 +20,7 @@ use Rattle.mz_base.specs.Names.{text_of}
 use Rattle.fz_program.specs.declared.program.FzGoal.TheVariants.{Satisfy}
 use Rattle.fz_program.specs.Names.{Name}
 use Rattle.fz_program.specs.Flat.{Row, Program, AreDistinct}
-use Rattle.mz_direct.specs.Emission.{side, side_rows, truth_rows, root_rows, empties, label_in, variables, write_next}
+use Rattle.mz_direct.specs.Emission.{Side, side, side_rows, truth_rows, root_rows, empties, label_in, variables, write_next}
 use Rattle.mz_steps.specs.Operators.{operated_on}
 use Rattle.mz_post.specs.declared.types.Task.{Task}
 use Rattle.mz_post.specs.Names.{no_values}
@@ -73,14 +73,20 @@ AreNext table n (d ∷ ds) = IsNext table n d × AreNext table (suc n) ds
 
 -- ---- constraints
 
+-- what a row takes of an operand, and the operand's cell with its own coercions
+abbrev pub sided : World → List Declared → Tree → Env → Run (Side × Cell)
+sided w xs e env = do
+  x ← operand w below Untested e env
+  give (side xs e x.0, x.1)
+
 -- the steps of a comparison: its left operand with its coercions, its right operand, and its node
 abbrev pub compared : World → List Declared → Span → Tree → Step → Env → Run (List Row)
 compared w xs at a s env = do
-  x ← operand w below Untested a env
+  x ← sided w xs a env
   l ← coerced_by w (place_of a) s.left x.1
-  y ← operand w below Untested s.operand env
+  y ← sided w xs s.operand env
   c ← operated_on w l (record { at = at; step = s }) y.1
-  give (side_rows s.row (side xs a x.0) (side xs s.operand y.0))
+  give (side_rows s.row x.0 y.0)
 
 -- a constraint that isn't par, by the layer of its node: a comparison, or what isn't built
 

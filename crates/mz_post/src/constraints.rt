@@ -10,21 +10,39 @@ ghost use Rattle.mz_frames.specs.Views.{env_cells, world_of};
 ghost use Rattle.fz_program.specs.Flat.{row};
 ghost use Rattle.mz_direct.specs.Emission.{write_next};
 ghost use Rattle.mz_post.specs.Names.{names_in};
-ghost use Rattle.mz_post.specs.Rows.{rows_if};
-ghost use Rattle.mz_post.specs.Steps.{compared, steps_by, chain_by, posted_by, par_rows, form_rows};
+ghost use Rattle.mz_cells.specs.Views.{cell_of};
+ghost use Rattle.mz_post.specs.Rows.{rows_if, side_of};
+ghost use Rattle.mz_post.specs.Steps.{sided, compared, steps_by, chain_by, posted_by, par_rows, form_rows};
 
 use crate::operands::{operand, side};
 use crate::rows::{side_row, truth_row, with_roots, with_row};
-use crate::types::Table;
+use crate::types::{Side, Table};
 use crate::wants::LEVELS;
 use fz_program::FzRow;
 use mz_base::{Span, Stop};
+use mz_cells::Known;
 use mz_chains::{Operator, place_of};
 use mz_core::{Core, CoreForm, CoreStep};
 use mz_frames::World;
 use mz_roots::{coerced, operated, roots};
 use mz_unbuilt::is_par_constraint;
 use std::alloc::Global;
+
+// what a row takes of an operand, and the operand's cell with its own coercions
+fn side_operand(
+    alloc: Global,
+    world: &World,
+    table: &Table,
+    e: &Core,
+    work: &mut u64,
+) -> Result<(Side, Known), Stop>
+    requires { work.old ≤ world.now.budget + 1 }
+    ensures answer { Meets (λ p. (side_of p.0, cell_of p.1)) result work.new (sided (world_of world.now) (names_in table.now.list.now) (tree e.now) (env_cells world.now.env.now) (at_work work.old)) }
+    ensures within { IfOk result (λ _. work.new ≤ world.now.budget + 1) }
+{
+    let (below, cell) = operand(alloc, world, e, work)?;
+    Ok((side(table, e, &below), cell))
+}
 
 // a comparison: its operands, its node, and its row
 fn compared(
@@ -47,16 +65,11 @@ fn compared(
         operand: &s.operand,
         after: None,
     };
-    let x = operand(alloc, world, a, work)?;
-    let left = coerced(alloc, world, place_of(a), &o, x.1, work)?;
-    let y = operand(alloc, world, &s.operand, work)?;
-    let _node = operated(alloc, world, &o, left, y.1, work)?;
-    Ok(side_row(
-        alloc,
-        s.row,
-        side(table, a, &x.0),
-        side(table, &s.operand, &y.0),
-    )?)
+    let (before, x) = side_operand(alloc, world, table, a, work)?;
+    let left = coerced(alloc, world, place_of(a), &o, x, work)?;
+    let (after, y) = side_operand(alloc, world, table, &s.operand, work)?;
+    let _node = operated(alloc, world, &o, left, y, work)?;
+    Ok(side_row(alloc, s.row, before, after)?)
 }
 
 // a constraint that isn't par, by its form
