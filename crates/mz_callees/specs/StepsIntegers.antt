@@ -1,4 +1,4 @@
--- Operators between two integers: the row of each, which needs no search among the rows.
+-- Mirror of src/integers.rt; private clauses only. Operators between two integers: the row of each, which needs no search among the rows.
 use Rattle.std.specs.Prelude.{◌≡◌, ℕ, Bool, true, false, Option, Some, None, [], ◌∷◌, Ok, IfSome}
 use Rattle.mz_base.specs.declared.fault.Span.{Span}
 use Rattle.mz_core.specs.declared.types.Base.{Base}
