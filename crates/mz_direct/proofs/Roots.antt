@@ -8,6 +8,8 @@ use Rattle.mz_value.specs.Contents as values
 use Rattle.mz_value.specs.Shown.{Names}
 use Rattle.mz_core.specs.declared.types.Base.{Base}
 use Rattle.mz_core.specs.declared.types.Base.TheVariants as base
+use Rattle.mz_core.specs.declared.types.Coercion.{Coercion}
+use Rattle.mz_core.specs.declared.types.Coercion.TheVariants as coercion
 use Rattle.mz_core.specs.Coercions.{PathLink}
 use Rattle.mz_core.specs.Types.{PlainType, is_set}
 use Rattle.mz_core.specs.Order.{no_dims}
@@ -27,14 +29,14 @@ use Rattle.mz_meaning.specs.Chains.{Operator, Innermost, chained, before, right_
 use Rattle.mz_meaning.specs.Coerced.{recast}
 use Rattle.mz_meaning.specs.Contexts.{Context}
 use Rattle.mz_meaning.specs.Evaluation.{eval}
-use Rattle.mz_meaning.specs.Forms.{World, coerced_by, operated, operated_by, operand_place}
+use Rattle.mz_meaning.specs.Forms.{World, coerced_once, coerced_by, operated, operated_by, operand_place}
 use Rattle.mz_meaning.specs.Operations.{row_table, row_at, row_cost, row_cell}
 use Rattle.mz_meaning.specs.Solutions.{Each}
 use Rattle.mz_meaning.proofs.Typing.{cells_have_their_mark}
 use Rattle.fz_program.specs.Values.{Values}
 use Rattle.fz_program.specs.Flat.{Row, RowHolds}
 use Rattle.mz_independence.specs.Outlines.{outlines}
-use Rattle.mz_posting.specs.Roots.{Rooted, Roots, one_root, is_par_truth, no_links, is_plain_truth, is_and, are_ands, begins_and, is_conjunction, conjunction, root_operators, root_chain, rooted, roots}
+use Rattle.mz_posting.specs.Roots.{Rooted, Roots, one_root, is_par_truth, no_links, is_from_bottom, are_from_bottom, is_operand, is_and, are_ands, begins_and, is_conjunction, conjunction, root_operators, root_chain, rooted, roots}
 use Rattle.mz_direct.specs.Emission.{truth_rows, root_rows}
 use Rattle.mz_direct.proofs.Runs.{Gives, after, from, given, weaker}
 use Rattle.mz_direct.proofs.Domains.{all_left, all_right, all_both}
@@ -162,24 +164,33 @@ both_roots x y c h k i = record {
   told = i.told ∙ (ap (λ a. a && holds y.cell) h.told ∙ (ap (λ b. list_all holds x.roots && b) k.told ∙ all_joined holds x.roots y.roots));
 }
 
--- no coercion leaves a cell as it is
-uncoerced : (w : World) (place : Span) (ls : List PathLink) (c : Cell) → no_links ls ≡ true → Gives (λ d. d ≡ c) (coerced_by w place ls c)
-uncoerced w place [] c h = given refl
-uncoerced w place (l ∷ ls) c h = absurd (cc)
+-- coercions of what has no type of its own leave a cell as it is
+bottom_is : (k : Coercion) → is_from_bottom k ≡ true → k ≡ coercion.BottomToBase
+bottom_is coercion.BottomToBase h = refl
+bottom_is k h = absurd (cc)
 
--- what gives the roots of each par Boolean
+stays_once : (w : World) (place : Span) (k : Coercion) (t : PlainType) (c : Cell) → k ≡ coercion.BottomToBase → Gives (λ d. d ≡ c) (coerced_once w place c (k, t))
+stays_once w place k t c e = subst (λ (j : Coercion). Gives (λ d. d ≡ c) (coerced_once w place c (j, t))) (sym e) (after (spend w.budget place 0) (λ u. given refl))
+
+stays : (w : World) (place : Span) (ls : List PathLink) (c : Cell) → are_from_bottom ls ≡ true → Gives (λ d. d ≡ c) (coerced_by w place ls c)
+stays w place [] c h = given refl
+stays w place ((k, t) ∷ ls) c h =
+    let p = and_parts (is_from_bottom k) (are_from_bottom ls) h in
+    from {P = λ d. d ≡ c} (stays_once w place k t c (bottom_is k p.0)) (λ d s. subst (λ (x : Cell). Gives (λ y. y ≡ c) (coerced_by w place ls x)) (sym s) (stays w place ls c p.1))
+
+-- what gives the roots of each operand
 record GivesRoots (w : World) (go : Roots) : Type 0 where
-  by : (ctx : Context) (e : Tree) (env : Env) → is_plain_truth e ≡ true → Gives IsRooted (go ctx e env)
+  by : (ctx : Context) (e : Tree) (env : Env) → is_operand e ≡ true → Gives IsRooted (go ctx e env)
 
 step_gives : (w : World) (go : Roots) → GivesRoots w go → (ctx : Context) (env : Env) (place : Span) (left : Rooted) (o : Operator) (os : List Operator) → is_and o.step ≡ true → IsRooted left → ((next : Rooted) → IsRooted next → Gives IsRooted (root_operators w go ctx env o.at next os)) → Gives IsRooted (root_operators w go ctx env place left (o ∷ os))
 step_gives w go g ctx env place left o os h i rest =
-    let p = and_parts (nat_eq o.step.row 5 && is_par_truth o.step.ty) ((no_links o.step.left && no_links o.step.right) && is_plain_truth o.step.operand) h in
+    let p = and_parts (nat_eq o.step.row 5 && is_par_truth o.step.ty) ((are_from_bottom o.step.left && are_from_bottom o.step.right) && is_operand o.step.operand) h in
     let q = and_parts (nat_eq o.step.row 5) (is_par_truth o.step.ty) p.0 in
-    let k = and_parts (no_links o.step.left && no_links o.step.right) (is_plain_truth o.step.operand) p.1 in
-    let links = and_parts (no_links o.step.left) (no_links o.step.right) k.0 in
-    from {P = λ a. a ≡ left.cell} (uncoerced w place o.step.left left.cell links.0) (λ a s.
+    let k = and_parts (are_from_bottom o.step.left && are_from_bottom o.step.right) (is_operand o.step.operand) p.1 in
+    let links = and_parts (are_from_bottom o.step.left) (are_from_bottom o.step.right) k.0 in
+    from {P = λ a. a ≡ left.cell} (stays w place o.step.left left.cell links.0) (λ a s.
     from {P = IsRooted} (g.by (right_in (before ctx os) o.step) o.step.operand env k.1) (λ r j.
-    from {P = λ b. b ≡ r.cell} (uncoerced w (operand_place o.step) o.step.right r.cell links.1) (λ b t.
+    from {P = λ b. b ≡ r.cell} (stays w (operand_place o.step) o.step.right r.cell links.1) (λ b t.
     from {P = IsBoth a b} (node_gives w o.at o.step.ty o.step.row (operand_base o.step) a b q.0 q.1 (ap is_par s ∙ i.par) (ap is_par t ∙ j.par)) (λ c z.
     rest (record { roots = left.roots ++ r.roots; cell = c }) (both_roots left r c i j (subst (λ b. IsBoth left.cell b c) t (subst (λ a. IsBoth a b c) s z)))))))
 
@@ -194,8 +205,8 @@ typed_roots m t r h i = record { par = typed_par m t r.cell h i.par; each = i.ea
 
 chain_gives : (w : World) (go : Roots) → GivesRoots w go → (ctx : Context) (env : Env) (t : PlainType) (f : Innermost) → are_ands t f ≡ true → Gives IsRooted (root_chain w go ctx env t f)
 chain_gives w go g ctx env t f h =
-    let p = and_parts (is_par_truth t && is_plain_truth f.first) (list_all (λ o. is_and o.step) f.operators) h in
-    let q = and_parts (is_par_truth t) (is_plain_truth f.first) p.0 in
+    let p = and_parts (is_par_truth t && is_operand f.first) (list_all (λ o. is_and o.step) f.operators) h in
+    let q = and_parts (is_par_truth t) (is_operand f.first) p.0 in
     from {P = IsRooted} (g.by (before ctx f.operators) f.first env q.1) (λ left i.
     from {P = IsRooted} (operators_give w go g ctx env (place_of f.first) left f.operators p.1 i) (λ r j.
     given (typed_roots w.mode t r (par_truth t q.0).var j)))
@@ -214,11 +225,11 @@ tree_gives w go g m p ctx env (tree.node at t (tree.chain a ss)) =
     joined_gives w go g m p ctx env t f (is_conjunction t (all_steps ss) f) (λ h. (and_parts (begins_and (all_steps ss)) (are_ands t f) h).1)
 tree_gives w go g m p ctx env (tree.node at t form) = alone_gives m p
 
--- a par Boolean's cell is par
-plain_gives : (w : World) (n : ℕ) (ctx : Context) (e : Tree) (env : Env) → is_plain_truth e ≡ true → Gives (λ c. is_par c ≡ true) (eval w n ctx e env)
-plain_gives w n ctx e env h =
-    let p = and_parts (is_par_truth (type_of (inner_tree e))) (no_links (root_coercions e)) h in
-    record { by = λ s. cells_have_their_mark w n ctx e env s false (links_are (root_coercions e) p.1) (par_truth (type_of (inner_tree e)) p.0).var }
+-- an operand's cell is par
+operand_gives : (w : World) (n : ℕ) (ctx : Context) (e : Tree) (env : Env) → is_operand e ≡ true → Gives (λ c. is_par c ≡ true) (eval w n ctx e env)
+operand_gives w n ctx e env h =
+    let p = and_parts (not (type_of (inner_tree e)).var) (no_links (root_coercions e)) h in
+    record { by = λ s. cells_have_their_mark w n ctx e env s false (links_are (root_coercions e) p.1) (not-true (type_of (inner_tree e)).var p.0) }
   where
     links_are : (ls : List PathLink) → no_links ls ≡ true → ls ≡ []
     links_are [] h = refl
@@ -228,7 +239,7 @@ plain_gives w n ctx e env h =
 pub roots_give : (w : World) (n : ℕ) (ctx : Context) (e : Tree) (env : Env) → Gives (λ c. is_par c ≡ true) (eval w n ctx e env) → Gives (λ r. AreRoots r.roots r.cell) (roots w n ctx e env)
 unfolding roots
 roots_give w zero ctx e env h = alone_gives (eval w zero ctx e env) h
-roots_give w (suc n) ctx e env h = tree_gives w (roots w n) (record { by = λ c d v k. roots_give w n c d v (plain_gives w n c d v k) }) (eval w (suc n) ctx e env) h ctx env e
+roots_give w (suc n) ctx e env h = tree_gives w (roots w n) (record { by = λ c d v k. roots_give w n c d v (operand_gives w n c d v k) }) (eval w (suc n) ctx e env) h ctx env e
 
 -- ---- their rows
 

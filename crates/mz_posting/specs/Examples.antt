@@ -1,6 +1,9 @@
 -- Worked examples of walks that post.
 use Rattle.std.specs.Prelude.{◌≡◌, refl, ℕ, pos, true, false, List, [], ◌∷◌, Option, Some, None}
 use Rattle.mz_value.specs.Contents.{Content}
+use Rattle.mz_core.specs.declared.types.Base.TheVariants as base
+use Rattle.mz_core.specs.declared.types.Coercion.TheVariants as coercion
+use Rattle.mz_core.specs.Types.{PlainType}
 use Rattle.mz_core.specs.Program.{PlainProgram, satisfy}
 use Rattle.mz_core.specs.Tree.{Tree}
 use Rattle.mz_operations.specs.Views.{as_bool, as_int, as_set, as_ordinal, as_element, as_pair}
@@ -20,7 +23,7 @@ use Rattle.mz_meaning.specs.Chains.{level_table, innermost_in}
 use Rattle.mz_meaning.specs.Evaluation.{eval}
 use Rattle.mz_meaning.specs.Unbounded.{unbounded_in, in_form, in_maybe, in_trees, in_maybes, in_steps, in_items, first_unbounded}
 use Rattle.mz_meaning.specs.Walk.{Limits}
-use Rattle.mz_meaning.specs.Written.{var_int, bool, var_bool, num, lit, slot, bin, choose, to_var, to_opt, range, within, decl, i, b, var_number, no_choices, by_zero}
+use Rattle.mz_meaning.specs.Written.{scalar, chain, access, list, var_int, bool, var_bool, num, lit, slot, bin, choose, to_var, to_opt, range, within, decl, i, b, var_number, no_choices, by_zero}
 use Rattle.mz_meaning.specs.RowNumbers as op
 use Rattle.mz_posting.specs.Roots.{roots}
 use Rattle.mz_posting.specs.Posted.{Posted, Whole, Pair, posting_walk}
@@ -64,6 +67,9 @@ yes = par_value (b true)
 abbrev no : Cell
 no = par_value (b false)
 
+abbrev pub nothing : PlainType
+nothing = scalar false base.Bottom
+
 -- Each operand of a written conjunction is a root
 record PostsRoots : Type 0 where
   -- false /\ false
@@ -78,6 +84,8 @@ record PostsRoots : Type 0 where
   other_operator : bare (bin 25 bool (lit 25 false) op.either (bin 35 bool (lit 35 false) op.both (lit 44 true)) ∷ []) ≡ by_work 11 0 (Whole (no ∷ []) no ∷ [])
   -- (if true then false /\ false else true endif) /\ true
   in_a_choice : bare (bin 26 bool (choose 26 bool (lit 29 true) (bin 39 bool (lit 39 false) op.both (lit 48 false)) (Some (lit 59 true))) op.both (lit 72 true) ∷ []) ≡ by_work 13 0 (Whole (no ∷ yes ∷ []) no ∷ [])
+  -- [][0] /\ false: an element of [] has no type of its own
+  without_a_type : bare (chain 25 bool (access 25 nothing (list 25 nothing []) (num 28 (pos 0))) (record { row = op.both; ty = bool; left = (coercion.BottomToBase, bool) ∷ []; right = []; operand = lit 34 false } ∷ []) ∷ []) ≡ by_work 10 0 (Whole (undefined ∷ no ∷ []) no ∷ [])
   -- false /\ false, as an option
   coerced : bare (to_opt (bin 25 bool (lit 25 false) op.both (lit 34 false)) ∷ []) ≡ by_work 8 0 (Whole (no ∷ []) no ∷ [])
 
@@ -87,4 +95,4 @@ posts_are = record { without_values = refl; with_values = refl; undefined_operan
 
 roots_are : PostsRoots
 unfolding eval roots row_table level_table innermost_in scalar_value bool_at as_bool connected bounding_value is_bounded is_fixable as_int as_set as_ordinal as_element as_pair at int_at ordinal_at element_at enum_at pair ordered computed end_of up_to is_mismatched negative is_failed limited scalar_counts made_counts counts_from cost bound_of bounds_of is_settled bounds_at ends_at scalar_bounds made_value equality first_unbounded unbounded_in in_form in_maybe in_trees in_maybes in_steps in_items
-roots_are = record { two = refl; true_ones = refl; nested = refl; in_a_row = refl; other_operator = refl; in_a_choice = refl; coerced = refl }
+roots_are = record { two = refl; true_ones = refl; nested = refl; in_a_row = refl; other_operator = refl; in_a_choice = refl; without_a_type = refl; coerced = refl }

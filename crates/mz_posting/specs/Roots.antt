@@ -2,6 +2,8 @@
 use Rattle.std.specs.Prelude.{ℕ, zero, suc, Bool, true, false, not, ◌&&◌, List, [], ◌∷◌, ◌++◌, nat_eq, Option, Some, None, if◌then◌else◌}
 use Rattle.std.specs.List.{list_all}
 use Rattle.mz_base.specs.declared.fault.Span.{Span}
+use Rattle.mz_core.specs.declared.types.Coercion.{Coercion}
+use Rattle.mz_core.specs.declared.types.Coercion.TheVariants as coercion
 use Rattle.mz_core.specs.Coercions.{PathLink}
 use Rattle.mz_core.specs.Types.{PlainType}
 use Rattle.mz_core.specs.Tree.{Tree, Step, node, chain, all_steps, type_of, place_of, inner_tree, root_coercions}
@@ -21,16 +23,24 @@ abbrev pub no_links : List PathLink → Bool
 no_links [] = true
 no_links (l ∷ ls) = false
 
--- a par Boolean that isn't coerced
-abbrev pub is_plain_truth : Tree → Bool
-is_plain_truth e = is_par_truth (type_of (inner_tree e)) && no_links (root_coercions e)
+-- the coercion of what has no type of its own, as an element of `[]`: it leaves a cell as it is
+abbrev pub is_from_bottom : Coercion → Bool
+is_from_bottom coercion.BottomToBase = true
+is_from_bottom c = false
 
--- `/\` of par Booleans that aren't coerced; its row is 5
+abbrev pub are_from_bottom : List PathLink → Bool
+are_from_bottom ls = list_all (λ l. is_from_bottom l.0) ls
+
+-- a par operand; its coercions stand in its operator's step
+abbrev pub is_operand : Tree → Bool
+is_operand e = not (type_of (inner_tree e)).var && no_links (root_coercions e)
+
+-- `/\` of par operands that are Booleans or have no type of their own; its row is 5
 abbrev pub is_and : Step → Bool
-is_and s = (nat_eq s.row 5 && is_par_truth s.ty) && ((no_links s.left && no_links s.right) && is_plain_truth s.operand)
+is_and s = (nat_eq s.row 5 && is_par_truth s.ty) && ((are_from_bottom s.left && are_from_bottom s.right) && is_operand s.operand)
 
 abbrev pub are_ands : PlainType → Innermost → Bool
-are_ands t f = (is_par_truth t && is_plain_truth f.first) && list_all (λ o. is_and o.step) f.operators
+are_ands t f = (is_par_truth t && is_operand f.first) && list_all (λ o. is_and o.step) f.operators
 
 -- the first operator of a node
 abbrev pub begins_and : List Step → Bool

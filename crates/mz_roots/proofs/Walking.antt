@@ -1,5 +1,5 @@
 -- The walk over roots, step by step.
-use Rattle.std.proofs.Common.{◌≡◌, ◌∙◌, ℕ, zero, suc, ◌-◌, false, ◌&&◌, Option, Some, None, List, [], ◌∷◌, ◌++◌, Box, Global, refl, sym, ap, arith}
+use Rattle.std.proofs.Common.{◌≡◌, ◌∙◌, ℕ, zero, suc, ◌-◌, Bool, true, false, ◌&&◌, Option, Some, None, List, [], ◌∷◌, ◌++◌, Box, Global, refl, sym, ap, arith}
 use Rattle.mz_base.specs.declared.fault.Span.{Span}
 use Rattle.std.specs.Borrow.{Bor}
 use Rattle.mz_core.specs.Types.{PlainType, plain_type}
@@ -20,7 +20,7 @@ use Rattle.mz_meaning.specs.Evaluation.{eval}
 use Rattle.mz_chains.specs.Links.{links_round}
 use Rattle.mz_chains.proofs.Layers.{coercions_of_coerce}
 use Rattle.mz_chains.proofs.Runs.{then_again}
-use Rattle.mz_posting.specs.Roots.{no_links, Rooted, Roots, conjunction, rooted, roots, one_root, root_chain, root_operators}
+use Rattle.mz_posting.specs.Roots.{no_links, is_from_bottom, are_from_bottom, Rooted, Roots, conjunction, rooted, roots, one_root, root_chain, root_operators}
 use Rattle.mz_roots.specs.Steps.{conjunction_by, root_operator, root_innermost}
 
 -- ---- a written conjunction by its node
@@ -45,12 +45,26 @@ no_last (k ∷ ls) l = refl
 pub is_coerced : (e : Core) (k : Coercion) (b : Box Core Global) → e.form ≡ forms.Coerce k b → false ≡ no_links (root_coercions (tree e))
 is_coerced e k b h = no_last (root_coercions (tree b.value)) (k, plain_type e.ty) ∙ sym (ap no_links (coercions_of_coerce e b.value k b h refl))
 
-none_of_both : (ls ms : List PathLink) → (no_links ls && no_links ms) ≡ no_links (ls ++ ms)
-none_of_both [] ms = refl
-none_of_both (l ∷ ls) ms = refl
+both_from : (ls ms : List PathLink) → (are_from_bottom ls && are_from_bottom ms) ≡ are_from_bottom (ls ++ ms)
+both_from [] ms = refl
+both_from (l ∷ ls) ms = and_assoc (is_from_bottom l.0) (are_from_bottom ls) (are_from_bottom ms) ∙ ap (λ b. is_from_bottom l.0 && b) (both_from ls ms)
+  where
+    and_assoc : (a b c : Bool) → ((a && b) && c) ≡ (a && (b && c))
+    and_assoc true b c = refl
+    and_assoc false b c = refl
 
-pub none_round : (r : Option (Bor Core)) (e : Bor Core) (ms : List PathLink) → r ≡ Some e → (no_links (root_coercions (tree e.now)) && no_links ms) ≡ no_links (links_round r ++ ms)
-none_round r e ms h = none_of_both (root_coercions (tree e.now)) ms ∙ ap (λ x. no_links (links_round x ++ ms)) (sym h)
+pub from_round : (r : Option (Bor Core)) (e : Bor Core) (ms : List PathLink) → r ≡ Some e → (are_from_bottom (root_coercions (tree e.now)) && are_from_bottom ms) ≡ are_from_bottom (links_round r ++ ms)
+from_round r e ms h = both_from (root_coercions (tree e.now)) ms ∙ ap (λ x. are_from_bottom (links_round x ++ ms)) (sym h)
+
+and_true : (a : Bool) → a ≡ (a && true)
+and_true true = refl
+and_true false = refl
+
+pub from_coerced : (e part : Core) (k : Coercion) (b : Box Core Global) → e.form ≡ forms.Coerce k b → part ≡ b.value → (are_from_bottom (root_coercions (tree part)) && is_from_bottom k) ≡ are_from_bottom (root_coercions (tree e))
+from_coerced e part k b h p =
+    ap (λ (x : Bool). are_from_bottom (root_coercions (tree part)) && x) (and_true (is_from_bottom k))
+    ∙ both_from (root_coercions (tree part)) ((k, plain_type e.ty) ∷ [])
+    ∙ sym (ap are_from_bottom (coercions_of_coerce e part k b h p))
 
 -- ---- a run of four steps, of which the last two make something from the first ones
 

@@ -1,4 +1,4 @@
-// Written conjunctions: `/\` of par Booleans that aren't coerced.
+// Written conjunctions: `/\` of par operands.
 
 ghost use Rattle.std.specs.Prelude.{◌≡◌, ◌++◌, ◌&&◌, IfOk, Some, None, map, not, nat_eq, if◌then◌else◌};
 ghost use Rattle.std.specs.List.{list_all};
@@ -11,7 +11,7 @@ ghost use Rattle.mz_core.specs.declared.tree.CoreForm.TheViews.{out-CoreForm};
 ghost use Rattle.mz_meaning.specs.Chains.{chained};
 ghost use Rattle.mz_chains.specs.Innermosts.{operator_of, innermost_of};
 ghost use Rattle.mz_chains.specs.Links.{links_round};
-ghost use Rattle.mz_posting.specs.Roots.{is_par_truth, no_links, is_plain_truth, is_and, are_ands, begins_and, joined, conjunction};
+ghost use Rattle.mz_posting.specs.Roots.{is_par_truth, no_links, is_from_bottom, are_from_bottom, is_operand, is_and, are_ands, begins_and, joined, conjunction};
 ghost use Rattle.mz_roots.specs.Steps.{conjunction_by};
 
 use mz_base::Span;
@@ -23,7 +23,7 @@ use std::alloc::{AllocError, Global};
 /// The number of the row `/\`.
 const AND: u32 = 5;
 
-// ---- par Booleans without coercions
+// ---- par operands
 
 #[tactic(auto, unfolding(mz_core::specs::Types::plain_type))]
 fn is_par(t: &TypeInst) -> bool
@@ -39,10 +39,10 @@ fn is_par_truth(t: &TypeInst) -> bool
 }
 
 #[tactic(auto, using(mz_core::proofs::TreeLaws::type_of_tree))]
-fn has_par_truth(e: &Core) -> bool
-    ensures { result ≡ is_par_truth (type_of (tree e.now)) }
+fn has_par_type(e: &Core) -> bool
+    ensures { result ≡ not (type_of (tree e.now)).var }
 {
-    is_par_truth(&e.ty)
+    is_par(&e.ty)
 }
 
 // whether no coercion stands round an expression
@@ -56,43 +56,73 @@ fn is_bare(e: &Core) -> bool
     }
 }
 
-fn is_plain_truth(e: &Core) -> bool
-    ensures { result ≡ is_plain_truth (tree e.now) }
+fn is_operand(e: &Core) -> bool
+    ensures { result ≡ is_operand (tree e.now) }
 {
-    has_par_truth(inner(e)) && is_bare(e)
+    has_par_type(inner(e)) && is_bare(e)
 }
 
-fn are_none(links: &[(Coercion, TypeInst)]) -> bool
-    ensures { result ≡ no_links (path_links links.now) }
+// ---- coercions of what has no type of its own
+
+fn is_from_bottom(c: Coercion) -> bool
+    ensures { result ≡ is_from_bottom c }
 {
-    match links {
-        [] => true,
-        [_, ..] => false,
+    match c {
+        Coercion::BottomToBase => true,
+        _ => false,
     }
 }
 
-fn is_bare_before(e: &Core, links: &[(Coercion, TypeInst)]) -> bool
-    ensures { result ≡ (no_links (root_coercions (tree e.now)) && no_links (path_links links.now)) }
+fn are_from_bottom(links: &[(Coercion, TypeInst)]) -> bool
+    ensures { result ≡ are_from_bottom (path_links links.now) }
 {
-    is_bare(e) && are_none(links)
+    for link in links {
+        if !is_from_bottom(link.0) {
+            return false;
+        }
+    }
+    true
 }
 
-// whether no coercion stands round an expression, if there is one, and none follows
-fn no_links(round: Option<&Core>, links: &[(Coercion, TypeInst)]) -> bool
-    ensures { result ≡ no_links (links_round round.entry ++ path_links links.now) }
+fn also_from_bottom(before: bool, c: Coercion) -> bool
+    ensures { result ≡ (before && is_from_bottom c) }
+{
+    before && is_from_bottom(c)
+}
+
+// all that stand round an expression
+#[tactic(auto, using(mz_core::proofs::TreeLaws::root_coercions_is))]
+fn round_from_bottom(e: &Core) -> bool
+    ensures { result ≡ are_from_bottom (root_coercions (tree e.now)) }
+{
+    match &e.form {
+        CoreForm::Coerce(c, part) => also_from_bottom(round_from_bottom(part), *c),
+        _ => true,
+    }
+}
+
+fn both_from_bottom(e: &Core, links: &[(Coercion, TypeInst)]) -> bool
+    ensures { result ≡ (are_from_bottom (root_coercions (tree e.now)) && are_from_bottom (path_links links.now)) }
+{
+    round_from_bottom(e) && are_from_bottom(links)
+}
+
+// all that stand round an expression, if there is one, and these
+fn all_from_bottom(round: Option<&Core>, links: &[(Coercion, TypeInst)]) -> bool
+    ensures { result ≡ are_from_bottom (links_round round.entry ++ path_links links.now) }
 {
     match round {
-        None => are_none(links),
-        Some(e) => is_bare_before(e, links),
+        None => are_from_bottom(links),
+        Some(e) => both_from_bottom(e, links),
     }
 }
 
 // ---- operators
 
-fn is_uncoerced(o: &Operator) -> bool
-    ensures { result ≡ (no_links (operator_of o.now).step.left && no_links (operator_of o.now).step.right) }
+fn takes_operands(o: &Operator) -> bool
+    ensures { result ≡ (are_from_bottom (operator_of o.now).step.left && are_from_bottom (operator_of o.now).step.right) }
 {
-    no_links(o.before, &o.step.left) && no_links(o.after, &o.step.right)
+    all_from_bottom(o.before, &o.step.left) && all_from_bottom(o.after, &o.step.right)
 }
 
 fn is_row(s: &CoreStep) -> bool
@@ -104,7 +134,7 @@ fn is_row(s: &CoreStep) -> bool
 fn is_and(o: &Operator) -> bool
     ensures { result ≡ is_and (operator_of o.now).step }
 {
-    is_row(o.step) && (is_uncoerced(o) && is_plain_truth(o.operand))
+    is_row(o.step) && (takes_operands(o) && is_operand(o.operand))
 }
 
 fn are_all(all: &[Operator]) -> bool
@@ -121,7 +151,7 @@ fn are_all(all: &[Operator]) -> bool
 fn are_ands(ty: &TypeInst, f: &Innermost) -> bool
     ensures { result ≡ are_ands (plain_type ty.now) (innermost_of f.now) }
 {
-    (is_par_truth(ty) && is_plain_truth(f.first)) && are_all(&f.operators)
+    (is_par_truth(ty) && is_operand(f.first)) && are_all(&f.operators)
 }
 
 fn begins_and(all: &[CoreStep]) -> bool
