@@ -1,5 +1,5 @@
 -- What a text writes, by its first bytes.
-use Rattle.std.proofs.Common.{◌≡◌, codes, ◌<◌, ◌≤◌, ◌-◌, ℕ, List, [], ◌∷◌, ◌⊎◌, length, take, drop, get_or, Some, None, refl, ap, subst, ◌∙◌, sym, arith, inl, inr}
+use Rattle.std.proofs.Common.{◌≡◌, ◌<◌, ◌≤◌, ◌-◌, ℕ, List, [], ◌∷◌, ◌⊎◌, length, take, drop, get_or, Some, None, refl, ap, subst, ◌∙◌, sym, arith, inl, inr}
 use Rattle.std.proofs.lemmas.Grind.{common_steps}
 use Rattle.cases.specs.Bytes.{byte_of, one_or, written}
 
@@ -26,12 +26,3 @@ pub written-plain : (text : List ℕ) (first : ℕ) (rest : List ℕ) → text �
 written-plain text first rest whole plain =
     let P : List ℕ → Type 0 = λ t. (length t < 3) ⊎ (byte_of (get_or t 0 0) (get_or t 1 0) (get_or t 2 0) ≡ None) in
     ap written whole ∙ written-same first rest (subst P whole plain)
-
--- worked examples
-written-byte : written (codes "a@41@@0A@4") ≡ codes "aA@\n@4"
-unfolding written
-written-byte = refl
-
-written-small-letters : written (codes "@4f") ≡ codes "@4f"
-unfolding written
-written-small-letters = refl

@@ -1,6 +1,6 @@
 // What a case is typed to in a scoped model.
 
-ghost use Rattle.std.specs.Prelude.{length, map};
+ghost use Rattle.std.specs.Prelude.{length};
 ghost use Rattle.mz_scoped.specs.Scoped.{scoped_tree, shared_names, AreDistinct, AreRanked};
 ghost use Rattle.mz_headings.specs.Naming.{AreNamed};
 ghost use Rattle.mz_context.specs.Known.{known};

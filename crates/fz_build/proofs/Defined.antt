@@ -8,7 +8,7 @@ use Rattle.fz_program.specs.declared.row_name.Kind.TheVariants.{Int, ConstInt, I
 use Rattle.fz_program.specs.declared.program.Domain.{Domain}
 use Rattle.fz_program.specs.Arguments.{Plain, int, var, Argument, one, array, plain_of}
 use Rattle.fz_program.specs.Values as values
-use Rattle.fz_program.specs.Values.{Value, Values, ArgumentValue, number_in, number_at, linear}
+use Rattle.fz_program.specs.Values.{Value, Values, ArgumentValue, number_in, linear}
 use Rattle.fz_program.specs.Table.{Line, line, Holds, result_of, sum_equals, sum_at}
 use Rattle.fz_program.specs.Flat.{Variable, Program, plain_value, argument_value, RowHolds, IsInDomain, FlatSolves, WellFormed, is_variable_of, same_kind, kind_of_domain, are_arguments, is_within, IsWellFormedRow}
 use Rattle.fz_domains.specs.Inputs.{argument_at, elements_at, is_sum}

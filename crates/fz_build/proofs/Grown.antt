@@ -12,14 +12,11 @@ use Rattle.fz_program.specs.Names.{Name}
 use Rattle.fz_program.specs.Arguments.{Argument}
 use Rattle.fz_program.specs.Flat.{Variable, ArrayItem, Row, Program, WellFormed, IsWellFormedVariable, IsWellFormedArray, IsWellFormedRow, IsOfSet, variable, array_item, row, is_goal}
 use Rattle.fz_build.specs.Naming.{IsNamed, introduced_name, number_after, next_number}
-use Rattle.fz_build.specs.Build.{items, empty, with_variable, with_array, with_row, with_goal, with_defined, defined_variable, defining, args_with, IsBuilt, MayDeclare, MayAdd}
+use Rattle.fz_build.specs.Build.{items, with_variable, with_array, with_row, with_goal, with_defined, defined_variable, defining, args_with, IsBuilt, MayDeclare, MayAdd}
 use Rattle.fz_build.specs.Results.{MayDefine}
 use Rattle.fz_build.proofs.Lists.{each_push}
 use Rattle.fz_build.proofs.FreshNames.{is_name, fresh, named_push, next_push, next_most, distinct_variable, distinct_array}
 use Rattle.fz_build.proofs.Wider.{rows_wider, arrays_wider}
-
-pub built_empty : IsBuilt empty
-built_empty = record { well_formed = record { distinct = tt; parts = record { vars = tt; arrays = tt; rows = tt; goal = refl } }; variables = tt; arrays = tt }
 
 -- ---- one item more
 
@@ -128,9 +125,6 @@ stands_variable vars new arrays rows next v old e view s m = (
   subst IsBuilt (sym (items_variable vars new arrays rows v e)) (built_variable (items vars arrays rows) (variable v) refl s.0 (subst (λ p. MayDeclare p (variable v)) (sym view) m)),
   next_of vars new v next e s.1,
 )
-
-pub with_view : {A : Type 0} (g : Program → A → Program) (p old new : Program) (a : A) → new ≡ g p a → p ≡ old → new ≡ g old a
-with_view g p old new a e view = e ∙ ap (λ q. g q a) view
 
 pub stands_array : (vars : List FzVar) (arrays new : List FzArray) (rows : List FzRow) (next : ℕ) (a : FzArray) (old : Program) → new ≡ arrays ++ a ∷ [] → items vars arrays rows ≡ old → Stands vars arrays rows next → MayAdd old (array_item a) → Stands vars new rows next
 stands_array vars arrays new rows next a old e view s m =

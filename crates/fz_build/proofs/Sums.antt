@@ -13,7 +13,7 @@ use Rattle.fz_program.specs.declared.program.Domain.{Domain}
 use Rattle.fz_program.specs.declared.program.Domain.TheVariants.{Bool as Truths, Ints as Integers, SetOf}
 use Rattle.fz_program.specs.Arguments.{Plain, int, var, Argument, one, array, plain_of}
 use Rattle.fz_program.specs.Values as values
-use Rattle.fz_program.specs.Values.{Value, Values, ArgumentValue, number_in, linear}
+use Rattle.fz_program.specs.Values.{Value, Values, number_in, linear}
 use Rattle.fz_program.specs.Table.{line, sum_equals, sum_at}
 use Rattle.fz_program.specs.Flat.{Variable, plain_value, argument_value, kind_of_domain, same_kind, is_variable_of, is_plain, is_constant, is_argument, are_arguments, is_one_of, is_within, is_linear, weight, magnitude, most, IsInDomain}
 use Rattle.fz_domains.specs.Inputs.{is_sum, argument_at, elements_at}

@@ -33,7 +33,6 @@ pub struct Build {
 
 impl Model for Build {
     ghost use Rattle.std.specs.Prelude.{◌≡◌, map};
-    ghost use Rattle.fz_program.specs.declared.program.FzGoal.TheVariants.{Satisfy};
     ghost use Rattle.fz_program.specs.Flat.{Program, array_item, row, variable};
     ghost use Rattle.fz_build.specs.Naming.{next_number};
     ghost use Rattle.fz_build.specs.Build.{IsBuilt, items};

@@ -26,7 +26,6 @@ use Rattle.mz_operations.proofs.SetMembers.{union_set, intersection_set, differe
 use Rattle.fz_program.specs.declared.program.Domain.{Domain}
 use Rattle.fz_program.specs.declared.program.Domain.TheVariants.{Bool as Truths, Ints as Integers, SetOf}
 use Rattle.fz_program.specs.Arguments.{Plain}
-use Rattle.fz_program.specs.Values as values
 use Rattle.fz_program.specs.Values.{Value, Values, number, set, number_in, set_in, element_at, is_one, linear}
 use Rattle.fz_program.specs.Flat.{Variable, IsWellFormedVariable, plain_value, IsInDomain, AreInDomains}
 use Rattle.fz_domains.specs.Bounds.{ends_of, upper_of, joined, hull_reached, element_ends, plus, times, sum_ends, arith_by, magnitude_by, negative, union_reached, whole}

@@ -5,7 +5,7 @@ use Rattle.std.proofs.lemmas.Bool.{and_parts}
 use Rattle.std.proofs.lemmas.Int.{ints}
 use Rattle.mz_value.specs.Ranges.{Range, AreCanonical, AreInLimit, Has, IsInLimit}
 use Rattle.mz_interval.specs.Ends.{Encloses}
-use Rattle.mz_operations.specs.Bounds.{nothing, hull_of_set}
+use Rattle.mz_operations.specs.Bounds.{nothing}
 use Rattle.mz_operations.specs.Laws.{IsPart}
 use Rattle.mz_operations.proofs.SetBounds.{hull_of_set-has, part_same}
 use Rattle.fz_program.specs.declared.program.Domain.{Domain}

@@ -2,12 +2,9 @@
 use Rattle.std.proofs.Common.{◌≡◌, ◌≢◌, ℕ, ◌+◌, ◌*◌, ◌<◌, ◌≤◌, length, get_or, ◌/◌, ◌%◌, List, [], ◌∷◌, true, refl, sym, subst, arith, mul_comm}
 use Rattle.std.specs.Prelude.{pos}
 use Rattle.std.specs.List.{list_all}
-use Rattle.std.proofs.lemmas.Nat.{div-add-mod', div-mul-add, mod-mul-add}
+use Rattle.std.proofs.lemmas.Nat.{div-mul-add, mod-mul-add}
 use Rattle.mz_value.specs.Ranges.{Range, cardinality, range_of}
 use Rattle.fz_program.specs.Flat.{place_count, is_index, is_index_range}
-
-pub times_quotient : (s p n : ℕ) → n % s ≡ 0 → p ≡ n / s → s * p ≡ n
-times_quotient s p n e is = let d = div-add-mod' n s in rw is (omega (arith, d, e, mul_comm s (n / s)))
 
 pub quotient_of : (s p n : ℕ) → 0 < s → s * p ≡ n → p ≡ n / s
 quotient_of s p n some h =

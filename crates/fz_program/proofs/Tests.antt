@@ -5,10 +5,6 @@ use Rattle.std.specs.List.{list_all, list_any}
 use Rattle.fz_program.specs.declared.program.Arg.{Arg}
 use Rattle.fz_program.specs.Arguments.{Plain, Argument, argument, plain, plains}
 
-pub all_map : {X Y : Type 0} (test : Y → Bool) (f : X → Y) (xs : List X) → list_all test (map f xs) ≡ list_all (λ x. test (f x)) xs
-all_map test f [] = refl
-all_map test f (x ∷ xs) = ap (λ b. test (f x) && b) (all_map test f xs)
-
 pub any_map : {X Y : Type 0} (test : Y → Bool) (f : X → Y) (xs : List X) → list_any test (map f xs) ≡ list_any (λ x. test (f x)) xs
 any_map test f [] = refl
 any_map test f (x ∷ xs) = ap (λ b. test (f x) || b) (any_map test f xs)

@@ -2,7 +2,7 @@
 use Rattle.std.specs.Prelude.{◌≡◌, ◌≢◌, ℕ, ◌+◌, ◌*◌, ◌^◌, ◌-◌, ℤ, pos, ◌+ℤ◌, max, unsigned_abs, nat_eq, nat_le, List, [], ◌∷◌, ◌++◌, ◌≤ℤ◌, length, map, Bool, true, false, ◌&&◌, ◌||◌, Option, Some, None, string_bytes, slice_index_or, slice_get, int_le, int_lt}
 use Rattle.std.specs.List.{AllByRecursion, Contains, list_all, list_any}
 use Rattle.std.specs.Ordering.{int_eq}
-use Rattle.mz_value.specs.Ranges.{Range, AreCanonical, Has, IsInLimit, AreInLimit, cardinality, range_of, least, greatest}
+use Rattle.mz_value.specs.Ranges.{Range, AreCanonical, Has, AreInLimit, cardinality, range_of, least, greatest}
 use Rattle.fz_program.specs.declared.program.FzProgram.{FzProgram}
 use Rattle.fz_program.specs.declared.program.FzVar.{FzVar}
 use Rattle.fz_program.specs.declared.program.FzArray.{FzArray}
@@ -72,10 +72,6 @@ abbrev pub labels : Program → List Name
 labels p = labels_of p.vars ++ array_labels p.arrays
 
 -- ---- well-formed programs
-
--- the numbers that a program may write
-abbrev pub IsLiteral : ℤ → Type 0
-IsLiteral n = IsInLimit n
 
 abbrev pub is_literal : ℤ → Bool
 is_literal n = int_le least n && int_le n greatest

@@ -1,6 +1,6 @@
 // The arguments of a FlatZinc program's rows: whether they are of the kinds that the table has.
 
-ghost use Rattle.std.specs.Prelude.{◌≡◌, List, map};
+ghost use Rattle.std.specs.Prelude.{◌≡◌, map};
 ghost use Rattle.std.specs.List.{list_all, list_any};
 ghost use Rattle.fz_program.specs.Arguments.{argument, plain, set};
 ghost use Rattle.fz_program.specs.Flat.{

@@ -1,7 +1,7 @@
 // The lines of arrays. Each function that takes `out` appends its part to it; after an `Err` some
 // prefix of it may stand there.
 
-ghost use Rattle.std.specs.Prelude.{◌≡◌, ◌++◌, ◌∷◌, List, codes, decimal, length, map, None, OnOk, slice_get};
+ghost use Rattle.std.specs.Prelude.{◌≡◌, ◌++◌, ◌∷◌, codes, decimal, map, None, OnOk, slice_get};
 ghost use Rattle.std.specs.List.{flat_map};
 ghost use Rattle.mz_interval.specs.Ends.{hull_of_some};
 ghost use Rattle.fz_program.specs.Flat.{array_item, labels_of, variable};

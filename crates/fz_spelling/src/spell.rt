@@ -1,7 +1,7 @@
 // A FlatZinc program's text and its parts. Each function that takes `out` appends its part to it; after an `Err`
 // some prefix of it may stand there.
 
-ghost use Rattle.std.specs.Prelude.{◌≡◌, ◌++◌, ◌≤ℤ◌, ◌∷◌, List, codes, map, Some, IfOk, OnOk};
+ghost use Rattle.std.specs.Prelude.{◌≡◌, ◌++◌, ◌≤ℤ◌, ◌∷◌, codes, map, Some, IfOk, OnOk};
 ghost use Rattle.std.specs.Fmt.{signed_decimal};
 ghost use Rattle.std.specs.List.{flat_map};
 ghost use Rattle.mz_value.specs.Ranges.{AreCanonical};

@@ -61,10 +61,6 @@ Again part text x = (rest : List ℕ) → is_stop (first_byte rest) ≡ true →
 abbrev pub pieces : {A : Type 0} → (A → List ℕ) → List A → List ℕ
 pieces text xs = flat_map (λ u. 44 ∷ u) (map text xs)
 
-pieces_stop : {A : Type 0} (text : A → List ℕ) (xs : List A) (rest : List ℕ) → is_close (first_byte rest) ≡ true → is_stop (first_byte (pieces text xs ++ rest)) ≡ true
-pieces_stop text [] rest e = close_stops (first_byte rest) e
-pieces_stop text (x ∷ xs) rest e = refl
-
 pub pieces_length : {A : Type 0} (text : A → List ℕ) (xs : List A) → length xs ≤ length (pieces text xs)
 pieces_length text [] = omega arith
 pieces_length text (x ∷ xs) = omega (arith, length-append (text x) (pieces text xs), pieces_length text xs)

@@ -70,12 +70,6 @@ arguments_have vs [] (x ∷ xs) e = absurd (false≢true e)
 arguments_have vs (k ∷ ks) [] e = absurd (false≢true e)
 arguments_have vs (k ∷ ks) (x ∷ xs) e = let parts = both (is_argument vs k x) (are_arguments vs ks xs) e in (argument_has vs k x parts.0, arguments_have vs ks xs parts.1)
 
--- every row takes an argument
-pub some_argument : (vs : List Variable) (k : Kind) (ks : List Kind) (xs : List Argument) → are_arguments vs (k ∷ ks) xs ≡ true → 0 < length xs
-unfolding are_arguments
-some_argument vs k ks [] e = absurd (false≢true e)
-some_argument vs k ks (x ∷ xs) e = omega arith
-
 -- the places of an array's elements
 places_are_there : (vs : List Variable) (kind : Kind) (ks : List ℕ) → are_variables_of vs kind ks ≡ true → AllByRecursion (λ k. k < length (labels_of vs)) ks
 places_are_there vs kind [] e = tt

@@ -12,4 +12,4 @@ pub use law::{
 };
 pub use owner::file_name;
 pub use scoping::scoped_model;
-pub use typing::{test_model, typed_model};
+pub use typing::typed_model;

@@ -3,7 +3,7 @@
 ghost use Rattle.std.specs.Prelude.{◌≡◌, ◌<◌, length, IfOk, IfErr, All};
 ghost use Rattle.mz_base.specs.Faults.{IfRefused};
 ghost use Rattle.mz_core.specs.Program.{plain_program};
-ghost use Rattle.mz_analysis.specs.Analysis.{IsTypedModel, HasTypedModel, FailsTest, IsRead, files_read, items_read, evaluated, names_of};
+ghost use Rattle.mz_analysis.specs.Analysis.{IsTypedModel, FailsTest, IsRead, files_read, items_read, evaluated, names_of};
 
 use crate::scoping::scoped_model;
 use mz_base::{Names, Stop};
@@ -26,14 +26,4 @@ pub fn typed_model(alloc: Global, read: &SourcesWithData, names: &Names) -> Resu
     let scoped = scoped_model(alloc, read, names)?;
     let program = check(alloc, &scoped, names)?;
     Ok(program)
-}
-
-/// Tests the names, the types and the data of a model, as `typed_model` does, and lets the program go.
-pub fn test_model(alloc: Global, read: &SourcesWithData, names: &Names) -> Result<(), Stop>
-    requires { IsRead names.now read.now }
-    ensures typed { IfOk result (λ _. HasTypedModel names.now (files_read names.now read.now) (items_read read.now)) }
-    ensures refused { IfErr result (λ s. IfRefused s (FailsTest names.now (files_read names.now read.now) (length read.now.data_files.items) (items_read read.now))) }
-{
-    let _program = typed_model(alloc, read, names)?;
-    Ok(())
 }

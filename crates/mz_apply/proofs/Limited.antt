@@ -1,13 +1,13 @@
 -- Integers in the limit and outside, and rows that are no `show`.
-use Rattle.std.proofs.Common.{◌≡◌, Bool, true, false, refl, sym, ap, ◌∙◌}
-use Rattle.std.specs.Prelude.{ℤ, Option, Some, None}
+use Rattle.std.proofs.Common.{◌≡◌, true, false, refl, sym, ap, ◌∙◌}
+use Rattle.std.specs.Prelude.{ℤ, Some, None}
 use Rattle.mz_base.specs.declared.kind.Kind.TheVariants.{Bounds}
 use Rattle.mz_value.specs.Contents.{Content, bool, int, case, set, absent, text, array}
 use Rattle.mz_interval.specs.Ends.{is_number}
 use Rattle.mz_operations.specs.declared.row.Row.{Row}
 use Rattle.mz_operations.specs.declared.row.Row.TheVariants.{Show, ShowArray}
 use Rattle.mz_operations.specs.Views.{as_int}
-use Rattle.mz_operations.specs.Answers.{Answer, Gives, Stops, limited}
+use Rattle.mz_operations.specs.Answers.{Gives, Stops, limited}
 use Rattle.mz_apply.specs.Applied.{is_applied}
 
 int_is : (x : Content) (n : ℤ) → as_int x ≡ Some n → x ≡ int n

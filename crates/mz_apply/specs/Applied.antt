@@ -8,7 +8,7 @@ use Rattle.mz_value.specs.declared.value.Value.{Value}
 use Rattle.mz_value.specs.Contents.{content}
 use Rattle.mz_value.specs.Shown.{Names}
 use Rattle.mz_operations.specs.declared.row.Row.{Row}
-use Rattle.mz_operations.specs.declared.row.Row.TheVariants.{Scalar, Made, Bounding, Show, ShowArray}
+use Rattle.mz_operations.specs.declared.row.Row.TheVariants.{Scalar, Show, ShowArray}
 use Rattle.mz_operations.specs.declared.row.ScalarRow.TheVariants.{Equal, Unequal, SetEqual, SetUnequal}
 use Rattle.mz_operations.specs.Arguments.{Arguments, set_at}
 use Rattle.mz_operations.specs.Answers.{Answer, Gives, Stops, answer, is_failed}

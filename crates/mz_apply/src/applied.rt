@@ -1,9 +1,9 @@
 // What rows give of values.
 
-ghost use Rattle.std.specs.Prelude.{◌≡◌, false, true};
+ghost use Rattle.std.specs.Prelude.{◌≡◌, true};
 ghost use Rattle.mz_value.specs.Shown.{Names};
 ghost use Rattle.mz_operations.specs.Arguments.{arguments};
-ghost use Rattle.mz_operations.specs.Answers.{answer, is_failed, limited};
+ghost use Rattle.mz_operations.specs.Answers.{answer, limited};
 ghost use Rattle.mz_operations.specs.Values.{value};
 ghost use Rattle.mz_apply.specs.Applied.{Answers, IsApplied, AnswersCall, IsCall, is_applied};
 ghost use Rattle.mz_apply.specs.Lines as lines;

@@ -1,7 +1,6 @@
 // The faults of rows that come before their values.
 
-ghost use Rattle.std.specs.Prelude.{◌≡◌, IfOk, map, length, unwrap_or, false, not};
-ghost use Rattle.std.specs.Option.{option_map};
+ghost use Rattle.std.specs.Prelude.{◌≡◌, IfOk, unwrap_or, false, not};
 ghost use Rattle.mz_operations.specs.Arguments.{arguments};
 ghost use Rattle.mz_operations.specs.Arguments as words;
 ghost use Rattle.mz_operations.specs.Answers as answers;

@@ -9,7 +9,7 @@ use Rattle.mz_arena.specs.declared.node.Node.{Node}
 use Rattle.mz_arena.specs.declared.node.NodeKind.{NodeKind}
 use Rattle.mz_arena.specs.declared.node.NodeKind.TheVariants.{Int, Bool as BoolNode, Var, Local, Add, Mul, Div, Mod, Min, Max, Abs, ToInt, Eq, Ne, Le, Lt, And, Or, Not, Iff, If, Access, Guard, Nil, Cons, SetConst, SetVar, SetLocal, Member, Union, Intersect, Diff, Symdiff, Card, SetEq, Subset}
 use Rattle.mz_arena.specs.Entries.{Entry, entry, folded}
-use Rattle.mz_arena.specs.Extents.{Extent, whole, truth, subset, wholes, truths, subsets, empty, Known, bool_extent, variable_extent, set_variable_extent, to_int_extent, comparison_extent, connective_extent, not_extent, member_extent, set_comparison_extent, if_extent, guard_extent, access_extent, cons_extent, set_extent, node_extent, extents}
+use Rattle.mz_arena.specs.Extents.{whole, truth, subset, wholes, truths, subsets, empty, Known, bool_extent, variable_extent, set_variable_extent, to_int_extent, comparison_extent, connective_extent, not_extent, member_extent, set_comparison_extent, if_extent, guard_extent, access_extent, cons_extent, set_extent, node_extent, extents}
 
 -- a node that an arena doesn't have
 abbrev no_bounds : Known

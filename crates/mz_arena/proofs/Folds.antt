@@ -35,10 +35,6 @@ pub map-at : {A : Type 0} (xs ys : List (Option A)) (n : ℕ) (is : List ℕ) �
 map-at xs ys n [] below same = refl
 map-at xs ys n (i ∷ is) below same = let head = same i below.0 in let tail = map-at xs ys n is below.1 same in cc
 
-pub below_more : (m n : ℕ) (is : List ℕ) → m ≤ n → AllBelow m is → AllBelow n is
-below_more m n [] l all = tt
-below_more m n (i ∷ is) l all = (omega (arith, all.0), below_more m n is l all.1)
-
 -- ---- the fold
 
 pub length-folded : {A : Type 0} (step : Step A) (xs : List (Option A)) (es : List Entry) → length (folded step xs es) ≡ length xs + length es
@@ -52,11 +48,6 @@ pub folded-append : {A : Type 0} (step : Step A) (xs : List (Option A)) (es fs :
 unfolding folded
 folded-append step xs [] fs = refl
 folded-append step xs (e ∷ es) fs = folded-append step (xs ++ step e (map (at xs) (children e.node)) ∷ []) es fs
-
-pub folded-push : {A : Type 0} (step : Step A) (xs : List (Option A)) (es : List Entry) (e : Entry) → folded step xs (es ++ e ∷ []) ≡ folded step xs es ++ step e (map (at (folded step xs es)) (children e.node)) ∷ []
-unfolding folded
-folded-push step xs [] e = refl
-folded-push step xs (d ∷ es) e = folded-push step (xs ++ step d (map (at xs) (children d.node)) ∷ []) es e
 
 -- what there is already stays
 pub keep : {A : Type 0} (step : Step A) (xs : List (Option A)) (es : List Entry) (i : ℕ) → i < length xs → at (folded step xs es) i ≡ at xs i

@@ -29,15 +29,6 @@ grew_both f g = record {
   extents = λ id h. g.extents id (omega (arith, f.longer)) ∙ f.extents id h;
 }
 
-pub extends_both : {xs ys zs : List Entry} → Extends xs ys → Extends ys zs → Extends xs zs
-extends_both f g = record {
-  grew = grew_both f.grew g.grew;
-  frees = λ id e h free. let l = g.frees id e h free in f.frees id e (sym (g.grew.same id l) ∙ h) free;
-}
-
-pub extends_same : (es : List Entry) → Extends es es
-extends_same es = record { grew = grew_same es; frees = λ id e h free. get-below es id e h }
-
 -- an entry of a longer list is an old one or the last
 pub old_or_last : (es : List Entry) (e d : Entry) (id : ℕ) → slice_get (es ++ e ∷ []) id ≡ Some d → ((id < length es) × (slice_get es id ≡ Some d)) ⊎ ((id ≡ length es) × (d ≡ e))
 old_or_last es e d id h =

@@ -3,7 +3,7 @@ use Rattle.std.proofs.Common.{◌≡◌, ℕ, ◌+◌, ◌<◌, List, [], ◌∷
 use Rattle.std.proofs.lemmas.Bool.{cases_lt}
 use Rattle.mz_value.specs.Ranges.{Range}
 use Rattle.mz_arena.specs.declared.node.NodeKind.{NodeKind}
-use Rattle.mz_arena.specs.declared.node.NodeKind.TheVariants.{SetConst, If, Access, Union, Intersect, Symdiff}
+use Rattle.mz_arena.specs.declared.node.NodeKind.TheVariants.{SetConst}
 use Rattle.mz_arena.specs.declared.table.Reach.{Reach}
 use Rattle.mz_arena.specs.declared.table.Reach.TheVariants.{Whole, Truth, Subset, Wholes, Truths, Subsets, Empty}
 use Rattle.mz_arena.specs.declared.table.Stored.{Stored}
@@ -13,7 +13,7 @@ use Rattle.mz_arena.specs.Entries.{Entry, entry, children, AllBelow, is_free, is
 use Rattle.mz_arena.specs.Charges.{charge_of, charges}
 use Rattle.mz_arena.specs.Arenas.{IsArena, IsSetConst, IsConst, Grew, Extends, Made}
 use Rattle.mz_arena.specs.Extents.{Known, subset, as_subset, kind_extent, node_extent, extents, extent}
-use Rattle.mz_arena.specs.Tables.{Sets, set_at, set_place, is_long, seen, entries, Tells, IsSound, IsSoundTable, IsReady, IsPushed, IsPut, IsPushedConst, const_node, is_plain}
+use Rattle.mz_arena.specs.Tables.{Sets, set_at, set_place, is_long, seen, entries, Tells, IsSound, IsSoundTable, IsReady, IsPushed, IsPut, IsPushedConst, const_node}
 use Rattle.mz_arena.proofs.Folds.{get-append, get-last, get-below, unroll}
 use Rattle.mz_arena.proofs.Growing.{grew_append, extent_last, arena_push, arena_empty, extends_push, made_last, charges-push}
 use Rattle.mz_arena.proofs.Lists.{there}
@@ -81,15 +81,6 @@ is_pushed old new s id p q k = record {
 
 pub sound_pushed : (old new : Table) (s : Stored) → new.sets.items ≡ old.sets.items → new.stored.items ≡ old.stored.items ++ s ∷ [] → IsSoundTable old → IsReady old.sets.items old.stored.items s → IsSoundTable new
 sound_pushed old new s p q h r = subst (λ sets. IsSound sets new.stored.items) (sym p) (subst (λ stored. IsSound old.sets.items stored) (sym q) (sound_push old.sets.items old.stored.items s h r))
-
--- there is no other kind whose nodes may need a new set
-pub not_plain : (k : NodeKind) → is_plain k ≡ false → (k ≡ If → ⊥) → (k ≡ Access → ⊥) → (k ≡ Union → ⊥) → (k ≡ Intersect → ⊥) → (k ≡ Symdiff → ⊥) → ⊥
-not_plain If h a b c d e = a refl
-not_plain Access h a b c d e = b refl
-not_plain Union h a b c d e = c refl
-not_plain Intersect h a b c d e = d refl
-not_plain Symdiff h a b c d e = e refl
-not_plain _ h a b c d e = cc
 
 -- ---- what an arena promises of the last node
 

@@ -3,17 +3,15 @@ use Rattle.std.proofs.Common.{◌≡◌, ℕ, zero, suc, ◌≤◌, List, [], �
 use Rattle.std.specs.Option.{option_and_then}
 use Rattle.mz_value.specs.Ranges.{Range}
 use Rattle.mz_interval.specs.Ends.{Ends}
-use Rattle.mz_interval.specs.Interval.{ends}
 use Rattle.mz_arena.specs.declared.table.Reach.{Reach}
 use Rattle.mz_arena.specs.declared.table.Reach.TheVariants.{Whole, Truth, Subset, Wholes, Truths, Subsets, Empty}
 use Rattle.mz_arena.specs.declared.table.Stored.{Stored}
 use Rattle.mz_arena.specs.declared.table.Table.{Table}
-use Rattle.mz_interval.specs.declared.interval.Interval.{Interval}
 use Rattle.mz_arena.specs.declared.node.Node.{Node}
 use Rattle.mz_arena.specs.declared.node.NodeKind.{NodeKind}
 use Rattle.mz_arena.specs.declared.node.NodeKind.TheVariants.{Cons}
 use Rattle.mz_arena.specs.Entries.{Entry, arity, children, AllBelow}
-use Rattle.mz_arena.specs.Extents.{Known, whole, truth, subset, wholes, truths, subsets, empty, as_whole, as_truth, as_subset, as_wholes, is_truths, as_subsets, as_single, as_list, before_extent, ends_in, cons_extent, kind_extent, node_extent, extents, extent}
+use Rattle.mz_arena.specs.Extents.{Known, whole, truth, subset, wholes, truths, subsets, empty, as_whole, as_truth, as_subset, as_wholes, is_truths, as_subsets, as_single, as_list, ends_in, cons_extent, kind_extent, node_extent, extents, extent}
 use Rattle.mz_arena.specs.Tables.{Sets, seen, entries, wholes_in, subsets_in, wholes_at, subsets_at, HasWholes, HasSubsets, has_wholes, has_subsets, is_long, IsSound, Tells, TellsAny, TellsSingle, TellsRow, single_in, row_in, interval_in, is_whole_list, is_truth_list, is_subset_list, whole_in, truth_in, subset_place, IsPlaced}
 use Rattle.mz_arena.proofs.Folds.{at-past, unroll}
 
@@ -270,23 +268,6 @@ subsets_told t (Some Wholes) x h = sym (ap as_subsets h)
 subsets_told t (Some Truths) x h = sym (ap as_subsets h)
 subsets_told t (Some Subsets) x h = sym (ap as_subsets h)
 subsets_told t (Some Empty) x h = ap (λ y. Some (subsets_in y)) h ∙ sym (ap as_subsets h)
-
--- a list with an element more
-pub wholes_before : (t : Table) (b : Bool) (i : Interval) (y : Known) → cond b (Some (wholes_in y)) None ≡ as_wholes y → TellsAny t.sets.items (cond b (Some Wholes) None) (before_extent (whole (ends i)) y)
-wholes_before t true i y h =
-    let x : before_extent (whole (ends i)) y ≡ Some (wholes (ends i ∷ wholes_in y)) = ap (λ o. option_and_then (λ es. Some (wholes (ends i ∷ es))) o) (sym h) in
-    x ∙ sym (ap (λ z. Some (wholes (wholes_in z))) x)
-wholes_before t false i y h = ap (λ o. option_and_then (λ es. Some (wholes (ends i ∷ es))) o) (sym h)
-
-pub truths_before : (t : Table) (b : Bool) (i : Interval) (y : Known) → b ≡ is_truths y → TellsAny t.sets.items (cond b (Some Truths) None) (before_extent (truth (ends i)) y)
-truths_before t true i y h = ap (λ c. cond c (Some truths) None) (sym h)
-truths_before t false i y h = ap (λ c. cond c (Some truths) None) (sym h)
-
-pub subsets_before : (t : Table) (b : Bool) (u : List Range) (y : Known) → cond b (Some (subsets_in y)) None ≡ as_subsets y → TellsAny t.sets.items (cond b (Some Subsets) None) (before_extent (subset u) y)
-subsets_before t true u y h =
-    let x : before_extent (subset u) y ≡ Some (subsets (u ∷ subsets_in y)) = ap (λ o. option_and_then (λ us. Some (subsets (u ∷ us))) o) (sym h) in
-    x ∙ sym (ap (λ z. Some (subsets (subsets_in z))) x)
-subsets_before t false u y h = ap (λ o. option_and_then (λ us. Some (subsets (u ∷ us))) o) (sym h)
 
 pub interval_told : (t : Table) (r : Option Reach) (x : Known) → TellsAny t.sets.items r x → interval_in r ≡ ends_in x
 interval_told t None x h = sym (ap ends_in h)

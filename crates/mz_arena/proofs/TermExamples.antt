@@ -1,5 +1,5 @@
 -- Worked examples of what nodes mean.
-use Rattle.std.specs.Prelude.{◌≡◌, refl, ℕ, ℤ, pos, neg_ℤ, nat_abs, List, [], ◌∷◌, Some, None}
+use Rattle.std.specs.Prelude.{◌≡◌, refl, ℕ, ℤ, pos, neg_ℤ, List, [], ◌∷◌, Some, None}
 use Rattle.mz_value.specs.Ranges.{Range}
 use Rattle.mz_operations.specs.Sets.{union, intersection, difference, combined, contains, same_set, complement, missing_from}
 use Rattle.mz_operations.specs.Numbers.{computed, signed, toward}
@@ -7,7 +7,7 @@ use Rattle.mz_arena.specs.declared.node.Node.{Node}
 use Rattle.mz_arena.specs.declared.node.NodeKind.{NodeKind}
 use Rattle.mz_arena.specs.declared.node.NodeKind.TheVariants.{Int, Bool as BoolNode, Var, Local, Add, Mul, Div, Mod, Min, Max, Abs, ToInt, Eq, Ne, Le, Lt, And, Or, Not, Iff, If, Access, Guard, Nil, Cons, SetConst, SetVar, SetLocal, Member, Union, Intersect, Diff, Symdiff, Card, SetEq, Subset}
 use Rattle.mz_arena.specs.Entries.{Entry, entry, folded}
-use Rattle.mz_arena.specs.Values.{Val, number, set, numbers, sets, empty, Term, Values, arith_term, sign_term, extreme_term, comparison_term, set_comparison_term, member_term, and_term, or_term, not_term, iff_term, to_int_term, if_term, guard_term, access_term, cons_term, set_term, card_term}
+use Rattle.mz_arena.specs.Values.{number, set, numbers, sets, empty, Term, Values, arith_term, sign_term, extreme_term, comparison_term, set_comparison_term, member_term, and_term, or_term, not_term, iff_term, to_int_term, if_term, guard_term, access_term, cons_term, set_term, card_term}
 use Rattle.mz_arena.specs.Terms.{node_term, terms, term}
 use Rattle.mz_arena.specs.Numbering.{by_id}
 

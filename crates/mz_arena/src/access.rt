@@ -4,7 +4,7 @@ ghost use Rattle.std.specs.Prelude.{◌≡◌, Some, ◌-◌, [], IfOk, MatchOpt
 ghost use Rattle.mz_interval.specs.Interval.{ends};
 ghost use Rattle.mz_operations.specs.Bounds.{hull_of_all, union_from, union_of_all};
 ghost use Rattle.mz_arena.specs.Extents.{subset, access_extent, not_negative, skipped, reached};
-ghost use Rattle.mz_arena.specs.Tables.{known, has_subsets, set_at, wholes_of, subsets_of, HasSubsets, SplitsSubsets, IsKept, IsSetList, IsSoundTable, IsShort, TellsIn};
+ghost use Rattle.mz_arena.specs.Tables.{known, has_subsets, wholes_of, subsets_of, HasSubsets, SplitsSubsets, IsKept, IsSetList, IsSoundTable, IsShort, TellsIn};
 
 use crate::node::{Id, Node};
 use crate::table::{Reach, Row, Table};

@@ -3,8 +3,8 @@
 ghost use Rattle.std.specs.Prelude.{◌≡◌, ◌+◌, ◌<◌, ◌≤◌, [], IfOk, IsSome, OnErr, Some, false, length, option_map, slice_get, true};
 ghost use Rattle.mz_interval.specs.Interval.{ends};
 
-use crate::node::{Id, Node, NodeKind};
-use crate::table::{Reach, Stored, Table};
+use crate::node::{Id, Node};
+use crate::table::{Stored, Table};
 use mz_base::Memory;
 use mz_interval::Interval;
 use mz_value::RangeSet;
@@ -35,7 +35,7 @@ impl Model for Arena {
 }
 
 impl Arena {
-    ghost use Rattle.mz_arena.specs.Entries.{entry, is_free, is_local};
+    ghost use Rattle.mz_arena.specs.Entries.{entry, is_free};
     ghost use Rattle.mz_arena.specs.Extents.{extent, ends_in};
     ghost use Rattle.mz_arena.specs.Charges.{charge_of, charges};
     ghost use Rattle.mz_arena.specs.Arenas.{IsArena, IsAsked, IsSetConst, Grew, Extends, Made, MadeAnew, IsConst};

@@ -7,8 +7,8 @@ ghost use Rattle.mz_interval.specs.Interval.{ends};
 ghost use Rattle.mz_operations.specs.declared.row.Arith.TheVariants.{Add, Mul, Div, Mod};
 ghost use Rattle.mz_operations.specs.declared.row.Sign.TheVariants.{Abs};
 ghost use Rattle.mz_operations.specs.Bounds.{sign_ends, toward_ends, hull_of_set, card_ends};
-ghost use Rattle.mz_arena.specs.Extents.{as_whole, as_subset, arith_bounds, abs_bounds, card_bounds, extent};
-ghost use Rattle.mz_arena.specs.Tables.{entries, set_at, IsSound};
+ghost use Rattle.mz_arena.specs.Extents.{as_whole, arith_bounds, abs_bounds, extent};
+ghost use Rattle.mz_arena.specs.Tables.{entries, IsSound};
 
 use crate::node::Id;
 use crate::table::Table;

@@ -1,6 +1,6 @@
 // What is kept of the nodes: each with its bounds, and the sets that they speak of.
 
-ghost use Rattle.std.specs.Prelude.{◌≡◌, IfOk, OnErr, option_map, slice_get, if◌then◌else◌, Some, None};
+ghost use Rattle.std.specs.Prelude.{◌≡◌, IfOk, OnErr, option_map, if◌then◌else◌, Some, None};
 ghost use Rattle.mz_interval.specs.Interval.{ends};
 ghost use Rattle.mz_arena.specs.Extents.{as_whole, as_truth, as_subset, as_wholes, is_truths, as_subsets, extent};
 ghost use Rattle.mz_arena.specs.Tables.{entries, whole_in, truth_in, subset_place, single_in, row_in, is_whole_list, is_truth_list, is_subset_list, IsPlaced, IsSound, TellsAny, IsSoundTable, TellsSingle, TellsRow, known, wholes_of, subsets_of, IsReady, IsPushed};

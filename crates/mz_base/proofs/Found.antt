@@ -1,6 +1,6 @@
 -- What is found among the elements of a list, and whether a word is a keyword.
 use Rattle.std.proofs.Common.{◌≡◌, ℕ, List, [], ◌∷◌, Bool, true, false, refl}
-use Rattle.std.specs.Prelude.{Option, Some, None, find, cond, ◌||◌}
+use Rattle.std.specs.Prelude.{Some, find, cond, ◌||◌}
 use Rattle.std.specs.Option.{is_some}
 use Rattle.std.specs.List.{list_any}
 use Rattle.std.specs.Str.{bytes_eq}

@@ -1,10 +1,10 @@
 // The signatures of a name.
 
-ghost use Rattle.std.specs.Prelude.{◌≡◌, ◌++◌, ◌∷◌, [], map, filter, IfOk};
+ghost use Rattle.std.specs.Prelude.{◌≡◌, ◌++◌, ◌∷◌, [], map, IfOk};
 ghost use Rattle.mz_core.specs.Types.{plain_type};
 ghost use Rattle.mz_builtin.specs.Entries.{plain_entry};
 ghost use Rattle.mz_builtin.specs.Readings.{numbered, with_mark, with_meaning, of_entry};
-ghost use Rattle.mz_builtin.specs.Signatures.{of_named, made, signatures, accepts_all, fitting};
+ghost use Rattle.mz_builtin.specs.Signatures.{of_named, made, signatures, fitting};
 ghost use Rattle.mz_builtin.specs.Views.{plain_choices, type_lists_of, plain_numbered, maker_of};
 
 use crate::choices::{Choices, choices_of};

@@ -22,10 +22,6 @@ as_is : {A : Type 0} (r : Test A) → (r >>= λ x. Ok x) ≡ r
 as_is (Ok x) = refl
 as_is (Err e) = refl
 
-same_after : {A B : Type 0} (r : Test A) (f g : A → Test B) → ((x : A) → f x ≡ g x) → (r >>= f) ≡ (r >>= g)
-same_after (Ok x) f g h = h x
-same_after (Err e) f g h = refl
-
 -- the operand before those after these
 abbrev place_at : Span → List Operand → Span
 place_at at [] = at

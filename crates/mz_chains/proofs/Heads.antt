@@ -1,5 +1,5 @@
 -- Lists of operators by their first and by their last one.
-use Rattle.std.proofs.Common.{◌≡◌, ◌∙◌, ℕ, zero, suc, ◌-◌, ◌<◌, ◌≤◌, false, nat_eq, List, [], ◌∷◌, ◌++◌, map, length, take, drop, get_or, append_assoc, refl, sym, ap, arith}
+use Rattle.std.proofs.Common.{◌≡◌, ◌∙◌, ℕ, zero, suc, ◌-◌, ◌<◌, ◌≤◌, false, nat_eq, List, [], ◌∷◌, ◌++◌, map, length, take, get_or, append_assoc, refl, sym, ap, arith}
 use Rattle.mz_base.specs.declared.fault.Span.{Span}
 use Rattle.mz_core.specs.declared.tree.CoreStep.{CoreStep}
 use Rattle.mz_core.specs.Coercions.{PathLink}
@@ -41,11 +41,6 @@ operators_apart at ls os begun all ss others s b a h =
     ∙ ap (λ xs. xs ++ operators_at at (map step others)) b
     ∙ append_assoc os (first_with at ls s ∷ []) (operators_at at (map step others))
     ∙ ap (λ xs. os ++ xs) (operators_split at ls ss others s h)
-
--- a list by its first element
-pub list_by_first : {A : Type 0} (xs others : List A) (x : A) → 1 ≤ length xs → x ≡ get_or xs 0 x → others ≡ drop 1 xs → xs ≡ x ∷ others
-list_by_first [] others x h e d = absurd (omega arith)
-list_by_first (y ∷ xs) others x h e d = ap (λ z. z ∷ xs) (sym e) ∙ ap (λ ys. x ∷ ys) (sym d)
 
 -- and by its last one
 last_split : {A : Type 0} (n : ℕ) (xs : List A) (x : A) → suc n ≡ length xs → x ≡ get_or xs n x → xs ≡ take n xs ++ (x ∷ [])

@@ -1,12 +1,11 @@
 // The coercions round a node, and its cell under them.
 
-ghost use Rattle.std.specs.Prelude.{◌≡◌, ◌++◌, IfOk, Bool, map, [], true};
+ghost use Rattle.std.specs.Prelude.{◌≡◌, ◌++◌, IfOk, Bool, [], true};
 ghost use Rattle.mz_core.specs.Types.{plain_type};
 ghost use Rattle.mz_core.specs.Paths.{path_links};
 ghost use Rattle.mz_core.specs.Tree.{inner_tree, place_of, root_coercions};
 ghost use Rattle.mz_core.specs.TreeViews.{tree, form_layer};
 ghost use Rattle.mz_core.specs.declared.tree.CoreForm.TheViews.{out-CoreForm};
-ghost use Rattle.mz_meaning.specs.Runs.{then_do};
 ghost use Rattle.mz_meaning.specs.Cells.{Bare, typed};
 ghost use Rattle.mz_meaning.specs.Forms.{coerced_once, coerced_by};
 ghost use Rattle.mz_meaning.specs.Evaluation.{is_name};

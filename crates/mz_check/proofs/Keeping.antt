@@ -23,9 +23,6 @@ pub record AreTestedBut {X B : Type 0} (place : X → Span) (go : X → Test B) 
   pub met : after first (flat_map (met_by place go) xs) ≡ after next (flat_map (met_by place go) rest)
   pub typed : next ≡ None → each go xs ≡ loop (one_more go) done rest
 
-pub none_tested : {X B : Type 0} (place : X → Span) (go : X → Test B) (xs : List X) (first : Option Met) → AreTestedBut place go xs xs first first []
-none_tested place go xs first = record { met = refl; typed = λ e. refl }
-
 some_is_none : {A : Type 0} {P : Type 0} (x : A) → Some x ≡ None → P
 some_is_none x e = absurd (cc)
 

@@ -18,7 +18,7 @@ use Rattle.mz_checks.specs.declared.meaning.Meaning.{Meaning}
 use Rattle.mz_checks.specs.declared.meaning.Meaning.TheVariants as meaning
 use Rattle.mz_checks.specs.Tests.{Test, ◌>>=◌, ◌>>◌, each}
 use Rattle.mz_checks.specs.Models.{Model, Heading, signature_of, entry_of}
-use Rattle.mz_checks.specs.Headings.{Subject, with_types, IsTypeOrder}
+use Rattle.mz_checks.specs.Headings.{Subject, with_types}
 use Rattle.mz_checks.specs.Duplicates.{Signed, duplicate_after}
 use Rattle.mz_checks.specs.Texts.{text_names}
 use Rattle.mz_checks.specs.Items.{decl, function, constraint, goal, output}
@@ -199,17 +199,3 @@ pub record IsProgramOf (table : List (List ℕ)) (s : ScopedTree) (all : Section
   pub outputs : p.outputs ≡ all.outputs
   pub cases : p.cases ≡ map (λ e. map (λ c. text_of table c.0) e.cases) s.enums
   pub text_of_each : p.texts ≡ map (text_entry table) (text_names p)
-
--- a scoped model is typed to a program
-pub record Checks (texts : List (List ℕ)) (s : ScopedTree) (p : PlainProgram) : Type 0 where
-  pub order : List Subject
-  pub types : IsTypeOrder s order
-  pub all : Sections
-  pub are : checked texts s order ≡ Ok all
-  pub program : IsProgramOf texts s all p
-
--- or it is refused with the first fault
-pub record IsRefused (texts : List (List ℕ)) (s : ScopedTree) (f : Fault) : Type 0 where
-  pub order : List Subject
-  pub types : IsTypeOrder s order
-  pub fault : checked texts s order ≡ Err f

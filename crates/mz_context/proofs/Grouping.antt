@@ -1,17 +1,7 @@
 -- Numbers that are grouped by names.
-use Rattle.std.proofs.Common.{◌≡◌, ℕ, Bool, true, false, cond, List, [], ◌∷◌, ◌++◌, Option, Some, None, Vec, refl, sym, ap, ◌∙◌, append_assoc, append-nil}
+use Rattle.std.proofs.Common.{◌≡◌, ℕ, Bool, true, false, cond, List, [], ◌∷◌, ◌++◌, refl, sym, ap, ◌∙◌, append_assoc, append-nil}
 use Rattle.std.specs.Prelude.{nat_eq}
-use Rattle.std.specs.declared.alloc.Global.{Global}
 use Rattle.mz_checks.specs.Models.{entries_of}
-use Rattle.mz_context.specs.Tables.{numbers_in}
-
--- one more number of a name: taken out, made longer and put back
-pub one_added : (b : Bool) (old mid new own : Option (Vec ℕ Global)) (more : Vec ℕ Global) (number : ℕ) → mid ≡ cond b None old → new ≡ cond b (Some more) mid
-    → (b ≡ true → own ≡ old) → more.items ≡ numbers_in own ++ number ∷ [] → numbers_in new ≡ numbers_in old ++ cond b (number ∷ []) []
-one_added true old mid new own more number taken put is items =
-    ap numbers_in put ∙ items ∙ ap (λ o. numbers_in o ++ number ∷ []) (is refl)
-one_added false old mid new own more number taken put is items =
-    ap numbers_in (put ∙ taken) ∙ sym (append-nil (numbers_in old))
 
 first_or_not : (b : Bool) (k : ℕ) (ks : List ℕ) → cond b (k ∷ ks) ks ≡ cond b (k ∷ []) [] ++ ks
 first_or_not true k ks = refl

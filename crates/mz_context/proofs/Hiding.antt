@@ -1,5 +1,5 @@
 -- Local names that hide others of the same name.
-use Rattle.std.proofs.Common.{◌≡◌, ℕ, zero, suc, ◌+◌, ◌-◌, ◌<◌, Bool, true, false, cond, List, [], ◌∷◌, ◌++◌, Option, Some, None, refl, sym, ap, subst, ◌∙◌, map, length, take, reverse, arith, length-append}
+use Rattle.std.proofs.Common.{◌≡◌, ℕ, zero, suc, ◌+◌, ◌-◌, ◌<◌, Bool, true, false, cond, List, [], ◌∷◌, ◌++◌, Option, Some, None, refl, sym, ap, subst, ◌∙◌, map, length, take, reverse, arith}
 use Rattle.std.specs.Prelude.{nat_eq, slice_get}
 use Rattle.std.specs.Option.{option_map}
 use Rattle.std.specs.Borrow.{Bor}
@@ -9,10 +9,9 @@ use Rattle.std.proofs.lemmas.List.{reverse-append, reverse-reverse, length-rever
 use Rattle.std.proofs.lemmas.Option.{slice_get_past, slice_get_within, slice_get-get_or, get_or_from_slice_get}
 use Rattle.std.proofs.Math.Seq.{take-length}
 use Rattle.mz_core.specs.Types.{plain_type}
-use Rattle.mz_checks.specs.Models.{Env, Local, bind, local_in}
+use Rattle.mz_checks.specs.Models.{Env, Local, local_in}
 use Rattle.mz_context.specs.declared.newest.Newest.{Newest}
 use Rattle.mz_context.specs.declared.scope.LocalName.{LocalName}
-use Rattle.mz_context.specs.Extending.{unbound}
 use Rattle.mz_context.specs.Locals.{local, newest_first, place_or_none, newest_of, place_in, HideOlder, AreNewest}
 
 pub place_after : (b : Bool) (place : Option ℕ) (o : Option (Option ℕ)) → place_or_none (cond b (Some place) o) ≡ cond b place (place_or_none o)
@@ -134,10 +133,6 @@ pub none_is_newest : (found : Newest) → ((n : ℕ) → newest_of found n ≡ N
 unfolding place_in HideOlder
 none_is_newest found none = record { places = none; hidden = tt }
 
--- the same places, found by another table
-pub same_newest : (old new : Newest) (ls : List LocalName) → AreNewest old ls → ((n : ℕ) → newest_of new n ≡ newest_of old n) → AreNewest new ls
-same_newest old new ls before same = record { places = λ n. same n ∙ before.places n; hidden = before.hidden }
-
 -- AS SCOPES
 
 abbrev pub seen : ℕ → Bool → List LocalName → Env
@@ -147,17 +142,5 @@ abbrev with_local : ℕ → Bool → List LocalName → LocalName → ℕ → En
 with_local declared output ls l slot =
     record { locals = record { name = l.name; slot = slot; ty = plain_type l.ty } ∷ newest_first ls; next = declared + length ls + 1; output = output }
 
-pub bound_view : (declared : ℕ) (output : Bool) (ls : List LocalName) (l : LocalName) → l.slot ≡ declared + length ls → seen declared output (ls ++ l ∷ []) ≡ bind l.name (plain_type l.ty) (seen declared output ls)
-bound_view declared output ls l slot =
-    let locals : newest_first (ls ++ l ∷ []) ≡ local l ∷ newest_first ls = ap (map local) (reverse_push ls l) in
-    let after : declared + length (ls ++ l ∷ []) ≡ declared + length ls + 1 = omega (arith, length-append ls (l ∷ [])) in
-    let both : seen declared output (ls ++ l ∷ []) ≡ with_local declared output ls l l.slot = λ j. record { locals = locals j; next = after j; output = output } in
-    both ∙ ap (with_local declared output ls l) slot
-
 abbrev with_next : Bool → List Local → ℕ → Env
 with_next output locals next = record { locals = locals; next = next; output = output }
-
-pub unbound_view : (declared : ℕ) (output : Bool) (ls : List LocalName) (l : LocalName) → seen declared output ls ≡ unbound (seen declared output (ls ++ l ∷ []))
-unbound_view declared output ls l =
-    let before : declared + length ls ≡ declared + length (ls ++ l ∷ []) - 1 = omega (arith, length-append ls (l ∷ [])) in
-    ap (with_next output (newest_first ls)) before ∙ sym (ap (λ (xs : List LocalName). unbound (with_next output (map local xs) (declared + length (ls ++ l ∷ [])))) (reverse_push ls l))

@@ -136,9 +136,6 @@ any_set base.Int h = refl
 any_set (base.Enum e) h = refl
 any_set b h = absurd cc
 
-none_of : (a : Base) → below_some a None ≡ true → ⊥
-none_of a h = absurd cc
-
 bool_number : (a c : Base) → below_some a (set_of c) ≡ true → base_below base.Bool c ≡ true → base_below base.Int c ≡ true
 bool_number a base.Int p q = refl
 bool_number a base.Bool p q = p

@@ -215,9 +215,6 @@ mark_any : (a b : Bool) → not a ≡ true → mark_below a b ≡ true
 mark_any false b h = refl
 mark_any true b h = absurd cc
 
-below_no_dims : {X : Type 0} (xs ys : List Ix) → no_dims xs ≡ true → dims_below ys xs ≡ true → one_dim ys ≡ true → X
-below_no_dims xs ys n h o = absurd (omega (arith, ap length (no_dims_is xs n), dims_below_length ys xs h, one_dim_length ys o))
-
 -- what is above a par set and an array is an array that the set becomes
 over_list : {X : Type 0} (t u v : PlainType) → ParScalar t → one_dim u.dims ≡ true → Fits t v → Fits u v → (BecomesArray t v → base_below u.base v.base ≡ true → dims_below u.dims v.dims ≡ true → X) → X
 over_list t u v s o f g go =

@@ -4,6 +4,5 @@ pub mod PathLaws
 pub mod BaseJoins
 pub mod JoinLaws
 pub mod TypeLaws
-pub mod Equations
 pub mod TreeLaws
 mod Examples

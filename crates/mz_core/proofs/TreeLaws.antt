@@ -16,7 +16,7 @@ use Rattle.mz_core.specs.declared.tree.CoreForm.TheFolds as folds
 use Rattle.mz_core.specs.declared.tree.CoreForm.TheShapes as shapes
 use Rattle.mz_core.specs.Types.{PlainType, plain_type}
 use Rattle.mz_core.specs.Tree as pure
-use Rattle.mz_core.specs.Tree.{Tree, Shape, Item, Decl, Gen, Step, DeclaredType, Layer, layer, maybe, if_tree, maybes, all_maybes, trees, all_trees, steps, all_steps, gens, all_gens, items, all_items, branches, all_branches, rows_of, all_rows}
+use Rattle.mz_core.specs.Tree.{Tree, Shape, Item, Decl, Gen, Step, DeclaredType, layer, maybe, if_tree, maybes, all_maybes, trees, all_trees, steps, all_steps, gens, all_gens, items, all_items, branches, all_branches, rows_of, all_rows}
 use Rattle.mz_core.specs.TreeViews.{tree, shape, item, item_layer, decl, gen, step, declared_type, branch, form_step, item_step, core_step, decl_step, gen_step, step_step, type_step, form_layer, inner_in, coercions_in, TreesAreReadByLayers}
 
 -- LISTS OF PARTS are read as they were made

@@ -1,5 +1,5 @@
 -- Laws of the order, by the relation and by the test.
-use Rattle.std.proofs.Common.{◌≡◌, Bool, true, false, ◌&&◌, ◌||◌, List, [], ◌∷◌, length, inl, inr, refl, ap, sym, ◌∙◌, subst, arith}
+use Rattle.std.proofs.Common.{◌≡◌, Bool, true, false, ◌&&◌, ◌||◌, List, [], ◌∷◌, length, inl, inr, refl, ap, sym, ◌∙◌, arith}
 use Rattle.std.proofs.lemmas.Bool.{and_parts, or_cases, eqb-true}
 use Rattle.mz_core.specs.declared.types.Base.{Base}
 use Rattle.mz_core.specs.declared.types.Base.TheVariants as base
@@ -7,9 +7,9 @@ use Rattle.mz_core.specs.declared.types.Ix.{Ix}
 use Rattle.mz_core.specs.declared.types.Ix.TheVariants as ix
 use Rattle.mz_core.specs.Types.{PlainType}
 use Rattle.mz_core.specs.Coercions.{Below}
-use Rattle.mz_core.specs.Order.{same_base, raises, base_below, index_below, dims_below, no_dims, is_list, mark_below, below}
+use Rattle.mz_core.specs.Order.{same_base, raises, base_below, index_below, dims_below, mark_below, below}
 use Rattle.mz_core.specs.Coercions.{IsPartialOrder}
-use Rattle.mz_core.proofs.Tests.{and_is, or_left, or_right, same_base_is, dims_below_refl, type_of}
+use Rattle.mz_core.proofs.Tests.{same_base_is, type_of}
 use Rattle.mz_core.proofs.OrderLaws.{Fits, BecomesArray, below_refl, below_cases, shape_cases}
 use Rattle.mz_core.proofs.PathLaws.{leads_on, sound, Below_test, no_dims_is, is_list_is}
 use Rattle.mz_core.proofs.BaseJoins.{dims_below_length}
@@ -22,15 +22,6 @@ Below_trans t u v p q = (_, leads_on p.1 q.1)
 
 pub below_trans : (t u v : PlainType) → below t u ≡ true → below u v ≡ true → below t v ≡ true
 below_trans t u v p q = Below_test (Below_trans t u v (sound t u p) (sound u v q))
-
--- what is below a type has its dimensions or lower ones, or is a scalar that becomes a list
-pub below_dims : (t u : PlainType) → below t u ≡ true → dims_below t.dims u.dims || (no_dims t.dims && is_list u.dims) ≡ true
-below_dims t u h = elim (below_cases t u h) [
-  | inl e ↦ or_left (no_dims t.dims && is_list u.dims) (subst (λ x. dims_below t.dims x.dims ≡ true) e (dims_below_refl t.dims))
-  | inr f ↦ shape_cases t u f.shape
-      (λ p q. or_left (no_dims t.dims && is_list u.dims) q)
-      (λ b. or_right (dims_below t.dims u.dims) (and_is b.scalar b.list))
-]
 
 mark_antisymm : (a b : Bool) → mark_below a b ≡ true → mark_below b a ≡ true → a ≡ b
 mark_antisymm true true p q = refl

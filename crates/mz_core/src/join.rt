@@ -3,7 +3,7 @@
 ghost use Rattle.std.specs.Prelude.{◌≡◌, IfOk};
 ghost use Rattle.std.specs.Option.{option_map};
 ghost use Rattle.mz_core.specs.Types.{plain_type};
-ghost use Rattle.mz_core.specs.Join.{IsJoin, base_apart, base_join, index_join, indices_join, dims_join, plain_join, number_above, element_join, list_of, array_join, join_apart, join};
+ghost use Rattle.mz_core.specs.Join.{IsJoin, base_apart, base_join, index_join, indices_join, dims_join, plain_join, number_above, element_join, array_join, join_apart, join};
 
 use crate::make::{copy_type, make_type};
 use crate::order::{base_below, below, is_allowed, is_par_scalar, same_index};

@@ -17,4 +17,4 @@ pub use order::{below, dims_below, same_type};
 pub use paths::coercions;
 pub use program::{CoreFunction, CoreGoal, Program};
 pub use tree::{Core, CoreDecl, CoreForm, CoreGen, CoreItem, CoreStep, CoreType};
-pub use types::{Base, Coercion, Ix, Limits, Signature, TypeInst};
+pub use types::{Base, Coercion, Ix, Signature, TypeInst};

@@ -57,11 +57,3 @@ pub enum Coercion {
     BottomToBase,
     SetBottomToSet,
 }
-
-/// How much work may be done, from 1 to 100,000,000, and how far from 0 the domain of a `var int`
-/// without a value reaches, from 1 to mz_base's `INTEGER_LIMIT`.
-#[derive(Clone, Copy, Debug, PartialEq, Eq)]
-pub struct Limits {
-    pub budget: u64,
-    pub int_range: i64,
-}

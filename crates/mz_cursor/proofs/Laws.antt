@@ -1,12 +1,12 @@
 -- A reader by rules takes what the grammar allows, and stops where nothing else is possible.
-use Rattle.std.proofs.Common.{◌≡◌, ℕ, zero, suc, List, [], ◌∷◌, ◌++◌, length, ◌≤◌, ◌<◌, ◌+◌, refl, sym, ap, ◌∙◌, subst, append_assoc, arith, true, false, Bool, Option, Result}
-use Rattle.std.specs.Prelude.{Ok, Err, Some, None}
+use Rattle.std.proofs.Common.{◌≡◌, ℕ, zero, suc, List, [], ◌∷◌, ◌++◌, ◌≤◌, ◌<◌, ◌+◌, refl, sym, ap, ◌∙◌, subst, append_assoc, arith, Option}
+use Rattle.std.specs.Prelude.{Ok, Err}
 use Rattle.mz_base.specs.declared.fault.Span.{Span}
 use Rattle.mz_lexer.specs.declared.token.Token.{Token}
 use Rattle.mz_lexer.specs.declared.token.Tok.{Tok}
 use Rattle.mz_cursor.specs.Tokens.{tok_at, follows}
-use Rattle.mz_cursor.specs.Rules.{Reason, syntax, left_out, too_deep, Rule, give, refuse, leave_out, look, pass, enter, leave, part, Runs, gives, looks, passes, enters, leaves, parts, Refuses, unfit, unwanted, no_token, no_opening, one_too_many, behind_look, behind_pass, behind_enter, behind_leave, within, beyond}
-use Rattle.mz_cursor.specs.Reading.{Stuck, Read, Reader, stuck, ◌>>=◌, step, read_by, weight, Falls, read}
+use Rattle.mz_cursor.specs.Rules.{Reason, too_deep, Rule, give, refuse, leave_out, look, pass, enter, leave, part, Runs, gives, looks, passes, enters, leaves, parts, Refuses, unfit, unwanted, no_token, no_opening, one_too_many, behind_look, behind_pass, behind_enter, behind_leave, within, beyond}
+use Rattle.mz_cursor.specs.Reading.{Read, Reader, stuck, ◌>>=◌, step, read_by, weight, Falls, read}
 
 pub follow : (f rest : List Token) → tok_at (f ++ rest) ≡ follows f (tok_at rest)
 follow [] rest = refl

@@ -1,12 +1,12 @@
 -- How a rule reads, by its outermost form: steps towards one equation for each part of a grammar.
-use Rattle.std.proofs.Common.{◌≡◌, ℕ, zero, suc, List, [], ◌∷◌, ◌++◌, map, length, ◌≤◌, ◌<◌, ◌+◌, refl, sym, ap, ◌∙◌, append_assoc, append-nil, true, false, Bool, Option, Result}
+use Rattle.std.proofs.Common.{◌≡◌, ℕ, zero, suc, List, [], ◌∷◌, ◌++◌, map, ◌≤◌, ◌<◌, ◌+◌, refl, sym, ap, ◌∙◌, append_assoc, append-nil, true, false, Bool, Option, Result}
 use Rattle.std.proofs.lemmas.List.{map-append}
 use Rattle.std.specs.Prelude.{Ok, Err, Some, None, if◌then◌else◌}
 use Rattle.mz_base.specs.declared.fault.Span.{Span}
 use Rattle.mz_lexer.specs.declared.token.Token.{Token}
 use Rattle.mz_lexer.specs.declared.token.Tok.{Tok}
 use Rattle.mz_cursor.specs.Tokens.{tok_at, behind, place}
-use Rattle.mz_cursor.specs.Rules.{Rule, give, refuse, leave_out, look, pass, enter, leave, part, too_deep}
+use Rattle.mz_cursor.specs.Rules.{Rule, pass, enter, too_deep}
 use Rattle.mz_cursor.specs.Reading.{Read, Reader, Stuck, stuck, on, open_at, mapped, with_prefix, listed, step, ◌>>=◌}
 
 -- the room of a call that pushed

@@ -1,5 +1,5 @@
 -- Tests on one token.
-use Rattle.std.specs.Prelude.{ℕ, Bool, true, false, Option, Some, None, nat_eq}
+use Rattle.std.specs.Prelude.{ℕ, Bool, false, Option, Some, nat_eq}
 use Rattle.mz_lexer.specs.declared.token.Tok.{Tok}
 use Rattle.mz_lexer.specs.declared.token.Tok.TheVariants.{Word, Sym}
 use Rattle.mz_base.specs.declared.keyword.Keyword.{Keyword}

@@ -1,5 +1,5 @@
 -- What a caller is promised of a part that is read at the beginning of a list of tokens.
-use Rattle.std.specs.Prelude.{◌≡◌, ℕ, List, [], ◌∷◌, ◌++◌, Option, Some, None, Result, Ok, Err}
+use Rattle.std.specs.Prelude.{◌≡◌, ℕ, List, [], ◌∷◌, ◌++◌, Some, None, Result, Ok, Err}
 use Rattle.mz_base.specs.declared.fault.Span.{Span}
 use Rattle.mz_base.specs.declared.fault.Fault.{Fault}
 use Rattle.mz_base.specs.Faults.{fault_at}
@@ -10,7 +10,7 @@ use Rattle.mz_base.specs.declared.stop.Stop.TheVariants.{Refused, Memory}
 use Rattle.mz_lexer.specs.declared.token.Token.{Token}
 use Rattle.mz_cursor.specs.Tokens.{tok_at, place_or}
 use Rattle.mz_cursor.specs.Rules.{Reason, syntax, left_out, too_deep, Rule, Runs, Refuses}
-use Rattle.mz_cursor.specs.Reading.{Stuck, Read, stuck}
+use Rattle.mz_cursor.specs.Reading.{Read, stuck}
 
 abbrev pub kind_of : Reason → Kind
 kind_of syntax = kind.Syntax

@@ -7,7 +7,7 @@ use Rattle.std.specs.Prelude.{◌≡◌, ℕ, zero, suc, List, [], ◌∷◌, �
 use Rattle.mz_base.specs.declared.fault.Span.{Span}
 use Rattle.mz_lexer.specs.declared.token.Token.{Token}
 use Rattle.mz_lexer.specs.declared.token.Tok.{Tok}
-use Rattle.mz_cursor.specs.Tokens.{tok_at, follows}
+use Rattle.mz_cursor.specs.Tokens.{follows}
 
 -- why a token doesn't fit: no file goes on so, or the form is left out, or too much is open
 pub data Reason : Type 0 where

@@ -25,9 +25,6 @@ own_is (Some r) = refl
 
 -- ---- declared ranges, one after another
 
-one_range : (k : ℕ) (x : Want) (xs : List Want) (own : List Range) → ranges_from k (x ∷ xs) own ≡ range_for x (slice_get own k) ∷ ranges_from (k + 1) xs own
-one_range k x xs own = refl
-
 pub range_goes : {X : Type 0} (view : X → Want) (ws : List X) (own front next whole : List Range) (k : ℕ) (w : X) (r : Range) → k < length ws → w ≡ get_or ws k w → r ≡ range_for (view w) (slice_get own k) → next ≡ front ++ r ∷ [] → front ++ ranges_from k (map view (drop k ws)) own ≡ whole → next ++ ranges_from (k + 1) (map view (drop (k + 1) ws)) own ≡ whole
 range_goes view ws own front next whole k w r l e m n i =
     let cut : ranges_from k (map view (drop k ws)) own ≡ range_for (view w) (slice_get own k) ∷ ranges_from (k + 1) (map view (drop (k + 1) ws)) own = at_drop_more (λ xs. ranges_from k (map view xs) own) ws k w l ∙ ap (λ y. ranges_from k (map view (y ∷ drop (k + 1) ws)) own) (sym e) in

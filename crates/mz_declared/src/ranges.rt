@@ -1,7 +1,6 @@
 // The index ranges that are declared, and how many places they have.
 
 ghost use Rattle.std.specs.Prelude.{◌≡◌, ◌^◌, ◌≤◌, IfOk, min, slice_get, unwrap_or, []};
-ghost use Rattle.std.specs.Option.{option_map};
 ghost use Rattle.mz_value.specs.Ranges.{cardinality, range_of};
 ghost use Rattle.mz_operations.specs.Arrays as operations;
 ghost use Rattle.mz_meaning.specs.Arrays as arrays;

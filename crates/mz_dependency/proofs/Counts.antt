@@ -23,9 +23,6 @@ below_second y b e c n i l p = omega (arith, i, l, p)
 pub below_sum : (a b c n : ℕ) → b < c → n ≡ a + c → a + b < n
 below_sum a b c n l p = omega (arith, l, p)
 
-pub past_first : (a b x : ℕ) → a + b ≤ x → a ≤ x
-past_first a b x l = omega (arith, l)
-
 -- a number that isn't below another one is that one with the rest
 pub rest_added : (n x : ℕ) → n ≤ x → n + (x - n) ≡ x
 rest_added n x l = omega (arith, l)

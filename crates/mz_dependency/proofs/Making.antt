@@ -1,8 +1,6 @@
 -- What code makes for each sketch: loops, rows, and the graphs that are made of them.
 use Rattle.std.proofs.Common.{◌≡◌, ℕ, ◌+◌, ◌<◌, ◌≤◌, Bool, true, false, List, [], ◌∷◌, ◌++◌, ap, sym, ◌∙◌, map, length, drop, get_or, append_assoc, append-nil, replicate, subst, arith}
 use Rattle.std.specs.Prelude.{if◌then◌else◌, Option, Some, None, MatchOption}
-use Rattle.std.specs.List.{flat_map}
-use Rattle.std.proofs.lemmas.Grind.{flat_map-append}
 use Rattle.std.proofs.lemmas.List.{drop_more, length-map}
 use Rattle.mz_graph.specs.Graph.{Graph, number_of}
 use Rattle.mz_graph.proofs.Membership.{one_longer}
@@ -11,7 +9,6 @@ use Rattle.mz_order.specs.Depends.{NoneOnCycle, IsFirstOnCycle}
 use Rattle.mz_order.specs.Evaluation.{IsEvaluation}
 use Rattle.mz_order.specs.declared.evaluation.Evaluation.{Evaluation}
 use Rattle.mz_occurrence.specs.Sets.{holds, with_name}
-use Rattle.mz_uses.specs.declared.name_use.NameUse.{NameUse}
 use Rattle.mz_uses.specs.declared.sketch.Sketch.{Sketch as CodeSketch}
 use Rattle.mz_uses.specs.Sketches.{Sketch, sketch}
 use Rattle.mz_dependency.specs.Dependencies.{meant_by}
@@ -31,11 +28,6 @@ one_made f all so_far now r xs i x k l e is n =
 
 pub all_made : {R : Type 0} (f : Sketch → R) (all so_far : List R) (xs : List CodeSketch) (i : ℕ) → all ≡ so_far ++ map f (map sketch (drop i xs)) → length xs ≤ i → so_far ≡ all
 all_made f all so_far xs i k l = sym (k ∙ ap (λ z. so_far ++ map f (map sketch z)) (dropped xs i l) ∙ append-nil so_far)
-
--- what types and the rest use, one after the other
-pub both_made : {A : Type 0} (f : NameUse → List A) (us vs ws xs : List NameUse) (none first all : List A) → ws ≡ us → xs ≡ vs → none ≡ [] → first ≡ none ++ flat_map f ws → all ≡ first ++ flat_map f xs → all ≡ flat_map f (us ++ vs)
-both_made f us vs ws xs none first all a b e p q =
-    q ∙ ap (λ z. z ++ flat_map f xs) (p ∙ ap (λ z. z ++ flat_map f ws) e ∙ ap (λ z. flat_map f z) a) ∙ ap (λ z. flat_map f us ++ flat_map f z) b ∙ sym (flat_map-append f us vs)
 
 -- names are at most as many as those that have them
 

@@ -11,7 +11,7 @@ use Rattle.mz_core.specs.declared.types.Coercion.TheVariants as coercion
 use Rattle.mz_core.specs.Coercions.{PathLink}
 use Rattle.mz_core.specs.Types.{PlainType}
 use Rattle.mz_core.specs.Tree as tree
-use Rattle.mz_core.specs.Tree.{Tree, Shape, Step, shape_of, type_of, inner_tree, root_coercions}
+use Rattle.mz_core.specs.Tree.{Tree, Shape, shape_of, type_of, inner_tree, root_coercions}
 use Rattle.mz_meaning.specs.Runs.{State, Answer, Out, Stopped, then_do, give, loop}
 use Rattle.mz_meaning.specs.Cells.{Cell, Par, Var, Unshaped, Mode, Given, Env, value_of, is_par, is_true}
 use Rattle.mz_meaning.specs.Chains.{a_step_of}

@@ -1,11 +1,10 @@
 -- What the roots of a par constraint are: their cells are par, and the constraint is true exactly where all of them are.
 use Rattle.std.proofs.Common.{◌≡◌, ℕ, zero, suc, ◌+◌, Bool, true, false, not, ◌&&◌, List, [], ◌∷◌, ◌++◌, Option, Some, None, option_map, refl, sym, ap, ◌∙◌, subst, nat_eq, eqb-true, if◌then◌else◌}
-use Rattle.std.specs.List.{AllByRecursion, list_all}
+use Rattle.std.specs.List.{list_all}
 use Rattle.std.proofs.lemmas.Bool.{and_parts, not-true}
 use Rattle.mz_base.specs.declared.fault.Span.{Span}
 use Rattle.mz_value.specs.Contents.{Content}
 use Rattle.mz_value.specs.Contents as values
-use Rattle.mz_value.specs.Shown.{Names}
 use Rattle.mz_core.specs.declared.types.Base.{Base}
 use Rattle.mz_core.specs.declared.types.Base.TheVariants as base
 use Rattle.mz_core.specs.declared.types.Coercion.{Coercion}
@@ -14,7 +13,7 @@ use Rattle.mz_core.specs.Coercions.{PathLink}
 use Rattle.mz_core.specs.Types.{PlainType, is_set}
 use Rattle.mz_core.specs.Order.{no_dims}
 use Rattle.mz_core.specs.Tree as tree
-use Rattle.mz_core.specs.Tree.{Tree, Shape, all_steps, type_of, place_of, inner_tree, root_coercions}
+use Rattle.mz_core.specs.Tree.{Tree, all_steps, type_of, place_of, inner_tree, root_coercions}
 use Rattle.mz_operations.specs.Arguments.{at, bool_at}
 use Rattle.mz_operations.specs.Answers.{is_mismatched, negative, is_failed, limited}
 use Rattle.mz_operations.specs.Numbers.{connected}
@@ -38,7 +37,7 @@ use Rattle.fz_program.specs.Flat.{Row, RowHolds}
 use Rattle.mz_independence.specs.Outlines.{outlines}
 use Rattle.mz_posting.specs.Roots.{Rooted, Roots, one_root, is_par_truth, no_links, is_from_bottom, are_from_bottom, is_operand, is_and, are_ands, begins_and, is_conjunction, conjunction, root_operators, root_chain, rooted, roots}
 use Rattle.mz_direct.specs.Emission.{truth_rows, root_rows}
-use Rattle.mz_direct.proofs.Runs.{Gives, after, from, given, weaker}
+use Rattle.mz_direct.proofs.Runs.{Gives, after, from, given}
 use Rattle.mz_direct.proofs.Domains.{all_left, all_right, all_both}
 use Rattle.mz_direct.proofs.Sides.{AreSame, truth_same}
 

@@ -1,9 +1,8 @@
 -- The operators of chains, one after the other.
-use Rattle.std.proofs.Common.{◌≡◌, ◌∙◌, ℕ, ◌+◌, ◌<◌, Bool, false, Option, Some, None, is_some, List, [], ◌∷◌, drop, length, get_or, refl, sym, ap, if◌then◌else◌}
-use Rattle.std.proofs.lemmas.List.{at_drop_more}
+use Rattle.std.proofs.Common.{◌≡◌, ◌∙◌, ℕ, ◌+◌, ◌<◌, Bool, false, Option, Some, None, is_some, List, [], ◌∷◌, refl, sym, ap, if◌then◌else◌}
 use Rattle.mz_base.specs.declared.fault.Span.{Span}
 use Rattle.mz_core.specs.Tree.{Tree, Step, steps}
-use Rattle.mz_meaning.specs.Runs.{State, Answer, Out, then_do}
+use Rattle.mz_meaning.specs.Runs.{State, then_do}
 use Rattle.mz_meaning.specs.Cells.{Cell, Env}
 use Rattle.mz_meaning.specs.Contexts.{Untested}
 use Rattle.mz_meaning.specs.Chains.{Operator, Innermost, with_innermost, chained, innermost_of, chain_level, same_level, backed, operand_base}
@@ -30,13 +29,3 @@ no_innermost w go env at e ss s t f p q r k =
     chain_is w go env at e ss s t false p q
     ∙ ap (λ u. chain_by w go Untested env false (chained_if u at e ss) s) (sym p ∙ q)
     ∙ ap (λ o. chain_by w go Untested env false (with_innermost at ss e o) s) (no_innermost_is (innermost_of (chain_level ss) e) (sym r ∙ k))
-
--- one operator more of a list that is seen by a function
-pub operators_go : {A : Type 0} (w : World) (go : Eval) (env : Env) (seen : List A → List Operator) (see : A → Operator) (xs : List A) (i : ℕ) (x : A) (at : Span) (left next : Cell) (s t : State) (whole : Answer Cell) → ((y : A) (ys : List A) → seen (y ∷ ys) ≡ see y ∷ seen ys) → i < length xs → x ≡ get_or xs i x → operator_step w go env at left (see x) s ≡ Out next t → whole ≡ operators w go Untested env at left (seen (drop i xs)) s → whole ≡ operators w go Untested env (see x).at next (seen (drop (i + 1) xs)) t
-operators_go w go env seen see xs i x at left next s t whole one l e h k =
-    k
-    ∙ at_drop_more (λ ys. operators w go Untested env at left (seen ys) s) xs i x l
-    ∙ ap (λ y. operators w go Untested env at left (seen (y ∷ drop (i + 1) xs)) s) (sym e)
-    ∙ ap (λ os. operators w go Untested env at left os s) (one x (drop (i + 1) xs))
-    ∙ operators_next w go env at left (see x) (seen (drop (i + 1) xs)) s
-    ∙ ap (λ a. then_do a (λ c. operators w go Untested env (see x).at c (seen (drop (i + 1) xs)))) h

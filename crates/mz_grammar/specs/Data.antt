@@ -1,5 +1,5 @@
 -- The grammar of data files: its parts, what each is read to, and one rule for each part, with its EBNF before it.
-use Rattle.std.specs.Prelude.{ℕ, zero, suc, ℤ, pos, neg_ℤ, Bool, true, false, List, [], ◌∷◌, Option, Some, None, if◌then◌else◌, codes}
+use Rattle.std.specs.Prelude.{ℕ, zero, suc, ℤ, pos, neg_ℤ, true, false, List, [], ◌∷◌, Option, Some, None, if◌then◌else◌, codes}
 use Rattle.std.specs.Str.{bytes_eq}
 use Rattle.mz_base.specs.Names.{text_of}
 use Rattle.mz_base.specs.declared.fault.Span.{Span}

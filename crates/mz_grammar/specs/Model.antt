@@ -7,7 +7,7 @@ use Rattle.mz_base.specs.declared.keyword.Keyword.{Keyword}
 use Rattle.mz_base.specs.declared.keyword.Keyword.TheVariants.{KArray, KBool, KConstraint, KElse, KElseif, KEndif, KFalse, KIf, KIn, KInt, KLet, KList, KMaximize, KMinimize, KOf, KOpt, KPar, KSatisfy, KSet, KThen, KTrue, KVar, KWhere}
 use Rattle.mz_lexer.specs.declared.token.Symbol.{Symbol}
 use Rattle.mz_lexer.specs.declared.token.Symbol.TheVariants.{SLParen, SRParen, SLBrack, SRBrack, SLBrace, SRBrace, SLRows, SRRows, SBar, SComma, SSemi, SColon, SColons, SDots, SEq, SAbsent, SConcat}
-use Rattle.mz_tree.specs.Tree.{Name, Tree, Generator, Written, Based, array_type, marked, node, int, bool, absent, text, interp, unary, call, gen_call, access, array, rows, set, array_comp, set_comp, choice, let_in, nothing, just, plain, shown, generator as a_generator, constrained, declaration as make_declaration, written, base_bool, base_int, base_of, no_array, array_of, trees, rows_of, branches as branch_list, parts, gens, lets, bases}
+use Rattle.mz_tree.specs.Tree.{Name, Tree, Generator, Written, array_type, marked, node, int, bool, absent, text, interp, unary, call, gen_call, access, array, rows, set, array_comp, set_comp, choice, let_in, nothing, just, plain, shown, generator as a_generator, constrained, declaration as make_declaration, written, base_bool, base_int, base_of, no_array, trees, rows_of, branches as branch_list, parts, gens, lets}
 use Rattle.mz_tree.specs.Tree as pure
 use Rattle.mz_tree.specs.Items.{satisfy, minimize, maximize, include, declare, assign, constraint, solve, output, function, enum, annotation}
 use Rattle.mz_cursor.specs.Look.{is_sym, is_word}

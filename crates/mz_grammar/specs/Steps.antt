@@ -12,16 +12,14 @@ use Rattle.mz_tree.specs.Items.{ItemTree, include, declare, assign, constraint, 
 use Rattle.mz_cursor.specs.Tokens.{tok_at, behind, place}
 use Rattle.mz_cursor.specs.Look.{is_sym}
 use Rattle.mz_cursor.specs.Rules.{syntax, left_out}
-use Rattle.mz_cursor.specs.Reading.{Read, Reader, stuck, on, open_at, symbol_at, word_at, mapped, with_prefix, listed, read, ◌>>=◌}
-use Rattle.mz_grammar.specs.declared.level.Level.{Level}
+use Rattle.mz_cursor.specs.Reading.{Read, Reader, stuck, on, open_at, symbol_at, word_at, mapped, with_prefix, listed, ◌>>=◌}
 use Rattle.mz_grammar.specs.declared.level.Level.TheVariants as level_is
 use Rattle.mz_grammar.specs.declared.list.Closing.{Closing}
 use Rattle.mz_grammar.specs.declared.list.Closing.TheVariants.{Paren}
 use Rattle.mz_grammar.specs.Parts
-use Rattle.mz_grammar.specs.Parts.{Operand, other, at_of, tree_of, Argument, strict, Place, Value}
+use Rattle.mz_grammar.specs.Parts.{Operand, other, at_of, tree_of, Argument, strict}
 use Rattle.mz_grammar.specs.Arguments.{trees_of, generators_of}
 use Rattle.mz_grammar.specs.Tests.{closes, is_left_out, ident_of, text_of, begins_type, ItemKind, an_include, a_constraint, a_solve, an_output, a_predicate, a_test, a_function, an_annotation, an_enum}
-use Rattle.mz_grammar.specs.Model.{rule}
 use Rattle.mz_grammar.specs.Reading.{reads}
 
 -- an identifier, with its place

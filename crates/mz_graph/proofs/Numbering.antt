@@ -8,7 +8,7 @@ use Rattle.mz_graph.specs.declared.search.Visit.TheVariants.{Unvisited, OnPath, 
 use Rattle.mz_graph.specs.StepsTurns.{AreBelow}
 use Rattle.mz_graph.specs.StepsSearch.{Trail, visit_of, at, IsCovered, by_number, by_path, by_work, by_hand, Holds, unvisited, left, StayVisited, IsPrefix, AreNumberedFrom, AreNumbered, number, AreVisits}
 use Rattle.mz_graph.proofs.Membership.{below_or_not, same_or_not, in_or_not, in_front, in_back, old_or_last, in_at, place_of}
-use Rattle.mz_graph.proofs.Visits.{onto, path_is_visited, number_is_visited, path_or_number, one_place, one_number, visit_kept, visit_now, visit_within, front}
+use Rattle.mz_graph.proofs.Visits.{onto, path_is_visited, number_is_visited, path_or_number, one_place, one_number, visit_kept, visit_now, front}
 
 -- a node of the path from `start` on
 pub record Member (path : List ℕ) (start x : ℕ) : Type 0 where
@@ -152,9 +152,6 @@ module _ (g : Graph) (t : Trail) (vs : List Visit) (start : ℕ) (h : Holds g []
 
 -- node by node
 
-pub none_numbered : (vs : List Visit) (c : ℕ) → AreNumbered vs vs [] c
-none_numbered vs c = record { sized = refl; now = λ x h. absurd h; others = λ x n. refl }
-
 pub one_more_numbered : (old vs : List Visit) (xs ys : List ℕ) (x c : ℕ) → AreNumbered old vs xs c → ys ≡ xs ++ x ∷ [] → x < length vs → AreNumbered old (set vs x (Numbered c)) ys c
 one_more_numbered old vs xs ys x c was e h = record {
   sized = length-set vs x (Numbered c) ∙ was.sized;
@@ -237,9 +234,6 @@ code_less g t u start nodes got h path work =
     let b = ap length path ∙ length-take-le start t.path (omega (arith, h)) in
     let c = ap length work in
     omega (arith, a, b, c, h)
-
-pub path_has_visits : (g : Graph) (hand : List ℕ) (t : Trail) → Holds g hand t → AreVisits t.visits t.path
-path_has_visits g hand t h q b = visit_within t.visits (at t.path q) (OnPath q) (h.path.on_path q b) (path_is_visited q)
 
 pub rest_is_below : (vs : List Visit) (path : List ℕ) (start : ℕ) → AreVisits vs path → AreBelow (length vs) (drop start path)
 rest_is_below vs path start a x i = let r = member_of_rest path start x i in subst (λ z. z < length vs) r.is (a r.place r.within)

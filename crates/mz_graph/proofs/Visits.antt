@@ -42,11 +42,6 @@ visit_read [] x v h e = absurd (omega arith)
 visit_read (a ∷ vs) zero v h e = sym e
 visit_read (a ∷ vs) (suc x) v h e = visit_read vs x v (omega (arith, h)) e
 
-pub visit_within : (vs : List Visit) (x : ℕ) (v : Visit) → visit_of vs x ≡ v → (v ≡ Unvisited → ⊥) → x < length vs
-visit_within [] x v e n = absurd (n (sym e))
-visit_within (a ∷ vs) zero v e n = omega arith
-visit_within (a ∷ vs) (suc x) v e n = let r = visit_within vs x v e n in omega (arith, r)
-
 pub stay_visited : (vs : List Visit) (x : ℕ) (v : Visit) → (v ≡ Unvisited → ⊥) → x < length vs → StayVisited vs (set vs x v)
 stay_visited vs x v n h y e = elim (same_or_not y x) [
   | inl i ↦ absurd (n (sym (ap (λ z. visit_of (set vs x v) z) i ∙ visit_now vs x v h) ∙ e))

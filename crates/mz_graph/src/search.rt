@@ -1,7 +1,7 @@
 // A search for components, along a path of them.
 
-ghost use Rattle.std.specs.Prelude.{◌≡◌, ◌+◌, ◌-◌, ◌<◌, ◌≤◌, ℕ, List, [], ◌∷◌, length, IfOk, OnOk};
-ghost use Rattle.mz_graph.specs.Graph.{Graph, heads, graph_of, IsGraph};
+ghost use Rattle.std.specs.Prelude.{◌≡◌, ◌+◌, ◌-◌, ◌<◌, ◌≤◌, ℕ, [], ◌∷◌, length, IfOk, OnOk};
+ghost use Rattle.mz_graph.specs.Graph.{Graph, graph_of, IsGraph};
 ghost use Rattle.mz_graph.specs.StepsTurns.{AreBelow};
 ghost use Rattle.mz_graph.specs.StepsSearch.{trail, visit_of, Holds, AllReach, left, IsNew, at, entered, BeginsPath, HasSamePath, StayVisited, AreVisits, AreNumbered, Stepped};
 ghost use Rattle.mz_graph.specs.declared.search.Visit.TheVariants.{Unvisited, OnPath, Numbered};

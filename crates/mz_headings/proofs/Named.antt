@@ -1,5 +1,5 @@
 -- Parts of scoped models whose names are in the table of names.
-use Rattle.std.proofs.Common.{◌≡◌, ◌∙◌, ℕ, ◌<◌, List, map, length, get_or, refl, ap, sym, subst}
+use Rattle.std.proofs.Common.{◌≡◌, ◌∙◌, ℕ, ◌<◌, List, map, length, get_or, ap, sym, subst}
 use Rattle.std.specs.Prelude.{All}
 use Rattle.std.proofs.lemmas.List.{get_or-map, length-map}
 use Rattle.mz_tree.specs.declared.expr.Decl.{Decl}
@@ -8,7 +8,7 @@ use Rattle.mz_tree.specs.Tree as source
 use Rattle.mz_tree.specs.Tree.{Declaration, Written}
 use Rattle.mz_tree.specs.Views.{declaration, written}
 use Rattle.mz_tree.proofs.Looks.{declaration_is}
-use Rattle.mz_tree.specs.Kinds.{OfTree, OfDeclaration}
+use Rattle.mz_tree.specs.Kinds.{OfTree}
 use Rattle.mz_scoped.specs.Parts.{decl_at, function_at}
 use Rattle.mz_scoped.specs.Scoped.{ScopedTree}
 use Rattle.mz_checks.specs.Headings.{written_in}

@@ -1,5 +1,5 @@
 -- Functions that are declared twice are found among those of one name.
-use Rattle.std.proofs.Common.{◌≡◌, ◌∙◌, ℕ, ◌<◌, Bool, true, false, cond, List, [], ◌∷◌, ◌++◌, Option, Some, None, Result, Ok, Err, ◌≤◌, ◌+◌, length, take, drop, get_or, refl, sym, ap, subst, append_assoc, append-nil}
+use Rattle.std.proofs.Common.{◌≡◌, ◌∙◌, ℕ, ◌<◌, Bool, true, false, cond, List, [], ◌∷◌, ◌++◌, Option, Some, None, Result, Ok, Err, ◌≤◌, ◌+◌, length, take, drop, get_or, refl, sym, ap, subst, append-nil}
 use Rattle.std.specs.Prelude.{nat_eq, ◌&&◌, ◌||◌}
 use Rattle.std.specs.List.{list_any, flat_map}
 use Rattle.std.proofs.lemmas.Grind.{flat_map-append}
@@ -18,12 +18,12 @@ use Rattle.mz_scoped.specs.Scoped.{ScopedTree}
 use Rattle.mz_checks.specs.Tests.{Test}
 use Rattle.mz_checks.specs.Models.{Model, Heading, signature_of, entry_of, entries_of, typed_so_far}
 use Rattle.mz_checks.specs.Passes.{Passes}
-use Rattle.mz_checks.specs.Duplicates.{Signed, same_types, is_same, is_in_library, is_taken, duplicate_after}
+use Rattle.mz_checks.specs.Duplicates.{Signed, is_same, is_in_library, is_taken, duplicate_after}
 use Rattle.mz_checks.specs.Checks.{signed_by, signed}
 use Rattle.mz_context.specs.declared.groups.Groups.{Groups}
 use Rattle.mz_context.specs.Tables.{numbers_found}
 use Rattle.mz_context.proofs.Entries.{same_both}
-use Rattle.mz_headings.specs.StepsDuplicates.{has_types, is_row_with, is_taken_before, is_taken_with, taken_by, taken_at}
+use Rattle.mz_headings.specs.StepsDuplicates.{has_types, is_taken_before, is_taken_with, taken_by, taken_at}
 
 none_of_both : (b c : Bool) → c ≡ ((b && false) || c)
 none_of_both true c = refl

@@ -1,7 +1,6 @@
 -- Scoped models all of whose names are in the table of names: what may be typed.
-use Rattle.std.specs.Prelude.{ℕ, ◌<◌, List, All}
-use Rattle.mz_base.specs.declared.fault.Span.{Span}
-use Rattle.mz_tree.specs.Tree.{Name, Tree, Declaration}
+use Rattle.std.specs.Prelude.{ℕ, ◌<◌, All}
+use Rattle.mz_tree.specs.Tree.{Declaration}
 use Rattle.mz_tree.specs.Items.{FunctionTree, GoalTree}
 use Rattle.mz_tree.specs.Kinds.{OfDeclaration, OfGoal}
 use Rattle.mz_scoped.specs.Parts.{EnumTree}

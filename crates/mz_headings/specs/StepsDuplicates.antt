@@ -1,5 +1,5 @@
 -- Functions that are declared twice, found among those of one name. Mirror of src/duplicates.rt; private clauses only.
-use Rattle.std.specs.Prelude.{ℕ, Bool, true, false, ◌||◌, List, Option, Some, None, Ok}
+use Rattle.std.specs.Prelude.{ℕ, Bool, true, false, ◌||◌, List, Option, Some, Ok}
 use Rattle.std.specs.List.{list_any}
 use Rattle.mz_base.specs.Names.{text_of}
 use Rattle.mz_core.specs.Types.{PlainType}

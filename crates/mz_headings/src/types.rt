@@ -4,7 +4,7 @@ ghost use Rattle.std.specs.Prelude.{◌≡◌, ◌<◌, length, map, slice_get, 
 ghost use Rattle.mz_core.specs.TreeViews.{declared_type};
 ghost use Rattle.mz_tree.specs.Items.{function_of};
 ghost use Rattle.mz_scoped.specs.Parts.{decl_at, function_at};
-ghost use Rattle.mz_scoped.specs.Scoped.{scoped_decl, lent_function, scoped_tree};
+ghost use Rattle.mz_scoped.specs.Scoped.{scoped_decl, scoped_tree};
 ghost use Rattle.mz_type_order.specs.Subjects.{subject, IsOf, AreOf};
 ghost use Rattle.mz_checks.specs.Models.{outermost};
 ghost use Rattle.mz_checks.specs.Typing.{check_written};

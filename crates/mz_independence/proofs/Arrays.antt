@@ -17,7 +17,7 @@ use Rattle.mz_operations.specs.RowBounds.{line_of}
 use Rattle.mz_meaning.specs.Runs.{Run, give, stop}
 use Rattle.mz_meaning.specs.Cells.{Cell, Par, Var, Unshaped, Mode, Blank, held, undefined, all_par, is_par, is_there, value_of, bounds_in, scalar_bound, length_of, or_zero, both_sure}
 use Rattle.mz_meaning.specs.Arrays as arrays
-use Rattle.mz_meaning.specs.Arrays.{Want, Anything, Missing, Within, line_cell, line_value, table_cell, table_value, joined, row_length, table_ranges, par_undefined, all_there, ends_in, hull_over, elements_reached, accessed, access_cell, suits, has_set, own_ranges, declared_ranges, declared_count, fits_shape, no_missing, moved, fitted_to, fitted, branch_bounds_of, all_bounds, same_shape, branches_cell, chosen_value, branch_cell}
+use Rattle.mz_meaning.specs.Arrays.{Want, Anything, Missing, Within, line_cell, line_value, table_cell, joined, row_length, table_ranges, par_undefined, all_there, ends_in, hull_over, elements_reached, accessed, access_cell, suits, has_set, own_ranges, declared_ranges, declared_count, fits_shape, no_missing, moved, fitted_to, fitted, branch_bounds_of, all_bounds, same_shape, branches_cell, chosen_value, branch_cell}
 use Rattle.mz_meaning.specs.Lets.{all_have_sets}
 use Rattle.mz_meaning.specs.Calls.{argument_suits, all_lengths}
 use Rattle.mz_independence.specs.Outlines.{outline, outlines, outline_rows, outline_branch, outline_sure}

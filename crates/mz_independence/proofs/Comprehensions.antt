@@ -8,7 +8,6 @@ use Rattle.mz_value.specs.Shown.{elements}
 use Rattle.mz_core.specs.declared.types.Base.{Base}
 use Rattle.mz_core.specs.Tree.{Tree, Gen, type_of}
 use Rattle.mz_operations.specs.Views.{items_in}
-use Rattle.mz_operations.specs.Bounds.{Bound, Bounds}
 use Rattle.mz_operations.specs.Bounds as bounds
 use Rattle.mz_meaning.specs.Runs.{Run, then_do, spend}
 use Rattle.mz_meaning.specs.Cells.{Cell, Par, Var, Unshaped, Mode, Blank, Env, bind, Test, Settled, Open, test_of, is_true, value_of, Sure, both_sure, there}

@@ -14,7 +14,7 @@ use Rattle.mz_meaning.specs.Arrays.{line_cell, access_cell}
 use Rattle.mz_meaning.specs.Contexts.{Context, Untested, Other, elsewhere, within_links}
 use Rattle.mz_meaning.specs.Chains.{Operator, Innermost, chained, same_level, before, right_in, operand_base}
 use Rattle.mz_meaning.specs.Forms as forms
-use Rattle.mz_meaning.specs.Forms.{World, Eval, Appended, done, handed}
+use Rattle.mz_meaning.specs.Forms.{World, Eval, Appended, handed}
 use Rattle.mz_meaning.specs.Solutions.{Each}
 use Rattle.mz_independence.specs.FreeLocals.{free_in}
 use Rattle.mz_independence.specs.Outlines.{outline, outlines, outline_rows, outline_branch, outline_placed, outline_left, outline_appended, blank_world, HasOutlines}

@@ -14,7 +14,7 @@ use Rattle.mz_meaning.specs.Contexts.{Context}
 use Rattle.mz_meaning.specs.Forms.{World, Eval}
 use Rattle.mz_meaning.specs.Unbounded.{first_unbounded}
 use Rattle.mz_meaning.specs.Walk as walks
-use Rattle.mz_meaning.specs.Walk.{Limits, Assignment, Declared, Walked, walk, names_env, world_at, levels}
+use Rattle.mz_meaning.specs.Walk.{Limits, Assignment, Declared, walk, names_env, world_at, levels}
 use Rattle.mz_meaning.specs.Evaluation.{eval}
 use Rattle.mz_meaning.specs.Solutions.{Each}
 use Rattle.mz_independence.specs.FreeLocals.{free_in, free_in_decl, free_in_function, free_in_goal, free_locals}

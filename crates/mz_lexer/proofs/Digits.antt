@@ -2,7 +2,7 @@
 use Rattle.std.proofs.Common.{◌≡◌, ℕ, suc, zero, ◌≤◌, ◌<◌, ◌+◌, ◌*◌, ◌/◌, List, [], ◌∷◌, length, drop, get_or, refl, arith, false}
 use Rattle.std.specs.Prelude.{Some, None, nat_le, if◌then◌else◌}
 use Rattle.std.specs.Char.{digit_value}
-use Rattle.std.proofs.Math.Nat.{le-div_iff_mul-le, div-lt_iff_lt-mul}
+use Rattle.std.proofs.Math.Nat.{div-lt_iff_lt-mul}
 use Rattle.std.proofs.lemmas.Bool.Decides.{nat_tests}
 use Rattle.mz_lexer.proofs.Contents.{at_place}
 use Rattle.mz_lexer.specs.Numbers.{number_from, number_of, limit}
@@ -14,10 +14,6 @@ grows_by (suc k) n some = grind arith
 pub number_grows : (base n : ℕ) (ds : List ℕ) → 0 < base → n ≤ number_from base n ds
 number_grows base n [] some = omega arith
 number_grows base n (d ∷ ds) some = omega (arith, number_grows base (n * base + digit_value d) ds some, grows_by base n some)
-
--- a number of at most this many times fits
-pub times_within : (base n most : ℕ) → 0 < base → n ≤ most / base → n * base ≤ most
-times_within base n most some le = (le-div_iff_mul-le some).0 le
 
 pub times_past : (base n most : ℕ) → 0 < base → most / base < n → most < n * base
 times_past base n most some past = (div-lt_iff_lt-mul some).0 past

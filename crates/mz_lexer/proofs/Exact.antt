@@ -20,7 +20,7 @@ use Rattle.mz_lexer.specs.Texts.{is_plain, is_escape, content_len, content_from,
 use Rattle.mz_lexer.specs.Lexemes as lx
 use Rattle.mz_lexer.specs.Steps as steps
 use Rattle.mz_lexer.specs.Lexemes.{Lexeme}
-use Rattle.mz_lexer.specs.Steps.{Prefix, prefix_of, number_prefix, piece_prefix, piece_of, piece_end, comment_len, comment_of, ends_comment}
+use Rattle.mz_lexer.specs.Steps.{Prefix, prefix_of, piece_prefix, piece_end, comment_len, comment_of, ends_comment}
 use Rattle.mz_lexer.specs.Lexes.{Means, nothing, a_byte, an_escape, IsContent, Spells, EndsFirst, opens_piece, NothingBegins, IsStuck, at_the_end, at_newline, at_backslash, at_no_character, IsLineEnd}
 use Rattle.mz_lexer.proofs.Runs.{both}
 use Rattle.mz_base.proofs.Choices.{pick}
@@ -91,10 +91,6 @@ no_lexical {later = later} {n = n} spells behind bs split e = elim (raw_of later
 
 pub raw_token : (later : Bool) (bs : List ℕ) (x : Lexeme) (m : ℕ) → prefix_of later bs ≡ steps.token x m → raw_prefix later bs ≡ steps.token x m
 raw_token later bs x m e = elim (raw_of later bs (steps.token x m) e) [ raw_same raw ↦ raw | raw_past k z raw past ↦ cc ]
-
--- lines
-line_byte : ℕ → Bool
-line_byte b = not (is_newline b)
 
 pub line_end : (bs : List ℕ) → IsLineEnd (drop (prefix_len (λ b. not (is_newline b)) bs) bs)
 line_end [] = tt

@@ -1,14 +1,13 @@
 -- Every identifier that the lexer reads is one of FlatZinc.
-use Rattle.std.specs.Prelude.{ℕ, List, [], ◌∷◌, Bool, true, false, not, ◌||◌}
-use Rattle.std.proofs.Common.{◌≡◌, refl, sym, ap, ◌∙◌}
+use Rattle.std.specs.Prelude.{ℕ, List, [], ◌∷◌, Bool, true, false, ◌||◌}
+use Rattle.std.proofs.Common.{◌≡◌, refl, sym, ◌∙◌}
 use Rattle.std.specs.List.{list_any}
 use Rattle.std.specs.Str.{bytes_eq}
 use Rattle.std.proofs.lemmas.Slice.Eq.{bytes_eq-Decides}
-use Rattle.mz_base.specs.Words.{is_word, is_keyword, is_identifier}
+use Rattle.mz_base.specs.Words.{is_keyword}
 use Rattle.mz_base.specs.Keywords.{keyword_text, all_keywords}
 use Rattle.mz_base.specs.declared.keyword.Keyword.{Keyword}
-use Rattle.mz_lexer.specs.Lexes.{Spells, an_identifier, IdentifiersAreFlat}
-use Rattle.mz_lexer.specs.Lexemes.{ident}
+use Rattle.mz_lexer.specs.Lexes.{an_identifier, IdentifiersAreFlat}
 
 abbrev is_text : List ℕ → Keyword → Bool
 is_text w k = bytes_eq (keyword_text k) w

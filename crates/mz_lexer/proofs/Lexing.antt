@@ -16,8 +16,8 @@ use Rattle.mz_base.specs.Keywords.{keyword_text}
 use Rattle.mz_lexer.specs.Symbols.{symbol_text}
 use Rattle.mz_lexer.specs.Lexemes as lx
 use Rattle.mz_lexer.specs.Steps as steps
-use Rattle.mz_lexer.specs.Lexemes.{Lexeme, begins_piece, passed, after, fault, opens_behind, Outcome, with_token}
-use Rattle.mz_lexer.specs.Steps.{Prefix, prefix_of, comment_len, comment_of, outcome_at, outcome_of}
+use Rattle.mz_lexer.specs.Lexemes.{Lexeme, begins_piece, after, fault, opens_behind, Outcome, with_token}
+use Rattle.mz_lexer.specs.Steps.{Prefix, prefix_of, comment_of, outcome_at, outcome_of}
 use Rattle.mz_base.specs.Faults.{start_of}
 use Rattle.mz_base.specs.Words.{is_word}
 use Rattle.mz_lexer.specs.Lexes.{are_digits, Spells, an_identifier, a_keyword, decimal, hexadecimal, octal, a_symbol, a_text, a_head, a_middle, a_tail, IsLongest, IsLeftOut, left_byte, left_slash, left_number, left_keyword, comment, EndsFirst, NothingBegins, IsLineEnd, IsInLimit, Lexed, no_bytes, a_blank, a_line_comment, a_comment, a_token, left_out, past_limit, nothing_begins, in_a_text, IsDetermined}

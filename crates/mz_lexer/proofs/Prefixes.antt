@@ -20,7 +20,7 @@ use Rattle.mz_lexer.specs.Texts.{is_plain, escape_value, content_len, content_fr
 use Rattle.mz_lexer.specs.Lexemes as lx
 use Rattle.mz_lexer.specs.Steps as steps
 use Rattle.mz_lexer.specs.Lexemes.{Lexeme}
-use Rattle.mz_lexer.specs.Steps.{Prefix, prefix_of, word_prefix, keyword_or_name, number_prefix, literal, piece_prefix, piece_end, comment_len, comment_of, symbol_or_fault}
+use Rattle.mz_lexer.specs.Steps.{Prefix, prefix_of, word_prefix, keyword_or_name, number_prefix, piece_prefix, piece_end, comment_len, comment_of, symbol_or_fault}
 use Rattle.mz_base.specs.Words.{is_word}
 use Rattle.mz_lexer.specs.Lexes.{are_digits, Means, nothing, a_byte, an_escape, IsContent, Spells, an_identifier, a_keyword, decimal, hexadecimal, octal, a_symbol, a_text, a_head, a_middle, a_tail}
 use Rattle.mz_lexer.proofs.Pieces.{valid_piece}

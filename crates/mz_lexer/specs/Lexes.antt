@@ -11,7 +11,7 @@ use Rattle.mz_lexer.specs.declared.token.Symbol.{Symbol}
 use Rattle.mz_lexer.specs.declared.token.Symbol.TheVariants.{SRParen}
 use Rattle.mz_lexer.specs.declared.opening.Opening.{Opening}
 use Rattle.mz_lexer.specs.Bytes.{is_byte, newline, quote, backslash, first_byte, is_blank, is_newline, is_hex_digit, is_octal_digit, is_left_out_byte}
-use Rattle.mz_base.specs.Words.{is_letter, is_digit, is_word_byte}
+use Rattle.mz_base.specs.Words.{is_digit, is_word_byte}
 use Rattle.mz_base.specs.Keywords.{keyword_text}
 use Rattle.mz_lexer.specs.LeftOut.{is_left_out_keyword}
 use Rattle.mz_lexer.specs.Symbols.{symbol_text}

@@ -1,20 +1,16 @@
 -- Mirror of src/prefix.rt and the files that it calls; private clauses only. The tokens of a file's bytes, as the code finds them,
 -- and the first fault.
-use Rattle.std.specs.Prelude.{ℕ, zero, suc, ◌+◌, ◌-◌, ◌+ℤ◌, List, [], ◌∷◌, take, drop, Bool, true, false, ◌&&◌, not, nat_eq, nat_le, codes, ℤ, pos, Option, Some, None, Result, Ok, Err, if◌then◌else◌, fold}
+use Rattle.std.specs.Prelude.{ℕ, zero, suc, ◌+◌, ◌-◌, ◌+ℤ◌, List, [], ◌∷◌, take, drop, Bool, true, false, ◌&&◌, not, nat_eq, nat_le, codes, ℤ, pos, Option, Some, None, Ok, Err, if◌then◌else◌}
 use Rattle.std.specs.Option.{option_map}
 use Rattle.std.specs.List.{take_while, prefix_len}
 use Rattle.std.specs.Str.Lossy.{utf8_valid_len}
-use Rattle.mz_base.specs.declared.limit.TheConstants.{INTEGER_LIMIT}
 use Rattle.mz_base.specs.Faults.{start_of}
 use Rattle.mz_base.specs.declared.fault.Span.{Span}
-use Rattle.mz_base.specs.declared.fault.Fault.{Fault}
 use Rattle.mz_base.specs.declared.kind.Kind.{Kind}
 use Rattle.mz_base.specs.declared.kind.Kind.TheVariants.{Lexical, LeftOut, Bounds}
 use Rattle.mz_base.specs.declared.keyword.Keyword.{Keyword}
 use Rattle.mz_lexer.specs.declared.token.Symbol.{Symbol}
-use Rattle.mz_lexer.specs.declared.token.Symbol.TheVariants.{SLParen, SRParen}
 use Rattle.mz_lexer.specs.declared.opening.Opening.{Opening}
-use Rattle.mz_lexer.specs.declared.opening.Opening.TheVariants as opening
 use Rattle.mz_lexer.specs.Bytes.{is_byte, quote, backslash, first_byte, second_byte, third_byte, is_blank, is_newline, is_hex_digit, is_octal_digit, is_left_out_byte}
 use Rattle.mz_base.specs.Words.{is_letter, is_digit, is_word_byte}
 use Rattle.mz_base.specs.Keywords.{keyword_of}
@@ -22,7 +18,7 @@ use Rattle.mz_lexer.specs.LeftOut.{is_left_out_keyword}
 use Rattle.mz_lexer.specs.StepsSymbols.{symbol_at}
 use Rattle.mz_lexer.specs.Numbers.{limit, number_of, goes_on}
 use Rattle.mz_lexer.specs.Texts.{content_len, meaning}
-use Rattle.mz_lexer.specs.Lexemes.{Lexeme, word, sym, ident, int, text, text_head, text_mid, text_tail, Lex, begins_piece, passed, after, fault, opens_behind, Outcome, with_token}
+use Rattle.mz_lexer.specs.Lexemes.{Lexeme, word, sym, ident, int, text, text_head, text_mid, text_tail, begins_piece, passed, after, fault, opens_behind, Outcome, with_token}
 
 -- what some bytes begin with
 pub data Prefix : Type 0 where

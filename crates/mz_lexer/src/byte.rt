@@ -3,7 +3,7 @@
 ghost use Rattle.std.specs.Prelude.{◌≡◌, ◌≤◌, ◌<◌, not, length};
 ghost use Rattle.std.specs.List.{prefix_len};
 ghost use Rattle.mz_lexer.specs.Bytes.{first_byte, second_byte, third_byte, is_blank, is_newline, is_hex_digit, is_octal_digit, is_left_out_byte};
-ghost use Rattle.mz_base.specs.Words.{is_letter, is_digit, is_word_byte};
+ghost use Rattle.mz_base.specs.Words.{is_digit, is_word_byte};
 
 use mz_base::{is_digit, is_word_byte};
 

@@ -1,6 +1,6 @@
 // What stands in the pieces of texts.
 
-ghost use Rattle.std.specs.Prelude.{◌≡◌, ◌≤◌, length, IfOk, drop};
+ghost use Rattle.std.specs.Prelude.{◌≡◌, ◌≤◌, length, IfOk};
 ghost use Rattle.mz_lexer.specs.Texts.{is_plain, is_escape, escape_value, content_step, content_len, begins_escape, meant, meaning};
 
 use crate::byte::{first_byte, second_byte};

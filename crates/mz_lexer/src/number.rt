@@ -1,11 +1,10 @@
 // Integer literals.
 
-ghost use Rattle.std.specs.Prelude.{ℕ, List, true, IsTrue, nat_eq, ◌&&◌, ◌≡◌, ◌≤◌, ◌<◌, ◌+◌, ◌*◌, nat_le, length, drop, [], IfSome, Some, None, if◌then◌else◌};
+ghost use Rattle.std.specs.Prelude.{ℕ, List, true, IsTrue, nat_eq, ◌&&◌, ◌≡◌, ◌≤◌, ◌<◌, ◌+◌, ◌*◌, nat_le, length, [], Some, None, if◌then◌else◌};
 ghost use Rattle.std.specs.Char.{digit_value};
-ghost use Rattle.std.specs.List.{prefix_len, take_while};
 ghost use Rattle.mz_base.specs.Words.{is_digit};
 ghost use Rattle.mz_lexer.specs.Bytes.{is_hex_digit, is_octal_digit, first_byte, second_byte, third_byte};
-ghost use Rattle.mz_lexer.specs.Numbers.{limit, number_of, goes_on, is_exponent_letter, is_sign};
+ghost use Rattle.mz_lexer.specs.Numbers.{limit, number_of, goes_on};
 ghost use Rattle.mz_lexer.specs.Steps.{literal, number_prefix};
 ghost use Rattle.mz_lexer.specs.Views.{prefix, IsPrefixNamed, Fits};
 

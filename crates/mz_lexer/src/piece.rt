@@ -1,10 +1,10 @@
 // The pieces of texts.
 
-ghost use Rattle.std.specs.Prelude.{◌≡◌, ◌+◌, ◌<◌, ◌≤◌, ◌^◌, length, true, IfOk};
+ghost use Rattle.std.specs.Prelude.{◌≡◌, ◌+◌, ◌<◌, ◌≤◌, ◌^◌, length, IfOk};
 ghost use Rattle.mz_base.specs.Names.{Grows};
-ghost use Rattle.mz_lexer.specs.Steps.{piece_end, piece_of, piece_prefix};
+ghost use Rattle.mz_lexer.specs.Steps.{piece_end, piece_prefix};
 ghost use Rattle.mz_lexer.specs.Texts.{meaning, content_len};
-ghost use Rattle.mz_lexer.specs.Views.{prefix, lexeme, IsNamed, IsPrefixNamed, Fits};
+ghost use Rattle.mz_lexer.specs.Views.{prefix, IsPrefixNamed, Fits};
 
 use crate::byte::{first_byte, second_byte};
 use crate::content::{content_len, meaning};

@@ -15,7 +15,7 @@ use Rattle.mz_core.specs.declared.types.Base.{Base}
 use Rattle.mz_core.specs.Types.{PlainType}
 use Rattle.mz_core.specs.Coercions.{PathLink}
 use Rattle.mz_core.specs.Program.{Function}
-use Rattle.mz_core.specs.Tree.{Tree, Layer, Step, Gen, Decl, Item, declares, constrains, layer, shape_of, place_of, type_of, inner_tree, root_coercions}
+use Rattle.mz_core.specs.Tree.{Tree, Layer, Gen, Decl, Item, declares, constrains, layer, shape_of, place_of, type_of, inner_tree, root_coercions}
 use Rattle.mz_core.specs.Tree as tree
 use Rattle.mz_operations.specs.declared.row.Row.{Row}
 use Rattle.mz_operations.specs.Answers as answers

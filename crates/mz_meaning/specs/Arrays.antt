@@ -14,7 +14,7 @@ use Rattle.mz_core.specs.Order.{no_dims}
 use Rattle.mz_operations.specs.Views.{items_in, as_element, as_ordinal}
 use Rattle.mz_operations.specs.Sets.{union, contains, is_subset, is_empty_set, same_set}
 use Rattle.mz_operations.specs.Arrays.{line, place_count, index_range}
-use Rattle.mz_operations.specs.Bounds.{Bound, Bounds, nothing, hull_of_all, union_of_all, reached, if_bounds, no_array}
+use Rattle.mz_operations.specs.Bounds.{Bound, Bounds, nothing, hull_of_all, union_of_all, reached, if_bounds}
 use Rattle.mz_operations.specs.Bounds as bounds
 use Rattle.mz_operations.specs.RowBounds.{line_of}
 use Rattle.mz_meaning.specs.Runs.{Run, give, stop}

@@ -13,7 +13,7 @@ use Rattle.mz_core.specs.Tree.{Tree, Gen, type_of}
 use Rattle.mz_operations.specs.Views.{as_set, as_items, items_in}
 use Rattle.mz_operations.specs.Sets.{contains}
 use Rattle.mz_operations.specs.Arrays.{element_of}
-use Rattle.mz_operations.specs.Bounds.{Bound, Bounds, bound_of}
+use Rattle.mz_operations.specs.Bounds.{Bound, Bounds}
 use Rattle.mz_operations.specs.Bounds as bounds
 use Rattle.mz_meaning.specs.Runs.{Run, ◌>>=◌, ◌>>◌, give, spend, loop}
 use Rattle.mz_meaning.specs.Cells.{Cell, Par, Var, Unshaped, Mode, Blank, Given, held, Env, bind, Test, Settled, Open, test_of, is_true, value_of, par_value, bounds_in, Sure, sure, both_sure, guarded, there}

@@ -4,7 +4,7 @@ use Rattle.mz_base.specs.declared.fault.Span.{Span}
 use Rattle.mz_base.specs.declared.kind.Kind.TheVariants as kind
 use Rattle.mz_value.specs.Contents as values
 use Rattle.mz_core.specs.Types.{PlainType}
-use Rattle.mz_core.specs.Tree.{Tree, Layer, layer, shape_of, place_of, type_of, inner_tree, root_coercions}
+use Rattle.mz_core.specs.Tree.{Layer, layer, shape_of, place_of, type_of, inner_tree, root_coercions}
 use Rattle.mz_core.specs.Tree as tree
 use Rattle.mz_meaning.specs.Runs.{Run, ◌>>=◌, stop}
 use Rattle.mz_meaning.specs.Cells.{Cell, Env, undefined, par_value, typed}

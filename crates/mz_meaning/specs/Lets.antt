@@ -8,7 +8,7 @@ use Rattle.mz_value.specs.Contents as values
 use Rattle.mz_core.specs.Types.{PlainType}
 use Rattle.mz_core.specs.Tree.{Tree, Decl, Item, declares, constrains, place_of}
 use Rattle.mz_operations.specs.Arrays.{place_count, is_contiguous}
-use Rattle.mz_operations.specs.Bounds.{Bound, Bounds}
+use Rattle.mz_operations.specs.Bounds.{Bound}
 use Rattle.mz_operations.specs.Bounds as bounds
 use Rattle.mz_meaning.specs.Runs.{Run, Out, ◌>>=◌, ◌>>◌, give, stop, spend, loop, noted, weigh}
 use Rattle.mz_meaning.specs.Cells.{Cell, Var, Mode, Blank, Given, held, Env, bind_all, undefined, empty_bound, is_par, is_true, value_of, set_in, Sure, sure, unsure, both_sure, guarded}

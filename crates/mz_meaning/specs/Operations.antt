@@ -27,7 +27,7 @@ use Rattle.mz_operations.specs.declared.row.Row.TheVariants.{Scalar, Made, Bound
 use Rattle.mz_operations.specs.Values.{value}
 use Rattle.mz_operations.specs.Answers.{Answer, Gives, Stops, is_mismatched, negative, is_failed, answer}
 use Rattle.mz_operations.specs.Costs.{cost}
-use Rattle.mz_operations.specs.Bounds.{Bound, Bounds, no_set}
+use Rattle.mz_operations.specs.Bounds.{Bounds, no_set}
 use Rattle.mz_operations.specs.Bounds as bounds
 use Rattle.mz_operations.specs.RowBounds.{row_bounds, value_by_bounds}
 use Rattle.mz_meaning.specs.Runs.{Run, give, stop, ◌>>=◌, ◌>>◌}

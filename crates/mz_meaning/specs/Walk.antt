@@ -11,7 +11,7 @@ use Rattle.mz_core.specs.Program.{Goal, PlainProgram}
 use Rattle.mz_core.specs.Program as program
 use Rattle.mz_core.specs.Tree.{Tree, Decl, place_of}
 use Rattle.mz_operations.specs.Arrays.{place_count}
-use Rattle.mz_operations.specs.Bounds.{Bound, Bounds, nothing}
+use Rattle.mz_operations.specs.Bounds.{Bound, Bounds}
 use Rattle.mz_operations.specs.Bounds as bounds
 use Rattle.mz_meaning.specs.Runs.{Run, ◌>>=◌, ◌>>◌, give, stop, spend, loop, weigh}
 use Rattle.mz_meaning.specs.Cells.{Cell, Par, Var, Unshaped, Mode, held, Env, no_names, bind, undefined, bounds_in, empty_bound, set_in, Sure}

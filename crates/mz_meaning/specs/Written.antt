@@ -11,7 +11,7 @@ use Rattle.mz_core.specs.declared.types.Ix.TheVariants as ix
 use Rattle.mz_core.specs.declared.types.Coercion.TheVariants as coercion
 use Rattle.mz_core.specs.Types.{PlainType}
 use Rattle.mz_core.specs.Program.{Function}
-use Rattle.mz_core.specs.Tree.{Tree, Decl, DeclaredType, Step, Gen, Item, trees, steps, gens, items, branches, maybe, rows_of}
+use Rattle.mz_core.specs.Tree.{Tree, Decl, DeclaredType, Step, Gen, Item, trees, steps, gens, items, branches, maybe}
 use Rattle.mz_core.specs.Tree as tree
 use Rattle.mz_operations.specs.Bounds.{Bound}
 use Rattle.mz_operations.specs.Bounds as bounds

@@ -1,17 +1,16 @@
 -- The occurrences of names in data. An identifier in a value isn't one, but where it is a case of an enum.
-use Rattle.std.specs.Prelude.{◌≡◌, ℕ, List, [], ◌∷◌, ◌++◌, Bool, true, false, Option, Some, None, map, refl}
+use Rattle.std.specs.Prelude.{◌≡◌, ℕ, List, [], ◌∷◌, ◌++◌, Bool, true, false, Option, Some, None, refl}
 use Rattle.std.specs.List.{flat_map}
-use Rattle.std.specs.Option.{option_map}
 use Rattle.mz_base.specs.declared.fault.Span.{Span}
 use Rattle.mz_tree.specs.Tree.{Name}
 use Rattle.mz_tree.specs.Data as pure
 use Rattle.mz_tree.specs.Data.{Value, Values, Given}
-use Rattle.mz_tree.specs.Items.{ItemTree, include, declare, assign, constraint, solve, output, function, enum, annotation}
+use Rattle.mz_tree.specs.Items.{ItemTree, enum}
 use Rattle.mz_occurrence.specs.declared.occurrence.Occurrence.{Occurrence}
 use Rattle.mz_occurrence.specs.declared.occurrence.Role.TheVariants.{Declared, Valued, Listed, Misfit}
 use Rattle.mz_occurrence.specs.Roles.{occurs}
 use Rattle.mz_occurrence.specs.Occurrences.{of_case, in_item}
-use Rattle.mz_occurrence.specs.Sets.{holds, with_name}
+use Rattle.mz_occurrence.specs.Sets.{holds}
 
 abbrev pub identifier : Value → Option Name
 identifier (pure.ident n) = Some n

@@ -5,7 +5,7 @@ ghost use Rattle.std.specs.List.{flat_map};
 ghost use Rattle.std.specs.Option.{option_map};
 ghost use Rattle.mz_tree.specs.Data.{value, values, given};
 ghost use Rattle.mz_tree.specs.Items.{item as tree_of};
-ghost use Rattle.mz_occurrence.specs.Occurrences.{in_item, of_case};
+ghost use Rattle.mz_occurrence.specs.Occurrences.{of_case};
 ghost use Rattle.mz_occurrence.specs.Given.{identifier, identifiers, cases_in, enum_of, listed, in_given, occurrences};
 ghost use Rattle.mz_occurrence.specs.StepsWalk.{items_of};
 ghost use Rattle.mz_occurrence.specs.Sets.{holds};

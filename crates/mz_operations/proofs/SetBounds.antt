@@ -63,11 +63,6 @@ set_encloses Symdiff s t u w ss st su sw h k =
 
 -- ---- unions and intersections of many
 
-pub union_from_set : (acc : List Range) (us : List (List Range)) → IsSet acc → AreSets us → IsSet (union_from acc us)
-unfolding union_from
-union_from_set acc [] p all = p
-union_from_set acc (u ∷ us) p all = union_from_set (union acc u) us (union_set acc u p all.0) all.1
-
 union_from_acc : (acc : List Range) (us : List (List Range)) → IsSet acc → AreSets us → IsPart acc (union_from acc us)
 unfolding union_from
 union_from_acc acc [] p all = part_same acc
@@ -85,12 +80,6 @@ union_from_in acc (v ∷ us) (suc k) u p all i = union_from_in (union acc v) us 
 
 pub union_encloses : UnionEncloses
 union_encloses us k u all i = union_from_in [] us k u (tt, tt) all i
-
-upper_sets : (us : List (List Range)) (xs : List Content) → AllLieWithin us xs → AreSets us
-upper_sets [] [] all = tt
-upper_sets [] (x ∷ xs) all = absurd all
-upper_sets (u ∷ us) [] all = absurd all
-upper_sets (u ∷ us) (x ∷ xs) all = (all.0.upper, upper_sets us xs all.1)
 
 array_union_in : (acc a : List Range) (us : List (List Range)) (xs : List Content) (s : List Range) → IsSet acc → IsSet a → IsPart acc a → AllLieWithin us xs → fold_from as_set union acc xs ≡ Some s → IsPart s (union_from a us)
 unfolding union_from fold_from

@@ -1,14 +1,14 @@
 -- The lists of functions, of components and of declarations, one after the other, are the graph of all layers.
-use Rattle.std.proofs.Common.{◌≡◌, ℕ, zero, suc, ◌+◌, ◌-◌, ◌<◌, ◌≤◌, inl, inr, List, [], ◌∷◌, ◌++◌, Bool, Vec, refl, ap, sym, ◌∙◌, subst, arith, length, get_or, set, map, replicate}
-use Rattle.std.specs.Prelude.{if◌then◌else◌, nat_eq}
+use Rattle.std.proofs.Common.{◌≡◌, ℕ, zero, suc, ◌+◌, ◌-◌, ◌<◌, ◌≤◌, inl, inr, List, [], ◌∷◌, ◌++◌, Vec, refl, ap, sym, ◌∙◌, subst, arith, length, set, replicate}
+use Rattle.std.specs.Prelude.{if◌then◌else◌}
 use Rattle.std.specs.List.{flat_map}
 use Rattle.std.proofs.lemmas.List.{get_or-replicate, length-replicate, length-set, get_or_past}
 use Rattle.std.proofs.lemmas.Bool.{eq-eqb, ne_eqb}
-use Rattle.mz_graph.specs.Graph.{Graph, heads, graph_of, IsIn, Edge, IsGraph, AreComponents, number_of}
+use Rattle.mz_graph.specs.Graph.{Graph, heads, graph_of, IsIn, IsGraph, AreComponents, number_of}
 use Rattle.mz_graph.proofs.Membership.{below_or_not, same_or_not, in_front, in_back, in_either, old_or_last}
 use Rattle.mz_graph.proofs.Tables.{row_kept, row_now}
 use Rattle.mz_order.specs.Depends.{AllBelow, AreUses}
-use Rattle.mz_order.specs.Members.{IsMember, AreMembers}
+use Rattle.mz_order.specs.Members.{AreMembers}
 use Rattle.mz_order.specs.StepsLayers.{to_component, to_decl, by_component, by_decl, AreLayers, other, raised, row_heads, in_layers, AreRows}
 
 -- one row
@@ -85,9 +85,6 @@ in_second (us ∷ g) h (suc x) y e = in_second g h x y (omega (arith, e))
 pub rows_of_both : {Z : Type 0} (vs ws : List (Vec ℕ Z)) → graph_of (vs ++ ws) ≡ graph_of vs ++ graph_of ws
 rows_of_both [] ws = refl
 rows_of_both (v ∷ vs) ws = ap (λ z. v.items ∷ z) (rows_of_both vs ws)
-
-pub rows_none : (row : ℕ → List ℕ) → AreRows row 0 []
-rows_none row = record { sized = refl; each = λ x h. absurd (omega (arith, h)) }
 
 pub rows_more : (row : ℕ → List ℕ) (till : ℕ) (us : List ℕ) (g h : Graph) → AreRows row till g → h ≡ g ++ us ∷ [] → us ≡ row till → AreRows row (till + 1) h
 rows_more row till us g h k e i = record {

@@ -3,7 +3,7 @@ use Rattle.std.proofs.Common.{◌≡◌, ℕ, zero, suc, ◌+◌, ◌-◌, ◌<�
 use Rattle.std.proofs.lemmas.List.{append-nil}
 use Rattle.std.specs.Prelude.{if◌then◌else◌, nat_lt}
 use Rattle.std.proofs.lemmas.Bool.{ltb-true, lt-ltb}
-use Rattle.mz_graph.specs.Graph.{Graph, heads, IsIn, Edge, IsGraph, Path, arrived, onward, AreComponents, number_of}
+use Rattle.mz_graph.specs.Graph.{Graph, IsIn, Edge, IsGraph, Path, arrived, onward, AreComponents, number_of}
 use Rattle.mz_graph.specs.Order.{IsReady, Continues, over, turn}
 use Rattle.mz_graph.proofs.Membership.{below_or_not, same_or_not, in_or_not, in_front, old_or_last}
 use Rattle.mz_order.specs.Depends.{LeadsTo, itself, through, DependsOn, directly, by_call, AllBelow}

@@ -1,7 +1,7 @@
 -- What comes before in an order.
-use Rattle.std.proofs.Common.{◌≡◌, ℕ, List, [], ◌∷◌, ◌++◌, ap, sym, ◌∙◌, subst, append_assoc, append-nil}
+use Rattle.std.proofs.Common.{◌≡◌, ℕ, List, [], ◌∷◌, ◌++◌, sym, ◌∙◌, subst, append_assoc, append-nil}
 use Rattle.mz_graph.specs.Graph.{IsIn}
-use Rattle.mz_graph.specs.Order.{Continues, over, turn}
+use Rattle.mz_graph.specs.Order.{Continues, turn}
 
 before_it : {Needs : ℕ → ℕ → Type 0} {count : ℕ} (done before after : List ℕ) (d e : ℕ) → Continues Needs count done (before ++ d ∷ after) → Needs d e → IsIn e (done ++ before)
 before_it done [] after d e (turn next more) n = subst (λ z. IsIn e z) (sym (and_nothing done)) (next.ready.served e n)

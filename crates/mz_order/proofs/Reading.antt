@@ -1,12 +1,12 @@
 -- What is known where a loop has read a part of a list of functions or of an order, and what the order of all layers then is.
-use Rattle.std.proofs.Common.{◌≡◌, ℕ, zero, suc, ◌+◌, ◌-◌, ◌<◌, ◌≤◌, inl, inr, List, [], ◌∷◌, ◌++◌, Bool, true, false, Option, Some, None, refl, ap, sym, ◌∙◌, subst, arith, length, get_or, set, take, drop, replicate, append_assoc}
+use Rattle.std.proofs.Common.{◌≡◌, ℕ, zero, suc, ◌+◌, ◌-◌, ◌<◌, ◌≤◌, inl, inr, List, [], ◌∷◌, ◌++◌, Bool, true, false, Option, Some, None, refl, ap, sym, ◌∙◌, subst, arith, length, get_or, set, drop, append_assoc}
 use Rattle.std.specs.Prelude.{if◌then◌else◌, nat_eq, MatchOption}
 use Rattle.std.specs.List.{flat_map}
-use Rattle.std.proofs.lemmas.List.{append-nil, drop_more, get_or-replicate, length-replicate, length-set, get_or-set_same, get_or-set_other, get_or_past}
+use Rattle.std.proofs.lemmas.List.{append-nil, drop_more, length-set, get_or-set_same, get_or-set_other}
 use Rattle.std.proofs.lemmas.Bool.{eq-eqb, ne_eqb}
-use Rattle.mz_graph.specs.Graph.{Graph, heads, IsIn, Edge, AreComponents, number_of}
+use Rattle.mz_graph.specs.Graph.{Graph, IsIn, Edge, AreComponents, number_of}
 use Rattle.mz_graph.specs.Order.{Continues, turn, IsOrder, IsComplete, IsFirstLeft}
-use Rattle.mz_graph.proofs.Membership.{below_or_not, same_or_not, in_front, in_back, old_or_last}
+use Rattle.mz_graph.proofs.Membership.{same_or_not, in_front, in_back, old_or_last}
 use Rattle.mz_order.specs.Depends.{DependsOn, AreUses}
 use Rattle.mz_order.specs.StepsLayers.{AreLayers, decls_in, other, AreMarks}
 use Rattle.mz_order.proofs.Layered.{skips, takes, decl_order}
@@ -62,19 +62,6 @@ counted_in {n = n} x (y ∷ rest) (turn next more) a = elim a [
 
 -- marks
 
-pub marks_none : (n : ℕ) (marks : List Bool) → marks ≡ replicate n false → AreMarks n [] marks
-marks_none n marks e = record {
-  sized = ap length e ∙ length-replicate n false;
-  up = λ d a. absurd a;
-  down = λ d h. absurd (unmarked n d (subst (λ z. get_or z d false ≡ true) e h));
-}
-  where
-    unmarked : (n d : ℕ) → get_or (replicate n false) d false ≡ true → ⊥
-    unmarked n d h = elim (below_or_not d n) [
-      | inl l ↦ let e = get_or-replicate n d false false l in absurd (cc)
-      | inr l ↦ let e = get_or_past (replicate n false) d false (let s = length-replicate n false in omega (arith, s, l)) in absurd (cc)
-    ]
-
 pub marks_more : (n x : ℕ) (order more : List ℕ) (marks : List Bool) → AreMarks n order marks → more ≡ order ++ x ∷ [] → x < n → AreMarks n more (set marks x true)
 marks_more n x order more marks k e h =
     let inside : x < length marks = let s = k.sized in omega (arith, s, h) in
@@ -89,16 +76,6 @@ marks_more n x order more marks k e h =
         | inr o ↦ in_front d order (x ∷ []) (k.down d (sym (get_or-set_other marks x d true false o) ∙ t))
       ]);
     }
-
-pub marks_for : (n : ℕ) (order read : List ℕ) (marks : List Bool) → AreMarks n order marks → read ≡ order → AreMarks n read marks
-marks_for n order read marks k e = subst (λ z. AreMarks n z marks) (sym e) k
-
-pub left_at : (n d : ℕ) (order : List ℕ) (marks : List Bool) → AreMarks n order marks → d < n → get_or marks d false ≡ false → ((e : ℕ) → e < d → get_or marks e false ≡ true) → IsFirstLeft n order d
-left_at n d order marks k h e before = record {
-  counted = h;
-  remains = λ a. let t = k.up d a in absurd (cc);
-  first = λ x l. k.down x (before x l);
-}
 
 pub none_left : (n : ℕ) (order : List ℕ) (marks : List Bool) → AreMarks n order marks → ((e : ℕ) → e < n → get_or marks e false ≡ true) → IsComplete n order
 none_left n order marks k all d h = k.down d (all d h)

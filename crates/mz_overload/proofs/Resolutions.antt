@@ -34,10 +34,6 @@ implies false b h = refl
 all_of : {a b : Bool} → a ≡ true → b ≡ true → a && b ≡ true
 all_of p q = rw (p, q) refl
 
-is_false : (a : Bool) → (a ≡ true → ⊥) → a ≡ false
-is_false true h = absurd (h refl)
-is_false false h = refl
-
 -- the order on lists of types goes on
 pub all_below_trans : (ts us vs : List PlainType) → all_below ts us ≡ true → all_below us vs ≡ true → all_below ts vs ≡ true
 unfolding all_below

@@ -10,7 +10,7 @@ ghost use Rattle.mz_parser.specs.Model.{semicolon_at};
 
 use crate::kinds::item;
 use mz_base::Stop;
-use mz_cursor::{Cursor, is_sym};
+use mz_cursor::Cursor;
 use mz_lexer::Symbol;
 use mz_tree::Item;
 use std::alloc::Global;

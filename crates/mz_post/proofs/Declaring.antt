@@ -71,18 +71,6 @@ free_of table d false h e = absurd (cc)
 pub is_free_var : (table : List (List ℕ)) (d : Decl) → is_declaration_built table d ≡ true → d.ty.ty.var ≡ true → IsFree table d
 is_free_var table d h v = free_of table d d.ty.ty.var h v
 
-par_by : (table : List (List ℕ)) (d : Decl) (b : Bool) (e : Tree) → (if b then is_variable table d else is_constant d) ≡ true → d.ty.ty.var ≡ b → d.value ≡ Some e → d.ty.ty.var ≡ false
-par_by table d true e h v n =
-    let p = and_parts (d.ty.ty.var && (is_integer d.ty.ty && no_index d.ty.index)) (is_none d.value && is_identifier (text_of table d.name)) h in
-    let q = and_parts (is_none d.value) (is_identifier (text_of table d.name)) p.1 in
-    let r : false ≡ true = subst (λ o. is_none o ≡ true) n q.0 in
-    absurd (cc)
-par_by table d false e h v n = v
-
--- a declaration with a value is par
-pub is_par_name : (table : List (List ℕ)) (d : Decl) (e : Tree) → is_declaration_built table d ≡ true → d.value ≡ Some e → d.ty.ty.var ≡ false
-is_par_name table d e h n = par_by table d d.ty.ty.var e h refl n
-
 -- ---- the walk over it
 
 abbrev walked : World → Eval → Decl → List (Option Tree) → Option Tree → Env → Run walk.Declared

@@ -9,7 +9,7 @@ use Rattle.mz_meaning.specs.Solutions.{Each}
 use Rattle.fz_program.specs.Names.{Name}
 use Rattle.fz_program.specs.declared.row_name.Kind.TheVariants as kind
 use Rattle.fz_program.specs.Flat.{AreDistinct, labels_of, is_variable_of, kind_of_domain, same_kind}
-use Rattle.mz_unbuilt.specs.Variables.{Named, named_by, named_as, named_in, is_variable, is_declaration_built}
+use Rattle.mz_unbuilt.specs.Variables.{Named, named_by, named_as, named_in, is_variable}
 use Rattle.mz_unbuilt.specs.Variables as unbuilt
 use Rattle.mz_direct.specs.Emission.{label_in, variables, place_in}
 use Rattle.mz_post.specs.declared.types.Declared.{Declared}

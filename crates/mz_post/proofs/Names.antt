@@ -55,9 +55,6 @@ with_declared names all x r e is env =
       same = λ k. env k ∙ ap (λ c. if nat_eq k (declared x).slot then (declared x).cell else c) (r.same k) ∙ sym (env_push xs (declared x) 0 k r.counted slot) ∙ ap (λ ys. names_env ys k) (sym same);
     }
 
-pub names_more : (names next : List Name) (x : Name) → next ≡ names ++ x ∷ [] → names_in next ≡ names_in names ++ declared x ∷ []
-names_more names next x e = ap names_in e ∙ map-append declared names (x ∷ [])
-
 -- the world in which these names are declared
 abbrev pub world_with : Task → ℤ → Env → World
 world_with t n top = record { functions = map function t.program.now.functions.items; cases = case_names t.program.now.cases; texts = map text_entry t.program.now.texts.items; budget = t.budget; int_range = n; top = top; mode = Bare }

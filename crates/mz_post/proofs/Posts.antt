@@ -2,8 +2,7 @@
 use Rattle.std.proofs.Common.{◌≡◌, ◌∙◌, true, false, List, [], ◌∷◌, ◌++◌, refl, sym, ap}
 use Rattle.mz_base.specs.declared.fault.Span.{Span}
 use Rattle.mz_core.specs.Types.{PlainType}
-use Rattle.mz_core.specs.Tree.{Tree, Shape, Step, node, chain, no_steps, a_step, layer, shape_of, place_of}
-use Rattle.mz_core.specs.Tree as tree
+use Rattle.mz_core.specs.Tree.{Tree, Step, node, chain, no_steps, a_step, layer, shape_of, place_of}
 use Rattle.mz_meaning.specs.Runs.{Run, State, Answer, Out, Stopped, then_do, give}
 use Rattle.mz_meaning.specs.Cells.{Env, typed}
 use Rattle.mz_meaning.specs.Contexts.{Untested}
@@ -16,13 +15,8 @@ use Rattle.mz_unbuilt.specs.Comparisons.{is_par_constraint}
 use Rattle.mz_posting.specs.Roots.{roots}
 use Rattle.mz_posting.specs.Posted.{Whole, Pair, operand, compare, below, post, post_by, post_comparison}
 use Rattle.fz_program.specs.Flat.{Row}
-use Rattle.mz_direct.specs.Emission.{rows_of, write_next, name_side, side, side_rows}
-use Rattle.mz_post.specs.Rows.{name_side_by}
+use Rattle.mz_direct.specs.Emission.{rows_of, write_next, side, side_rows}
 use Rattle.mz_post.specs.Steps.{compared, posted_by, form_rows, par_rows}
-
-pub name_side_is : (xs : List Declared) (f : Shape) → name_side xs f ≡ name_side_by xs (layer f)
-name_side_is xs (tree.slot s) = refl
-name_side_is xs f = refl
 
 -- ---- a run of five steps, of which the last gives something that is read otherwise
 

@@ -1,13 +1,10 @@
 -- Operands and rows of the code.
 use Rattle.std.specs.Prelude.{List, [], ◌∷◌, Option, Some, None}
-use Rattle.mz_core.specs.Tree.{Layer, slot_form}
-use Rattle.mz_meaning.specs.Walk.{Declared}
 use Rattle.fz_program.specs.Arguments as arguments
 use Rattle.fz_program.specs.Arguments.{Plain}
 use Rattle.fz_program.specs.Flat.{Row, row}
 use Rattle.fz_program.specs.declared.program.FzRow.{FzRow}
 use Rattle.mz_direct.specs.Emission as emission
-use Rattle.mz_direct.specs.Emission.{place_in}
 use Rattle.mz_post.specs.declared.types.Side.{Side}
 use Rattle.mz_post.specs.declared.types.Side.TheVariants as sides
 use Rattle.mz_post.specs.declared.types.Operand.{Operand}
@@ -27,8 +24,3 @@ plain_of (operands.Variable k) = arguments.var k
 abbrev pub rows_if : Option FzRow → List Row
 rows_if None = []
 rows_if (Some r) = row r ∷ []
-
--- the side of a name, by its node's layer
-abbrev pub name_side_by : List Declared → Layer → emission.Side
-name_side_by xs (slot_form s) = emission.Place (place_in xs s)
-name_side_by xs form = emission.Nothing

@@ -10,7 +10,7 @@ use Rattle.mz_core.specs.Program as program
 use Rattle.mz_core.specs.Tree.{Tree, Shape, Trees, Maybe, Maybes, Rows, Branches, Steps, Gens, Items, Decl, DeclaredType, maybe, maybes, shape_of, type_of, inner_tree, inner_under}
 use Rattle.mz_core.specs.Tree as tree
 use Rattle.mz_meaning.specs.Unbounded as unbounded
-use Rattle.mz_meaning.specs.Unbounded.{unbounded_in, is_nothing, some_nothing, is_unbounded, only_if, first_unbounded, all_unbounded, first_of}
+use Rattle.mz_meaning.specs.Unbounded.{unbounded_in, is_nothing, is_unbounded, only_if, first_unbounded, all_unbounded, first_of}
 use Rattle.mz_unbuilt.specs.Variables.{Named, is_int, is_integer, no_index, named_at}
 use Rattle.mz_unbuilt.specs.Comparisons.{is_name_of, is_name, is_par_constraint, is_compared}
 use Rattle.mz_unbuilt.specs.Unbuilt.{at_if, is_global, is_unbuilt_local, unbuilt_in, in_form, in_maybe, in_trees, in_maybes, in_rows, in_branches, in_steps, in_gens, in_items, in_if, in_type, in_declaration, in_param, in_function, in_operand, in_operands, in_constraint, in_goal, in_output, unbuilt_places}

@@ -17,7 +17,7 @@ use Rattle.mz_meaning.specs.Kinds.{is_evaluation_kind, StopsAtEvaluation}
 use Rattle.mz_meaning.specs.Evaluation.{eval}
 use Rattle.mz_meaning.specs.Unbounded.{first_unbounded}
 use Rattle.mz_meaning.specs.Walk as walks
-use Rattle.mz_meaning.specs.Walk.{Limits, Assignment, Declared, Walked, names_env, world_at, declare, ordered, levels, walk}
+use Rattle.mz_meaning.specs.Walk.{Limits, Assignment, Declared, names_env, world_at, declare, ordered, levels, walk}
 use Rattle.mz_meaning.proofs.Causes.{eval_well}
 use Rattle.mz_posting.specs.Posted.{posting_walk, walked_of}
 use Rattle.mz_posting.specs.Ends.{is_walk_kind}

@@ -3,7 +3,7 @@ use Rattle.std.proofs.Common.{◌≡◌, ℕ, suc, List, [], refl, sym, ap, ◌�
 use Rattle.mz_base.specs.declared.fault.Span.{Span}
 use Rattle.mz_core.specs.Types.{PlainType}
 use Rattle.mz_core.specs.Coercions.{PathLink}
-use Rattle.mz_core.specs.Tree.{Tree, Shape, layer, shape_of, place_of, type_of, inner_tree, inner_under, root_coercions, coercions_under}
+use Rattle.mz_core.specs.Tree.{Tree, Shape, layer, shape_of, place_of, type_of, inner_tree, inner_under, root_coercions}
 use Rattle.mz_core.specs.Tree as tree
 use Rattle.mz_meaning.specs.Runs.{State, Answer, Out, Stopped, then_do, give}
 use Rattle.mz_meaning.specs.Cells.{Cell, Env, typed}

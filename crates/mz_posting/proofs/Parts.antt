@@ -1,7 +1,7 @@
 -- Of a model of which all is built, each part is built.
 use Rattle.std.proofs.Common.{◌≡◌, ℕ, zero, suc, Bool, true, false, not, ◌||◌, List, [], ◌∷◌, ◌++◌, flat_map, slice_get, Option, Some, None, refl, ap, ◌∙◌, if◌then◌else◌}
 use Rattle.mz_base.specs.declared.fault.Span.{Span}
-use Rattle.mz_core.specs.Program.{Function, Goal, PlainProgram, satisfy}
+use Rattle.mz_core.specs.Program.{Goal, PlainProgram, satisfy}
 use Rattle.mz_core.specs.Program as program
 use Rattle.mz_core.specs.Tree.{Tree, Decl, place_of}
 use Rattle.mz_meaning.specs.Walk.{ordered, with_decl}

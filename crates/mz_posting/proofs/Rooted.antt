@@ -1,9 +1,9 @@
 -- The run that keeps an expression's roots gives the expression's cell, in any mode and context.
-use Rattle.std.proofs.Common.{◌≡◌, ℕ, zero, suc, Bool, true, false, ◌&&◌, List, [], ◌∷◌, ◌++◌, Option, Some, None, refl, ap, ◌∙◌, nat_eq, eqb-true, if◌then◌else◌}
+use Rattle.std.proofs.Common.{◌≡◌, ℕ, zero, suc, Bool, true, false, ◌&&◌, List, [], ◌∷◌, ◌++◌, Some, None, refl, ap, ◌∙◌, nat_eq, eqb-true, if◌then◌else◌}
 use Rattle.std.proofs.lemmas.Bool.{and_parts}
 use Rattle.mz_base.specs.declared.fault.Span.{Span}
 use Rattle.mz_core.specs.Types.{PlainType}
-use Rattle.mz_core.specs.Tree.{Tree, Step, Steps, all_steps, steps, place_of}
+use Rattle.mz_core.specs.Tree.{Tree, Step, Steps, all_steps, place_of}
 use Rattle.mz_core.specs.Tree as tree
 use Rattle.mz_meaning.specs.Runs.{Run, State, Answer, Out, Stopped, then_do, give}
 use Rattle.mz_meaning.specs.Cells.{Cell, Env, typed}
@@ -11,7 +11,7 @@ use Rattle.mz_meaning.specs.Contexts.{Context}
 use Rattle.mz_meaning.specs.Chains.{Operator, Innermost, level_table, level_of, same_level, chained, before, right_in, operand_base}
 use Rattle.mz_meaning.specs.Forms.{World, Eval, coerced_by, operated, operators, operand_place, chain, chain_by}
 use Rattle.mz_meaning.specs.Evaluation.{eval}
-use Rattle.mz_posting.specs.Roots.{Rooted, Roots, one_root, begins_and, are_ands, is_conjunction, conjunction, root_operators, root_chain, rooted, roots}
+use Rattle.mz_posting.specs.Roots.{Rooted, Roots, one_root, begins_and, are_ands, is_conjunction, root_operators, root_chain, rooted, roots}
 use Rattle.mz_posting.proofs.Inner.{within_none}
 
 -- a conjunction is no `++`

@@ -1,6 +1,6 @@
 // What the walk of a built model has to do with the walk that gives a model its meaning.
 
-ghost use Rattle.std.specs.Prelude.{◌≡◌, ℕ, true, false, List, [], Option, None};
+ghost use Rattle.std.specs.Prelude.{◌≡◌, ℕ, true, false, List, [], None};
 ghost use Rattle.mz_base.specs.declared.fault.Fault.{Fault};
 ghost use Rattle.mz_value.specs.Contents.{Content};
 ghost use Rattle.mz_core.specs.Program.{PlainProgram};

@@ -1,7 +1,7 @@
 // `if`.
 
 ghost use Rattle.std.specs.Prelude.{◌≡◌, ◌++◌, Ok, IfOk, map};
-ghost use Rattle.std.specs.List.{list_any, zip};
+ghost use Rattle.std.specs.List.{zip};
 ghost use Rattle.std.specs.Option.{option_map};
 ghost use Rattle.mz_core.specs.Types.{plain_type};
 ghost use Rattle.mz_core.specs.Tree.{node, choice, branches, maybe};

@@ -7,7 +7,7 @@ ghost use Rattle.mz_value.specs.Contents.{case_names, int};
 ghost use Rattle.mz_operations.specs.Answers.{limited};
 ghost use Rattle.mz_operations.specs.Values.{scalar_value};
 ghost use Rattle.mz_scalars.specs.Scalars.{scalar_content};
-ghost use Rattle.mz_meaning.specs.Cells.{Par, par_value};
+ghost use Rattle.mz_meaning.specs.Cells.{par_value};
 ghost use Rattle.mz_meaning.specs.Coerced as coerced;
 ghost use Rattle.mz_meaning.specs.Operations.{par_answer, par_row};
 ghost use Rattle.mz_cells.specs.Views.{cell_of, item_content};

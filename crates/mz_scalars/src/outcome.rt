@@ -1,7 +1,6 @@
 // A truth value, an integer or a case.
 
 ghost use Rattle.std.specs.Prelude.{◌≡◌, if◌then◌else◌};
-ghost use Rattle.mz_value.specs.Contents.{case, int};
 ghost use Rattle.mz_operations.specs.Arrays.{element_of};
 ghost use Rattle.mz_scalars.specs.Scalars.{scalar_content};
 

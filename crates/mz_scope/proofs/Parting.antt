@@ -5,7 +5,7 @@ use Rattle.std.specs.List.{flat_map}
 use Rattle.std.proofs.lemmas.Bool.{eqb-true, eq-eqb}
 use Rattle.mz_base.specs.declared.fault.Span.{Span}
 use Rattle.mz_tree.specs.Tree as pure
-use Rattle.mz_tree.specs.Tree.{Name, Tree, Maybe, Declaration, Written}
+use Rattle.mz_tree.specs.Tree.{Name, Maybe, Declaration, Written}
 use Rattle.mz_tree.specs.Items.{FunctionTree, ItemTree, include, declare, assign, constraint, solve, output, function, enum, annotation}
 use Rattle.mz_tree.specs.Data.{Given}
 use Rattle.mz_occurrence.specs.declared.occurrence.Role.{Role}

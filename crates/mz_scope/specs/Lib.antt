@@ -1,4 +1,3 @@
 pub mod Named
 pub mod Scope
 pub mod StepsScope
-pub mod Tests

@@ -3,7 +3,7 @@ use Rattle.std.proofs.Common.{◌≡◌, ℕ, Bool, true, false, List, [], ◌�
 use Rattle.std.specs.Prelude.{if◌then◌else◌}
 use Rattle.mz_base.specs.declared.fault.Span.{Span}
 use Rattle.mz_tree.specs.Tree as pure
-use Rattle.mz_tree.specs.Tree.{Name, Generator, Gens, Let, Lets, Declaration}
+use Rattle.mz_tree.specs.Tree.{Name, Generator, Gens, Let, Lets}
 use Rattle.mz_occurrence.specs.Sets.{holds, with_name}
 use Rattle.mz_uses.specs.Uses.{with_bound, with_generator, with_gens, with_let, with_lets}
 

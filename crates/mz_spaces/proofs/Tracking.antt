@@ -54,9 +54,6 @@ valued_case Caseless os o vs e t = kept gives os o vs (ap gives e) t
 valued_case Listed os o vs e t = kept gives os o vs (ap gives e) t
 valued_case Misfit os o vs e t = kept gives os o vs (ap gives e) t
 
-none_seen : Tracks [] [] []
-none_seen = record { declared = λ n. refl; valued = λ n. refl }
-
 pub tracks_none : (ds vs : List ℕ) (os : List Occurrence) → ds ≡ [] → vs ≡ [] → Tracks (take 0 os) ds vs
 tracks_none ds vs os p q = record { declared = λ n. ap (λ z. holds n z) p; valued = λ n. ap (λ z. holds n z) q }
 

@@ -6,7 +6,7 @@ use Rattle.mz_base.specs.declared.fault.Fault.{Fault}
 use Rattle.mz_base.specs.declared.kind.Kind.TheVariants.{ReservedName, DuplicateName, SolveItems, UnknownName, DataForm, MissingData}
 use Rattle.mz_base.specs.Faults.{fault_at}
 use Rattle.mz_tree.specs.Tree as pure
-use Rattle.mz_tree.specs.Tree.{Tree, Maybe, Declaration}
+use Rattle.mz_tree.specs.Tree.{Tree}
 use Rattle.mz_tree.specs.Data as data_tree
 use Rattle.mz_tree.specs.Data.{Given, Value}
 use Rattle.mz_tree.specs.Items.{ItemTree, satisfy, declare, assign, constraint, solve, enum}

@@ -1,13 +1,10 @@
 // The first occurrence that a test finds.
 
-ghost use Rattle.std.specs.Prelude.{◌≡◌, ℕ, ◌<◌, length, IfOk};
-ghost use Rattle.mz_base.specs.Names.{text_of};
-ghost use Rattle.mz_occurrence.specs.Sets.{holds};
-ghost use Rattle.mz_spaces.specs.Spaces.{binds, declares, gives, lists, names_with};
-ghost use Rattle.mz_spaces.specs.Tests.{begins_reserved, is_reserved, known_in, unknown_as, is_unknown, misfits, is_misfit, missing_as, is_missing, first, AreNamed};
+ghost use Rattle.std.specs.Prelude.{◌≡◌, ℕ, ◌<◌, length};
+ghost use Rattle.mz_spaces.specs.Tests.{begins_reserved, is_reserved, known_in, is_unknown, misfits, is_misfit, is_missing, first, AreNamed};
 
 use crate::spaces::introduces;
-use mz_base::{Name, Names, Span};
+use mz_base::{Names, Span};
 use mz_builtin::known;
 use mz_occurrence::{NameSet, Occurrence, Role};
 

@@ -1,10 +1,10 @@
 // The first name that is declared, or given a value, a second time.
 
-ghost use Rattle.std.specs.Prelude.{◌≡◌, ℕ, ◌∷◌, ◌++◌, [], List, IfOk, OnOk};
+ghost use Rattle.std.specs.Prelude.{◌≡◌, ℕ, ◌∷◌, ◌++◌, [], IfOk, OnOk};
 ghost use Rattle.mz_occurrence.specs.declared.occurrence.Occurrence.{Occurrence};
 ghost use Rattle.mz_occurrence.specs.Sets.{holds, with_name};
 ghost use Rattle.mz_spaces.specs.Tests.{is_repeated, first_after};
-ghost use Rattle.mz_spaces.specs.StepsTests.{Tracks, repeated_in, declared_after, valued_after};
+ghost use Rattle.mz_spaces.specs.StepsTests.{repeated_in, declared_after, valued_after};
 
 use mz_base::{Memory, Name, Span};
 use mz_occurrence::{NameSet, Occurrence, Role};

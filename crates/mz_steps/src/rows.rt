@@ -1,7 +1,6 @@
 // Rows of operators and built-ins, with their work.
 
 ghost use Rattle.std.specs.Prelude.{◌≡◌, ◌∷◌, [], Some, map};
-ghost use Rattle.mz_value.specs.Contents.{case_names};
 ghost use Rattle.mz_core.specs.Types.{plain_type};
 ghost use Rattle.mz_core.specs.TreeViews.{tree};
 ghost use Rattle.mz_meaning.specs.Operations.{row_at};

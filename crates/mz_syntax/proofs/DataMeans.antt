@@ -11,7 +11,7 @@ use Rattle.mz_lexer.specs.declared.token.Symbol.{Symbol}
 use Rattle.mz_lexer.specs.declared.token.Symbol.TheVariants.{SLParen, SRParen, SLBrack, SRBrack, SLBrace, SRBrace, SLRows, SRRows, SBar, SComma, SSemi, SDots, SEq, SMinus, SAbsent}
 use Rattle.mz_tree.specs.Tree.{Name}
 use Rattle.mz_tree.specs.Data as pure
-use Rattle.mz_tree.specs.Data.{Given, values, lines, is_name}
+use Rattle.mz_tree.specs.Data.{Given, values, is_name}
 use Rattle.mz_cursor.specs.Tokens.{place, tok_at}
 use Rattle.mz_base.specs.declared.fault.Span.{Span}
 use Rattle.mz_cursor.specs.Look.{is_sym}
@@ -140,10 +140,6 @@ as_deep {p = p} {ts = ts} {us = us} {x = x} e h = subst (λ k. Derives k p ts x 
 
 assigned : {d : Dimensions} {k : ℕ} (n : Name) (ts us vs ws : List Token) (v : _) → Next (Ident n) ts us → Next (Sym SEq) us vs → Claim (datum d) k vs v ws → ArePositive d → Derives k (ebnf.item d) ts (record { name = n; span = place ts; at = v.0; value = v.1 }) ws
 assigned {d = d} {k = k} n ts us vs ws v a c h p = subst (λ at. Derives k (ebnf.item d) ts (record { name = n; span = place ts; at = at; value = v.1 }) ws) (sym h.0) (ebnf.assigns n a c (h.1 p))
-
--- nothing is left of a file
-file_ends : {d : Dimensions} {k : ℕ} {ts : List Token} → Claim (file d) k ts [] ts
-file_ends p = ebnf.none
 
 -- The parts
 

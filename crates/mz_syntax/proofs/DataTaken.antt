@@ -9,7 +9,7 @@ use Rattle.mz_lexer.specs.declared.token.Symbol.{Symbol}
 use Rattle.mz_lexer.specs.declared.token.Symbol.TheVariants.{SLParen, SRParen, SLBrack, SRBrack, SLBrace, SRBrace, SLRows, SRRows, SBar, SComma, SSemi, SDots, SAbsent}
 use Rattle.mz_tree.specs.Tree.{Name}
 use Rattle.mz_tree.specs.Data as pure
-use Rattle.mz_tree.specs.Data.{Given, is_name}
+use Rattle.mz_tree.specs.Data.{Given}
 use Rattle.mz_cursor.specs.Tokens.{tok_at, place}
 use Rattle.mz_cursor.specs.Look.{is_sym, symbol_number}
 use Rattle.mz_cursor.specs.Rules.{Reason, syntax, left_out, too_deep, give, look, pass, part}

@@ -10,7 +10,7 @@ use Rattle.mz_lexer.specs.declared.token.Tok.TheVariants.{Word, Sym, Ident, Int,
 use Rattle.mz_lexer.specs.declared.token.Symbol.{Symbol}
 use Rattle.mz_lexer.specs.declared.token.Symbol.TheVariants.{SLParen, SRParen, SLBrack, SRBrack, SLBrace, SRBrace, SLRows, SRRows, SBar, SComma, SSemi, SColon, SColons, SDots, SEq, SAbsent, SConcat}
 use Rattle.mz_tree.specs.Tree as pure
-use Rattle.mz_tree.specs.Tree.{Name, Tree, Generator, Written, Declaration, node, generator, written, no_array, base_bool, base_of, trees, gens}
+use Rattle.mz_tree.specs.Tree.{Name, Tree, Written, generator}
 use Rattle.mz_cursor.specs.Tokens.{place, tok_at, place_or}
 use Rattle.mz_cursor.specs.Look.{is_sym, is_word, symbol_number}
 use Rattle.mz_cursor.specs.Rules.{left_out, give, refuse, leave_out, pass, enter}
@@ -23,11 +23,11 @@ use Rattle.mz_grammar.specs.Operators.{prefix_of, binary_of, is_nonassociative, 
 use Rattle.mz_grammar.specs.Tests.{closes, is_left_out, ident_of, text_of, middle_of, tail_of, ends_row, begins_base, begins_type, ItemKind, an_include, a_constraint, a_solve, an_output, a_predicate, a_test, a_function, an_annotation, an_enum, item_of}
 use Rattle.mz_grammar.specs.Arguments.{awaits_in, takes_where, trees_of, generators_of}
 use Rattle.mz_grammar.specs.Parts
-use Rattle.mz_grammar.specs.Parts.{Operand, name, member, other, at_of, tree_of, Argument, unguarded, guarded, strict, Place, Value}
+use Rattle.mz_grammar.specs.Parts.{Operand, name, member, other, tree_of, Argument, guarded, strict, Place}
 use Rattle.mz_grammar.specs.Model.{Ruled, rule, symbol, opening, word, identifier, behind, head_token, head_word, head_symbol, called, guarded_rest, function_rule, by_expression, item_by}
 use Rattle.mz_syntax.specs.Next.{Next}
 use Rattle.mz_syntax.specs.ModelSyntax as ebnf
-use Rattle.mz_syntax.specs.ModelSyntax.{Ending, closed, with_body, Phrase, Meaning, Derives, DerivesModel, list, optional, term}
+use Rattle.mz_syntax.specs.ModelSyntax.{Ending, Derives, list, term}
 use Rattle.mz_syntax.specs.LeftOut as form
 use Rattle.mz_syntax.specs.LeftOut.{Within, Each, none_yet, one_more, Reached, at_once, one_access, IsLeftOut}
 use Rattle.mz_syntax.proofs.Symbols.{same_symbol, same_word}

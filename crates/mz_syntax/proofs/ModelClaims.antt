@@ -15,7 +15,7 @@ use Rattle.mz_tree.specs.declared.expr.UnOp.{UnOp}
 use Rattle.mz_tree.specs.declared.expr.BinOp.{BinOp}
 use Rattle.mz_tree.specs.declared.expr.BinOp.TheVariants as op
 use Rattle.mz_tree.specs.Tree as pure
-use Rattle.mz_tree.specs.Tree.{Name, Tree, node, links, trees}
+use Rattle.mz_tree.specs.Tree.{Name, Tree, node, links}
 use Rattle.mz_tree.specs.Items.{ItemTree}
 use Rattle.mz_cursor.specs.Tokens.{place, tok_at}
 use Rattle.mz_cursor.specs.Look.{is_sym, symbol_number}

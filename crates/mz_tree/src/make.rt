@@ -2,7 +2,7 @@
 
 ghost use Rattle.std.specs.Prelude.{◌≡◌, IfOk, map};
 ghost use Rattle.std.specs.Option.{option_map};
-ghost use Rattle.mz_tree.specs.Tree.{node, int, bool, absent, text, ident, interp, unary, chain, call, gen_call, access, array, rows, set, array_comp, set_comp, choice, let_in, whole, trees, links, rows_of, branches, parts, gens, lets, maybe, dims};
+ghost use Rattle.mz_tree.specs.Tree.{node, int, bool, absent, text, ident, interp, unary, chain, call, gen_call, access, array, rows, set, array_comp, set_comp, choice, let_in, whole, trees, links, rows_of, branches, parts, gens, lets, maybe};
 ghost use Rattle.mz_tree.specs.Views.{tree, part, generator, let_of, link, branch, tree_row};
 
 use crate::expr::{BinOp, Expr, Form, Gen, LetItem, TextPart, UnOp};

@@ -16,7 +16,7 @@ use Rattle.mz_tree.specs.declared.expr.BinOp.{BinOp}
 use Rattle.mz_tree.specs.declared.expr.Form.TheOpen as open_form
 use Rattle.mz_tree.specs.declared.expr.Form.TheViews.{out-Form, out-LetItem, out-TextPart, out-TypeBase, out-Decl, out-Gen, out-TypeText}
 use Rattle.mz_tree.specs.Tree as pure
-use Rattle.mz_tree.specs.Tree.{Name, Tree, Shape, Maybe, Trees, Links, Rows, Branches, Part, Parts, Generator, Gens, Let, Lets, Declaration, Written, Based, Dims, Bases}
+use Rattle.mz_tree.specs.Tree.{Name, Rows, Let}
 use Rattle.mz_tree.specs.Kinds.{OfTree, OfShape, OfMaybe, OfTrees, OfLinks, OfRows, OfBranches, OfPart, OfParts, OfGenerator, OfGens, OfLet, OfLets, OfDeclaration, OfWritten, OfBased, OfDims, OfBases}
 use Rattle.mz_tree.specs.Views.{tree, part, generator, let_of, declaration, written, based, link, branch, tree_row, form_seen, let_seen, part_seen, base_seen}
 use Rattle.mz_tree.proofs.Looks.{tree_is, shape_is, let_is, part_is, base_is, declaration_is, generator_is, written_is}

@@ -1,5 +1,5 @@
 -- Scopes with more names, and what holds after what ends well.
-use Rattle.std.proofs.Common.{◌≡◌, Result, Ok, Err, OnOk, sym, subst}
+use Rattle.std.proofs.Common.{◌≡◌, sym, subst}
 use Rattle.mz_checks.specs.Models.{Env}
 use Rattle.mz_context.specs.Extending.{Extends, itself, one_more}
 
@@ -10,7 +10,3 @@ extends_on p (one_more n t q) = one_more n t (extends_on p q)
 -- a scope that was kept extends what it extended
 pub extends_kept : {a b c : Env} → Extends a b → c ≡ b → Extends a c
 extends_kept {a} p e = subst (Extends a) (sym e) p
-
-pub on_ok : {T E : Type 0} {P : Type 0} (r : Result T E) → P → OnOk r P
-on_ok (Ok x) p = p
-on_ok (Err e) p = tt

@@ -15,7 +15,7 @@ use Rattle.mz_tree.specs.declared.expr.Gen.{Gen}
 use Rattle.mz_tree.specs.declared.expr.TypeText.{TypeText}
 use Rattle.mz_tree.specs.declared.expr.BinOp.{BinOp}
 use Rattle.mz_tree.specs.declared.expr.Form.TheOpen as open_form
-use Rattle.mz_tree.specs.declared.expr.Form.TheViews.{out-Form, out-LetItem, out-TextPart, out-TypeBase, out-Decl, out-Gen, out-TypeText}
+use Rattle.mz_tree.specs.declared.expr.Form.TheViews.{out-LetItem, out-TextPart, out-TypeBase, out-Decl, out-Gen, out-TypeText}
 use Rattle.mz_tree.specs.Views.{tree, written}
 use Rattle.mz_checks.specs.Tests.{Test, ◌>>=◌, ◌>>◌, refuse}
 use Rattle.mz_checks.specs.Models.{Model, Env, bind}
@@ -105,9 +105,6 @@ form_layer m (open_form.SetComp e gs) at env = comp_of at true (map (gen_by m) g
 form_layer m (open_form.If bs e) at env = choice_of at (map (branch_by m) bs.items) (option_map (λ x. expression m x.value) e) env
 form_layer m (open_form.Let ls e) at env = let_of at (map (item_by m) ls.items) (expression m e.value) env
 form_layer m open_form.Whole at env = refuse kind.LeftOut at
-
-abbrev pub form_by : Model → Form → Span → Check
-form_by m f at env = form_layer m (out-Form f) at env
 
 -- a call of a name with a comprehension
 abbrev pub called_over : Model → Span → Name → List typed.Gen → typed.Tree → Test typed.Tree

@@ -5,7 +5,6 @@ ghost use Rattle.std.specs.Option.{option_map};
 ghost use Rattle.mz_core.specs.Types.{plain_type};
 ghost use Rattle.mz_core.specs.Tree.{declares};
 ghost use Rattle.mz_core.specs.TreeViews.{tree, declared_type};
-ghost use Rattle.mz_checks.specs.Tests.{loop};
 ghost use Rattle.mz_checks.specs.Models.{bind};
 ghost use Rattle.mz_checks.specs.Comprehensions.{bind_next, bind_names};
 ghost use Rattle.mz_checks.specs.Lets.{new_name, decl_of};

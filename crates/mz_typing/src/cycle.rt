@@ -1,7 +1,6 @@
 // The typing of an expression: its parts are typed from left to right, and then its own premises are tested.
 
 ghost use Rattle.std.specs.Prelude.{◌≡◌, ◌<◌, [], All, OnOk, length, map};
-ghost use Rattle.std.specs.Option.{option_map};
 ghost use Rattle.mz_core.specs.TreeViews.{tree, declared_type};
 ghost use Rattle.mz_tree.specs.Views.{tree as source};
 ghost use Rattle.mz_tree.specs.declared.expr.Form.TheViews.{out-Form, out-LetItem, out-TextPart, out-TypeBase};
@@ -21,7 +20,7 @@ use crate::ending::{end_call, end_chain, end_comprehension, end_let};
 use crate::laws::form_is_named;
 use crate::texts::{group_right, prefixed, shown, texted};
 use crate::written::absent_type;
-use mz_base::{Kind, Name, Span, Stop};
+use mz_base::{Kind, Span, Stop};
 use mz_bindings::{TypedBase, TypedGen, TypedItem, declared, running_type};
 use mz_callees::{Chained, Operand, appended, applied};
 use mz_context::{Context, Scope, bare_call, named};

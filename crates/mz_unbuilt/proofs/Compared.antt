@@ -13,7 +13,7 @@ use Rattle.mz_core.specs.declared.tree.CoreForm.TheViews.{out-CoreForm}
 use Rattle.mz_core.specs.Types.{PlainType, plain_type}
 use Rattle.mz_core.specs.Coercions.{PathLink}
 use Rattle.mz_core.specs.Tree as pure
-use Rattle.mz_core.specs.Tree.{Tree, Shape, Step, Steps, layer, shape_of, type_of, inner_tree, root_coercions, all_steps}
+use Rattle.mz_core.specs.Tree.{Tree, Shape, Step, layer, shape_of, type_of, inner_tree, root_coercions}
 use Rattle.mz_core.specs.TreeViews.{tree, step, form_layer, inner_in}
 use Rattle.mz_core.specs.Paths.{path_links}
 use Rattle.mz_core.proofs.TreeLaws.{layer_tree, type_of_tree, inner_tree_is}

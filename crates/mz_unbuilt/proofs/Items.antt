@@ -10,7 +10,7 @@ use Rattle.mz_core.specs.declared.program.CoreGoal.{CoreGoal}
 use Rattle.mz_core.specs.declared.program.CoreGoal.TheVariants as goals
 use Rattle.mz_core.specs.declared.program.Program.{Program}
 use Rattle.mz_core.specs.Tree as pure
-use Rattle.mz_core.specs.Tree.{Tree, Step, layer, shape_of, place_of}
+use Rattle.mz_core.specs.Tree.{Tree, layer, shape_of, place_of}
 use Rattle.mz_core.specs.TreeViews.{tree, step, decl, form_layer}
 use Rattle.mz_core.specs.Program.{Function, function, goal, plain_program}
 use Rattle.mz_core.proofs.TreeLaws.{layer_tree, place_of_tree}

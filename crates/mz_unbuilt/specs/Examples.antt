@@ -6,7 +6,7 @@ use Rattle.mz_core.specs.declared.types.Base.TheVariants as base
 use Rattle.mz_core.specs.declared.types.Coercion.TheVariants as coercion
 use Rattle.mz_core.specs.Types.{PlainType}
 use Rattle.mz_core.specs.Program.{Function, PlainProgram, Goal, satisfy, minimize}
-use Rattle.mz_core.specs.Tree.{Tree, Decl, Step, declares}
+use Rattle.mz_core.specs.Tree.{Tree, Decl, declares}
 use Rattle.mz_core.specs.Tree as tree
 use Rattle.mz_meaning.specs.Operations.{row_table}
 use Rattle.mz_meaning.specs.Chains.{level_table, innermost_of}

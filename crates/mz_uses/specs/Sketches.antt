@@ -1,11 +1,11 @@
 -- What declarations and functions use: their types apart from the value or the body.
-use Rattle.std.specs.Prelude.{◌≡◌, ℕ, List, [], ◌∷◌, ◌++◌, Bool, true, false, refl, map}
+use Rattle.std.specs.Prelude.{◌≡◌, ℕ, List, [], ◌∷◌, ◌++◌, Bool, true, false, refl}
 use Rattle.mz_base.specs.declared.fault.Span.{Span}
 use Rattle.mz_tree.specs.Tree as pure
-use Rattle.mz_tree.specs.Tree.{Name, Tree, Declaration}
+use Rattle.mz_tree.specs.Tree.{Name, Declaration}
 use Rattle.mz_tree.specs.Items.{FunctionTree}
 use Rattle.mz_uses.specs.declared.name_use.NameUse.{NameUse}
-use Rattle.mz_uses.specs.declared.name_use.NameUse.TheVariants.{Mention, Call}
+use Rattle.mz_uses.specs.declared.name_use.NameUse.TheVariants.{Mention}
 use Rattle.mz_uses.specs.declared.sketch.Sketch.{Sketch as CodeSketch}
 use Rattle.mz_uses.specs.Uses.{in_tree, in_maybe, in_written, with_declaration}
 

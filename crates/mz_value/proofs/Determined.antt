@@ -12,9 +12,6 @@ first_least r rs x c h = let b : Begins r.0 (r ∷ rs) = omega (arith, ints) in 
 has_first : (r : Range) (rs : List Range) → AreCanonical (r ∷ rs) → Has (r ∷ rs) r.0
 has_first r rs c = inl (omega (arith, ints), c.0)
 
-has_last : (r : Range) (rs : List Range) → AreCanonical (r ∷ rs) → Has (r ∷ rs) r.1
-has_last r rs c = inl (c.0, omega (arith, ints))
-
 -- the integer above a range is missing
 gap_missing : (r : Range) (rs : List Range) → AreCanonical (r ∷ rs) → Has (r ∷ rs) (r.1 +ℤ pos 1) → ⊥
 gap_missing r rs c (inl p) = omega (arith, ints)

@@ -1,6 +1,6 @@
 -- Elements with commas between them.
 use Rattle.std.proofs.Common.{◌≡◌, ℕ, suc, List, [], ◌∷◌, ◌++◌, map, refl, sym, ap, ◌∙◌, append_assoc, arith}
-use Rattle.std.proofs.lemmas.List.{append-nil, map-append}
+use Rattle.std.proofs.lemmas.List.{map-append}
 use Rattle.std.proofs.lemmas.List.Concat.{flat_map-append}
 use Rattle.std.proofs.lemmas.Int.{ints}
 use Rattle.std.specs.Prelude.{ℤ, pos, nat_abs, ◌+ℤ◌, ◌-ℤ◌, ◌<ℤ◌, ◌≤ℤ◌, codes}
@@ -28,16 +28,10 @@ above_next f n m hi below next =
     let count : nat_abs (hi -ℤ n) ≡ suc (nat_abs (hi -ℤ m)) = grind (arith, ints) in
     rw (count, next) refl
 
-above_none : (f : ℤ → List ℕ) (n hi : ℤ) → n ≤ℤ hi → hi ≤ℤ n → above f n hi ≡ []
-above_none f n hi low high = let none : nat_abs (hi -ℤ n) ≡ 0 = grind (arith, ints) in rw none refl
-
 -- one integer more
 pub above_more : (f : ℤ → List ℕ) (n m hi : ℤ) (old comma new whole : List ℕ) → n <ℤ hi → m ≡ n +ℤ pos 1 → comma ≡ old ++ codes ", " → new ≡ comma ++ f m → old ++ above f n hi ≡ whole → new ++ above f m hi ≡ whole
 above_more f n m hi old comma new whole below next first second kept =
     ap (λ t. t ++ above f m hi) (second ∙ ap (λ t. t ++ f m) first ∙ append_assoc old (codes ", ") (f m)) ∙ append_assoc old (codes ", " ++ f m) (above f m hi) ∙ ap (λ t. old ++ t) (sym (above_next f n m hi below next)) ∙ kept
-
-pub above_all : (f : ℤ → List ℕ) (n hi : ℤ) (made whole : List ℕ) → n ≤ℤ hi → hi ≤ℤ n → made ++ above f n hi ≡ whole → made ≡ whole
-above_all f n hi made whole low high kept = sym (append-nil made) ∙ ap (λ t. made ++ t) (sym (above_none f n hi low high)) ∙ kept
 
 -- the ranges' elements, with a comma before each range
 abbrev pub ranges_after_commas : (ℤ → List ℕ) → List Range → List ℕ

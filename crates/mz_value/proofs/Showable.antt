@@ -2,11 +2,10 @@
 use Rattle.std.proofs.Common.{◌≡◌, ℕ, zero, suc, ◌-◌, ◌<◌, ◌≤◌, List, [], ◌∷◌, ◌++◌, length, map, get_or, take, drop, sym, subst, ap, ◌∙◌, append_assoc, add-one, ◌+◌, arith}
 use denote.Param.Weighed.{most, at_most}
 use Rattle.std.proofs.lemmas.List.{take_all, append-nil}
-use Rattle.std.proofs.lemmas.Int.{ints}
 use Rattle.std.specs.Prelude.{ℤ, ◌≤ℤ◌, codes}
 use Rattle.std.specs.List.{flat_map}
 use Rattle.mz_value.specs.declared.shown.Spelling.{Spelling}
-use Rattle.mz_value.specs.declared.shown.Spelling.TheVariants.{Decimal, Names}
+use Rattle.mz_value.specs.declared.shown.Spelling.TheVariants.{Names}
 use Rattle.mz_value.specs.Ranges.{Range}
 use Rattle.mz_value.specs.Contents.{Content, contents}
 use Rattle.mz_value.specs.Shown as shown
@@ -21,10 +20,6 @@ pub spelled_at : (s : Spelling) (rs : List Range) (i : ℕ) (d : Range) → AreS
 spelled_at s [] i d all l = absurd (omega arith)
 spelled_at s (r ∷ rs) zero d all l = all.0
 spelled_at s (r ∷ rs) (suc i) d all l = spelled_at s rs i d all.1 (omega arith)
-
-pub spelled_between : (s : Spelling) (lo hi n : ℤ) → IsSpelled s lo → IsSpelled s hi → lo ≤ℤ n → n ≤ℤ hi → IsSpelled s n
-spelled_between Decimal lo hi n a b low high = tt
-spelled_between (Names labels) lo hi n a b low high = (omega (arith, ints), omega (arith, ints))
 
 pub listed_first : (f : ℤ → List ℕ) (rs : List Range) (d : Range) → 1 ≤ length rs → listed (map f (flat_map range_elements rs)) ≡ listed (map f (range_elements (get_or rs 0 d))) ++ ranges_after_commas f (take (length rs - 1) (drop 1 rs))
 listed_first f [] d some = absurd (omega arith)

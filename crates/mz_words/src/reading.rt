@@ -2,7 +2,7 @@
 
 ghost use Rattle.std.specs.Prelude.{◌≡◌, IfOk};
 ghost use Rattle.mz_command.specs.Commands.{files_command};
-ghost use Rattle.mz_command.specs.Found.{Answers, HasLimits, text_of, words_found, words_in};
+ghost use Rattle.mz_command.specs.Found.{Answers, HasLimits, text_of, words_in};
 ghost use Rattle.mz_words.specs.Requests.{AskedWithinLimits, IsWithinLimits, asked, asked_of, request_of, settings, settings_found, settings_of};
 
 use crate::request::{DEFAULT_BUDGET, DEFAULT_INT_RANGE, Options, Request};

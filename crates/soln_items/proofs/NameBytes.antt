@@ -122,6 +122,3 @@ shape_optional old mid new k f one two opt is_one is_two a b q =
 pub shape_plain : (old new : List ℕ → Option Slot) (k : ℕ) (f : Form) (one : List ℕ) → f.opt ≡ false → one ≡ f.label → ((q : List ℕ) → new q ≡ or_else (old q) (output_named q ((one, slot k Value) ∷ []))) → (q : List ℕ) → new q ≡ or_else (old q) (output_named q (outputs_of k f))
 shape_plain old new k f one opt is_one a q =
     a q ∙ ap (λ n. or_else (old q) (output_named q ((n, slot k Value) ∷ []))) is_one ∙ rw opt refl
-
-pub empty_finds : {B : Type 0} (f : List ℕ → Option B) → f ≡ (λ _. None) → (q : List ℕ) → f q ≡ None
-empty_finds f e q = ap (λ g. g q) e

@@ -1,9 +1,9 @@
 // Tokens of an item. Each function looks at the first bytes, and gives the bytes after what it reads.
 
-ghost use Rattle.std.specs.Prelude.{◌≡◌, ◌<◌, ◌≤◌, ◌≤ℤ◌, ◌+◌, ◌^◌, pos, neg_ℤ, take, drop, length, IfSome, IfOk, codes};
+ghost use Rattle.std.specs.Prelude.{◌≡◌, ◌<◌, ◌≤◌, ◌≤ℤ◌, ◌+◌, ◌^◌, neg_ℤ, length, IfSome, IfOk};
 ghost use Rattle.std.specs.Option.{option_map};
 ghost use Rattle.std.specs.List.{prefix_len};
-ghost use Rattle.soln_items.specs.Bytes.{is_blank, is_digit, is_letter, is_name_byte, first_byte};
+ghost use Rattle.soln_items.specs.Bytes.{is_blank, is_digit, is_letter, is_name_byte};
 ghost use Rattle.soln_items.specs.Items.{after_blanks, after, is_empty, past, number_from, digits_at, minus_at, plain_at, int_at, name_at, truth_at};
 ghost use Rattle.soln_items.specs.Gives.{Gives, with_rest};
 

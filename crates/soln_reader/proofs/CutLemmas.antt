@@ -29,9 +29,6 @@ lt_of m n h = search (rules, tests)
 of_lt : (m n : ℕ) → ltb m n ≡ true → m < n
 of_lt m n h = search (rules, tests)
 
-not_lt : (m n : ℕ) → n ≤ m → ltb m n ≡ false
-not_lt m n h = search (rules, tests)
-
 first_more : (bs more : List ℕ) → line_len bs < length bs → first_line (bs ++ more) ≡ first_line bs
 unfolding first_line
 first_more bs more h =

@@ -3,17 +3,16 @@ use Rattle.std.proofs.Common.{◌≡◌, ℕ, ◌<◌, ◌≤◌, ◌+◌, ◌-�
 use Rattle.std.proofs.lemmas.Bool.{false≢true, cases_lt}
 use Rattle.soln_reader.proofs.LineLemmas.{ended_line, last_line, rest_slice}
 use Rattle.mz_value.specs.declared.value.Shape.{Shape}
-use Rattle.std.proofs.lemmas.List.{drop-drop, length-drop}
+use Rattle.std.proofs.lemmas.List.{drop-drop}
 use Rattle.soln_items.specs.Forms.{Form, forms}
 use Rattle.soln_reader.specs.Blocks.{Block, Given}
-use Rattle.soln_reader.specs.Stream.{Place, next_place, Event, Outcome, leaves, gives, is_bad, Passes, no_line, a_line, line_len, has_line, after_line, line_outcome}
+use Rattle.soln_reader.specs.Stream.{Place, next_place, Event, leaves, gives, is_bad, Passes, no_line, a_line, line_len, has_line, after_line, line_outcome}
 use Rattle.soln_reader.specs.Reader.{State, Answers, bad_line, GivesEvent, Needs, Ends, IsFirstBad, a_bad_line, left_open, FindsBad, first}
 use Rattle.soln_reader.specs.declared.next.Next.{Next}
 use Rattle.soln_reader.specs.declared.next.Next.TheVariants as next
 use Rattle.soln_reader.specs.declared.walk.Stop.{Stop}
 use Rattle.soln_reader.specs.declared.walk.Stop.TheVariants as stop
-use Rattle.soln_reader.specs.StepsLines.{StepsOver}
-use Rattle.soln_reader.specs.StepsWalk.{WalksTo, WalksOver, Walks, Untouched, is_short, place_at}
+use Rattle.soln_reader.specs.StepsWalk.{WalksTo, WalksOver, Walks, Untouched, place_at}
 use Rattle.soln_reader.specs.StepsSettle.{Leaves, RunsOut, Settles, IsSeen}
 
 -- one more line passes
@@ -22,25 +21,6 @@ passes_more fs ended p bs q from b no_line line out = a_line line out no_line
 passes_more fs ended p bs q from b (a_line one leaves_it rest) line out = a_line one leaves_it (passes_more fs ended _ _ q from b rest line out)
 
 -- where a walk ends
-
-pub walks_to : (fs : List Form) (ended : Bool) (lines : ℕ) (b0 : Block) (bs : List ℕ) (passed at n : ℕ) (b : Block) (o : Outcome) (cs : List ℕ) → Passes fs ended (place_at lines b0) bs (place_at passed b) (drop at bs) → cs ≡ drop at bs → has_line ended cs ≡ true → line_outcome fs b cs ≡ o → StepsOver cs n → WalksTo fs ended lines b0 bs o (passed + 1) (at + n)
-walks_to fs ended lines b0 bs passed at n b o cs before is line out over = record {
-  before = place_at passed b;
-  from = drop at bs;
-  passed = before;
-  line = ap (has_line ended) (sym is) ∙ line;
-  outcome = ap (line_outcome fs b) (sym is) ∙ out;
-  counted = refl;
-  rest = sym (drop-drop n at bs) ∙ ap (drop n) (sym is) ∙ over.rest ∙ ap after_line is;
-}
-
-pub walks_over : (fs : List Form) (ended : Bool) (lines : ℕ) (b0 : Block) (bs : List ℕ) (passed at : ℕ) (b new : Block) → Passes fs ended (place_at lines b0) bs (place_at passed b) (drop at bs) → new ≡ b → WalksOver fs ended lines b0 bs new passed at
-walks_over fs ended lines b0 bs passed at b new before is =
-    let P : Block → Type 0 = λ c. Passes fs ended (place_at lines b0) bs (place_at passed c) (drop at bs) in
-    record { passed = subst P (sym is) before }
-
-pub over_within : (bs cs : List ℕ) (at n : ℕ) → at ≤ length bs → cs ≡ drop at bs → StepsOver cs n → (at + n ≤ length bs) × (0 < n)
-over_within bs cs at n within is over = let P : List ℕ → Type 0 = λ ds. n ≤ length ds in (omega (arith, within, subst P is over.within, length-drop at bs), over.some)
 
 abbrev pub held : List Form → List ℕ → ℕ → Block → State
 held fs bs n b = record { forms = fs; bytes = bs; lines = n; block = b; bad = None }
@@ -108,21 +88,6 @@ to_open fs bs at taken lines last b gs w none =
     let nil : drop (at + taken) bs ≡ [] = sym (rest_is bs at taken) ∙ nothing_left (drop taken (drop at bs)) none in
     let P : List ℕ → Type 0 = λ cs. Passes fs true (place_at lines b) (drop at bs) (place_at last (Some gs)) cs in
     first [] refl (left_open (place_at last (Some gs)) (subst P nil (over_at fs true bs at taken lines last b (Some gs) w)) refl refl) (ap (λ cs. failed fs cs last) nil)
-
--- what holds where memory ran out matters there alone
-pub long_walk : (fs : List Form) (ended : Bool) (lines : ℕ) (b : Block) (bs : List ℕ) (new : Block) (s : Stop) (last taken : ℕ) (short other : Type 0) → is_short s ≡ false → Walks fs ended lines b bs new s last taken short → Walks fs ended lines b bs new s last taken other
-long_walk fs ended lines b bs new (stop.Solved a) last taken short other e w = w
-long_walk fs ended lines b bs new (stop.Marked m) last taken short other e w = w
-long_walk fs ended lines b bs new stop.Bad last taken short other e w = w
-long_walk fs ended lines b bs new stop.NoLine last taken short other e w = w
-long_walk fs ended lines b bs new stop.Memory last taken short other e w = absurd (false≢true (sym e))
-
-pub short_walk : (fs : List Form) (ended : Bool) (lines : ℕ) (b : Block) (bs : List ℕ) (new : Block) (s : Stop) (last taken : ℕ) (short : Type 0) → is_short s ≡ true → Walks fs ended lines b bs new s last taken short → short
-short_walk fs ended lines b bs new stop.Memory last taken short e w = w
-short_walk fs ended lines b bs new (stop.Solved a) last taken short e w = absurd (false≢true e)
-short_walk fs ended lines b bs new (stop.Marked m) last taken short e w = absurd (false≢true e)
-short_walk fs ended lines b bs new stop.Bad last taken short e w = absurd (false≢true e)
-short_walk fs ended lines b bs new stop.NoLine last taken short e w = absurd (false≢true e)
 
 -- where no whole line is left, there is no newline
 pub no_newline : (ended : Bool) (bs : List ℕ) → has_line ended bs ≡ false → length bs ≤ line_len bs

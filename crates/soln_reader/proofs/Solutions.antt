@@ -100,18 +100,6 @@ solution_fails f h ss gs k s g prefix whole bs bg is ig so_far e =
 
 -- nothing was given for the first shape
 
-none_solved : (f : Form) → solved f nothing_given ≡ None
-unfolding solved
-none_solved f = refl
-
-pub nothing_solved : (fs : List Form) → 0 < length fs → solution fs (nothing_for fs) ≡ None
-nothing_solved [] h = absurd (omega arith)
-nothing_solved (f ∷ fs) h = solution_none f fs nothing_given (nothing_for fs) (none_solved f)
-
-pub nothing_asked : (fs : List Form) (gs : List Given) → length fs ≤ 0 → solution fs gs ≡ Some []
-nothing_asked [] gs h = solution_nil gs
-nothing_asked (f ∷ fs) gs h = absurd (omega arith)
-
 some_short : {X : Type 0} (f : X → Content) (ds : List (List Range)) (os xs : List X) (k : ℕ) → min (min (length ds) (length os)) (length xs) ≤ k → (length (drop k ds) ≤ 0) ⊎ ((length (drop k (map f os)) ≤ 0) ⊎ (length (drop k (map f xs)) ≤ 0))
 some_short f ds os xs k all = elim (cases_lt k (length ds)) [
   | inr p ↦ inl (simp length-drop (omega arith))
@@ -147,13 +135,7 @@ pub copied_step_at : {X : Type 0} (f : X → Content) (xs : List X) (k : ℕ) (x
 copied_step_at f xs k x prefix more y below is same pushed so_far =
     copied_step f xs k x prefix more below (pushed ∙ ap (λ z. prefix ++ z ∷ []) (sym (some_same (f x) y same) ∙ ap f is)) so_far
 
-pub copied_done : {X : Type 0} (f : X → Content) (xs : List X) (k : ℕ) (prefix : List Content) → length xs ≤ k → prefix ++ drop k (map f xs) ≡ map f xs → map f xs ≡ prefix
-copied_done f xs k prefix all so_far = sym so_far ∙ ap (λ ys. prefix ++ ys) (drop_all k (map f xs) (simp length-map all)) ∙ append-nil prefix
-
 -- what is given for nothing yet
-
-nothing_here : (fs : List Form) → map (λ (f : Form). nothing_given) fs ≡ nothing_for fs
-nothing_here fs = refl
 
 nothing_more : {X : Type 0} (form : X → Form) (xs : List X) (k : ℕ) → k < length xs → nothing_for (take (k + 1) (map form xs)) ≡ nothing_for (take k (map form xs)) ++ nothing_given ∷ []
 nothing_more form [] k h = absurd (omega arith)

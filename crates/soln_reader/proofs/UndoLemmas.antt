@@ -1,19 +1,19 @@
 -- What was put into a block, taken out again.
-use Rattle.std.proofs.Common.{◌≡◌, ℕ, zero, suc, ◌<◌, ◌≤◌, List, [], ◌∷◌, ◌++◌, length, map, get_or, set, true, false, refl, sym, ap, ◌∙◌, arith, Option, Some, None, is_some, Result, Ok, Err}
+use Rattle.std.proofs.Common.{◌≡◌, ℕ, zero, suc, ◌<◌, ◌≤◌, List, [], ◌∷◌, ◌++◌, length, map, get_or, set, true, false, refl, sym, ap, ◌∙◌, arith, Option, Some, None, Result, Ok, Err}
 use Rattle.std.specs.Prelude.{slice_get, slice_set, OnOk}
 use Rattle.soln_items.specs.Gives.{Puts}
 use Rattle.soln_items.specs.declared.miss.Miss.{Miss}
 use Rattle.std.specs.Option.{option_map}
-use Rattle.std.proofs.lemmas.List.{map-set, length-map}
+use Rattle.std.proofs.lemmas.List.{map-set}
 use Rattle.std.proofs.lemmas.Bool.{false≢true}
-use Rattle.std.proofs.lemmas.Option.{slice_get-map, slice_get-get_or, slice_get_past}
+use Rattle.std.proofs.lemmas.Option.{slice_get-map, slice_get-get_or}
 use Rattle.soln_items.specs.declared.outputs.Part.{Part}
 use Rattle.soln_items.specs.declared.outputs.Part.TheVariants.{Occurs, Value}
 use Rattle.soln_items.specs.declared.outputs.Slot.{Slot}
 use Rattle.soln_items.specs.Items.{choose, Elements, ◌>>=◌}
 use Rattle.soln_items.specs.Forms.{Form}
 use Rattle.soln_reader.specs.Blocks.{Given, Block, put_in, put, given_in}
-use Rattle.soln_reader.specs.StepsUndo.{cleared_in, cleared, undone, Undo, Restores, cleared_block}
+use Rattle.soln_reader.specs.StepsUndo.{cleared_in, cleared, undone, Undo, Restores}
 
 -- one slot
 
@@ -118,33 +118,9 @@ restores_more ss s (Some gs) None new r u = absurd r
 restores_more ss s (Some gs) (Some ms) None r u = absurd u
 restores_more ss s (Some gs) (Some ms) (Some ns) r u = undone_more ss s ns ∙ ap (undone ss) u ∙ r
 
-pub restores_cleared : (ss : List Slot) (s : Slot) (before mid new : Block) → Restores ss before mid → Undo (Some s) mid new → Restores ss before (cleared_block s new)
-restores_cleared ss s None mid new r u = tt
-restores_cleared ss s (Some gs) None new r u = absurd r
-restores_cleared ss s (Some gs) (Some ms) None r u = absurd u
-restores_cleared ss s (Some gs) (Some ms) (Some ns) r u = ap (undone ss) u ∙ r
-
--- a block that wasn't open, or was
-pub restored_none : (before : Block) → false ≡ is_some before → None ≡ before
-restored_none None e = refl
-restored_none (Some gs) e = absurd (false≢true e)
-
-pub restored_shut : (ss : List Slot) (before now : Block) → true ≡ is_some before → now ≡ None → Restores ss before now → now ≡ before
-restored_shut ss None now e is r = absurd (false≢true (sym e))
-restored_shut ss (Some gs) None e is r = absurd r
-restored_shut ss (Some gs) (Some hs) e is r = absurd (cc)
-
-pub restored_open : (ss : List Slot) (before : Block) (hs ns : List Given) → true ≡ is_some before → Restores ss before (Some hs) → ns ≡ undone ss hs → Some ns ≡ before
-restored_open ss None hs ns e r is = absurd (false≢true (sym e))
-restored_open ss (Some gs) hs ns e r is = ap Some (is ∙ r)
-
 -- a slot at its place in the code's list
 pub clears_at : {X : Type 0} (view : X → Given) (s : Slot) (gs : List X) (g new : X) → s.shape < length gs → g ≡ get_or gs s.shape g → view new ≡ cleared_in s.part (view g) → map view (set gs s.shape new) ≡ cleared s (map view gs)
 unfolding cleared
 clears_at view s gs g new below is fits =
     let got : slice_get (map view gs) s.shape ≡ Some (view g) = slice_get-map view gs s.shape ∙ ap (option_map view) (slice_get-get_or gs s.shape g below ∙ ap Some (sym is)) in
     map-set view gs s.shape new ∙ rw got (ap (set (map view gs) s.shape) fits)
-
-pub clears_past : {X : Type 0} (view : X → Given) (s : Slot) (gs : List X) → length gs ≤ s.shape → map view gs ≡ cleared s (map view gs)
-unfolding cleared
-clears_past view s gs h = rw (slice_get_past (map view gs) s.shape (simp length-map h)) refl

@@ -46,14 +46,6 @@ has_line ended bs = has_newline bs || (is_too_long bs || (ended && nat_lt 0 (len
 
 -- what a line says
 
-abbrev pub mark_text : Mark → List ℕ
-mark_text Complete = codes "=========="
-mark_text Unsatisfiable = codes "=====UNSATISFIABLE====="
-mark_text Unknown = codes "=====UNKNOWN====="
-mark_text Unbounded = codes "=====UNBOUNDED====="
-mark_text UnsatOrUnbounded = codes "=====UNSATorUNBOUNDED====="
-mark_text Error = codes "=====ERROR====="
-
 unfoldable pub mark_of : List ℕ → Option Mark
 mark_of line =
     if bytes_eq line (codes "==========") then Some Complete else

@@ -1,12 +1,12 @@
 // The open block: what its items gave, and the solution that a whole block is.
 
-ghost use Rattle.std.specs.Prelude.{◌≡◌, ◌++◌, ◌∷◌, [], IfOk, OnOk, map, Some, None, length, option_and_then};
+ghost use Rattle.std.specs.Prelude.{◌≡◌, ◌++◌, ◌∷◌, [], OnOk, map, Some, None};
 ghost use Rattle.std.specs.Option.{option_map};
 ghost use Rattle.mz_value.specs.Contents.{content};
 ghost use Rattle.soln_items.specs.Contents.{content_of, contents_of};
 ghost use Rattle.soln_items.specs.Forms.{form, forms};
 ghost use Rattle.soln_items.specs.Items.{is_none};
-ghost use Rattle.soln_reader.specs.Blocks.{is_first, is_least, is_false, optional, optional_all, only, whole, elements_of, solved, solution, put_in, put, given_in, nothing_for};
+ghost use Rattle.soln_reader.specs.Blocks.{is_first, is_least, is_false, optional, optional_all, whole, elements_of, solved, solution, put_in, put, given_in, nothing_for};
 ghost use Rattle.soln_reader.specs.StepsUndo.{Undo};
 ghost use Rattle.soln_items.specs.Views.{elements};
 ghost use Rattle.soln_reader.specs.Views.{given, givens, block_of};

@@ -1,10 +1,7 @@
 // What a line says.
 
-ghost use Rattle.std.specs.Prelude.{◌≡◌, ◌<◌, ◌≤◌, IfSome, Some, None, map, length, codes};
+ghost use Rattle.std.specs.Prelude.{◌≡◌, ◌<◌, ◌≤◌, Some, None, length};
 ghost use Rattle.std.specs.Str.{bytes_eq};
-ghost use Rattle.std.specs.List.{prefix_len};
-ghost use Rattle.mz_value.specs.Contents.{content};
-ghost use Rattle.soln_items.specs.Bytes.{is_no_newline, first_byte};
 ghost use Rattle.soln_items.specs.Forms.{forms, outputs_from};
 ghost use Rattle.soln_reader.specs.Stream.{line_len, chopped, mark_of, is_skipped, ends_block, at_block_end, at_item, at_mark, outcome};
 ghost use Rattle.soln_reader.specs.Blocks.{solution, given_in};

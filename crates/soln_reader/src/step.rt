@@ -2,7 +2,7 @@
 
 ghost use Rattle.std.specs.Prelude.{◌≡◌, ◌<◌, ◌≤◌, ◌+◌, ◌&&◌, length, Bool, nat_lt};
 ghost use Rattle.soln_items.specs.Forms.{forms, outputs_from};
-ghost use Rattle.soln_reader.specs.Stream.{Outcome, line_limit, line_len, has_line};
+ghost use Rattle.soln_reader.specs.Stream.{Outcome, line_len};
 ghost use Rattle.soln_reader.specs.Blocks.{Block};
 ghost use Rattle.soln_items.specs.Tables.{Finds};
 ghost use Rattle.soln_reader.specs.StepsLines.{SaysThere, IsStep, Steps};

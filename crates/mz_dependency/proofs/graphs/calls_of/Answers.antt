@@ -1,4 +1,3 @@
-use Rattle.mz_graph.specs.Graph.{graph_of}
 use Rattle.mz_dependency.proofs.Making.{members_after}
 use Rattle.mz_dependency.proofs.graphs.calls_of.Goals as goal
 

@@ -1,4 +1,4 @@
-use Rattle.std.proofs.Common.{◌∙◌, length, Some, ap, sym}
+use Rattle.std.proofs.Common.{◌∙◌, length, Some, ap}
 use Rattle.mz_base.specs.declared.fault.Span.{Span}
 use Rattle.mz_base.specs.declared.fault.Fault.{Fault}
 use Rattle.mz_base.specs.declared.kind.Kind.TheVariants as kind

@@ -1,5 +1,4 @@
 use Rattle.std.proofs.Common.{length, sym, ap, subst}
-use Rattle.mz_tree.specs.Views.{declaration}
 use Rattle.mz_tree.proofs.Looks.{declaration_is}
 use Rattle.mz_checks.specs.Headings.{param_next}
 use Rattle.mz_checks.specs.Passes.{Passes}

@@ -1,6 +1,6 @@
-use Rattle.std.proofs.Common.{◌≡◌, ◌∙◌, Option, OnOk, map, ap, sym, subst}
+use Rattle.std.proofs.Common.{◌≡◌, ◌∙◌, Option, OnOk, ap, sym, subst}
 use Rattle.mz_scoped.specs.Scoped.{scoped_tree}
-use Rattle.mz_type_order.specs.Subjects.{subject, IsOf}
+use Rattle.mz_type_order.specs.Subjects.{IsOf}
 use Rattle.mz_checks.specs.Headings.{Subject}
 use Rattle.mz_context.specs.Known.{known}
 use Rattle.mz_headings.specs.Subjects.{IsNew}

@@ -1,9 +1,7 @@
-use Rattle.std.proofs.Common.{refl, sym, ap, ◌∙◌, arith, ◌≡◌, ◌+◌, ◌++◌, drop, get_or}
-use Rattle.std.specs.List.{flat_map}
+use Rattle.std.proofs.Common.{ap, ◌∙◌, arith, ◌≡◌, ◌+◌, ◌++◌, get_or}
 use Rattle.std.proofs.lemmas.Grind.{get_or_default_zero}
 use Rattle.mz_graph.specs.Graph.{number_of}
 use Rattle.mz_graph.proofs.Membership.{in_at}
-use Rattle.mz_order.specs.StepsLayers.{other}
 use Rattle.mz_order.proofs.Reading.{other_skipped, other_added}
 use Rattle.mz_order.proofs.layers.add_others.Goals as goal
 use Rattle.mz_order.proofs.layers.add_others.Goals.{then-number-own+in_ok-push, else-number-own}

@@ -1,4 +1,4 @@
-use Rattle.std.proofs.Common.{inr, ◌≡◌, ◌<◌, ◌^◌, length, map, subst, ap, sym, ◌∙◌, Some, arith}
+use Rattle.std.proofs.Common.{inr, ◌≡◌, ◌<◌, ◌^◌, length, map, subst, ap, sym, ◌∙◌, arith}
 use Rattle.std.proofs.lemmas.List.{length-map}
 use Rattle.fz_program.specs.declared.program.Arg.{the_lemmas}
 use Rattle.fz_program.specs.declared.program.FzRow.{FzRow}

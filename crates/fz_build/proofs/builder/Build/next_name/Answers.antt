@@ -1,4 +1,4 @@
-use Rattle.std.proofs.Common.{◌≡◌, ap, ◌∙◌, IfOk, string_bytes}
+use Rattle.std.proofs.Common.{◌≡◌, ap, ◌∙◌, string_bytes}
 use Rattle.fz_program.specs.Flat.{Program}
 use Rattle.fz_build.specs.Naming.{introduced_name, next_number}
 use Rattle.fz_build.proofs.Lists.{if_ok_weaker}
