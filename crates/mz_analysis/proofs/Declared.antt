@@ -19,7 +19,7 @@ use Rattle.mz_checks.specs.Headings.{Subject, with_types}
 use Rattle.mz_checks.specs.Checks.{numbered, untyped, Sections, sections, decl_in}
 use Rattle.mz_datum.specs.WithData.{AreNumbered, with_value, with_values, checked_given, checked_with_data}
 use Rattle.mz_datum.proofs.Parted.{parted}
-use Rattle.mz_texts.proofs.Giving.{AllBy, all_indexed, all_mapped, Gives, gives_then, gives_after}
+use Rattle.mz_checks.proofs.Giving.{AllBy, all_indexed, all_mapped, Gives, gives_then, gives_after}
 use Rattle.mz_par.proofs.Programs as par
 use Rattle.mz_par.proofs.Programs.{all_hold}
 use Rattle.mz_check.proofs.Assembling.{EachGives, each_given}

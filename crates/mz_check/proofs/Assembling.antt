@@ -14,7 +14,7 @@ use Rattle.mz_checks.specs.Coerced.{fitted}
 use Rattle.mz_checks.specs.Typing.{check}
 use Rattle.mz_checks.specs.Items.{value_of, with_params, decl, function, constraint, goal, output}
 use Rattle.mz_checks.specs.Checks.{numbered, Sections, sections}
-use Rattle.mz_texts.proofs.Giving.{Gives, gives_after}
+use Rattle.mz_checks.proofs.Giving.{Gives, gives_after}
 use Rattle.mz_datum.specs.WithData.{AreNumbered}
 use Rattle.mz_check.specs.StepsParts.{value_in, body_in, value_of_each, body_of_each, Parts, AreParts}
 use Rattle.mz_check.specs.StepsTaking.{decl_with, function_with, decl_by, function_by, from_number}

@@ -16,7 +16,7 @@ use Rattle.mz_headings.specs.Subjects.{AreNew}
 use Rattle.mz_headings.proofs.New.{all_new}
 use Rattle.mz_check.specs.StepsProgram.{AreTexted}
 use Rattle.mz_check.proofs.Assembling.{sections_numbered}
-use Rattle.mz_texts.proofs.Giving.{Gives}
+use Rattle.mz_checks.proofs.Giving.{Gives}
 use Rattle.mz_check.proofs.Texted.{checked_texted}
 
 -- what stays as types are typed

@@ -1,5 +1,5 @@
 -- Lets and other declarations: what holds of them when their parts are typed.
-use Rattle.std.specs.Prelude.{ℕ, Bool, not, List, Option, Ok}
+use Rattle.std.specs.Prelude.{◌≡◌, ℕ, Bool, false, not, List, Option, Ok, is_none}
 use Rattle.std.specs.List.{list_any}
 use Rattle.mz_base.specs.declared.fault.Span.{Span}
 use Rattle.mz_base.specs.declared.kind.Kind.TheVariants as kind
@@ -32,3 +32,8 @@ let_node at is e = do
   fs ← each item_fitted is
   t ← allowed_at at (made_var (list_any is_var_item is) (type_of e))
   Ok (node at t (let_in (items fs) (coerced e t)))
+
+-- a declaration of a let that is par has a value
+abbrev pub HasValue : Item → Type 0
+HasValue (declares d) = d.ty.ty.var ≡ false → is_none d.value ≡ false
+HasValue (constrains e) = Unit {0}

@@ -6,3 +6,4 @@ pub mod Join
 pub mod Tree
 pub mod TreeViews
 pub mod Program
+pub mod Nodes

@@ -1,6 +1,6 @@
 // A value of a data file for a declaration of some type.
 
-ghost use Rattle.std.specs.Prelude.{◌≡◌, map, IfOk};
+ghost use Rattle.std.specs.Prelude.{◌≡◌, IfOk};
 ghost use Rattle.mz_core.specs.Types.{plain_type};
 ghost use Rattle.mz_core.specs.Tree.{Tree};
 ghost use Rattle.mz_core.specs.TreeViews.{tree};
@@ -16,7 +16,7 @@ use crate::plain::{misfit, plain_tree};
 use mz_base::{Memory, Span, Stop};
 use mz_context::Context;
 use mz_core::{Core, Ix, TypeInst, copy_type, make_type};
-use mz_premises::{dims_of, fitted, is_scalar, list_of};
+use mz_premises::{fitted, is_scalar, list_of};
 use mz_tree::{DataItem, Datum};
 use std::alloc::Global;
 

@@ -1,6 +1,6 @@
 // Values that may be elements of an array: truth values, integers, identifiers, sets, and what is absent.
 
-ghost use Rattle.std.specs.Prelude.{◌≡◌, map, codes};
+ghost use Rattle.std.specs.Prelude.{◌≡◌, map};
 ghost use Rattle.mz_base.specs.Faults.{fault_at};
 ghost use Rattle.mz_base.specs.declared.stop.Stop.TheVariants as stop;
 ghost use Rattle.mz_base.specs.declared.kind.Kind.TheVariants as kind;

@@ -9,34 +9,35 @@ use Rattle.mz_checks.specs.Models.{Model}
 use Rattle.mz_checks.specs.Headings.{Subject, with_types}
 use Rattle.mz_checks.specs.Items.{decl, function, constraint, goal, output}
 use Rattle.mz_checks.specs.Checks.{numbered, untyped, Sections, sections}
-use Rattle.mz_datum.specs.WithData.{given_values, with_value, with_values, checked_given, checked_with_data, ChecksWithData}
+use Rattle.mz_datum.specs.WithData.{with_value, with_values, checked_given, checked_with_data, ChecksWithData}
 use Rattle.mz_datum.proofs.Parted.{parted}
-use Rattle.mz_texts.proofs.Giving.{AllBy, all_both, Gives, gives_then, gives_after}
-use Rattle.mz_par.specs.Nodes.{nodes_in, in_maybe, in_maybes, in_decl, in_type, in_function, in_goal, nodes_of}
+use Rattle.mz_checks.proofs.Giving.{AllBy, all_both, Gives, gives_then, gives_after}
+use Rattle.mz_core.specs.Nodes.{nodes_in, in_maybe, in_maybes, in_decl, in_type, in_function, in_goal, nodes_of}
 use Rattle.mz_par.specs.Par.{RespectsPar}
-use Rattle.mz_par.proofs.Leaves.{IsSound, IsSoundType, IsSoundDecl, items_sound, maybe_sound, maybes_sound}
-use Rattle.mz_par.proofs.Data.{IsSoundGiven, values_sound, decls_sound}
-use Rattle.mz_par.proofs.Models.{IsSoundFunction, IsSoundGoal, AreSoundSections, AreSoundTables, tables_sound, sections_sound}
+use Rattle.mz_checks.proofs.Leaves.{IsKept, IsKeptType, IsKeptDecl, items_kept, maybe_kept, maybes_kept}
+use Rattle.mz_datum.proofs.Models.{IsKeptFunction, IsKeptGoal}
+use Rattle.mz_par.proofs.Nodes.{par_rules}
+use Rattle.mz_par.proofs.Sound.{AreSoundSections, checked_sound}
 use Rattle.mz_par.proofs.Programs.{AreNumbered, decls_numbered, all_hold}
 
 -- ---- the nodes of sections
 
-decl_nodes : (d : Decl) → IsSoundDecl d → AllBy RespectsPar (in_decl d)
-decl_nodes d h = items_sound (declares d ∷ []) (h, tt)
+decl_nodes : (d : Decl) → IsKeptDecl par_rules d → AllBy RespectsPar (in_decl d)
+decl_nodes d h = items_kept par_rules (declares d ∷ []) (h, tt)
 
-type_nodes : (t : DeclaredType) → IsSoundType t → AllBy RespectsPar (in_type t)
-type_nodes t h = all_both RespectsPar (in_maybes (maybes t.index)) (in_maybe (maybe t.set)) (maybes_sound t.index h.0) (maybe_sound t.set h.1)
+type_nodes : (t : DeclaredType) → IsKeptType par_rules t → AllBy RespectsPar (in_type t)
+type_nodes t h = all_both RespectsPar (in_maybes (maybes t.index)) (in_maybe (maybe t.set)) (maybes_kept par_rules t.index h.0) (maybe_kept par_rules t.set h.1)
 
 all_nodes : {A : Type 0} (Q : A → Type 0) (nodes : A → List Tree) → ((x : A) → Q x → AllBy RespectsPar (nodes x)) → (xs : List A) → AllBy Q xs → AllBy RespectsPar (flat_map nodes xs)
 all_nodes Q nodes go [] h = tt
 all_nodes Q nodes go (x ∷ xs) h = all_both RespectsPar (nodes x) (flat_map nodes xs) (go x h.0) (all_nodes Q nodes go xs h.1)
 
-function_nodes : (f : Function) → IsSoundFunction f → AllBy RespectsPar (in_function f)
+function_nodes : (f : Function) → IsKeptFunction par_rules f → AllBy RespectsPar (in_function f)
 function_nodes f h =
-    all_both RespectsPar (flat_map in_decl f.params) (in_type f.result ++ nodes_in f.body) (all_nodes IsSoundDecl in_decl decl_nodes f.params h.0)
+    all_both RespectsPar (flat_map in_decl f.params) (in_type f.result ++ nodes_in f.body) (all_nodes (IsKeptDecl par_rules) in_decl decl_nodes f.params h.0)
     (all_both RespectsPar (in_type f.result) (nodes_in f.body) (type_nodes f.result h.1.0) h.1.1)
 
-goal_nodes : (g : Goal) → IsSoundGoal g → AllBy RespectsPar (in_goal g)
+goal_nodes : (g : Goal) → IsKeptGoal par_rules g → AllBy RespectsPar (in_goal g)
 goal_nodes satisfy h = tt
 goal_nodes (minimize e) h = h
 goal_nodes (maximize e) h = h
@@ -65,27 +66,6 @@ sections_numbered s m =
 from_ok : {A : Type 0} (Q : A → Type 0) (t : Test A) (x : A) → t ≡ Ok x → Gives t Q → Q x
 from_ok Q t x e h = subst (λ r. Gives r Q) e h
 
-valued_sound : (vs : List (ℕ × Tree)) (all : Sections) → AllBy IsSoundGiven vs → AreSoundSections all → AreSoundSections (with_values vs all)
-unfolding with_values
-valued_sound vs all h k = record {
-  decls = decls_sound vs all.decls h k.decls;
-  functions = k.functions;
-  constraints = k.constraints;
-  goal = k.goal;
-  outputs = k.outputs;
-}
-
-given_sound : (s : ScopedTree) (m : Model) (all : Sections) → AreSoundTables m → checked_given s m ≡ Ok all → AreSoundSections all
-given_sound s m all tables e =
-    let p = parted s m all e in
-    let values = from_ok (AllBy IsSoundGiven) (given_values m s.given) p.values p.given (values_sound m s.given) in
-    let before = from_ok AreSoundSections (sections s m) p.before p.typed (sections_sound m tables s) in
-    subst AreSoundSections (sym p.is) (valued_sound p.values p.before values before)
-
-checked_sound : (texts : List (List ℕ)) (s : ScopedTree) (order : List Subject) (all : Sections) → checked_with_data texts s order ≡ Ok all → AreSoundSections all
-unfolding checked_with_data
-checked_sound texts s order all e = given_sound s (with_types s (untyped texts s) order) all (tables_sound texts s order) e
-
 -- a value changes no slot
 slots_stay : (vs : List (ℕ × Tree)) (k : ℕ) (ds : List Decl) → AreNumbered k ds → AreNumbered k (map (with_value vs) ds)
 slots_stay vs k [] h = tt
@@ -111,21 +91,21 @@ by_recursion : {A : Type 0} (Q : A → Type 0) (xs : List A) → AllBy Q xs → 
 by_recursion Q [] h = tt
 by_recursion Q (x ∷ xs) h = (h.0, by_recursion Q xs h.1)
 
-tree_nodes : (e : Tree) → IsSound e → AllBy RespectsPar (nodes_in e)
+tree_nodes : (e : Tree) → IsKept par_rules e → AllBy RespectsPar (nodes_in e)
 tree_nodes e h = h
 
-program_nodes : (all : Sections) (p : PlainProgram) → AreSoundSections all → AllBy IsSoundDecl p.decls → p.functions ≡ all.functions → p.constraints ≡ all.constraints → p.goal ≡ all.goal → p.outputs ≡ all.outputs → AllBy RespectsPar (nodes_of p)
+program_nodes : (all : Sections) (p : PlainProgram) → AreSoundSections all → AllBy (IsKeptDecl par_rules) p.decls → p.functions ≡ all.functions → p.constraints ≡ all.constraints → p.goal ≡ all.goal → p.outputs ≡ all.outputs → AllBy RespectsPar (nodes_of p)
 unfolding nodes_of
 program_nodes all p h ds fs cs g os =
-    all_both RespectsPar (flat_map in_decl p.decls) _ (all_nodes IsSoundDecl in_decl decl_nodes p.decls ds)
-    (all_both RespectsPar (flat_map in_function p.functions) _ (all_nodes IsSoundFunction in_function function_nodes p.functions (subst (AllBy IsSoundFunction) (sym fs) h.functions))
-    (all_both RespectsPar (flat_map nodes_in p.constraints) _ (all_nodes IsSound nodes_in tree_nodes p.constraints (subst (AllBy IsSound) (sym cs) h.constraints))
-    (all_both RespectsPar (in_goal p.goal) _ (goal_nodes p.goal (subst IsSoundGoal (sym g) h.goal))
-    (all_nodes IsSound nodes_in tree_nodes p.outputs (subst (AllBy IsSound) (sym os) h.outputs)))))
+    all_both RespectsPar (flat_map in_decl p.decls) _ (all_nodes (IsKeptDecl par_rules) in_decl decl_nodes p.decls ds)
+    (all_both RespectsPar (flat_map in_function p.functions) _ (all_nodes (IsKeptFunction par_rules) in_function function_nodes p.functions (subst (AllBy (IsKeptFunction par_rules)) (sym fs) h.functions))
+    (all_both RespectsPar (flat_map nodes_in p.constraints) _ (all_nodes (IsKept par_rules) nodes_in tree_nodes p.constraints (subst (AllBy (IsKept par_rules)) (sym cs) h.constraints))
+    (all_both RespectsPar (in_goal p.goal) _ (goal_nodes p.goal (subst (IsKeptGoal par_rules) (sym g) h.goal))
+    (all_nodes (IsKept par_rules) nodes_in tree_nodes p.outputs (subst (AllBy (IsKept par_rules)) (sym os) h.outputs)))))
 
 pub nodes_respect_par : (texts : List (List ℕ)) (s : ScopedTree) (p : PlainProgram) → ChecksWithData texts s p → AllByRecursion RespectsPar (nodes_of p)
 nodes_respect_par texts s p c =
-    let h = checked_sound texts s c.order c.all c.are in
+    let h = from_ok AreSoundSections (checked_with_data texts s c.order) c.all c.are (checked_sound texts s c.order) in
     let numbers = checked_numbered texts s c.order c.all c.are in
-    let decls = all_hold p.decls c.all.decls p.order c.program.ordered c.program.counted numbers IsSoundDecl h.decls in
+    let decls = all_hold p.decls c.all.decls p.order c.program.ordered c.program.counted numbers (IsKeptDecl par_rules) h.decls in
     by_recursion RespectsPar (nodes_of p) (program_nodes c.all p h decls c.program.functions c.program.constraints c.program.goal c.program.outputs)

@@ -1,8 +1,5 @@
 pub mod Nodes
-pub mod Leaves
-pub mod Typed
-pub mod Data
-pub mod Models
+pub mod Sound
 pub mod Programs
 pub mod Laws
 pub mod Examples

@@ -1,42 +1,32 @@
 -- What is par at one node.
-use Rattle.std.proofs.Common.{◌≡◌, Bool, true, false, List, [], ◌∷◌, ◌++◌, Option, Some, None, refl}
+use Rattle.std.proofs.Common.{◌≡◌, true, false, List, [], ◌∷◌, ◌++◌, Option, Some, None, refl}
 use Rattle.std.specs.Prelude.{is_none, if◌then◌else◌}
 use Rattle.std.specs.List.{AllByRecursion}
 use Rattle.mz_base.specs.declared.fault.Span.{Span}
 use Rattle.mz_core.specs.declared.types.Base.{Base}
 use Rattle.mz_core.specs.declared.types.Coercion.{Coercion}
 use Rattle.mz_core.specs.Types.{PlainType}
-use Rattle.mz_core.specs.Coercions.{Raises, bool_to_int, enum_to_int, set_enum_to_set_int, bottom_to_base, set_bottom_to_set, Coerces, to_var, to_opt, to_base, to_array, to_int_index, PathLink, Leads, arrived, goes}
-use Rattle.mz_core.specs.Order.{below}
-use Rattle.mz_core.specs.Paths.{coercions}
+use Rattle.mz_core.specs.Coercions.{Raises, bool_to_int, enum_to_int, set_enum_to_set_int, bottom_to_base, set_bottom_to_set, Coerces, to_var, to_opt, to_base, to_array, to_int_index, PathLink}
 use Rattle.mz_core.specs.Tree as tree
 use Rattle.mz_core.specs.Tree.{Tree, Shape, Item, declares, constrains, items, maybe, if_tree, all_items, type_of, root_coercions}
-use Rattle.mz_core.proofs.PathLaws.{coercions_lead}
-use Rattle.mz_checks.specs.Coerced.{coercions_to}
+use Rattle.mz_tree.proofs.Anything.{AnyName}
 use Rattle.mz_independence.specs.Independence.{keeps_par, AllKeepPar}
-use Rattle.mz_par.specs.Par.{HasValue, RespectsPar}
-use Rattle.mz_texts.proofs.Giving.{AllBy}
+use Rattle.mz_checks.specs.Lets.{HasValue}
+use Rattle.mz_checks.proofs.Rules.{Rules, IsPlain}
+use Rattle.mz_par.specs.Par.{RespectsPar}
+use Rattle.mz_checks.proofs.Giving.{AllBy}
 
 -- ---- nodes that are neither coercions nor lets
 
-abbrev pub IsPlain : Shape → Type 0
-IsPlain (tree.coerce c e) = ⊥
-IsPlain (tree.let_in is e) = ⊥
-IsPlain f = Unit {0}
-
-pub own : (at : Span) (t : PlainType) (f : Shape) → IsPlain f → RespectsPar (tree.node at t f)
-own at t (tree.coerce c e) p = absurd p
-own at t (tree.let_in is e) p = absurd p
-own at t f p = record { tree = λ h. record { node = h; links = tt }; locals = tt }
+pub plain_respects : (at : Span) (t : PlainType) (f : Shape) → IsPlain f → RespectsPar (tree.node at t f)
+plain_respects at t (tree.coerce c e) p = absurd p
+plain_respects at t (tree.let_in is e) p = absurd p
+plain_respects at t f p = record { tree = λ h. record { node = h; links = tt }; locals = tt }
 
 -- ---- coercions: none leads from var to par, and the one to var leads to no par type
 
-abbrev pub Keeps : PlainType → Coercion → PlainType → Type 0
+abbrev Keeps : PlainType → Coercion → PlainType → Type 0
 Keeps t c u = u.var ≡ false → (t.var ≡ false) × (keeps_par c ≡ true)
-
-abbrev pub LinksKeep : PlainType → List PathLink → Type 0
-LinksKeep t [] = Unit {0}
-LinksKeep t (l ∷ ls) = Keeps t l.0 l.1 × LinksKeep l.1 ls
 
 raises_keeps : {c : Coercion} {a b : Base} → Raises c a b → keeps_par c ≡ true
 raises_keeps bool_to_int = refl
@@ -52,25 +42,13 @@ coerces_keeps (to_base t c b r) k = (k, raises_keeps r)
 coerces_keeps (to_array t b v o d e) k = (k, refl)
 coerces_keeps (to_int_index t before after e d) k = (k, refl)
 
-leads_keep : {t u : PlainType} {ls : List PathLink} → Leads t ls u → LinksKeep t ls
-leads_keep (arrived t) = tt
-leads_keep (goes c u s ok rest) = (coerces_keeps s, leads_keep rest)
-
-links_keep : (b : Bool) (t u : PlainType) → below t u ≡ b → LinksKeep t (if b then coercions t u else [])
-links_keep true t u h = leads_keep (coercions_lead t u h)
-links_keep false t u h = tt
-
-pub coercions_keep : (t u : PlainType) → LinksKeep t (coercions_to t u)
-unfolding coercions_to
-coercions_keep t u = links_keep (below t u) t u refl
-
 one_more : (ls : List PathLink) (l : PathLink) → AllKeepPar ls → keeps_par l.0 ≡ true → AllKeepPar (ls ++ l ∷ [])
 one_more [] l h k = (k, tt)
 one_more (x ∷ xs) l h k = (h.0, one_more xs l h.1 k)
 
-pub coercion_respects : (at : Span) (l : PathLink) (e : Tree) → Keeps (type_of e) l.0 l.1 → RespectsPar e → RespectsPar (tree.node at l.1 (tree.coerce l.0 e))
-coercion_respects at l e k h = record {
-  tree = λ p. record { node = (h.tree (k p).0).node; links = one_more (root_coercions e) l (h.tree (k p).0).links (k p).1 };
+pub coercion_respects : (at : Span) (c : Coercion) (u : PlainType) (e : Tree) → Coerces c (type_of e) u → RespectsPar e → RespectsPar (tree.node at u (tree.coerce c e))
+coercion_respects at c u e s h = record {
+  tree = λ p. let k = coerces_keeps s p in record { node = (h.tree k.0).node; links = one_more (root_coercions e) (c, u) (h.tree k.0).links k.1 };
   locals = tt;
 }
 
@@ -87,3 +65,15 @@ have_values (constrains e ∷ is) h = (tt, have_values is h.1)
 
 pub let_respects : (at : Span) (t : PlainType) (is : List Item) (e : Tree) → AllBy HasValue is → RespectsPar (tree.node at t (tree.let_in (items is) e))
 let_respects at t is e h = record { tree = λ p. record { node = p; links = tt }; locals = have_values is h }
+
+-- ---- whatever the texts
+
+abbrev pub par_rules : Rules
+par_rules = record {
+  holds = RespectsPar;
+  allows = AnyName;
+  plain = plain_respects;
+  text = λ at t n h. record { tree = λ p. record { node = p; links = tt }; locals = tt };
+  link = coercion_respects;
+  local = let_respects;
+}

@@ -1,5 +1,5 @@
 -- The declarations of a program are those of its sections, each once, in another order.
-use Rattle.std.proofs.Common.{◌≡◌, ◌∙◌, ℕ, zero, suc, ◌+◌, ◌<◌, ◌≤◌, ◌⊎◌, inl, inr, Bool, true, false, cond, List, [], ◌∷◌, ◌++◌, Some, Ok, Err, map, length, get_or, eqb, arith, refl, sym, ap, subst, append_assoc, append-nil}
+use Rattle.std.proofs.Common.{◌≡◌, ◌∙◌, ℕ, zero, suc, ◌+◌, ◌<◌, ◌≤◌, ◌⊎◌, inl, inr, Bool, true, false, cond, List, [], ◌∷◌, ◌++◌, Some, Ok, map, length, get_or, eqb, arith, refl, sym, ap, subst, append_assoc, append-nil}
 use Rattle.std.specs.Prelude.{slice_get}
 use Rattle.std.specs.List.{enumerate_from}
 use Rattle.std.proofs.lemmas.Bool.{eqb-true, eqb-false}
@@ -9,7 +9,7 @@ use Rattle.mz_tree.specs.Tree.{Declaration}
 use Rattle.mz_checks.specs.Tests.{Test, ◌>>=◌, loop, one_more, each}
 use Rattle.mz_checks.specs.Models.{Model, type_of_decl}
 use Rattle.mz_checks.specs.Items.{value_of, decl}
-use Rattle.mz_texts.proofs.Giving.{AllBy, Gives, gives_then, gives_after}
+use Rattle.mz_checks.proofs.Giving.{AllBy, Gives, gives_then, gives_after, gives_more}
 
 -- ---- the slots of declarations are their numbers
 
@@ -30,10 +30,6 @@ module _ (m : Model) where
 
   adds_one : (done : List Decl) (k : ℕ) (x : Decl) (ds : List Decl) → x.slot ≡ k → Adds (done ++ x ∷ []) (k + 1) ds → Adds done k ds
   adds_one done k x ds e h = (x ∷ h.0, h.1 ∙ append_assoc done (x ∷ []) h.0, (e, h.2))
-
-  gives_more : {A : Type 0} (Q R : A → Type 0) (t : Test A) → ((x : A) → Q x → R x) → Gives t Q → Gives t R
-  gives_more Q R (Ok x) go h = go x h
-  gives_more Q R (Err f) go h = tt
 
   all_add : (done : List Decl) (k : ℕ) (ds : List Declaration) → Gives (loop (one_more (λ d. decl m d.0 d.1)) done (enumerate_from k ds)) (Adds done k)
   all_add done k [] = ([], sym (append-nil done), tt)

@@ -1,13 +1,9 @@
 -- WHAT IS PAR IN A TYPED TREE.
-use Rattle.std.specs.Prelude.{◌≡◌, false, is_none}
+use Rattle.std.specs.Prelude.{◌≡◌, false}
 use Rattle.std.specs.List.{AllByRecursion}
-use Rattle.mz_core.specs.Tree.{Tree, Item, declares, constrains, Layer, let_form, layer, shape_of, type_of}
+use Rattle.mz_core.specs.Tree.{Tree, Layer, let_form, layer, shape_of, type_of}
+use Rattle.mz_checks.specs.Lets.{HasValue}
 use Rattle.mz_independence.specs.Independence.{IsParTree}
-
--- a declaration of a let that is par has a value
-abbrev pub HasValue : Item → Type 0
-HasValue (declares d) = d.ty.ty.var ≡ false → is_none d.value ≡ false
-HasValue (constrains e) = Unit {0}
 
 -- so have all of a let
 abbrev pub HaveValues : Layer → Type 0

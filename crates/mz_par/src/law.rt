@@ -5,7 +5,7 @@ ghost use Rattle.std.specs.List.{AllByRecursion};
 ghost use Rattle.mz_core.specs.Program.{PlainProgram};
 ghost use Rattle.mz_scoped.specs.Scoped.{ScopedTree};
 ghost use Rattle.mz_datum.specs.WithData.{ChecksWithData};
-ghost use Rattle.mz_par.specs.Nodes.{nodes_of};
+ghost use Rattle.mz_core.specs.Nodes.{nodes_of};
 ghost use Rattle.mz_par.specs.Par.{RespectsPar};
 
 /// What a scoped model is typed to with its data respects par: wherever an expression is typed par, it is a par node, under coercions that keep it par; and each declaration of a `let` that is typed par has a value.

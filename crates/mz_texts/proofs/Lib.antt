@@ -1,5 +1,3 @@
-pub mod Giving
 pub mod Layers
-pub mod Leaves
+pub mod Texted
 pub mod Once
-pub mod Typed

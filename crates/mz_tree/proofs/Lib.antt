@@ -3,3 +3,4 @@ pub mod DataLooks
 pub mod Later
 pub mod Looks
 pub mod Maps
+pub mod Anything

@@ -1,5 +1,5 @@
 -- What holds of what tests give.
-use Rattle.std.proofs.Common.{◌≡◌, ℕ, Bool, true, false, cond, List, [], ◌∷◌, ◌++◌, Option, Some, None, Ok, Err, map, zip, zero, suc, ◌<◌, length, get_or, arith}
+use Rattle.std.proofs.Common.{◌≡◌, ℕ, Bool, true, false, cond, List, [], ◌∷◌, ◌++◌, Ok, Err, map, zero, suc, ◌<◌, arith}
 use Rattle.std.specs.Prelude.{All}
 use Rattle.mz_base.specs.declared.fault.Fault.{Fault}
 use Rattle.mz_checks.specs.Tests.{Test, ◌>>=◌, loop, one_more, each}
@@ -35,6 +35,10 @@ gives_then Q R (Err f) go h step = tt
 pub gives_after : {A B : Type 0} (R : B → Type 0) (t : Test A) (go : A → Test B) → ((x : A) → Gives (go x) R) → Gives (t >>= go) R
 gives_after R (Ok x) go step = step x
 gives_after R (Err f) go step = tt
+
+pub gives_more : {A : Type 0} (Q R : A → Type 0) (t : Test A) → ((x : A) → Q x → R x) → Gives t Q → Gives t R
+gives_more Q R (Ok x) go h = go x h
+gives_more Q R (Err f) go h = tt
 
 pub gives_if : {A : Type 0} (Q : A → Type 0) (b : Bool) (x : A) (f : Fault) → Q x → Gives (cond b (Ok x) (Err f)) Q
 gives_if Q true x f h = h

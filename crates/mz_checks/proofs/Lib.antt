@@ -1,0 +1,4 @@
+pub mod Giving
+pub mod Rules
+pub mod Leaves
+pub mod Typed
