@@ -119,7 +119,8 @@ fn all_from_bottom(round: Option<&Core>, links: &[(Coercion, TypeInst)]) -> bool
 
 // ---- operators
 
-fn takes_operands(o: &Operator) -> bool
+// whether the coercions of both operands leave their cells as they are
+fn sides_stay(o: &Operator) -> bool
     ensures { result ≡ (are_from_bottom (operator_of o.now).step.left && are_from_bottom (operator_of o.now).step.right) }
 {
     all_from_bottom(o.before, &o.step.left) && all_from_bottom(o.after, &o.step.right)
@@ -134,7 +135,7 @@ fn is_row(s: &CoreStep) -> bool
 fn is_and(o: &Operator) -> bool
     ensures { result ≡ is_and (operator_of o.now).step }
 {
-    is_row(o.step) && (takes_operands(o) && is_operand(o.operand))
+    is_row(o.step) && (sides_stay(o) && is_operand(o.operand))
 }
 
 fn are_all(all: &[Operator]) -> bool

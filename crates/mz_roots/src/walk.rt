@@ -173,8 +173,8 @@ fn conjoined(
 }
 
 /// The cells of a constraint's roots from left to right, and its own cell: each operand of a written
-/// conjunction of par Booleans is a root of its own, and so are the operands of an operand that is
-/// one. Another expression has one root, itself. The work is that of the evaluation.
+/// conjunction that is par is a root of its own, and so are the operands of an operand that is one.
+/// Another expression has one root, itself. The work is that of the evaluation.
 ///
 /// At most `left` levels of nesting are open at once. `work` is what is spent so far, at most the
 /// budget and 1, and then with what the constraint takes. Refused, each at its place and where it
