@@ -33,6 +33,7 @@ fn all(alloc: Global) -> Result<String, Memory> {
     intervals::negations_and_hulls(&mut page);
     places::in_row_order(alloc, &mut page)?;
     places::in_empty_ranges(alloc, &mut page)?;
+    places::in_great_ranges(&mut page);
     trees::made(alloc, &mut page)?;
     Ok(page.into_text()?)
 }

@@ -2,7 +2,7 @@
 
 use cases::Page;
 use mz_base::{INTEGER_LIMIT, Memory};
-use mz_index::{IndexSets, places_are_distinct};
+use mz_index::{IndexSets, count_in, place_in, places_are_distinct};
 use std::alloc::Global;
 
 pub fn in_row_order(alloc: Global, page: &mut Page) -> Result<(), Memory> {
@@ -85,4 +85,30 @@ pub fn in_empty_ranges(alloc: Global, page: &mut Page) -> Result<(), Memory> {
         page.case("", sets.place(&at));
     }
     Ok(())
+}
+
+pub fn in_great_ranges(page: &mut Page) {
+    page.line("# places in slices, told as at most the greatest u64");
+    let whole = (i64::MIN, i64::MAX);
+    page.case(
+        "count of all of i64, thrice",
+        count_in(&[whole, whole, whole]),
+    );
+    page.case("count of no range", count_in(&[]));
+    page.case("count of all of i64 and 1..0", count_in(&[whole, (1, 0)]));
+    page.case("the last of all of i64", place_in(&[whole], &[i64::MAX]));
+    page.case(
+        "the first of all of i64, twice",
+        place_in(&[whole, whole], &[i64::MIN, i64::MIN]),
+    );
+    page.case(
+        "the last of all of i64, twice",
+        place_in(&[whole, whole], &[i64::MAX, i64::MAX]),
+    );
+    page.case("two indices for one range", place_in(&[(1, 3)], &[1, 2]));
+    page.case(
+        "one index for two ranges",
+        place_in(&[(1, 3), (1, 3)], &[2]),
+    );
+    page.case("no index for no range", place_in(&[], &[]));
 }

@@ -4,7 +4,6 @@ ghost use Rattle.std.specs.Prelude.{◌≡◌, ◌∷◌, ◌++◌, [], IfOk, ma
 ghost use Rattle.fz_program.specs.Arguments.{argument, array, one, plain, plains, var};
 ghost use Rattle.fz_domains.specs.Inputs.{argument_at};
 
-use crate::sets::copied_set;
 use fz_program::Arg;
 use mz_base::Memory;
 use std::alloc::Global;
@@ -17,7 +16,7 @@ fn copied_element(alloc: Global, a: &Arg) -> Result<Arg, Memory>
     match a {
         Arg::Bool(b) => Ok(Arg::Bool(*b)),
         Arg::Int(n) => Ok(Arg::Int(*n)),
-        Arg::Set(s) => Ok(Arg::Set(given!(copied_set(alloc, s)))),
+        Arg::Set(s) => Ok(Arg::Set(s.copy(alloc)?)),
         Arg::Var(k) => Ok(Arg::Var(*k)),
         Arg::Array(_) => Ok(Arg::Array(Vec::new(alloc))),
     }
@@ -41,7 +40,7 @@ fn copied(alloc: Global, a: &Arg) -> Result<Arg, Memory>
     match a {
         Arg::Bool(b) => Ok(Arg::Bool(*b)),
         Arg::Int(n) => Ok(Arg::Int(*n)),
-        Arg::Set(s) => Ok(Arg::Set(given!(copied_set(alloc, s)))),
+        Arg::Set(s) => Ok(Arg::Set(s.copy(alloc)?)),
         Arg::Var(k) => Ok(Arg::Var(*k)),
         Arg::Array(items) => Ok(Arg::Array(copied_elements(alloc, items)?)),
     }

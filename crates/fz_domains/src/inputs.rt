@@ -8,7 +8,6 @@ ghost use Rattle.mz_operations.specs.Sets.{is_within};
 ghost use Rattle.fz_domains.specs.Inputs.{elements_at, elements_in};
 ghost use Rattle.fz_domains.specs.Bounds.{domain_ends, domain_upper, ends_of, number_ends, upper_at, upper_of};
 
-use crate::sets::copied_set;
 use fz_program::{Arg, Domain, FzVar};
 use mz_base::Memory;
 use mz_value::RangeSet;
@@ -79,7 +78,7 @@ fn domain_upper(alloc: Global, domain: &Domain) -> Result<RangeSet, Memory>
     ensures { IfOk result (λ s. s ≡ domain_upper domain.now) }
 {
     match domain {
-        Domain::SetOf(s) => copied_set(alloc, s),
+        Domain::SetOf(s) => Ok(s.copy(alloc)?),
         _ => empty_set(alloc),
     }
 }
@@ -98,7 +97,7 @@ pub(crate) fn upper_of(alloc: Global, vars: &[FzVar], a: &Arg) -> Result<RangeSe
     ensures { IfOk result (λ s. s ≡ upper_of (map variable vars.now) (plain a.now)) }
 {
     match a {
-        Arg::Set(s) => copied_set(alloc, s),
+        Arg::Set(s) => Ok(s.copy(alloc)?),
         Arg::Var(k) => variable_upper(alloc, vars, *k),
         _ => empty_set(alloc),
     }

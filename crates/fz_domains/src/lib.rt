@@ -22,4 +22,3 @@ mod sets;
 pub use copy::{copied_all, copied_at, with_element, with_last};
 pub use domains::result_domain;
 pub use inputs::elements_at;
-pub use sets::copied_set;

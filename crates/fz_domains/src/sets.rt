@@ -14,14 +14,6 @@ use mz_operations::SetOp;
 use mz_value::RangeSet;
 use std::alloc::Global;
 
-/// A set with memory of its own: the union with itself, which takes time in the number of its ranges.
-pub fn copied_set(alloc: Global, s: &RangeSet) -> Result<RangeSet, Memory>
-    ensures { IfOk result (λ t. t ≡ s.now) }
-{
-    let _ranges = s.ranges();
-    Ok(s.union(alloc, s)?)
-}
-
 fn united(alloc: Global, a: &RangeSet, b: &RangeSet) -> Result<RangeSet, Memory>
     ensures { IfOk result (λ s. s ≡ union a.now b.now) }
 {

@@ -1,4 +1,3 @@
-pub mod Capped
+pub mod Indices
 pub mod Places
 pub mod Reached
-pub mod Steps

@@ -56,7 +56,7 @@ fn element(
     ensures { IfOk result (λ k. cell_of k ≡ Par (option_and_then (arrays.element_at (values.array index.now (contents (map content items.now)))) (arrays.indices_in (map value_of (cells_of at.now))))) }
 {
     let _count = items.len();
-    let place = place_of(index, at);
+    let place = place_of(alloc, index, at)?;
     let k = value_of_place(alloc, items, place)?;
     Ok(k)
 }

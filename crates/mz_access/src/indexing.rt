@@ -1,17 +1,16 @@
-// The places of indices in arrays of any index ranges.
+// The places of indices that are cells, in arrays of any index ranges.
 
-ghost use Rattle.std.specs.Prelude.{◌≡◌, ◌≤◌, ◌^◌, MatchOption, false, min, map, true};
-ghost use Rattle.std.specs.Option.{option_and_then};
-ghost use Rattle.mz_index.specs.Places as places;
+ghost use Rattle.std.specs.Prelude.{◌≡◌, ◌∷◌, [], IfOk, map};
+ghost use Rattle.std.specs.Option.{option_map};
 ghost use Rattle.mz_operations.specs.Views.{as_element};
+ghost use Rattle.mz_meaning.specs.Arrays as arrays;
 ghost use Rattle.mz_meaning.specs.Cells.{value_of};
-ghost use Rattle.mz_cells.specs.Views.{cell_of, item_content};
-ghost use Rattle.mz_access.specs.StepsPlaces.{cap, place_by};
+ghost use Rattle.mz_cells.specs.Views.{cell_of, cells_of, item_content};
+ghost use Rattle.mz_access.specs.StepsPlaces.{cell_index, placed};
 
 use mz_cells::{Item, Known};
-
-/// No array has more elements: places and counts from here on are told as this.
-const CAP: u64 = u64::MAX;
+use mz_index::place_in;
+use std::alloc::{AllocError, Global};
 
 #[tactic(auto, unfolding(mz_operations::specs::Views::as_element))]
 fn index_of_item(i: &Item) -> Option<i64>
@@ -30,7 +29,7 @@ fn index_of_item(i: &Item) -> Option<i64>
 /// The index that a cell is: a par integer or case.
 #[tactic(auto, unfolding(mz_operations::specs::Views::as_element))]
 fn index_of_cell(k: &Known) -> Option<i64>
-    ensures { result ≡ option_and_then as_element (value_of (cell_of k.now)) }
+    ensures { result ≡ cell_index (cell_of k.now) }
 {
     match k {
         Known::One(i) => index_of_item(i),
@@ -38,63 +37,71 @@ fn index_of_cell(k: &Known) -> Option<i64>
     }
 }
 
-/// How many numbers a range has.
-pub(crate) fn length_of(r: &(i64, i64)) -> u128
-    ensures value { result ≡ places.length_of r.now }
-    ensures bound { result ≤ 2 ^ 64 }
+/// The place of one index, without a list.
+#[tactic(auto, using(crate::proofs::Indices::one_missing, crate::proofs::Indices::one_placed))]
+fn place_of_one(ranges: &[(i64, i64)], i: &Known) -> Option<u64>
+    ensures { result ≡ placed ranges.now (cell_of i.now ∷ []) }
 {
-    if r.0 <= r.1 {
-        (r.1 as i128 - r.0 as i128) as u128 + 1
-    } else {
-        0
+    let n = index_of_cell(i)?;
+    place_in(ranges, &[n])
+}
+
+/// The place of two indices, without a list.
+#[tactic(auto, using(crate::proofs::Indices::first_missing, crate::proofs::Indices::second_missing, crate::proofs::Indices::two_placed))]
+fn place_of_two(ranges: &[(i64, i64)], i: &Known, j: &Known) -> Option<u64>
+    ensures { result ≡ placed ranges.now (cell_of i.now ∷ cell_of j.now ∷ []) }
+{
+    let n = index_of_cell(i)?;
+    let m = index_of_cell(j)?;
+    place_in(ranges, &[n, m])
+}
+
+/// The indices that cells are; `None` where one is no index.
+fn indices_of(alloc: Global, at: &[Known]) -> Result<Option<Vec<i64>>, AllocError>
+    ensures { IfOk result (λ is. option_map (λ v. v.items) is ≡ arrays.indices_in (map value_of (cells_of at.now))) }
+{
+    let mut all = Vec::new(alloc);
+    for k in at {
+        let Some(n) = index_of_cell(k) else {
+            return Ok(None);
+        };
+        all.push(n)?;
+    }
+    Ok(Some(all))
+}
+
+#[tactic(auto, using(crate::proofs::Indices::none_placed, crate::proofs::Indices::all_placed))]
+fn place_of_all(
+    alloc: Global,
+    ranges: &[(i64, i64)],
+    at: &[Known],
+) -> Result<Option<u64>, AllocError>
+    ensures { IfOk result (λ p. p ≡ placed ranges.now (cells_of at.now)) }
+{
+    match indices_of(alloc, at)? {
+        None => Ok(None),
+        Some(indices) => Ok(place_in(ranges, &indices)),
     }
 }
 
-pub(crate) fn capped(n: u128) -> u64
-    ensures { result ≡ min cap n }
+/// The place of these indices, from 0, where the last index runs fastest, or the greatest `u64`
+/// where it is greater; `None` where one is undefined or lies outside its range.
+pub(crate) fn place_of(
+    alloc: Global,
+    ranges: &[(i64, i64)],
+    at: &[Known],
+) -> Result<Option<u64>, AllocError>
+    ensures { IfOk result (λ p. p ≡ placed ranges.now (cells_of at.now)) }
 {
-    if n < CAP as u128 { n as u64 } else { CAP }
-}
-
-/// How many places there are, at most `CAP`.
-#[tactic(auto, using(crate::proofs::Capped::capped_times, crate::proofs::Capped::times_fit))]
-pub(crate) fn count_of(ranges: &[(i64, i64)]) -> u64
-    ensures { result ≡ min cap (places.count_of ranges.now) }
-{
-    match ranges {
-        [] => 1,
-        [r, rest @ ..] => capped(length_of(r) * count_of(rest) as u128),
-    }
-}
-
-/// How many numbers of the range stand before the index; `None` where it lies outside.
-fn offset_in(r: &(i64, i64), n: i64) -> Option<u64>
-    ensures { MatchOption result (places.is_inside r.now n ≡ false) (λ o. (places.is_inside r.now n ≡ true) × (o ≡ places.offset_of r.now n)) }
-{
-    if r.0 <= n && n <= r.1 {
-        Some(n.abs_diff(r.0))
-    } else {
-        None
-    }
-}
-
-/// The place of these indices, from 0, at most `CAP`, where the last index runs fastest; `None`
-/// where one is undefined or lies outside its range.
-#[tactic(auto, unfolding(crate::specs::StepsPlaces::place_by), using(crate::proofs::Capped::times_fit, crate::proofs::Steps::place_more))]
-pub(crate) fn place_of(ranges: &[(i64, i64)], at: &[Known]) -> Option<u64>
-    ensures { result ≡ place_by ranges.now (map (λ k. option_and_then as_element (value_of (cell_of k))) at.now) }
-{
-    match ranges {
-        [] => if at.is_empty() { Some(0) } else { None },
-        [r, ranges @ ..] => match at {
-            [] => None,
-            [k, at @ ..] => {
-                let n = index_of_cell(k)?;
-                let offset = offset_in(r, n)?;
-                let place = place_of(ranges, at)?;
-                let before = offset as u128 * count_of(ranges) as u128;
-                Some(capped(before + place as u128))
-            }
+    match at {
+        [] => place_of_all(alloc, ranges, at),
+        [i, more @ ..] => match more {
+            [] => Ok(place_of_one(ranges, i)),
+            [j, others @ ..] => if others.is_empty() {
+                Ok(place_of_two(ranges, i, j))
+            } else {
+                place_of_all(alloc, ranges, at)
+            },
         },
     }
 }

@@ -4,13 +4,14 @@ ghost use Rattle.std.specs.Prelude.{◌≡◌, ◌*◌, ◌++◌, [], ℕ, IfOk,
 ghost use Rattle.std.specs.Int.{int_max, int_min};
 ghost use Rattle.mz_value.specs.Contents.{content};
 ghost use Rattle.mz_index.specs.Places as places;
+ghost use Rattle.mz_index.specs.Places.{most};
 ghost use Rattle.mz_operations.specs.Bounds as bounds;
 ghost use Rattle.mz_cells.specs.Views.{known_bound};
 ghost use Rattle.mz_access.specs.Places.{places_of};
-ghost use Rattle.mz_access.specs.StepsPlaces.{cap, reach, steps_between, swept};
+ghost use Rattle.mz_access.specs.StepsPlaces.{reach, steps_between, swept};
 
-use crate::indexing::{capped, count_of, length_of};
 use mz_cells::{Bound, bound_of, share_bound};
+use mz_index::{capped, count_in, length_of};
 use mz_value::Value;
 use std::alloc::{AllocError, Global};
 
@@ -22,7 +23,7 @@ pub(crate) enum Places<'a> {
 }
 
 fn values_after(xs: &[Value], n: u64) -> &[Value]
-    ensures { (m : ℕ) → n ≡ min cap m → result.now ≡ drop m xs.now }
+    ensures { (m : ℕ) → n ≡ min most m → result.now ≡ drop m xs.now }
 {
     if n < xs.len() as u64 {
         &xs[n as usize..]
@@ -32,7 +33,7 @@ fn values_after(xs: &[Value], n: u64) -> &[Value]
 }
 
 fn bounds_after(xs: &[Bound], n: u64) -> &[Bound]
-    ensures { (m : ℕ) → n ≡ min cap m → result.now ≡ drop m xs.now }
+    ensures { (m : ℕ) → n ≡ min most m → result.now ≡ drop m xs.now }
 {
     if n < xs.len() as u64 {
         &xs[n as usize..]
@@ -41,9 +42,9 @@ fn bounds_after(xs: &[Bound], n: u64) -> &[Bound]
     }
 }
 
-/// The elements from a place on, told as at most `CAP`.
+/// The elements from a place on, told as at most the greatest `u64`.
 fn after<'a>(p: Places<'a>, n: u64) -> Places<'a>
-    ensures { (m : ℕ) → n ≡ min cap m → places_of result ≡ drop m (places_of p.entry) }
+    ensures { (m : ℕ) → n ≡ min most m → places_of result ≡ drop m (places_of p.entry) }
 {
     match p {
         Places::Items(xs) => Places::Items(values_after(xs, n)),
@@ -105,7 +106,7 @@ fn distance(lo: i64, i: i64) -> u64
 
 /// The elements from those of an index on, where each index has this many.
 fn from_index<'a>(p: Places<'a>, lo: i64, i: i64, each: u64) -> Places<'a>
-    ensures { (c : ℕ) → each ≡ min cap c → places_of result ≡ drop (steps_between lo i * c) (places_of p.entry) }
+    ensures { (c : ℕ) → each ≡ min most c → places_of result ≡ drop (steps_between lo i * c) (places_of p.entry) }
 {
     let n = distance(lo, i) as u128 * each as u128;
     after(p, capped(n))
@@ -159,7 +160,7 @@ fn with_swept(
 ) -> Result<Vec<Bound>, AllocError>
     ensures { IfOk result (λ all. map known_bound all.items ≡ map known_bound out.items ++ swept (reach ranges.now ends.now) e (places.count_of ranges.now) (places.length_of r) r.0 (places_of p.entry)) }
 {
-    let each = count_of(ranges);
+    let each = count_in(ranges);
     let reached = overlap(r, e);
     let mut rest = from_index(p, r.0, reached.0, each);
     let mut all = out;

@@ -4,7 +4,6 @@ use Rattle.std.specs.Prelude.{ℤ, ◌↔◌, IsTrue, Result, Ok, Err, IfOk}
 use Rattle.std.specs.List.{list_any}
 use Rattle.mz_value.specs.Ranges.{Range, AreCanonical, Has, IsUnion, IsIntersection, IsDifference}
 use Rattle.mz_value.proofs.Comparisons.{int_le_true}
-use Rattle.mz_value.proofs.Determined.{determined}
 use Rattle.std.specs.Cmp.Lexicographic.{pointwise}
 use Rattle.std.specs.Ordering.{int_eq}
 use Rattle.mz_operations.specs.Sets.{contains, is_within, same_set, union, intersection, difference}
@@ -67,8 +66,3 @@ if_intersection (Ok s) a b p q u c = intersection_is a b s p q u c
 pub if_difference : {E : Type 0} (r : Result (List Range) E) (a b : List Range) → IsSet a → IsSet b → IfOk r (IsDifference a b) → IfOk r AreCanonical → IfOk r (λ s. s ≡ difference a b)
 if_difference (Err e) a b p q u c = tt
 if_difference (Ok s) a b p q u c = difference_is a b s p q u c
-
--- what a set has in common with itself is the set
-pub if_same : {E : Type 0} (r : Result (List Range) E) (a : List Range) → AreCanonical a → IfOk r (IsIntersection a a) → IfOk r AreCanonical → IfOk r (λ s. s ≡ a)
-if_same (Err e) a c h d = tt
-if_same (Ok s) a c h d = determined s a d c (λ x. (λ m. ((h x).0 m).0, λ m. (h x).1 (m, m)))

@@ -3,16 +3,8 @@
 ghost use Rattle.std.specs.Prelude.{◌≡◌, ◌++◌, IfOk, OnOk, map};
 ghost use Rattle.mz_value.specs.Contents.{content, text_bytes};
 
-use mz_value::{ArrayValue, RangeSet, SetValue, TextValue, Value};
+use mz_value::{ArrayValue, SetValue, TextValue, Value};
 use std::alloc::{AllocError, Global};
-
-/// A copy of a set.
-pub fn copied_set(alloc: Global, s: &RangeSet) -> Result<RangeSet, AllocError>
-    ensures { IfOk result (λ t. t ≡ s.now) }
-{
-    let _s = s.ranges();
-    s.intersect(alloc, s)
-}
 
 /// A copy of a text.
 pub fn copied_text(alloc: Global, t: &TextValue) -> Result<TextValue, AllocError>
@@ -41,7 +33,7 @@ pub fn copied(alloc: Global, v: &Value) -> Result<Value, AllocError>
 fn set_value(alloc: Global, s: &SetValue) -> Result<Value, AllocError>
     ensures { IfOk result (λ c. content c ≡ content (Value.Set s.now)) }
 {
-    let ranges = copied_set(alloc, &s.ranges)?;
+    let ranges = s.ranges.copy(alloc)?;
     Ok(Value::Set(SetValue { of: s.of, ranges }))
 }
 

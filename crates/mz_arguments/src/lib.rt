@@ -10,7 +10,7 @@ pub use arguments::{
     argument, bool_at, case_at, element_at, enum_at, index_at, int_at, items_at, option_at,
     ordinal_at, pair, row_at, set_at, text_at,
 };
-pub use copy::{copied, copied_items, copied_set, copied_text, push_copies};
+pub use copy::{copied, copied_items, copied_text, push_copies};
 pub use set::{
     combined, contains, difference, end_of, intersection, is_number, is_subset, same_set, union,
     up_to,

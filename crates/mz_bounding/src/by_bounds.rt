@@ -10,7 +10,7 @@ ghost use Rattle.mz_bounding.specs.Arguments.{all_bounds};
 ghost use Rattle.mz_bounding.specs.StepsBounds as steps;
 
 use crate::arguments::{all_ends_at, as_one, bounds_at, elements_at, ends_at};
-use mz_arguments::{copied_set, same_set, up_to};
+use mz_arguments::{same_set, up_to};
 use mz_cells::{Bound, Bounds, Known};
 use mz_ends::hull_if_any;
 use mz_operations::{BoundingRow, MadeRow, Row, ScalarRow};
@@ -20,7 +20,7 @@ use std::alloc::{AllocError, Global};
 fn set_copied(alloc: Global, s: &RangeSet) -> Result<Value, AllocError>
     ensures { IfOk result (λ v. content v ≡ set None s.now) }
 {
-    let ranges = copied_set(alloc, s)?;
+    let ranges = s.copy(alloc)?;
     Ok(Value::integers(ranges))
 }
 

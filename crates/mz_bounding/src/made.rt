@@ -13,7 +13,7 @@ ghost use Rattle.mz_bounding.specs.StepsMade.{at_most, index_set_of, set_range, 
 
 use crate::arguments::{as_upper, bounds_at, elements_at, upper_at};
 use crate::uppers::{intersection_at, union_at};
-use mz_arguments::{copied_set, end_of, intersection, union};
+use mz_arguments::{end_of, intersection, union};
 use mz_cells::{Bound, Bounds, Known, bounds_in, share_bound};
 use mz_operations::{MadeRow, Row, SetOp, Side};
 use mz_value::RangeSet;
@@ -33,7 +33,7 @@ fn combined_upper(
     match op {
         SetOp::Union => union(alloc, a, b),
         SetOp::Intersect => intersection(alloc, a, b),
-        SetOp::Diff => copied_set(alloc, a),
+        SetOp::Diff => a.copy(alloc),
         SetOp::Symdiff => union(alloc, a, b),
     }
 }

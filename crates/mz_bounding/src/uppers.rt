@@ -8,7 +8,7 @@ ghost use Rattle.mz_cells.specs.Views.{known_bound};
 ghost use Rattle.mz_bounding.specs.Arguments.{all_bounds};
 
 use crate::arguments::{as_upper, elements_at};
-use mz_arguments::{copied_set, intersection, union};
+use mz_arguments::{intersection, union};
 use mz_cells::{Bound, Known};
 use mz_value::RangeSet;
 use std::alloc::{AllocError, Global};
@@ -55,7 +55,7 @@ fn intersection_with(
     let Some(u) = as_upper(first) else {
         return Ok(None);
     };
-    let start = copied_set(alloc, u)?;
+    let start = u.copy(alloc)?;
     let s = intersection_from(alloc, start, others)?;
     Ok(s)
 }

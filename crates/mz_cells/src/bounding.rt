@@ -11,7 +11,6 @@ ghost use Rattle.mz_cells.specs.Views.{cell_of, item_content, known_bound, known
 use crate::reading::ranges_of;
 use crate::sharing::{many_shared, share_bound};
 use crate::types::{Bound, Bounds, Item, Known};
-use mz_arguments::copied_set;
 use mz_core::{Base, TypeInst};
 use mz_value::{RangeSet, Value};
 use std::alloc::{AllocError, Global};
@@ -21,7 +20,7 @@ use std::rc::Rc;
 fn set_bound(alloc: Global, s: &RangeSet) -> Result<Bound, AllocError>
     ensures { IfOk result (λ b. known_bound b ≡ bounds.sets s.now s.now) }
 {
-    let copy = copied_set(alloc, s)?;
+    let copy = s.copy(alloc)?;
     let lower = Rc::new(alloc, copy)?;
     let upper = lower.clone()?;
     Ok(Bound::Sets(lower, upper))

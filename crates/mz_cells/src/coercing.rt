@@ -15,7 +15,6 @@ use crate::reading::set_in;
 use crate::recasting::recast_cell;
 use crate::sealing::to_var;
 use crate::types::Known;
-use mz_arguments::copied_set;
 use mz_core::{Base, Coercion, TypeInst};
 use mz_made::{made, set_value};
 use mz_operations::MadeRow;
@@ -37,7 +36,7 @@ pub fn enum_in(b: Base) -> Option<u64>
 fn line_of_set(alloc: Global, of: Option<u64>, s: &RangeSet) -> Result<Known, AllocError>
     ensures { IfOk result (λ k. cell_of k ≡ par_value (line (map (element_of of) (elements s.now)))) }
 {
-    let ranges = copied_set(alloc, s)?;
+    let ranges = s.copy(alloc)?;
     let args = [Some(set_value(of, ranges))];
     let all = made(alloc, MadeRow::SetToArray, &args)?;
     known_of(alloc, all)

@@ -9,7 +9,7 @@ ghost use Rattle.mz_meaning.specs.Cells.{Par, Var, par_value};
 ghost use Rattle.mz_cells.specs.Views.{cell_of, item_content, known_bounds};
 
 use crate::types::{Bounds, Item, Known};
-use mz_arguments::{copied_items, copied_set, copied_text};
+use mz_arguments::{copied_items, copied_text};
 use mz_value::{ArrayValue, RangeSet, SetValue, TextValue, Value};
 use std::alloc::{AllocError, Global};
 use std::rc::Rc;
@@ -103,7 +103,7 @@ pub fn known_of(alloc: Global, v: Option<Value>) -> Result<Known, AllocError>
 fn set_seen(alloc: Global, s: &SetValue) -> Result<Known, AllocError>
     ensures { IfOk result (λ k. cell_of k ≡ par_value (values.set s.now.of s.now.ranges)) }
 {
-    let ranges = copied_set(alloc, &s.ranges)?;
+    let ranges = s.ranges.copy(alloc)?;
     set(alloc, s.of, ranges)
 }
 

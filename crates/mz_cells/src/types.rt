@@ -4,7 +4,7 @@ ghost use Rattle.std.specs.Prelude.{◌≡◌, IfOk, map};
 ghost use Rattle.mz_value.specs.Contents as values;
 ghost use Rattle.mz_value.specs.Contents.{content, contents, text_bytes};
 
-use mz_arguments::{copied_items, copied_set, copied_text};
+use mz_arguments::{copied_items, copied_text};
 use mz_value::{RangeSet, SetValue, TextValue, Value};
 use std::alloc::{AllocError, Global};
 use std::rc::Rc;
@@ -92,7 +92,7 @@ pub struct Sure {
 fn set_copied(alloc: Global, s: &SetValue) -> Result<Value, AllocError>
     ensures { IfOk result (λ v. content v ≡ values.set s.now.of s.now.ranges) }
 {
-    let ranges = copied_set(alloc, &s.ranges)?;
+    let ranges = s.ranges.copy(alloc)?;
     Ok(Value::Set(SetValue { of: s.of, ranges }))
 }
 

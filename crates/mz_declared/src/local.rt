@@ -19,7 +19,7 @@ ghost use Rattle.mz_declared.specs.Steps as steps;
 
 use crate::ranges::{declared_ranges, place_count};
 use crate::want::Want;
-use mz_arguments::{copied_set, end_of};
+use mz_arguments::end_of;
 use mz_cells::{Bound, Known, Sure, empty_bound, share_bound, surely, unsure};
 use mz_core::{Base, TypeInst};
 use mz_operations::Side;
@@ -75,7 +75,7 @@ fn any_set(alloc: Global, int_range: &i64, t: &TypeInst) -> Result<Option<RangeS
 fn declared_set(alloc: Global, t: &TypeInst, u: &RangeSet) -> Result<Option<RangeSet>, AllocError>
     ensures { IfOk result (λ s. option_map (domain_over (plain_type t.now)) s ≡ lets.unless_empty (Some (domain_over (plain_type t.now) u.now))) }
 {
-    let s = copied_set(alloc, u)?;
+    let s = u.copy(alloc)?;
     Ok(unless_empty(t, s))
 }
 

@@ -10,7 +10,6 @@ ghost use Rattle.mz_cells.specs.Views.{cell_of, sure_of};
 ghost use Rattle.mz_cells.specs.Meets.{Tells};
 ghost use Rattle.mz_declared.specs.Wants.{wanted, wants_of};
 
-use mz_arguments::copied_set;
 use mz_base::{Fault, Kind, Span, Stop};
 use mz_cells::{Known, Sure, both_sure, set_in, surely, unsure};
 use mz_value::RangeSet;
@@ -34,7 +33,7 @@ pub fn want_of(alloc: Global, k: &Known) -> Result<Want, AllocError>
     match set_in(k) {
         None => Ok(Want::Missing),
         Some(s) => {
-            let set = copied_set(alloc, s)?;
+            let set = s.copy(alloc)?;
             Ok(Want::Within(set))
         }
     }
@@ -49,7 +48,7 @@ fn is_contiguous(s: &RangeSet) -> bool
 fn within(alloc: Global, s: &RangeSet) -> Result<Want, Stop>
     ensures { Tells wanted result (give (arrays.Within s.now)) }
 {
-    let set = copied_set(alloc, s)?;
+    let set = s.copy(alloc)?;
     Ok(Want::Within(set))
 }
 

@@ -49,14 +49,6 @@ place_of-distinct (r ∷ rs) (i ∷ is) (j ∷ js) p e f =
     let others = place_of-distinct rs is js a.rest a.of_rest (b.of_rest ∙ ap Some (sym same.1)) in
     λ t. first t ∷ others t
 
--- where a range is empty, no indices have a place
-pub place_of-none : (rs : List Range) (is : List ℤ) → count_of rs ≡ 0 → place_of rs is ≡ None
-place_of-none rs is h = by (place_of rs is) refl
-  where
-    by : (t : Option ℕ) → place_of rs is ≡ t → place_of rs is ≡ None
-    by None e = e
-    by (Some p) e = absurd (omega (arith, place_of-below rs is p e))
-
 both_there : (t : Bool) (f : ℕ → ℕ) (q : Option ℕ) → IsSome (cond t (option_map f q) None) → IsTrue t × IsSome q
 both_there false f q h = absurd (cc)
 both_there true f None h = absurd (cc)

@@ -1,3 +1,4 @@
-pub mod Behind
+pub mod Caps
 pub mod Counts
 pub mod Laws
+pub mod Steps

@@ -38,6 +38,10 @@ place_of [] (i ∷ is) = None
 place_of (r ∷ rs) [] = None
 place_of (r ∷ rs) (i ∷ is) = if is_inside r i then option_map (λ place. offset_of r i * count_of rs + place) (place_of rs is) else None
 
+-- no array has as many elements
+abbrev pub most : ℕ
+most = 2 ^ 64 - 1
+
 -- ---- worked examples
 
 seven_numbers : length_of (negsuc 2, pos 3) ≡ 7

@@ -3,6 +3,8 @@
 
 mod index_sets;
 mod law;
+mod slices;
 
 pub use index_sets::IndexSets;
 pub use law::places_are_distinct;
+pub use slices::{capped, count_in, length_of, place_in};

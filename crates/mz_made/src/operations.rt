@@ -12,8 +12,8 @@ ghost use Rattle.std.specs.Prelude.{map, []};
 
 use crate::building::{bool_value, either, set_value};
 use mz_arguments::{
-    as_set, combined, copied_set, element_at, enum_at, intersection, is_subset, items_at, pair,
-    set_at, union, up_to,
+    as_set, combined, element_at, enum_at, intersection, is_subset, items_at, pair, set_at, union,
+    up_to,
 };
 use mz_operations::{MadeRow, SetOp};
 use mz_value::{RangeSet, Value};
@@ -45,7 +45,7 @@ fn common_with(
 {
     match acc {
         None => {
-            let first = copied_set(alloc, s)?;
+            let first = s.copy(alloc)?;
             Ok(Some(first))
         }
         Some(a) => {

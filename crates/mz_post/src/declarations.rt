@@ -26,7 +26,7 @@ ghost use Rattle.mz_post.specs.Steps.{IsNext, IsNextIf, AreNext, declare_if, dec
 use crate::types::{Declarations, Declared, Task};
 use crate::wants::{LEVELS, count, index_wants, set_want};
 use fz_program::FzName;
-use mz_arguments::{copied_set, end_of};
+use mz_arguments::end_of;
 use mz_base::{Fault, Kind, Memory, Name, Names, Span, Stop};
 use mz_cells::{Bound, Known, share, undefined};
 use mz_chains::place_of;
@@ -112,7 +112,7 @@ fn free_set(alloc: Global, int_range: &i64, set: &Want) -> Result<RangeSet, Allo
     match set {
         Want::Anything => all_integers(alloc, int_range),
         Want::Missing => all_integers(alloc, int_range),
-        Want::Within(u) => copied_set(alloc, u),
+        Want::Within(u) => u.copy(alloc),
     }
 }
 

@@ -17,7 +17,6 @@ ghost use Rattle.mz_declared.specs.Wants.{wanted, wants_of};
 ghost use Rattle.mz_frames.specs.Runs.{Meets, at_work};
 ghost use Rattle.mz_frames.specs.Views.{env_cells, world_of};
 
-use mz_arguments::copied_set;
 use mz_base::{Fault, Kind, Span, Stop};
 use mz_cells::{Known, set_in};
 use mz_chains::place_of;
@@ -35,7 +34,7 @@ pub(crate) const LEVELS: u64 = 600;
 fn within(alloc: Global, s: &RangeSet) -> Result<Want, Stop>
     ensures { Tells wanted result (give (arrays.Within s.now)) }
 {
-    let set = copied_set(alloc, s)?;
+    let set = s.copy(alloc)?;
     Ok(Want::Within(set))
 }
 

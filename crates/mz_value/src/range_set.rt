@@ -63,6 +63,14 @@ impl RangeSet {
         Ok(RangeSet { ranges })
     }
 
+    /// A set with the same elements, in memory of its own.
+    pub fn copy(&self, alloc: Global) -> Result<RangeSet, AllocError>
+        ensures { IfOk result (λ s. s ≡ self.now) }
+    {
+        let ranges = Vec::from_slice(alloc, &self.ranges)?;
+        Ok(RangeSet { ranges })
+    }
+
     /// What this set or `other` has.
     pub fn union(&self, alloc: Global, other: &RangeSet) -> Result<RangeSet, AllocError>
         ensures members { IfOk result (IsUnion self.now other.now) }

@@ -2,7 +2,7 @@
 use Rattle.std.proofs.Common.{◌≡◌, ℕ, zero, suc, ◌<◌, List, [], ◌∷◌, Bool, true, false, ◌&&◌, ◌||◌, eqb, ℤ, ◌↔◌, ◌⊎◌, length, refl, sym, ap, ◌∙◌, inl, inr, arith, rules, tests, get_or, Some}
 use Rattle.std.specs.Prelude.{Contains, int_le}
 use Rattle.std.specs.List.{list_all}
-use Rattle.mz_value.specs.Ranges.{Range, AreCanonical, AreInLimit, Has, IsIn, IsInLimit, IsSetOf, IsDifference, IsUnion, least, greatest}
+use Rattle.mz_value.specs.Ranges.{Range, AreCanonical, AreInLimit, Has, IsIn, IsInLimit, IsSetOf, IsDifference, least, greatest}
 use Rattle.mz_value.specs.StepsWalks.{common, gaps}
 use Rattle.mz_value.proofs.Joined.{union_canonical, union_members, union_limit}
 use Rattle.mz_value.proofs.Sets.{makes_difference}
@@ -117,11 +117,3 @@ none_is (r ∷ rs) = false_suc (length rs)
 pub within_is : (s domain lacking : List Range) → AreCanonical s × AreInLimit s → AreCanonical domain × AreInLimit domain → IsDifference s domain lacking → AreCanonical lacking → eqb (length lacking) 0 ≡ is_within s domain
 unfolding is_within
 within_is s domain lacking sound_s sound_d members canonical = none_is lacking ∙ ap is_none (difference_is s domain lacking sound_s sound_d members canonical)
-
-one_of : (a : Type 0) → a ⊎ a → a
-one_of a (inl h) = h
-one_of a (inr h) = h
-
--- a set and itself are it
-pub union_same : (s t : List Range) → AreCanonical s → IsUnion s s t → AreCanonical t → s ≡ t
-union_same s t canonical members same = determined s t canonical same (λ x. (λ h. (members x).1 (inl h), λ h. one_of (Has s x) ((members x).0 h)))

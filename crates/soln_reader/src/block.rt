@@ -89,15 +89,6 @@ fn is_false(v: &Element) -> bool
     }
 }
 
-/// A set with the same elements.
-fn copied_set(alloc: Global, s: &RangeSet) -> Result<RangeSet, Miss>
-    ensures { Gives (λ t. t) result (Some s.now) }
-{
-    let _ = s.ranges();
-    let t = s.union(alloc, s)?;
-    Ok(t)
-}
-
 /// An element as a value.
 fn copied(alloc: Global, v: &Element) -> Result<Value, Miss>
     ensures { Gives content result (Some (content_of v.now)) }
@@ -106,8 +97,8 @@ fn copied(alloc: Global, v: &Element) -> Result<Value, Miss>
         Element::Truth(b) => Ok(Value::Bool(*b)),
         Element::Number(x) => Ok(Value::Int(*x)),
         Element::Case(e, x) => Ok(Value::Enum(*e, *x)),
-        Element::Set(None, s) => Ok(Value::integers(copied_set(alloc, s)?)),
-        Element::Set(Some(e), s) => Ok(Value::cases(*e, copied_set(alloc, s)?)),
+        Element::Set(None, s) => Ok(Value::integers(s.copy(alloc)?)),
+        Element::Set(Some(e), s) => Ok(Value::cases(*e, s.copy(alloc)?)),
     }
 }
 

@@ -4,4 +4,4 @@ use Rattle.mz_access.proofs.Places.{element_is}
 use Rattle.mz_access.proofs.accessing.element.Goals as goal
 
 pub returns : goal.returns
-returns c = c.in_ok-k.ensures ∙ ap Par (sym (element_is c.args.index.now c.args.items.now c.args.at.now c.place_of-place.result (omega arith) c.place_of-place.ensures))
+returns c = c.in_ok-k.ensures ∙ ap Par (sym (element_is c.args.index.now c.args.items.now c.args.at.now c.in_ok-place.place (omega arith) c.in_ok-place.ensures))

@@ -16,7 +16,7 @@ with_swept-loop-left-init t c =
     let low = to_z-of_z w64 c.args.r.0 (search rules) in
     let first = to_z-of_z w64 c.overlap-reached.result.0 (search rules) in
     let rest =
-    c.from_index-rest.ensures each c.count_of-each.ensures
+    c.from_index-rest.ensures each c.count_in-each.ensures
     ∙ ap (λ z. drop (steps_between z (to_z w64 (of_z w64 c.overlap-reached.result.0)) * each) xs) low
     ∙ ap (λ z. drop (steps_between c.args.r.0 z * each) xs) first in
     ap (λ s. map known_bound c.args.out.items ++ s)
@@ -32,7 +32,7 @@ with_swept-loop-left-preserved t c =
     let first = go (places_of c.loop-left.rest) in
     let tail = runs go each (left - 1) (places_of c.after-rest.result) in
     c.loop-left.invariant
-    ∙ ap (λ s. before ++ s) (runs_step go each left (left - 1) (places_of c.loop-left.rest) next ∙ ap (λ p. first ++ runs go each (left - 1) p) (sym (c.after-rest.ensures each c.count_of-each.ensures)))
+    ∙ ap (λ s. before ++ s) (runs_step go each left (left - 1) (places_of c.loop-left.rest) next ∙ ap (λ p. first ++ runs go each (left - 1) p) (sym (c.after-rest.ensures each c.count_in-each.ensures)))
     ∙ sym (append_assoc before first tail)
     ∙ ap (λ s. s ++ tail) (sym c.in_ok-all.ensures)
 
