@@ -7,7 +7,7 @@ use Rattle.mz_base.specs.declared.stop.Stop.TheVariants.{Refused, Memory}
 use Rattle.mz_lexer.specs.declared.token.Token.{Token}
 use Rattle.mz_lexer.specs.declared.token.Tok.{Tok}
 use Rattle.mz_cursor.specs.Tokens.{tok_at, place_or}
-use Rattle.mz_cursor.specs.Rules.{Reason, syntax, left_out, too_deep, Rule, Runs, Refuses, unfit, unwanted, no_token, no_opening, one_too_many, behind_look, behind_pass, behind_enter, behind_leave, within, beyond}
+use Rattle.mz_cursor.specs.Rules.{Reason, syntax, left_out, too_deep, Rule, Runs, Refuses, unfit, unwanted, one_too_many, one_name_too_many, behind_over, behind_skip, behind_find, behind_lack, behind_sight, behind_miss, behind_leave, within, beyond}
 use Rattle.mz_cursor.specs.Reading.{Read, stuck, Falls, read}
 use Rattle.mz_cursor.specs.Promise.{reason_of, fault_of, Gives, Answers, IsWithin, Begins, BeginsWithin, FailsAt, EndsAt, IsUnfit, IsFault}
 use Rattle.mz_cursor.proofs.Laws.{Outcome, Reaches, reached, too_much, read_sound, read_reaches, read_refuses}
@@ -43,19 +43,21 @@ reason_or (Err e) = e.why
 pub one_more : (us more : List Token) (t : Token) → ((us ++ (t ∷ [])) ++ more) ++ [] ≡ us ++ (t ∷ more)
 one_more us more t = append-nil ((us ++ (t ∷ [])) ++ more) ∙ append_assoc us (t ∷ []) more
 
-module _ {Part : Type 0} {Value : Part → Type 0} (rule : (n : Part) → Rule Value n) (rank : Part → ℕ) (width : ℕ) (low : (n : Part) → rank n < width) (falls : (n : Part) → Falls rank (rank n) (rule n))
+module _ {Part Class : Type 0} {Value : Part → Type 0} {Told : Class → Type 0} (rule : (n : Part) → Rule Value Told n) (rank : Part → ℕ) (width : ℕ) (low : (n : Part) → rank n < width) (falls : (n : Part) → Falls rank (rank n) (rule n))
     (MayEndBefore : Part → Option Tok → Type 0) (takes_token : Part → Bool) (IsUsable : (n : Part) → Value n → Type 0) (far : Part → Bool) (aim : Token)
     (takes : (n : Part) → takes_token n ≡ true → TakesToken rule MayEndBefore takes_token IsUsable far aim (rule n)) (complete : (n : Part) → Completion rule (rule n)) (can_complete : (n : Part) → CanComplete rule MayEndBefore takes_token IsUsable far aim (rule n))
     (bring : (n : Part) → far n ≡ true → (q : ℕ) (us : List Token) (x : Value n) (next : Option Tok) → Runs rule n q (rule n) us x next → Brought rule MayEndBefore takes_token IsUsable far aim takes complete can_complete n us) where
-  deep : {n : Part} {q : ℕ} {p : Rule Value n} {us : List Token} {why : Reason} {next : Option Tok} → Refuses rule n q p us why next → Deep why next
+  deep : {n : Part} {q : ℕ} {p : Rule Value Told n} {us : List Token} {why : Reason} {next : Option Tok} → Refuses rule n q p us why next → Deep why next
   deep unfit = tt
   deep unwanted = tt
-  deep no_token = tt
-  deep no_opening = tt
-  deep one_too_many = tt
-  deep (behind_look h) = deep h
-  deep (behind_pass h) = deep h
-  deep (behind_enter h) = deep h
+  deep (one_too_many e) = tt
+  deep (one_name_too_many e) = tt
+  deep (behind_over k e h) = deep h
+  deep (behind_skip e h) = deep h
+  deep (behind_find k e h) = deep h
+  deep (behind_lack e h) = deep h
+  deep (behind_sight e h) = deep h
+  deep (behind_miss e h) = deep h
   deep (behind_leave h) = deep h
   deep (within h) = deep h
   deep (beyond us vs h g) = deep g

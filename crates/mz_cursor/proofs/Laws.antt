@@ -1,12 +1,13 @@
 -- A reader by rules takes what the grammar allows, and stops where nothing else is possible.
-use Rattle.std.proofs.Common.{◌≡◌, ℕ, zero, suc, List, [], ◌∷◌, ◌++◌, ◌≤◌, ◌<◌, ◌+◌, refl, sym, ap, ◌∙◌, subst, append_assoc, arith, Option}
-use Rattle.std.specs.Prelude.{Ok, Err}
+use Rattle.std.proofs.Common.{◌≡◌, ℕ, zero, suc, List, [], ◌∷◌, ◌++◌, ◌≤◌, ◌<◌, ◌+◌, refl, sym, ap, ◌∙◌, subst, append_assoc, arith, Bool, true, false, Option}
+use Rattle.std.specs.Prelude.{Ok, Err, Some, None, if◌then◌else◌}
 use Rattle.mz_base.specs.declared.fault.Span.{Span}
 use Rattle.mz_lexer.specs.declared.token.Token.{Token}
 use Rattle.mz_lexer.specs.declared.token.Tok.{Tok}
-use Rattle.mz_cursor.specs.Tokens.{tok_at, follows}
-use Rattle.mz_cursor.specs.Rules.{Reason, too_deep, Rule, give, refuse, leave_out, look, pass, enter, leave, part, Runs, gives, looks, passes, enters, leaves, parts, Refuses, unfit, unwanted, no_token, no_opening, one_too_many, behind_look, behind_pass, behind_enter, behind_leave, within, beyond}
-use Rattle.mz_cursor.specs.Reading.{Read, Reader, stuck, ◌>>=◌, step, read_by, weight, Falls, read}
+use Rattle.mz_cursor.specs.Tokens.{tok_at, follows, passes, told}
+use Rattle.mz_cursor.specs.Rules.{Reason, too_deep, Opens, keeps, opens, Rule, give, refuse, leave_out, when, named, ahead, leave, part, Behind, kept, opened, Runs, gives, over, skips, finds, lacks, sees, misses, leaves, parts, Refuses, unfit, unwanted, one_too_many, one_name_too_many, behind_over, behind_skip, behind_find, behind_lack, behind_sight, behind_miss, behind_leave, within, beyond}
+use Rattle.mz_cursor.specs.Reading.{Read, Reader, stuck, on, ◌>>=◌, step, read_by, weight, Falls, read}
+use Rattle.mz_cursor.proofs.Steps.{same_if, same_on}
 
 pub follow : (f rest : List Token) → tok_at (f ++ rest) ≡ follows f (tok_at rest)
 follow [] rest = refl
@@ -16,63 +17,108 @@ weight_prefix : (w : ℕ) (us rest : List Token) → weight w rest ≤ weight w 
 weight_prefix w [] rest = omega arith
 weight_prefix w (t ∷ us) rest = let h = weight_prefix w us rest in omega arith
 
-module _ {Part : Type 0} {Value : Part → Type 0} (rule : (n : Part) → Rule Value n) (rank : Part → ℕ) (width : ℕ) (low : (n : Part) → rank n < width) (falls : (n : Part) → Falls rank (rank n) (rule n)) where
+pub if_true : {A : Type 0} (c : Bool) (x y : A) → c ≡ true → (if c then x else y) ≡ x
+if_true true x y e = refl
+if_true false x y e = absurd (cc)
+
+pub if_false : {A : Type 0} (c : Bool) (x y : A) → c ≡ false → (if c then x else y) ≡ y
+if_false true x y e = absurd (cc)
+if_false false x y e = refl
+
+pub if_some : {A B : Type 0} (o : Option A) {a : A} (y : B) (f : A → B) → o ≡ Some a → on o y f ≡ f a
+if_some o y f e = ap (λ o. on o y f) e
+
+pub if_none : {A B : Type 0} (o : Option A) (y : B) (f : A → B) → o ≡ None → on o y f ≡ y
+if_none o y f e = ap (λ o. on o y f) e
+
+module _ {Part Class : Type 0} {Value : Part → Type 0} {Told : Class → Type 0} (rule : (n : Part) → Rule Value Told n) (rank : Part → ℕ) (width : ℕ) (low : (n : Part) → rank n < width) (falls : (n : Part) → Falls rank (rank n) (rule n)) where
   -- after a token, any part is one further down
-  all_fall : {n : Part} (p : Rule Value n) → Falls rank width p
+  all_fall : {n : Part} (p : Rule Value Told n) → Falls rank width p
   all_fall (give x) = tt
   all_fall refuse = tt
   all_fall leave_out = tt
-  all_fall (look f) = λ o. all_fall (f o)
-  all_fall (pass f) = tt
-  all_fall (enter f) = tt
+  all_fall (when o b f q) = all_fall q
+  all_fall (named o c find f q) = all_fall q
+  all_fall (ahead b p q) = (all_fall p, all_fall q)
   all_fall (leave p) = all_fall p
   all_fall (part m f) = (low m, λ x. all_fall (f x))
 
   -- what a reader's answer says of the tokens
-  abbrev pub Outcome : (n : Part) → ℕ → Rule Value n → List Token → Read (Value n) → Type 0
+  abbrev pub Outcome : (n : Part) → ℕ → Rule Value Told n → List Token → Read (Value n) → Type 0
   Outcome n room p ts (Ok x) = (prefix : List Token) × (ts ≡ prefix ++ x.1) × Runs rule n room p prefix x.0 (tok_at x.1)
   Outcome n room p ts (Err e) = (prefix : List Token) × (ts ≡ prefix ++ e.rest) × Refuses rule n room p prefix e.why (tok_at e.rest)
 
   abbrev Sound : ℕ → Type 0
   Sound fuel = (m : Part) (room : ℕ) (us : List Token) → weight width us + rank m < fuel → Outcome m room (rule m) us (read_by rule fuel m room us)
 
-  looked : {n : Part} (room : ℕ) (f : Option Tok → Rule Value n) (ts : List Token) (o : Read (Value n)) → Outcome n room (f (tok_at ts)) ts o → Outcome n room (look f) ts o
-  looked {n = n} room f ts (Ok x) h = (h.0, h.1, looks (subst (λ o. Runs rule n room (f o) h.0 x.0 (tok_at x.1)) (ap tok_at h.1 ∙ follow h.0 x.1) h.2))
-  looked {n = n} room f ts (Err e) h = (h.0, h.1, behind_look (subst (λ o. Refuses rule n room (f o) h.0 e.why (tok_at e.rest)) (ap tok_at h.1 ∙ follow h.0 e.rest) h.2))
+  -- by a test, or by what a token tells
+  by_test : {n : Part} (room : ℕ) (p : Rule Value Told n) (ts : List Token) (c : Bool) (x y : Read (Value n)) → (c ≡ true → Outcome n room p ts x) → (c ≡ false → Outcome n room p ts y) → Outcome n room p ts (if c then x else y)
+  by_test room p ts true x y h g = h refl
+  by_test room p ts false x y h g = g refl
 
-  passed : {n : Part} (room : ℕ) (f : Span → Rule Value n) (t : Token) (ts : List Token) (o : Read (Value n)) → Outcome n room (f t.span) ts o → Outcome n room (pass f) (t ∷ ts) o
-  passed room f t ts (Ok x) h = (t ∷ h.0, ap (λ l. t ∷ l) h.1, passes h.2)
-  passed room f t ts (Err e) h = (t ∷ h.0, ap (λ l. t ∷ l) h.1, behind_pass h.2)
+  by_tale : {A : Type 0} {n : Part} (room : ℕ) (p : Rule Value Told n) (ts : List Token) (o : Option A) (y : Read (Value n)) (f : A → Read (Value n)) → (o ≡ None → Outcome n room p ts y) → ((a : A) → o ≡ Some a → Outcome n room p ts (f a)) → Outcome n room p ts (on o y f)
+  by_tale room p ts None y f h g = h refl
+  by_tale room p ts (Some a) y f h g = g a refl
 
-  entered : {n : Part} (room : ℕ) (f : Span → Rule Value n) (t : Token) (ts : List Token) (o : Read (Value n)) → Outcome n room (f t.span) ts o → Outcome n (suc room) (enter f) (t ∷ ts) o
-  entered room f t ts (Ok x) h = (t ∷ h.0, ap (λ l. t ∷ l) h.1, enters h.2)
-  entered room f t ts (Err e) h = (t ∷ h.0, ap (λ l. t ∷ l) h.1, behind_enter h.2)
+  gone_over : {n : Part} {room r : ℕ} {o : Opens} (b : Tok → Bool) (f : Span → Rule Value Told n) (q : Rule Value Told n) (t : Token) (ts : List Token) (x : Read (Value n)) → Behind o room r → b t.tok ≡ true → Outcome n r (f t.span) ts x → Outcome n room (when o b f q) (t ∷ ts) x
+  gone_over b f q t ts (Ok x) k e h = (t ∷ h.0, ap (λ l. t ∷ l) h.1, over k e h.2)
+  gone_over b f q t ts (Err x) k e h = (t ∷ h.0, ap (λ l. t ∷ l) h.1, behind_over k e h.2)
 
-  left : {n : Part} (room : ℕ) (p : Rule Value n) (ts : List Token) (o : Read (Value n)) → Outcome n (suc room) p ts o → Outcome n room (leave p) ts o
+  skipped : {n : Part} (room : ℕ) (o : Opens) (b : Tok → Bool) (f : Span → Rule Value Told n) (q : Rule Value Told n) (ts : List Token) (x : Read (Value n)) → passes b (tok_at ts) ≡ false → Outcome n room q ts x → Outcome n room (when o b f q) ts x
+  skipped room o b f q ts (Ok x) e h = (h.0, h.1, skips (subst (λ o. passes b o ≡ false) (ap tok_at h.1 ∙ follow h.0 x.1) e) h.2)
+  skipped room o b f q ts (Err x) e h = (h.0, h.1, behind_skip (subst (λ o. passes b o ≡ false) (ap tok_at h.1 ∙ follow h.0 x.rest) e) h.2)
+
+  found : {n : Part} {room r : ℕ} {o : Opens} (c : Class) (find : Tok → Option (Told c)) (f : Told c → Span → Rule Value Told n) (q : Rule Value Told n) (a : Told c) (t : Token) (ts : List Token) (x : Read (Value n)) → Behind o room r → find t.tok ≡ Some a → Outcome n r (f a t.span) ts x → Outcome n room (named o c find f q) (t ∷ ts) x
+  found c find f q a t ts (Ok x) k e h = (t ∷ h.0, ap (λ l. t ∷ l) h.1, finds k e h.2)
+  found c find f q a t ts (Err x) k e h = (t ∷ h.0, ap (λ l. t ∷ l) h.1, behind_find k e h.2)
+
+  lacked : {n : Part} (room : ℕ) (o : Opens) (c : Class) (find : Tok → Option (Told c)) (f : Told c → Span → Rule Value Told n) (q : Rule Value Told n) (ts : List Token) (x : Read (Value n)) → told find (tok_at ts) ≡ None → Outcome n room q ts x → Outcome n room (named o c find f q) ts x
+  lacked room o c find f q ts (Ok x) e h = (h.0, h.1, lacks (subst (λ o. told find o ≡ None) (ap tok_at h.1 ∙ follow h.0 x.1) e) h.2)
+  lacked room o c find f q ts (Err x) e h = (h.0, h.1, behind_lack (subst (λ o. told find o ≡ None) (ap tok_at h.1 ∙ follow h.0 x.rest) e) h.2)
+
+  seen_ahead : {n : Part} (room : ℕ) (b : Option Tok → Bool) (p q : Rule Value Told n) (ts : List Token) (x : Read (Value n)) → b (tok_at ts) ≡ true → Outcome n room p ts x → Outcome n room (ahead b p q) ts x
+  seen_ahead room b p q ts (Ok x) e h = (h.0, h.1, sees (subst (λ o. b o ≡ true) (ap tok_at h.1 ∙ follow h.0 x.1) e) h.2)
+  seen_ahead room b p q ts (Err x) e h = (h.0, h.1, behind_sight (subst (λ o. b o ≡ true) (ap tok_at h.1 ∙ follow h.0 x.rest) e) h.2)
+
+  missed : {n : Part} (room : ℕ) (b : Option Tok → Bool) (p q : Rule Value Told n) (ts : List Token) (x : Read (Value n)) → b (tok_at ts) ≡ false → Outcome n room q ts x → Outcome n room (ahead b p q) ts x
+  missed room b p q ts (Ok x) e h = (h.0, h.1, misses (subst (λ o. b o ≡ false) (ap tok_at h.1 ∙ follow h.0 x.1) e) h.2)
+  missed room b p q ts (Err x) e h = (h.0, h.1, behind_miss (subst (λ o. b o ≡ false) (ap tok_at h.1 ∙ follow h.0 x.rest) e) h.2)
+
+  left : {n : Part} (room : ℕ) (p : Rule Value Told n) (ts : List Token) (o : Read (Value n)) → Outcome n (suc room) p ts o → Outcome n room (leave p) ts o
   left room p ts (Ok x) h = (h.0, h.1, leaves h.2)
   left room p ts (Err e) h = (h.0, h.1, behind_leave h.2)
 
-  beyond_part : {n m : Part} (room : ℕ) (f : Value m → Rule Value n) (ts : List Token) (x : Value m) (mid : List Token) → Outcome m room (rule m) ts (Ok (x, mid)) → (o : Read (Value n)) → Outcome n room (f x) mid o → Outcome n room (part m f) ts o
+  beyond_part : {n m : Part} (room : ℕ) (f : Value m → Rule Value Told n) (ts : List Token) (x : Value m) (mid : List Token) → Outcome m room (rule m) ts (Ok (x, mid)) → (o : Read (Value n)) → Outcome n room (f x) mid o → Outcome n room (part m f) ts o
   beyond_part {n = n} {m = m} room f ts x mid h (Ok y) g = (h.0 ++ g.0, h.1 ∙ ap (λ l. h.0 ++ l) g.1 ∙ sym (append_assoc h.0 g.0 y.1), parts h.0 g.0 (subst (λ o. Runs rule m room (rule m) h.0 x o) (ap tok_at g.1 ∙ follow g.0 y.1) h.2) g.2)
   beyond_part {n = n} {m = m} room f ts x mid h (Err e) g = (h.0 ++ g.0, h.1 ∙ ap (λ l. h.0 ++ l) g.1 ∙ sym (append_assoc h.0 g.0 e.rest), beyond h.0 g.0 (subst (λ o. Runs rule m room (rule m) h.0 x o) (ap tok_at g.1 ∙ follow g.0 e.rest) h.2) g.2)
 
-  in_part : (fuel : ℕ) {n m : Part} (room r : ℕ) (f : Value m → Rule Value n) (ts : List Token) (o : Read (Value m)) → Outcome m room (rule m) ts o
+  in_part : (fuel : ℕ) {n m : Part} (room r : ℕ) (f : Value m → Rule Value Told n) (ts : List Token) (o : Read (Value m)) → Outcome m room (rule m) ts o
       → ((x : Value m) (us : List Token) → weight width us ≤ weight width ts → Outcome n room (f x) us (step (read_by rule fuel) (f x) room us))
       → Outcome n room (part m f) ts (o >>= λ x. step (read_by rule fuel) (f x.0) room x.1)
   in_part fuel room r f ts (Ok x) h rest = beyond_part room f ts x.0 x.1 h _ (rest x.0 x.1 (subst (λ l. weight width x.1 ≤ weight width l) (sym h.1) (weight_prefix width h.0 x.1)))
   in_part fuel room r f ts (Err e) h rest = (h.0, h.1, within h.2)
 
-  sound_step : (fuel : ℕ) → Sound fuel → {n : Part} (p : Rule Value n) (r room : ℕ) (ts : List Token) → Falls rank r p → weight width ts + r ≤ fuel → Outcome n room p ts (step (read_by rule fuel) p room ts)
+  sound_step : (fuel : ℕ) → Sound fuel → {n : Part} (p : Rule Value Told n) (r room : ℕ) (ts : List Token) → Falls rank r p → weight width ts + r ≤ fuel → Outcome n room p ts (step (read_by rule fuel) p room ts)
   unfolding step
   sound_step fuel ih (give x) r room ts d l = ([], refl, gives)
   sound_step fuel ih refuse r room ts d l = ([], refl, unfit)
   sound_step fuel ih leave_out r room ts d l = ([], refl, unwanted)
-  sound_step fuel ih (look f) r room ts d l = looked room f ts _ (sound_step fuel ih (f (tok_at ts)) r room ts (d (tok_at ts)) l)
-  sound_step fuel ih (pass f) r room [] d l = ([], refl, no_token)
-  sound_step fuel ih (pass f) r room (t ∷ ts) d l = passed room f t ts _ (sound_step fuel ih (f t.span) width room ts (all_fall (f t.span)) (omega arith))
-  sound_step fuel ih (enter f) r room [] d l = ([], refl, no_opening)
-  sound_step fuel ih (enter f) r zero (t ∷ ts) d l = ([], refl, one_too_many)
-  sound_step fuel ih (enter f) r (suc room) (t ∷ ts) d l = entered room f t ts _ (sound_step fuel ih (f t.span) width room ts (all_fall (f t.span)) (omega arith))
+  sound_step fuel ih (when o b f q) r room [] d l = skipped room o b f q [] _ refl (sound_step fuel ih q r room [] d l)
+  sound_step fuel ih (when keeps b f q) r room (t ∷ ts) d l =
+      by_test room (when keeps b f q) (t ∷ ts) (b t.tok) _ _ (λ e. gone_over b f q t ts _ kept e (sound_step fuel ih (f t.span) width room ts (all_fall (f t.span)) (omega arith))) (λ e. skipped room keeps b f q (t ∷ ts) _ e (sound_step fuel ih q r room (t ∷ ts) d l))
+  sound_step fuel ih (when opens b f q) r zero (t ∷ ts) d l =
+      by_test zero (when opens b f q) (t ∷ ts) (b t.tok) _ _ (λ e. ([], refl, one_too_many e)) (λ e. skipped zero opens b f q (t ∷ ts) _ e (sound_step fuel ih q r zero (t ∷ ts) d l))
+  sound_step fuel ih (when opens b f q) r (suc room) (t ∷ ts) d l =
+      by_test (suc room) (when opens b f q) (t ∷ ts) (b t.tok) _ _ (λ e. gone_over b f q t ts _ opened e (sound_step fuel ih (f t.span) width room ts (all_fall (f t.span)) (omega arith))) (λ e. skipped (suc room) opens b f q (t ∷ ts) _ e (sound_step fuel ih q r (suc room) (t ∷ ts) d l))
+  sound_step fuel ih (named o c find f q) r room [] d l = lacked room o c find f q [] _ refl (sound_step fuel ih q r room [] d l)
+  sound_step fuel ih (named keeps c find f q) r room (t ∷ ts) d l =
+      by_tale room (named keeps c find f q) (t ∷ ts) (find t.tok) _ _ (λ e. lacked room keeps c find f q (t ∷ ts) _ e (sound_step fuel ih q r room (t ∷ ts) d l)) (λ a e. found c find f q a t ts _ kept e (sound_step fuel ih (f a t.span) width room ts (all_fall (f a t.span)) (omega arith)))
+  sound_step fuel ih (named opens c find f q) r zero (t ∷ ts) d l =
+      by_tale zero (named opens c find f q) (t ∷ ts) (find t.tok) _ _ (λ e. lacked zero opens c find f q (t ∷ ts) _ e (sound_step fuel ih q r zero (t ∷ ts) d l)) (λ a e. ([], refl, one_name_too_many e))
+  sound_step fuel ih (named opens c find f q) r (suc room) (t ∷ ts) d l =
+      by_tale (suc room) (named opens c find f q) (t ∷ ts) (find t.tok) _ _ (λ e. lacked (suc room) opens c find f q (t ∷ ts) _ e (sound_step fuel ih q r (suc room) (t ∷ ts) d l)) (λ a e. found c find f q a t ts _ opened e (sound_step fuel ih (f a t.span) width room ts (all_fall (f a t.span)) (omega arith)))
+  sound_step fuel ih (ahead b p q) r room ts d l =
+      by_test room (ahead b p q) ts (b (tok_at ts)) _ _ (λ e. seen_ahead room b p q ts _ e (sound_step fuel ih p r room ts d.0 l)) (λ e. missed room b p q ts _ e (sound_step fuel ih q r room ts d.1 l))
   sound_step fuel ih (leave p) r room ts d l = left room p ts _ (sound_step fuel ih p r (suc room) ts d l)
   sound_step fuel ih (part m f) r room ts d l = in_part fuel room r f ts _ (ih m room ts (omega (arith, d.0))) (λ x us le. sound_step fuel ih (f x) r room us (d.1 x) (omega arith))
 
@@ -102,14 +148,23 @@ module _ {Part : Type 0} {Value : Part → Type 0} (rule : (n : Part) → Rule V
   seen [] rest next h = h
   seen (t ∷ us) rest next h = refl
 
+  reached_by : {A : Type 0} {room n : ℕ} {x : A} {rest : List Token} {o p : Read A} → o ≡ p → Reaches room n x rest p → Reaches room n x rest o
+  reached_by {room = room} {n = n} {x = x} {rest = rest} e h = subst (Reaches room n x rest) (sym e) h
+
   -- what is allowed is read, wherever it may end
-  reaches : {n : Part} {q : ℕ} {p : Rule Value n} {us : List Token} {x : Value n} {next : Option Tok} → Runs rule n q p us x next → (fuel r room : ℕ) (rest : List Token) → tok_at rest ≡ next → Falls rank r p → weight width (us ++ rest) + r ≤ fuel → Reaches room q x rest (step (read_by rule fuel) p room (us ++ rest))
+  reaches : {n : Part} {q : ℕ} {p : Rule Value Told n} {us : List Token} {x : Value n} {next : Option Tok} → Runs rule n q p us x next → (fuel r room : ℕ) (rest : List Token) → tok_at rest ≡ next → Falls rank r p → weight width (us ++ rest) + r ≤ fuel → Reaches room q x rest (step (read_by rule fuel) p room (us ++ rest))
   unfolding step read_by
   reaches gives fuel r room rest e d l = reached refl
-  reaches (looks {f = f} {ts = ts} {next = next} h) fuel r room rest e d l = rw (seen ts rest next e) (reaches h fuel r room rest e (d (follows ts next)) l)
-  reaches (passes {f = f} {t = t} h) fuel r room rest e d l = reaches h fuel width room rest e (all_fall (f t.span)) (omega arith)
-  reaches (enters {f = f} {t = t} {ts = ts} h) fuel r zero rest e d l = too_much (t ∷ (ts ++ rest)) refl (omega arith)
-  reaches (enters {f = f} {t = t} h) fuel r (suc room) rest e d l = deeper (reaches h fuel width room rest e (all_fall (f t.span)) (omega arith))
+  reaches (over {b = b} {f = f} {t = t} {ts = ts} kept k h) fuel r room rest e d l = reached_by (if_true (b t.tok) _ _ k) (reaches h fuel width room rest e (all_fall (f t.span)) (omega arith))
+  reaches (over {b = b} {f = f} {t = t} {ts = ts} opened k h) fuel r zero rest e d l = reached_by (if_true (b t.tok) _ _ k) (too_much (t ∷ (ts ++ rest)) refl (omega arith))
+  reaches (over {b = b} {f = f} {t = t} {ts = ts} opened k h) fuel r (suc room) rest e d l = reached_by (if_true (b t.tok) _ _ k) (deeper (reaches h fuel width room rest e (all_fall (f t.span)) (omega arith)))
+  reaches (skips {b = b} {ts = ts} {next = next} k h) fuel r room rest e d l = reached_by (if_false (passes b (tok_at (ts ++ rest))) _ _ (ap (passes b) (seen ts rest next e) ∙ k)) (reaches h fuel r room rest e d l)
+  reaches (finds {find = find} {f = f} {a = a} {t = t} {ts = ts} kept k h) fuel r room rest e d l = reached_by (if_some (find t.tok) _ _ k) (reaches h fuel width room rest e (all_fall (f a t.span)) (omega arith))
+  reaches (finds {find = find} {f = f} {a = a} {t = t} {ts = ts} opened k h) fuel r zero rest e d l = reached_by (if_some (find t.tok) _ _ k) (too_much (t ∷ (ts ++ rest)) refl (omega arith))
+  reaches (finds {find = find} {f = f} {a = a} {t = t} {ts = ts} opened k h) fuel r (suc room) rest e d l = reached_by (if_some (find t.tok) _ _ k) (deeper (reaches h fuel width room rest e (all_fall (f a t.span)) (omega arith)))
+  reaches (lacks {find = find} {ts = ts} {next = next} k h) fuel r room rest e d l = reached_by (if_none (told find (tok_at (ts ++ rest))) _ _ (ap (told find) (seen ts rest next e) ∙ k)) (reaches h fuel r room rest e d l)
+  reaches (sees {b = b} {ts = ts} {next = next} k h) fuel r room rest e d l = reached_by (if_true (b (tok_at (ts ++ rest))) _ _ (ap b (seen ts rest next e) ∙ k)) (reaches h fuel r room rest e d.0 l)
+  reaches (misses {b = b} {ts = ts} {next = next} k h) fuel r room rest e d l = reached_by (if_false (b (tok_at (ts ++ rest))) _ _ (ap b (seen ts rest next e) ∙ k)) (reaches h fuel r room rest e d.1 l)
   reaches (leaves h) fuel r room rest e d l = shallower (reaches h fuel r (suc room) rest e d l)
   reaches (parts {m = m} {f = f} us vs {x = x} {y = y} {next = next} h g) zero r room rest e d l = absurd (omega (arith, d.0))
   reaches (parts {m = m} {room = q} {f = f} us vs {x = x} {y = y} {next = next} h g) (suc fuel) r room rest e d l =
@@ -123,19 +178,22 @@ module _ {Part : Type 0} {Value : Part → Type 0} (rule : (n : Part) → Rule V
   enough (too_much r e d) = absurd (omega arith)
 
   -- what is refused is refused again, wherever such a token stands
-  refuses : {n : Part} {q : ℕ} {p : Rule Value n} {us : List Token} {why : Reason} {next : Option Tok} → Refuses rule n q p us why next → (fuel r : ℕ) (rest : List Token) → tok_at rest ≡ next → Falls rank r p → weight width (us ++ rest) + r ≤ fuel → step (read_by rule fuel) p q (us ++ rest) ≡ stuck why rest
+  refuses : {n : Part} {q : ℕ} {p : Rule Value Told n} {us : List Token} {why : Reason} {next : Option Tok} → Refuses rule n q p us why next → (fuel r : ℕ) (rest : List Token) → tok_at rest ≡ next → Falls rank r p → weight width (us ++ rest) + r ≤ fuel → step (read_by rule fuel) p q (us ++ rest) ≡ stuck why rest
   unfolding step read_by
   refuses unfit fuel r rest e d l = refl
   refuses unwanted fuel r rest e d l = refl
-  refuses no_token fuel r [] e d l = refl
-  refuses no_token fuel r (t ∷ rest) e d l = cc
-  refuses no_opening fuel r [] e d l = refl
-  refuses no_opening fuel r (t ∷ rest) e d l = cc
-  refuses one_too_many fuel r [] e d l = cc
-  refuses one_too_many fuel r (t ∷ rest) e d l = refl
-  refuses (behind_look {f = f} {ts = ts} {next = next} h) fuel r rest e d l = rw (seen ts rest next e) (refuses h fuel r rest e (d (follows ts next)) l)
-  refuses (behind_pass {f = f} {t = t} h) fuel r rest e d l = refuses h fuel width rest e (all_fall (f t.span)) (omega arith)
-  refuses (behind_enter {f = f} {t = t} h) fuel r rest e d l = refuses h fuel width rest e (all_fall (f t.span)) (omega arith)
+  refuses (one_too_many k) fuel r [] e d l = cc
+  refuses (one_too_many {b = b} {t = t} k) fuel r (u ∷ rest) e d l = if_true (b u.tok) _ _ (ap (passes b) e ∙ k)
+  refuses (one_name_too_many k) fuel r [] e d l = cc
+  refuses (one_name_too_many {find = find} {t = t} k) fuel r (u ∷ rest) e d l = if_some (find u.tok) _ _ (ap (told find) e ∙ k)
+  refuses (behind_over {b = b} {f = f} {t = t} kept k h) fuel r rest e d l = if_true (b t.tok) _ _ k ∙ refuses h fuel width rest e (all_fall (f t.span)) (omega arith)
+  refuses (behind_over {b = b} {f = f} {t = t} opened k h) fuel r rest e d l = if_true (b t.tok) _ _ k ∙ refuses h fuel width rest e (all_fall (f t.span)) (omega arith)
+  refuses (behind_skip {b = b} {ts = ts} {next = next} k h) fuel r rest e d l = if_false (passes b (tok_at (ts ++ rest))) _ _ (ap (passes b) (seen ts rest next e) ∙ k) ∙ refuses h fuel r rest e d l
+  refuses (behind_find {find = find} {f = f} {a = a} {t = t} kept k h) fuel r rest e d l = if_some (find t.tok) _ _ k ∙ refuses h fuel width rest e (all_fall (f a t.span)) (omega arith)
+  refuses (behind_find {find = find} {f = f} {a = a} {t = t} opened k h) fuel r rest e d l = if_some (find t.tok) _ _ k ∙ refuses h fuel width rest e (all_fall (f a t.span)) (omega arith)
+  refuses (behind_lack {find = find} {ts = ts} {next = next} k h) fuel r rest e d l = if_none (told find (tok_at (ts ++ rest))) _ _ (ap (told find) (seen ts rest next e) ∙ k) ∙ refuses h fuel r rest e d l
+  refuses (behind_sight {b = b} {ts = ts} {next = next} k h) fuel r rest e d l = if_true (b (tok_at (ts ++ rest))) _ _ (ap b (seen ts rest next e) ∙ k) ∙ refuses h fuel r rest e d.0 l
+  refuses (behind_miss {b = b} {ts = ts} {next = next} k h) fuel r rest e d l = if_false (b (tok_at (ts ++ rest))) _ _ (ap b (seen ts rest next e) ∙ k) ∙ refuses h fuel r rest e d.1 l
   refuses (behind_leave h) fuel r rest e d l = refuses h fuel r rest e d l
   refuses (within {m = m} {f = f} h) zero r rest e d l = absurd (omega (arith, d.0))
   refuses (within {m = m} {room = q} {f = f} h) (suc fuel) r rest e d l = ap (λ o. o >>= λ x. step (read_by rule (suc fuel)) (f x.0) q x.1) (refuses h fuel (rank m) rest e (falls m) (omega (arith, d.0)))
@@ -158,23 +216,26 @@ module _ {Part : Type 0} {Value : Part → Type 0} (rule : (n : Part) → Rule V
       go (Ok x) h = sym (ap (step (read_by rule (weight width ts + rank n)) (rule n) room) h.1 ∙ enough (reaches h.2 (weight width ts + rank n) (rank n) room x.1 refl (falls n) (rw (sym h.1) (omega arith))))
       go (Err e) h = sym (ap (step (read_by rule (weight width ts + rank n)) (rule n) room) h.1 ∙ refuses h.2 (weight width ts + rank n) (rank n) e.rest refl (falls n) (rw (sym h.1) (omega arith)))
 
-  same_behind : (fuel : ℕ) {n m : Part} (q : ℕ) (f : Value m → Rule Value n) (us : List Token) (o : Read (Value m)) → Outcome m q (rule m) us o
+  same_behind : (fuel : ℕ) {n m : Part} (q : ℕ) (f : Value m → Rule Value Told n) (us : List Token) (o : Read (Value m)) → Outcome m q (rule m) us o
       → ((x : Value m) (vs : List Token) → weight width vs ≤ weight width us → step (read_by rule fuel) (f x) q vs ≡ step reads (f x) q vs)
       → (o >>= λ x. step (read_by rule fuel) (f x.0) q x.1) ≡ (o >>= λ x. step reads (f x.0) q x.1)
   same_behind fuel q f us (Ok x) h rest = rest x.0 x.1 (subst (λ l. weight width x.1 ≤ weight width l) (sym h.1) (weight_prefix width h.0 x.1))
   same_behind fuel q f us (Err e) h rest = refl
 
-  same_step : (fuel : ℕ) {n : Part} (p : Rule Value n) (r q : ℕ) (us : List Token) → Falls rank r p → weight width us + r ≤ fuel → step (read_by rule fuel) p q us ≡ step reads p q us
+  same_step : (fuel : ℕ) {n : Part} (p : Rule Value Told n) (r q : ℕ) (us : List Token) → Falls rank r p → weight width us + r ≤ fuel → step (read_by rule fuel) p q us ≡ step reads p q us
   unfolding step
   same_step fuel (give x) r q us d l = refl
   same_step fuel refuse r q us d l = refl
   same_step fuel leave_out r q us d l = refl
-  same_step fuel (look f) r q us d l = same_step fuel (f (tok_at us)) r q us (d (tok_at us)) l
-  same_step fuel (pass f) r q [] d l = refl
-  same_step fuel (pass f) r q (t ∷ us) d l = same_step fuel (f t.span) width q us (all_fall (f t.span)) (omega arith)
-  same_step fuel (enter f) r q [] d l = refl
-  same_step fuel (enter f) r zero (t ∷ us) d l = refl
-  same_step fuel (enter f) r (suc q) (t ∷ us) d l = same_step fuel (f t.span) width q us (all_fall (f t.span)) (omega arith)
+  same_step fuel (when o b f q) r room [] d l = same_step fuel q r room [] d l
+  same_step fuel (when keeps b f q) r room (t ∷ us) d l = same_if (b t.tok) (same_step fuel (f t.span) width room us (all_fall (f t.span)) (omega arith)) (same_step fuel q r room (t ∷ us) d l)
+  same_step fuel (when opens b f q) r zero (t ∷ us) d l = same_if (b t.tok) refl (same_step fuel q r zero (t ∷ us) d l)
+  same_step fuel (when opens b f q) r (suc room) (t ∷ us) d l = same_if (b t.tok) (same_step fuel (f t.span) width room us (all_fall (f t.span)) (omega arith)) (same_step fuel q r (suc room) (t ∷ us) d l)
+  same_step fuel (named o c find f q) r room [] d l = same_step fuel q r room [] d l
+  same_step fuel (named keeps c find f q) r room (t ∷ us) d l = same_on (find t.tok) _ _ (same_step fuel q r room (t ∷ us) d l) (λ a. same_step fuel (f a t.span) width room us (all_fall (f a t.span)) (omega arith))
+  same_step fuel (named opens c find f q) r zero (t ∷ us) d l = same_on (find t.tok) _ _ (same_step fuel q r zero (t ∷ us) d l) (λ a. refl)
+  same_step fuel (named opens c find f q) r (suc room) (t ∷ us) d l = same_on (find t.tok) _ _ (same_step fuel q r (suc room) (t ∷ us) d l) (λ a. same_step fuel (f a t.span) width room us (all_fall (f a t.span)) (omega arith))
+  same_step fuel (ahead b p q) r room us d l = same_if (b (tok_at us)) (same_step fuel p r room us d.0 l) (same_step fuel q r room us d.1 l)
   same_step fuel (leave p) r q us d l = same_step fuel p r (suc q) us d l
   same_step fuel (part m f) r q us d l =
       same_behind fuel q f us _ (sound fuel m q us (omega (arith, d.0))) (λ x vs le. same_step fuel (f x) r q vs (d.1 x) (omega arith))

@@ -1,13 +1,10 @@
--- How a rule reads, by its outermost form: steps towards one equation for each part of a grammar.
-use Rattle.std.proofs.Common.{◌≡◌, ℕ, zero, suc, List, [], ◌∷◌, ◌++◌, map, ◌≤◌, ◌<◌, ◌+◌, refl, sym, ap, ◌∙◌, append_assoc, append-nil, true, false, Bool, Option, Result}
+-- How readings are put together: steps towards one equation for each part of a grammar.
+use Rattle.std.proofs.Common.{◌≡◌, ℕ, zero, suc, List, [], ◌∷◌, ◌++◌, map, refl, sym, ap, ◌∙◌, append_assoc, append-nil, true, false, Bool, Option, Result}
 use Rattle.std.proofs.lemmas.List.{map-append}
 use Rattle.std.specs.Prelude.{Ok, Err, Some, None, if◌then◌else◌}
-use Rattle.mz_base.specs.declared.fault.Span.{Span}
 use Rattle.mz_lexer.specs.declared.token.Token.{Token}
-use Rattle.mz_lexer.specs.declared.token.Tok.{Tok}
-use Rattle.mz_cursor.specs.Tokens.{tok_at, behind, place}
-use Rattle.mz_cursor.specs.Rules.{Rule, pass, enter, too_deep}
-use Rattle.mz_cursor.specs.Reading.{Read, Reader, Stuck, stuck, on, open_at, mapped, with_prefix, listed, step, ◌>>=◌}
+use Rattle.mz_cursor.specs.Rules.{too_deep}
+use Rattle.mz_cursor.specs.Reading.{Read, Reader, Stuck, stuck, on, open_at, mapped, with_prefix, listed, ◌>>=◌}
 
 -- the room of a call that pushed
 pub open_more : {A : Type 0} (room r : ℕ) (ts : List Token) (f : ℕ → Read A) → room ≡ suc r → open_at room ts f ≡ f r
@@ -85,35 +82,3 @@ same_on (Some x) f g h k = k x
 pub same_open : {A : Type 0} (room : ℕ) (ts : List Token) (f g : ℕ → Read A) → ((r : ℕ) → f r ≡ g r) → open_at room ts f ≡ open_at room ts g
 same_open zero ts f g h = refl
 same_open (suc r) ts f g h = h r
-
-module _ {Part : Type 0} {Value : Part → Type 0} (inner : (m : Part) → ℕ → Reader (Value m)) where
-  pub step_if : {n : Part} (b : Bool) (p q : Rule Value n) (room : ℕ) (ts : List Token) → step inner (if b then p else q) room ts ≡ (if b then step inner p room ts else step inner q room ts)
-  step_if true p q room ts = refl
-  step_if false p q room ts = refl
-
-  pub step_on : {n : Part} {A : Type 0} (o : Option A) (p : Rule Value n) (f : A → Rule Value n) (room : ℕ) (ts : List Token) → step inner (on o p f) room ts ≡ on o (step inner p room ts) (λ x. step inner (f x) room ts)
-  step_on None p f room ts = refl
-  step_on (Some x) p f room ts = refl
-
-  -- a test that only a token passes
-  pub pass_if : {n : Part} (test : Option Tok → Bool) → test None ≡ false → (f : Span → Rule Value n) (q : Rule Value n) (room : ℕ) (ts : List Token) → step inner (if test (tok_at ts) then pass f else q) room ts ≡ (if test (tok_at ts) then step inner (f (place ts)) room (behind ts) else step inner q room ts)
-  unfolding step
-  pass_if test e f q room [] = rw e refl
-  pass_if test e f q room (t ∷ ts) = step_if (test (Some t.tok)) (pass f) q room (t ∷ ts)
-
-  pub enter_if : {n : Part} (test : Option Tok → Bool) → test None ≡ false → (f : Span → Rule Value n) (q : Rule Value n) (room : ℕ) (ts : List Token) → step inner (if test (tok_at ts) then enter f else q) room ts ≡ (if test (tok_at ts) then open_at room ts (λ r. step inner (f (place ts)) r (behind ts)) else step inner q room ts)
-  unfolding step
-  enter_if test e f q room [] = rw e refl
-  enter_if test e f q zero (t ∷ ts) = step_if (test (Some t.tok)) (enter f) q zero (t ∷ ts)
-  enter_if test e f q (suc room) (t ∷ ts) = step_if (test (Some t.tok)) (enter f) q (suc room) (t ∷ ts)
-
-  pub pass_on : {n : Part} {A : Type 0} (find : Option Tok → Option A) → find None ≡ None → (q : Rule Value n) (f : A → Span → Rule Value n) (room : ℕ) (ts : List Token) → step inner (on (find (tok_at ts)) q (λ x. pass (f x))) room ts ≡ on (find (tok_at ts)) (step inner q room ts) (λ x. step inner (f x (place ts)) room (behind ts))
-  unfolding step
-  pass_on find e q f room [] = rw e refl
-  pass_on find e q f room (t ∷ ts) = step_on (find (Some t.tok)) q (λ x. pass (f x)) room (t ∷ ts)
-
-  pub enter_on : {n : Part} {A : Type 0} (find : Option Tok → Option A) → find None ≡ None → (q : Rule Value n) (f : A → Span → Rule Value n) (room : ℕ) (ts : List Token) → step inner (on (find (tok_at ts)) q (λ x. enter (f x))) room ts ≡ on (find (tok_at ts)) (step inner q room ts) (λ x. open_at room ts (λ r. step inner (f x (place ts)) r (behind ts)))
-  unfolding step
-  enter_on find e q f room [] = rw e refl
-  enter_on find e q f zero (t ∷ ts) = step_on (find (Some t.tok)) q (λ x. enter (f x)) zero (t ∷ ts)
-  enter_on find e q f (suc room) (t ∷ ts) = step_on (find (Some t.tok)) q (λ x. enter (f x)) (suc room) (t ∷ ts)

@@ -1,5 +1,6 @@
 -- Tests on one token.
-use Rattle.std.specs.Prelude.{ℕ, Bool, false, Option, Some, nat_eq}
+use Rattle.std.specs.Prelude.{ℕ, Bool, false, Option, nat_eq}
+use Rattle.mz_cursor.specs.Tokens.{passes}
 use Rattle.mz_lexer.specs.declared.token.Tok.{Tok}
 use Rattle.mz_lexer.specs.declared.token.Tok.TheVariants.{Word, Sym}
 use Rattle.mz_base.specs.declared.keyword.Keyword.{Keyword}
@@ -96,10 +97,17 @@ symbol_number SConcat = 30
 symbol_number SAbsent = 31
 
 -- it is this keyword, or this symbol
+abbrev pub is_keyword : Keyword → Tok → Bool
+is_keyword k (Word w) = nat_eq (keyword_number w) (keyword_number k)
+is_keyword k _ = false
+
+abbrev pub is_symbol : Symbol → Tok → Bool
+is_symbol s (Sym t) = nat_eq (symbol_number t) (symbol_number s)
+is_symbol s _ = false
+
+-- the next token is this keyword, or this symbol
 abbrev pub is_word : Keyword → Option Tok → Bool
-is_word k (Some (Word w)) = nat_eq (keyword_number w) (keyword_number k)
-is_word k _ = false
+is_word k o = passes (is_keyword k) o
 
 abbrev pub is_sym : Symbol → Option Tok → Bool
-is_sym s (Some (Sym t)) = nat_eq (symbol_number t) (symbol_number s)
-is_sym s _ = false
+is_sym s o = passes (is_symbol s) o

@@ -35,7 +35,7 @@ abbrev pub Gives : {X Y : Type 0} → (X → Y) → Span → List Token → Resu
 Gives view end rest (Ok x) read = read ≡ Ok (view x, rest)
 Gives view end rest (Err stop) read = Stops end rest stop read
 
-module _ {Part : Type 0} {Value : Part → Type 0} (rule : (n : Part) → Rule Value n) where
+module _ {Part Class : Type 0} {Value : Part → Type 0} {Told : Class → Type 0} (rule : (n : Part) → Rule Value Told n) where
   -- these tokens, and no others after them, are this part with this value
   abbrev pub IsWithin : (n : Part) → ℕ → List Token → Value n → Type 0
   IsWithin n room ts x = Runs rule n room (rule n) ts x None

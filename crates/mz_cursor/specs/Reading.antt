@@ -1,13 +1,12 @@
 -- What a grammar reads at the beginning of a list of tokens: a value and the tokens after it, or the first token that doesn't fit.
-use Rattle.std.specs.Prelude.{◌≡◌, ℕ, zero, suc, ◌+◌, ◌<◌, List, [], ◌∷◌, ◌++◌, if◌then◌else◌, Option, Some, None, Result, Ok, Err, Bool}
+use Rattle.std.specs.Prelude.{ℕ, zero, suc, ◌+◌, ◌<◌, List, [], ◌∷◌, ◌++◌, if◌then◌else◌, Option, Some, None, Result, Ok, Err, Bool}
 use Rattle.mz_base.specs.declared.fault.Span.{Span}
 use Rattle.mz_lexer.specs.declared.token.Token.{Token}
-use Rattle.mz_lexer.specs.declared.token.Tok.{Tok}
 use Rattle.mz_lexer.specs.declared.token.Symbol.{Symbol}
 use Rattle.mz_base.specs.declared.keyword.Keyword.{Keyword}
-use Rattle.mz_cursor.specs.Tokens.{tok_at, behind, place}
+use Rattle.mz_cursor.specs.Tokens.{tok_at, behind, place, passes, told}
 use Rattle.mz_cursor.specs.Look.{is_sym, is_word}
-use Rattle.mz_cursor.specs.Rules.{Reason, syntax, left_out, too_deep, Rule, give, refuse, leave_out, look, pass, enter, leave, part}
+use Rattle.mz_cursor.specs.Rules.{Reason, syntax, left_out, too_deep, Opens, keeps, opens, Rule, give, refuse, leave_out, when, named, ahead, leave, part}
 
 -- why a token doesn't fit, and the tokens from there on
 pub record Stuck : Type 0 where
@@ -62,37 +61,39 @@ abbrev pub weight : ℕ → List Token → ℕ
 weight width [] = 0
 weight width (t ∷ ts) = width + weight width ts
 
-module _ {Part : Type 0} {Value : Part → Type 0} where
+-- after a token, which may open something
+abbrev pub inside : {A : Type 0} → Opens → ℕ → List Token → (ℕ → Read A) → Read A
+inside keeps room ts f = f room
+inside opens room ts f = open_at room ts f
+
+module _ {Part Class : Type 0} {Value : Part → Type 0} {Told : Class → Type 0} where
   -- a rule, where the parts are read by inner
-  unfoldable pub step : ((m : Part) → ℕ → Reader (Value m)) → {n : Part} → Rule Value n → ℕ → Reader (Value n)
+  unfoldable pub step : ((m : Part) → ℕ → Reader (Value m)) → {n : Part} → Rule Value Told n → ℕ → Reader (Value n)
   step inner (give x) room ts = Ok (x, ts)
   step inner refuse room ts = stuck syntax ts
   step inner leave_out room ts = stuck left_out ts
-  step inner (look f) room ts = step inner (f (tok_at ts)) room ts
-  step inner (pass f) room [] = stuck syntax []
-  step inner (pass f) room (t ∷ ts) = step inner (f t.span) room ts
-  step inner (enter f) room [] = stuck syntax []
-  step inner (enter f) zero (t ∷ ts) = stuck too_deep (t ∷ ts)
-  step inner (enter f) (suc room) (t ∷ ts) = step inner (f t.span) room ts
+  step inner (when o b f q) room ts = if passes b (tok_at ts) then inside o room ts (λ r. step inner (f (place ts)) r (behind ts)) else step inner q room ts
+  step inner (named o c find f q) room ts = on (told find (tok_at ts)) (step inner q room ts) (λ a. inside o room ts (λ r. step inner (f a (place ts)) r (behind ts)))
+  step inner (ahead b p q) room ts = if b (tok_at ts) then step inner p room ts else step inner q room ts
   step inner (leave p) room ts = step inner p (suc room) ts
   step inner (part m f) room ts = inner m room ts >>= λ x. step inner (f x.0) room x.1
 
   -- the parts that may come first are lower in the order of ranks, so no part begins with itself
-  abbrev pub Falls : (Part → ℕ) → {n : Part} → ℕ → Rule Value n → Type 0
+  abbrev pub Falls : (Part → ℕ) → {n : Part} → ℕ → Rule Value Told n → Type 0
   Falls rank r (give x) = Unit {0}
   Falls rank r refuse = Unit {0}
   Falls rank r leave_out = Unit {0}
-  Falls rank r (look f) = (o : Option Tok) → Falls rank r (f o)
-  Falls rank r (pass f) = Unit {0}
-  Falls rank r (enter f) = Unit {0}
+  Falls rank r (when o b f q) = Falls rank r q
+  Falls rank r (named o c find f q) = Falls rank r q
+  Falls rank r (ahead b p q) = Falls rank r p × Falls rank r q
   Falls rank r (leave p) = Falls rank r p
   Falls rank r (part m f) = (rank m < r) × ((x : Value m) → Falls rank r (f x))
 
   -- parts that are nested at most fuel deep
-  unfoldable pub read_by : ((n : Part) → Rule Value n) → ℕ → (n : Part) → ℕ → Reader (Value n)
+  unfoldable pub read_by : ((n : Part) → Rule Value Told n) → ℕ → (n : Part) → ℕ → Reader (Value n)
   read_by rule zero n room ts = stuck syntax ts
   read_by rule (suc fuel) n room ts = step (read_by rule fuel) (rule n) room ts
 
   -- what is read, whatever the fuel, where there is enough
-  abbrev pub read : ((n : Part) → Rule Value n) → (Part → ℕ) → ℕ → (n : Part) → ℕ → Reader (Value n)
+  abbrev pub read : ((n : Part) → Rule Value Told n) → (Part → ℕ) → ℕ → (n : Part) → ℕ → Reader (Value n)
   read rule rank width n room ts = read_by rule (suc (weight width ts + rank n)) n room ts

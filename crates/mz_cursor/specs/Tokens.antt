@@ -1,5 +1,5 @@
 -- What comes first in a list of tokens.
-use Rattle.std.specs.Prelude.{ℕ, List, [], ◌∷◌, Option, Some, None}
+use Rattle.std.specs.Prelude.{Bool, false, List, [], ◌∷◌, Option, Some, None}
 use Rattle.mz_base.specs.declared.fault.Span.{Span}
 use Rattle.mz_lexer.specs.declared.token.Token.{Token}
 use Rattle.mz_lexer.specs.declared.token.Tok.{Tok}
@@ -33,3 +33,12 @@ place_or end (t ∷ ts) = t.span
 abbrev pub follows : List Token → Option Tok → Option Tok
 follows [] next = next
 follows (t ∷ us) next = Some t.tok
+
+-- whether the next token passes a test, and what it tells; there is none at the end
+abbrev pub passes : (Tok → Bool) → Option Tok → Bool
+passes b None = false
+passes b (Some t) = b t
+
+abbrev pub told : {A : Type 0} → (Tok → Option A) → Option Tok → Option A
+told find None = None
+told find (Some t) = find t

@@ -15,7 +15,7 @@ use Rattle.mz_cursor.specs.Reading.{Read}
 use Rattle.mz_cursor.specs.Promise.{kind_of, reason_of, Stops, Answers}
 use Rattle.mz_cursor.proofs.Laws
 use Rattle.mz_grammar.specs.Data.{Place, Value, rule, rank, width, reads, dimensions_of, file}
-use Rattle.mz_grammar.proofs.DataFalls.{low, falls}
+use Rattle.mz_grammar.proofs.DataFacts.{low, falls}
 use Rattle.mz_grammar.proofs.DataFaults.{is_syntax}
 use Rattle.mz_syntax.proofs.DataTaken.{none_refused}
 use Rattle.mz_dzn.specs.DataFile.{IsNoDataFile}

@@ -16,7 +16,7 @@ use Rattle.mz_cursor.specs.Reading.{Read, stuck}
 use Rattle.mz_cursor.specs.Promise.{IsUnfit, IsLongestPrefix}
 use Rattle.mz_cursor.proofs.Laws as Laws
 use Rattle.mz_grammar.specs.Data.{rule, rank, width, reads, dimensions_of, file}
-use Rattle.mz_grammar.proofs.DataFalls.{low, falls}
+use Rattle.mz_grammar.proofs.DataFacts.{low, falls}
 use Rattle.mz_grammar.proofs.DataViable.{answers}
 use Rattle.mz_dzn.specs.DataFile.{IsDataFile, IsRefusedData}
 use Rattle.mz_dzn.proofs.Answer.{Outcome, outcome}

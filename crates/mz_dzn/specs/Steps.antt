@@ -7,8 +7,8 @@ use Rattle.mz_tree.specs.Data.{values, lines}
 use Rattle.mz_cursor.specs.Tokens.{tok_at, behind, place}
 use Rattle.mz_cursor.specs.Look.{is_sym}
 use Rattle.mz_cursor.specs.Rules.{syntax}
-use Rattle.mz_cursor.specs.Reading.{Reader, stuck, on, open_at, mapped}
-use Rattle.mz_grammar.specs.Tests.{ends_row}
+use Rattle.mz_cursor.specs.Reading.{Reader, stuck, open_at, mapped}
+use Rattle.mz_grammar.specs.Tests.{is_end, ends_row}
 use Rattle.mz_grammar.specs.Data.{Placed, reads, plains, rows, ones}
 
 -- after an element of a list: whether another may follow, or the list is closed
@@ -25,7 +25,9 @@ row_goes_on_at ts = if is_sym SComma (tok_at ts)
 
 -- after an item of the file
 unfoldable pub file_goes_on_at : Reader Bool
-file_goes_on_at ts = on (tok_at ts) (Ok (false, ts)) (λ t. if is_sym SSemi (tok_at ts) then Ok (true, behind ts) else stuck syntax ts)
+file_goes_on_at ts = if is_end (tok_at ts)
+    then Ok (false, ts)
+    else (if is_sym SSemi (tok_at ts) then Ok (true, behind ts) else stuck syntax ts)
 
 -- a set in braces, before its "{"
 abbrev pub braces_at : ℕ → Reader pure.Value

@@ -55,7 +55,7 @@ fn sized(alloc: Global, cur: &mut Cursor<'_>, dimensions: u8) -> Result<Datum, S
 /// What follows an identifier with which a value begins.
 #[tactic(auto, using(crate::proofs::Equations::named_reads))]
 fn named(alloc: Global, cur: &mut Cursor<'_>, names: &Names, name: Name) -> Result<Datum, Stop>
-    ensures { Passes value (reads (named (dimensions_of names.now) name)) cur.old cur.new result }
+    ensures { Passes value (reads (named (dimensions_of names.now name) name)) cur.old cur.new result }
 {
     if !is_sym(Symbol::SLParen, cur.tok()) {
         return range_from(alloc, cur, make_ident_datum(name));

@@ -2,7 +2,7 @@
 
 ghost use Rattle.std.specs.Prelude.{◌≡◌, ◌≤◌, ◌<◌, length, OnOk};
 ghost use Rattle.mz_cursor.specs.Reads.{Reads};
-ghost use Rattle.mz_tree.specs.Data.{value};
+ghost use Rattle.mz_tree.specs.Data.{value, is_name};
 ghost use Rattle.mz_cursor.specs.Promise.{Gives};
 ghost use Rattle.mz_cursor.specs.Tokens.{place};
 ghost use Rattle.mz_dzn.specs.Steps.{braces_at};
@@ -58,7 +58,7 @@ pub fn range_from(alloc: Global, cur: &mut Cursor<'_>, from: Datum) -> Result<Da
 /// What follows the first value of a set: the upper end of a range, which only an identifier can do without.
 #[tactic(auto, using(crate::proofs::Equations::bounds_reads))]
 fn bounds_from(alloc: Global, cur: &mut Cursor<'_>, from: Datum) -> Result<Datum, Stop>
-    ensures reads { Gives value cur.new.end cur.new.rest.now result (reads (bounds (value from)) cur.old.room cur.old.rest.now) }
+    ensures reads { Gives value cur.new.end cur.new.rest.now result (reads (bounds (is_name (value from)) (value from)) cur.old.room cur.old.rest.now) }
     ensures room { cur.new.room ≡ cur.old.room }
     ensures end { cur.new.end ≡ cur.old.end }
     ensures shorter { OnOk result (length cur.new.rest.now ≤ length cur.old.rest.now) }

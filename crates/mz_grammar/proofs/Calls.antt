@@ -1,27 +1,27 @@
 -- The rules of calls keep to what makes each prefix of tokens viable: the arguments that are read are expressions, or generators.
-use Rattle.std.proofs.Common.{◌≡◌, List, [], ◌∷◌, ◌++◌, refl, true, false, Bool, Option, inl, inr, ◌⊎◌}
-use Rattle.std.specs.Prelude.{Some, None, if◌then◌else◌, ◌&&◌}
+use Rattle.std.proofs.Common.{arith, ◌≡◌, List, [], ◌∷◌, ◌++◌, refl, true, false, Bool, Option, inl, inr, ◌⊎◌}
+use Rattle.std.specs.Prelude.{Some, None, ◌&&◌}
 use Rattle.mz_base.specs.declared.fault.Span.{Span}
-use Rattle.mz_lexer.specs.declared.token.Tok.{Tok}
 use Rattle.mz_base.specs.declared.keyword.Keyword.TheVariants.{KIn, KWhere}
 use Rattle.mz_lexer.specs.declared.token.Symbol.TheVariants.{SLParen, SRParen}
-use Rattle.mz_cursor.specs.Rules.{give, refuse, look, pass, leave, part}
-use Rattle.mz_cursor.specs.Look.{is_sym, is_word, symbol_number, keyword_number}
-use Rattle.mz_cursor.specs.Reading.{on, step, read_by}
-use Rattle.mz_cursor.proofs.Viable.{never, last, tokens, maybe}
+use Rattle.mz_cursor.specs.Rules.{keeps, give, when, leave, part}
+use Rattle.mz_cursor.specs.Look.{is_keyword, symbol_number, keyword_number}
+use Rattle.mz_cursor.specs.Reading.{step, read_by}
+use Rattle.mz_cursor.proofs.Viable.{never, before_end, last, tokens, maybe}
 use Rattle.mz_tree.specs.Tree.{Name, Tree}
 use Rattle.mz_grammar.specs.declared.list.Generators.{Generators}
 use Rattle.mz_grammar.specs.declared.list.Generators.TheVariants.{Possible, AwaitingIn, Impossible}
 use Rattle.mz_grammar.specs.declared.list.Closing.TheVariants.{Paren}
 use Rattle.mz_grammar.specs.Parts
 use Rattle.mz_grammar.specs.Parts.{Place, Operand, tree_of}
-use Rattle.mz_tree.specs.Tree.{Generator, generator, Maybe, node, call, trees as tree_list}
+use Rattle.mz_tree.specs.Tree.{Generator, generator, Maybe}
 use Rattle.mz_grammar.specs.Parts.{Argument, name, member, other, unguarded, guarded, strict}
 use Rattle.mz_grammar.specs.Arguments.{possible_after, awaits_in, takes_where, trees_of, generators_of, generators_behind}
 use Rattle.std.specs.Option.{option_map}
 use Rattle.std.specs.Prelude.{map}
-use Rattle.mz_grammar.specs.Model.{Ruled, rule, behind, generator_call, called, named_rule, guarded_rest, arguments_rule}
-use Rattle.mz_grammar.proofs.PartEnds.{Found, Fit, TakesToken, CanComplete, Completion, Done, sign, a_number, tested, found, takes_tested, takes_found, steady_tested, can_complete_symbol, takes_behind, can_complete_behind, ends_item_closing}
+use Rattle.mz_grammar.specs.Model.{Ruled, rule, behind, plain_call, called, guarded_rest}
+use Rattle.mz_grammar.specs.Reading.{rank, operand_rank}
+use Rattle.mz_grammar.proofs.PartEnds.{Facts, sign, no_way, Found, Fit, CanComplete, Completion, Done, a_number, ends_item_closing}
 
 -- What the arguments are fit for
 
@@ -85,61 +85,57 @@ fit_strict AwaitingIn ms e w gs h = inr (λ ns m. strict_behind ns m ms e w (map
 
 -- Arguments
 
-pub takes_arguments : (t : Generators) → TakesToken (arguments_rule t)
-takes_arguments t = λ o. takes_tested (is_sym SRParen o) _ _ tt (takes_tested (awaits_in t && is_word KIn o) _ _ tt tt)
-
--- a test that may not hold
-tested_so : {n : Place} (b c : Bool) (p q : Ruled n) → (b ≡ true → CanComplete p) → CanComplete q → CanComplete (if b && c then p else q)
-tested_so true true p q h g = h refl
-tested_so true false p q h g = g
-tested_so false c p q h g = g
+both_true : (a b : Bool) → (a && b) ≡ true → a ≡ true
+both_true true b e = refl
+both_true false b e = absurd (cc)
 
 can_complete_guarded_rest : (t : Generators) (x : Argument) → ((gs : List Generator) → Fit t (x ∷ map strict gs)) → CanComplete (guarded_rest {t = t} x)
 unfolding step read_by rule symbol_number keyword_number
-can_complete_guarded_rest t x h = can_complete_behind Paren _ _ (sign SRParen ∷ [], tt) (λ gs a. (last (λ o h. h), h gs)) (h [])
+can_complete_guarded_rest t x h = (λ k e' s. ((sign SRParen ∷ [], tt), (λ gs a. (last (λ o h. h), h gs))), never (tt, tt), (λ k e' s. (([], tt), (h [])), never (tt, tt), no_way))
 
 -- a `where`, or what else follows an argument
-abbrev rest_of_arguments : (t : Generators) (x : Operand) → Bool → Option Tok → Ruled (Parts.arguments t)
-rest_of_arguments t x may o = if may && is_word KWhere o
-    then pass (λ s. part Parts.expr λ w. guarded_rest (guarded x w))
-    else behind Paren (part (Parts.arguments (possible_after t x)) λ xs. give (unguarded x ∷ xs)) (give (unguarded x ∷ []))
+abbrev rest_of_arguments : (t : Generators) (x : Operand) → Bool → Ruled (Parts.arguments t)
+rest_of_arguments t x may = when keeps (λ k. may && is_keyword KWhere k)
+    (λ s. part Parts.expr λ w. guarded_rest (guarded x w))
+    (behind Paren (part (Parts.arguments (possible_after t x)) λ xs. give (unguarded x ∷ xs)) (give (unguarded x ∷ [])))
 
-done_rest : (t : Generators) (x : Operand) (may : Bool) → Done {n = Parts.arguments t} (look (rest_of_arguments t x may)) (sign SRParen ∷ [])
+done_rest : (t : Generators) (x : Operand) (may : Bool) → Done (rest_of_arguments t x may) (sign SRParen ∷ [])
 unfolding step read_by rule symbol_number keyword_number
 done_rest t x true = tt
 done_rest t x false = tt
 
-takes_rest : (t : Generators) (x : Operand) (may : Bool) → TakesToken {n = Parts.arguments t} (look (rest_of_arguments t x may))
-takes_rest t x may = λ o. takes_tested (may && is_word KWhere o) _ _ tt (takes_behind Paren _ _)
-
-pub can_complete_arguments : (t : Generators) → CanComplete (arguments_rule t)
-unfolding step read_by rule symbol_number keyword_number
-can_complete_arguments t = (
-  never (takes_arguments t),
-  λ o. tested (is_sym SRParen o) _ _ (λ s. (([], tt), fit_none t))
-      (tested_so (awaits_in t) (is_word KIn o) _ _
-      (λ e s. (
+pub arguments_facts : (t : Generators) → Facts (Parts.arguments t)
+unfolding step read_by rule rank operand_rank symbol_number keyword_number
+arguments_facts t = record {
+  falls = (omega arith, λ x. (tt, tt));
+  takes = tt;
+  complete = (sign SRParen ∷ [], tt);
+  can_complete = (
+    λ k e s. (([], tt), fit_none t),
+    never tt,
+    (
+      λ k e s. (
         (a_number ∷ sign SRParen ∷ [], tt),
         λ x a. (
-          tokens (sign SRParen ∷ []) tt (ends_item_closing Paren) (λ w. takes_behind Paren _ _),
-          λ w b.
-              (tokens (sign SRParen ∷ []) tt (ends_item_closing Paren) (takes_behind Paren _ _), can_complete_guarded_rest t _ (λ gs. fit_strict t [] (tree_of x) w gs e)),
+          tokens (sign SRParen ∷ []) tt (ends_item_closing Paren) (λ w. (tt, tt)),
+          λ w b. (tokens (sign SRParen ∷ []) tt (ends_item_closing Paren) (tt, tt), can_complete_guarded_rest t _ (λ gs. fit_strict t [] (tree_of x) w gs (both_true (awaits_in t) (is_keyword KIn k) e))),
         ),
-      ))
-      (λ x a. (
-        tokens (sign SRParen ∷ []) (done_rest t x (takes_where t x)) (ends_item_closing Paren) (takes_rest t x (takes_where t x)),
+      ),
+      never tt,
+      λ x a. (
+        tokens (sign SRParen ∷ []) (done_rest t x (takes_where t x)) (ends_item_closing Paren) (tt, tt),
         (
-          never (takes_rest t x (takes_where t x)),
-          λ o. tested_so (takes_where t x) (is_word KWhere o) _ _
-              (λ e s. (
-                (a_number ∷ sign SRParen ∷ [], tt),
-                λ w b.
-                    (tokens (sign SRParen ∷ []) tt (ends_item_closing Paren) (takes_behind Paren _ _), can_complete_guarded_rest t _ (λ gs. fit_guarded t x w gs e)),
-              ))
-              (can_complete_behind Paren _ _ (sign SRParen ∷ [], tt) (λ xs b. (last (λ o h. h), fit_unguarded t x xs b)) (fit_one t x)),
+          λ k e s. (
+            (a_number ∷ sign SRParen ∷ [], tt),
+            λ w b. (tokens (sign SRParen ∷ []) tt (ends_item_closing Paren) (tt, tt), can_complete_guarded_rest t _ (λ gs. fit_guarded t x w gs (both_true (takes_where t x) (is_keyword KWhere k) e))),
+          ),
+          never (tt, tt),
+          (λ k e' s. ((sign SRParen ∷ [], tt), (λ xs b. (last (λ o h. h), fit_unguarded t x xs b))), never (tt, tt), (λ k e' s. (([], tt), (fit_one t x)), never (tt, tt), no_way)),
         ),
-      ))),
-)
+      ),
+    ),
+  );
+}
   where
     fit_none : (t : Generators) → Fit t []
     fit_none Impossible = tt
@@ -148,29 +144,27 @@ can_complete_arguments t = (
 
 -- Calls
 
-can_complete_generator_call : (n : Name) (s : Span) (gs : List Generator) → CanComplete (generator_call n s gs)
+can_complete_plain_call : (n : Name) (s : Span) (es : Option (List Tree)) → CanComplete (plain_call n s es)
+can_complete_plain_call n s None = tt
+can_complete_plain_call n s (Some es) = tt
+
+-- A call ends after its arguments, or goes on where they are generators.
+can_complete_called : (n : Name) (s : Span) (es : Option (List Tree)) (gs : Option (List Generator)) → CanComplete (called n s es gs)
 unfolding step read_by rule symbol_number keyword_number
-can_complete_generator_call n s gs = λ p. (
-  (a_number ∷ sign SRParen ∷ [], tt),
-  λ e a.
-      (tokens (sign SRParen ∷ []) tt (ends_item_closing Paren) (λ o. takes_tested (is_sym SRParen o) _ _ tt tt), can_complete_symbol SRParen _ (λ c. (([], tt), tt))),
+can_complete_called n s es None = (never tt, tt, before_end (λ o h. h.0), can_complete_plain_call n s es)
+can_complete_called n s es (Some gs) = (
+  λ t e p. (
+    (a_number ∷ sign SRParen ∷ [], tt),
+    λ x a. (tokens (sign SRParen ∷ []) tt (ends_item_closing Paren) tt, (λ k e' c. (([], tt), tt), never tt, tt)),
+  ),
+  before_end (λ o h. h.0),
+  can_complete_plain_call n s es,
 )
 
-can_complete_called : (n : Name) (s : Span) (xs : List Argument) → CanComplete (called n s xs)
-can_complete_called n s xs = (
-  steady_tested (is_sym SLParen) _ _ (takes_found (generators_of xs) _ _ tt (λ gs. tt)) (λ o h. h.0),
-  λ o. tested (is_sym SLParen o) _ _ (found (generators_of xs) _ _ tt (λ gs. can_complete_generator_call n s gs)) (found (trees_of xs) _ _ tt (λ es. tt)),
-)
-
--- a call ends after its arguments, or goes on where they are generators
-abbrev by_arguments : (n : Name) (s : Span) → Option (List Tree) → Option (List Generator) → Option Tok → Ruled (Parts.named n s)
-by_arguments n s trees gens o = if is_sym SLParen o
-    then on gens refuse (λ gs. generator_call n s gs)
-    else on trees refuse (λ es. give (other s (node s (call n (tree_list es)))))
-
-call_completion : (n : Name) (s : Span) (trees : Option (List Tree)) (gens : Option (List Generator)) → Found trees ⊎ Found gens → Completion {n = Parts.named n s} (leave (look (by_arguments n s trees gens)))
+call_completion : (n : Name) (s : Span) (es : Option (List Tree)) (gs : Option (List Generator)) → Found es ⊎ Found gs → Completion (leave (called n s es gs))
 unfolding step read_by rule symbol_number keyword_number
-call_completion n s (Some es) gens h = ([], tt)
+call_completion n s (Some es) None h = ([], tt)
+call_completion n s (Some es) (Some gs) h = ([], tt)
 call_completion n s None (Some gs) h = (sign SLParen ∷ a_number ∷ sign SRParen ∷ [], tt)
 call_completion n s None None (inl h) = absurd h
 call_completion n s None None (inr h) = absurd h
@@ -179,11 +173,20 @@ found_either : (xs : List Argument) → Fit Possible xs → Found (trees_of xs) 
 found_either [] h = inl tt
 found_either (a ∷ xs) h = h
 
-pub can_complete_named : (n : Name) (s : Span) → CanComplete (named_rule n s)
-unfolding step read_by rule symbol_number keyword_number
-can_complete_named n s = (
-  steady_tested (is_sym SLParen) _ _ tt (λ o h. h.0),
-  λ o. tested (is_sym SLParen o) _ _
-      (λ p. ((sign SRParen ∷ [], tt), λ xs a. let c = call_completion n s (trees_of xs) (generators_of xs) (found_either xs a) in (maybe c.0 c.1 tt (λ o h. tt), can_complete_called n s xs)))
-      tt,
-)
+pub named_facts : (n : Name) (s : Span) → Facts (Parts.named n s)
+unfolding step read_by rule rank symbol_number keyword_number
+named_facts n s = record {
+  falls = tt;
+  takes = tt;
+  complete = ([], tt);
+  can_complete = (
+    λ t e p. (
+      (sign SRParen ∷ [], tt),
+      λ xs a.
+          let c = call_completion n s (trees_of xs) (generators_of xs) (found_either xs a) in
+          (maybe c.0 c.1 tt (λ o h. tt), can_complete_called n s (trees_of xs) (generators_of xs)),
+    ),
+    before_end (λ o h. h.0),
+    tt,
+  );
+}

@@ -1,69 +1,78 @@
 -- The rules of declarations and types keep to what makes each prefix of tokens viable.
-use Rattle.std.proofs.Common.{ℕ, zero, suc, [], ◌∷◌}
-use Rattle.mz_base.specs.declared.keyword.Keyword.TheVariants.{KArray, KBool, KInt, KList, KOf, KOpt, KPar, KSet, KVar}
-use Rattle.mz_lexer.specs.declared.token.Symbol.TheVariants.{SLParen, SRParen, SLBrack, SRBrack, SColon, SEq}
+use Rattle.std.proofs.Common.{arith, ℕ, zero, suc, [], ◌∷◌}
+use Rattle.mz_base.specs.declared.keyword.Keyword.TheVariants.{KInt, KOf}
+use Rattle.mz_lexer.specs.declared.token.Symbol.TheVariants.{SRParen, SLBrack, SRBrack, SColon}
 use Rattle.mz_cursor.specs.Rules.{give, part}
-use Rattle.mz_cursor.specs.Look.{is_sym, is_word, symbol_number, keyword_number}
+use Rattle.mz_cursor.specs.Look.{symbol_number, keyword_number}
 use Rattle.mz_cursor.specs.Reading.{step, read_by}
-use Rattle.mz_cursor.proofs.Viable.{never, last, tokens, maybe}
+use Rattle.mz_cursor.proofs.Viable.{never, before_end, last, tokens, maybe}
 use Rattle.mz_grammar.specs.declared.list.Closing.TheVariants.{Paren, Bracket}
 use Rattle.mz_grammar.specs.Parts
 use Rattle.mz_tree.specs.Tree.{Written, Based}
-use Rattle.mz_grammar.specs.Tests.{begins_base}
-use Rattle.mz_grammar.specs.Model.{rule, declaration_rule, declared_rule, value_rule, type_rule, index_types_rule, element_rule, unmarked_rule, base_rule, params_rule, param_list_rule, param_rule}
-use Rattle.mz_grammar.proofs.PartEnds.{TakesToken, CanComplete, Done, sign, keyword, a_number, an_identifier, tested, takes_tested, steady_tested, can_complete_symbol, can_complete_opening, can_complete_word, can_complete_identifier, can_complete_behind, after_element, ends_item_end, ends_item_closing, ends_item_colon}
+use Rattle.mz_grammar.specs.Model.{rule, index_types_rule}
+use Rattle.mz_grammar.specs.Reading.{rank, operand_rank}
+use Rattle.mz_grammar.proofs.PartEnds.{Facts, sign, keyword, no_way, Done, a_number, an_identifier, after_element, ends_item_end, ends_item_closing, ends_item_colon}
 
 -- Declarations
 
-pub can_complete_declaration : CanComplete declaration_rule
-unfolding step read_by rule symbol_number keyword_number
-can_complete_declaration = λ t a. (tokens (sign SColon ∷ an_identifier ∷ []) tt ends_item_colon tt, λ d b. (last (λ o h. h), tt))
+pub declaration_facts : Facts Parts.declaration
+unfolding step read_by rule rank symbol_number keyword_number
+declaration_facts = record {
+  falls = (omega arith, λ t. (omega arith, λ d. tt));
+  takes = tt;
+  complete = (keyword KInt ∷ sign SColon ∷ an_identifier ∷ [], tt);
+  can_complete = λ t a. (tokens (sign SColon ∷ an_identifier ∷ []) tt ends_item_colon tt, λ d b. (last (λ o h. h), tt));
+}
 
-pub takes_declared : (t : Written) → TakesToken (declared_rule t)
-takes_declared t = λ o. takes_tested (is_sym SColon o) _ _ tt tt
+pub declared_facts : (t : Written) → Facts (Parts.declared t)
+unfolding step read_by rule rank symbol_number keyword_number
+declared_facts t = record {
+  falls = tt;
+  takes = tt;
+  complete = (sign SColon ∷ an_identifier ∷ [], tt);
+  can_complete = (λ k e' c. ((an_identifier ∷ [], tt), (λ k n e' s. (([], tt), λ m a. (maybe [] tt ends_item_end (λ o h. h), λ v b. (last (λ o h. h), tt))), never tt, tt)), never tt, tt);
+}
 
-pub can_complete_declared : (t : Written) → CanComplete (declared_rule t)
-unfolding step read_by rule symbol_number keyword_number
-can_complete_declared t = can_complete_symbol SColon _ (λ c. ((an_identifier ∷ [], tt), can_complete_identifier _ (λ n s. (([], tt), λ m a. (maybe [] tt ends_item_end (λ o h. h), λ v b. (last (λ o h. h), tt))))))
-
-pub can_complete_value : CanComplete value_rule
-unfolding step read_by rule symbol_number keyword_number
-can_complete_value = (steady_tested (is_sym SEq) _ _ tt (λ o h. h.3), λ o. tested (is_sym SEq o) _ _ (λ s. ((a_number ∷ [], tt), λ e a. (last (λ o h. h), tt))) tt)
+pub value_facts : Facts Parts.value
+unfolding step read_by rule rank symbol_number keyword_number
+value_facts = record {
+  falls = tt;
+  takes = tt;
+  complete = ([], tt);
+  can_complete = (λ t e s. ((a_number ∷ [], tt), λ x a. (last (λ o h. h), tt)), before_end (λ o h. h.3), tt);
+}
 
 -- Types
 
-pub takes_type : TakesToken type_rule
-takes_type = λ o. takes_tested (is_word KArray o) _ _ tt (takes_tested (is_word KList o) _ _ tt tt)
+pub type_facts : Facts Parts.type
+unfolding step read_by rule rank symbol_number keyword_number
+type_facts = record {
+  falls = (omega arith, λ t. tt);
+  takes = tt;
+  complete = (keyword KInt ∷ [], tt);
+  can_complete = (
+    λ t e s. (
+      (sign SLBrack ∷ keyword KInt ∷ sign SRBrack ∷ keyword KOf ∷ keyword KInt ∷ [], tt),
+      (λ k e' b. (
+        (keyword KInt ∷ sign SRBrack ∷ keyword KOf ∷ keyword KInt ∷ [], tt),
+        (
+          never tt,
+          tt,
+          never tt,
+          λ bs a. (tokens (keyword KOf ∷ keyword KInt ∷ []) tt tt tt, (λ k e' f. ((keyword KInt ∷ [], tt), λ t c. (last (λ o h. h), tt)), never tt, tt)),
+        ),
+      ), never tt, tt),
+    ),
+    never tt,
+    (
+      λ t e s. ((keyword KOf ∷ keyword KInt ∷ [], tt), (λ k e' f. ((keyword KInt ∷ [], tt), λ t a. (last (λ o h. h), tt)), never tt, tt)),
+      never tt,
+      λ t a. (last (λ o h. h), tt),
+    ),
+  );
+}
 
-pub can_complete_type : CanComplete type_rule
-unfolding step read_by rule symbol_number keyword_number
-can_complete_type = (
-  never takes_type,
-  λ o. tested (is_word KArray o) _ _
-      (λ s. (
-        (sign SLBrack ∷ keyword KInt ∷ sign SRBrack ∷ keyword KOf ∷ keyword KInt ∷ [], tt),
-        can_complete_opening SLBrack _ (λ b. (
-          (keyword KInt ∷ sign SRBrack ∷ keyword KOf ∷ keyword KInt ∷ [], tt),
-          (
-            never (λ o. takes_tested (is_sym SRBrack o) _ _ tt tt),
-            λ o. tested (is_sym SRBrack o) _ _ tt (λ bs a. (
-              tokens (keyword KOf ∷ keyword KInt ∷ []) tt tt (λ o. takes_tested (is_word KOf o) _ _ tt tt),
-              can_complete_word KOf _ (λ f. ((keyword KInt ∷ [], tt), λ t c. (last (λ o h. h), tt))),
-            )),
-          ),
-        )),
-      )
-      )
-      (tested (is_word KList o) _ _
-      (λ s. ((keyword KOf ∷ keyword KInt ∷ [], tt), can_complete_word KOf _ (λ f. ((keyword KInt ∷ [], tt), λ t a. (last (λ o h. h), tt)))))
-      (λ t a. (last (λ o h. h), tt))),
-)
-
-pub takes_index_types : (n : ℕ) → TakesToken (index_types_rule n)
-takes_index_types zero = λ o. takes_tested (is_sym SRBrack o) _ _ tt (takes_tested (begins_base o) _ _ tt tt)
-takes_index_types (suc n) = λ o. takes_tested (is_sym SRBrack o) _ _ tt tt
-
-pub done_index_types : (n : ℕ) → Done (index_types_rule n) (sign SRBrack ∷ [])
+done_index_types : (n : ℕ) → Done (index_types_rule n) (sign SRBrack ∷ [])
 unfolding step symbol_number
 done_index_types zero = tt
 done_index_types (suc n) = tt
@@ -73,71 +82,96 @@ unfolding step read_by rule symbol_number keyword_number
 more_index_types k zero b = tt
 more_index_types k (suc n) b = tt
 
-pub can_complete_index_types : (n : ℕ) → CanComplete (index_types_rule n)
-unfolding step symbol_number
-can_complete_index_types zero = (never (takes_index_types zero), λ o. tested (is_sym SRBrack o) _ _ (λ s. (([], tt), tt)) (tested (begins_base o) _ _ tt tt))
-can_complete_index_types (suc n) = (
-  never (takes_index_types (suc n)),
-  λ o. tested (is_sym SRBrack o) _ _ (λ s. (([], tt), tt)) (λ b a.
-      (after_element _ _ _ Bracket _ _ (ends_item_closing Bracket), can_complete_behind Bracket _ _ (sign SRBrack ∷ [], more_index_types (suc n) n b.1) (λ bs c. (last (λ o h. h), tt)) tt)),
-)
+pub index_types_facts : (n : ℕ) → Facts (Parts.index_types n)
+unfolding step rule rank symbol_number
+index_types_facts zero = record {
+  falls = (tt, tt);
+  takes = (tt, tt);
+  complete = (sign SRBrack ∷ [], done_index_types 0);
+  can_complete = (λ k e' s. (([], tt), tt), never (tt, tt), no_way);
+}
+index_types_facts (suc n) = record {
+  falls = (omega arith, λ b. (tt, tt));
+  takes = tt;
+  complete = (sign SRBrack ∷ [], done_index_types (suc n));
+  can_complete = (
+    λ t e s. (([], tt), tt),
+    never tt,
+    λ b a. (after_element _ _ _ Bracket _ _ (ends_item_closing Bracket), (λ k e' s. ((sign SRBrack ∷ [], more_index_types (suc n) n b.1), (λ bs c. (last (λ o h. h), tt))), never (tt, tt), (λ k e' s. (([], tt), tt), never (tt, tt), no_way))),
+  );
+}
 
-pub takes_element : TakesToken element_rule
-takes_element = λ o. takes_tested (is_word KVar o) _ _ tt (takes_tested (is_word KPar o) _ _ tt tt)
+pub element_facts : Facts Parts.element
+unfolding step read_by rule rank symbol_number keyword_number
+element_facts = record {
+  falls = (omega arith, λ t. tt);
+  takes = tt;
+  complete = (keyword KInt ∷ [], tt);
+  can_complete = (
+    λ t e s. ((keyword KInt ∷ [], tt), λ t a. (last (λ o h. h), tt)),
+    never tt,
+    (λ t e s. ((keyword KInt ∷ [], tt), λ t a. (last (λ o h. h), tt)), never tt, λ t a. (last (λ o h. h), tt)),
+  );
+}
 
-pub can_complete_element : CanComplete element_rule
-unfolding step read_by rule symbol_number keyword_number
-can_complete_element = (
-  never takes_element,
-  λ o. tested (is_word KVar o) _ _ (λ s. ((keyword KInt ∷ [], tt), λ t a. (last (λ o h. h), tt)))
-      (tested (is_word KPar o) _ _ (λ s. ((keyword KInt ∷ [], tt), λ t a. (last (λ o h. h), tt)))
-      (λ t a. (last (λ o h. h), tt))),
-)
+pub unmarked_facts : Facts Parts.unmarked
+unfolding step read_by rule rank symbol_number keyword_number
+unmarked_facts = record {
+  falls = (omega arith, λ b. tt);
+  takes = tt;
+  complete = (keyword KInt ∷ [], tt);
+  can_complete = (
+    λ t e s. ((keyword KInt ∷ [], tt), (never tt, tt, never tt, λ b a. (last (λ o h. h), tt))),
+    never tt,
+    (
+      λ t e s. ((keyword KOf ∷ keyword KInt ∷ [], tt), (λ k e' f. ((keyword KInt ∷ [], tt), λ b a. (last (λ o h. h), tt)), never tt, tt)),
+      never tt,
+      λ b a. (last (λ o h. h), tt),
+    ),
+  );
+}
 
-pub takes_unmarked : TakesToken unmarked_rule
-takes_unmarked = λ o. takes_tested (is_word KOpt o) _ _ tt (takes_tested (is_word KSet o) _ _ tt tt)
-
-pub can_complete_unmarked : CanComplete unmarked_rule
-unfolding step read_by rule symbol_number keyword_number
-can_complete_unmarked = (
-  never takes_unmarked,
-  λ o. tested (is_word KOpt o) _ _
-      (λ s. ((keyword KInt ∷ [], tt), (never (λ o. takes_tested (is_word KSet o) _ _ tt tt), λ o. tested (is_word KSet o) _ _ tt (λ b a. (last (λ o h. h), tt)))))
-      (tested (is_word KSet o) _ _
-      (λ s. ((keyword KOf ∷ keyword KInt ∷ [], tt), can_complete_word KOf _ (λ f. ((keyword KInt ∷ [], tt), λ b a. (last (λ o h. h), tt)))))
-      (λ b a. (last (λ o h. h), tt))),
-)
-
-pub takes_base : TakesToken base_rule
-takes_base = λ o. takes_tested (is_word KBool o) _ _ tt (takes_tested (is_word KInt o) _ _ tt tt)
-
-pub can_complete_base : CanComplete base_rule
-unfolding step
-can_complete_base = (
-  never takes_base,
-  λ o. tested (is_word KBool o) _ _ (λ s. (([], tt), tt)) (tested (is_word KInt o) _ _ (λ s. (([], tt), tt)) (λ x a. (last (λ o h. h), tt))),
-)
+pub base_facts : Facts Parts.base
+unfolding step read_by rule rank operand_rank symbol_number keyword_number
+base_facts = record {
+  falls = (omega arith, λ x. tt);
+  takes = tt;
+  complete = (keyword KInt ∷ [], tt);
+  can_complete = (λ t e s. (([], tt), tt), never tt, (λ t e s. (([], tt), tt), never tt, λ x a. (last (λ o h. h), tt)));
+}
 
 -- Parameters
 
-pub can_complete_params : CanComplete params_rule
-unfolding step read_by rule symbol_number keyword_number
-can_complete_params = (steady_tested (is_sym SLParen) _ _ tt (λ o h. h.0), λ o. tested (is_sym SLParen o) _ _ (λ s. ((sign SRParen ∷ [], tt), λ ds a. (maybe [] tt tt (λ o h. tt), tt))) tt)
+pub params_facts : Facts Parts.params
+unfolding step read_by rule rank symbol_number keyword_number
+params_facts = record {
+  falls = tt;
+  takes = tt;
+  complete = ([], tt);
+  can_complete = (λ t e s. ((sign SRParen ∷ [], tt), λ ds a. (maybe [] tt tt (λ o h. tt), tt)), before_end (λ o h. h.0), tt);
+}
 
-pub takes_param_list : TakesToken param_list_rule
-takes_param_list = λ o. takes_tested (is_sym SRParen o) _ _ tt tt
+pub param_list_facts : Facts Parts.param_list
+unfolding step read_by rule rank symbol_number keyword_number
+param_list_facts = record {
+  falls = (omega arith, λ d. (tt, tt));
+  takes = tt;
+  complete = (sign SRParen ∷ [], tt);
+  can_complete = (
+    λ t e s. (([], tt), tt),
+    never tt,
+    λ d a. (after_element _ _ _ Paren _ _ (ends_item_closing Paren), (λ k e' s. ((sign SRParen ∷ [], tt), (λ ds b. (last (λ o h. h), tt))), never (tt, tt), (λ k e' s. (([], tt), tt), never (tt, tt), no_way))),
+  );
+}
 
-pub can_complete_param_list : CanComplete param_list_rule
-unfolding step read_by rule symbol_number keyword_number
-can_complete_param_list = (
-  never takes_param_list,
-  λ o. tested (is_sym SRParen o) _ _ (λ s. (([], tt), tt)) (λ d a.
-      (after_element _ _ _ Paren _ _ (ends_item_closing Paren), can_complete_behind Paren _ _ (sign SRParen ∷ [], tt) (λ ds b. (last (λ o h. h), tt)) tt)),
-)
-
-pub can_complete_param : CanComplete param_rule
-unfolding step read_by rule symbol_number keyword_number
-can_complete_param = λ t a. (
-  tokens (sign SColon ∷ an_identifier ∷ []) tt ends_item_colon (λ o. takes_tested (is_sym SColon o) _ _ tt tt),
-  can_complete_symbol SColon _ (λ c. ((an_identifier ∷ [], tt), can_complete_identifier _ (λ n s. (([], tt), λ m b. (last (λ o h. h), tt))))),
-)
+pub param_facts : Facts Parts.param
+unfolding step read_by rule rank symbol_number keyword_number
+param_facts = record {
+  falls = (omega arith, λ t. tt);
+  takes = tt;
+  complete = (keyword KInt ∷ sign SColon ∷ an_identifier ∷ [], tt);
+  can_complete = λ t a. (
+    tokens (sign SColon ∷ an_identifier ∷ []) tt ends_item_colon tt,
+    (λ k e' c. ((an_identifier ∷ [], tt), (λ k n e' s. (([], tt), λ m b. (last (λ o h. h), tt)), never tt, tt)), never tt, tt),
+  );
+}

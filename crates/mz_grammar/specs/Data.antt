@@ -1,5 +1,5 @@
 -- The grammar of data files: its parts, what each is read to, and one rule for each part, with its EBNF before it.
-use Rattle.std.specs.Prelude.{ℕ, zero, suc, ℤ, pos, neg_ℤ, true, false, List, [], ◌∷◌, Option, Some, None, if◌then◌else◌, codes}
+use Rattle.std.specs.Prelude.{ℕ, zero, suc, ℤ, pos, neg_ℤ, Bool, true, false, List, [], ◌∷◌, Option, Some, None, if◌then◌else◌, codes}
 use Rattle.std.specs.Str.{bytes_eq}
 use Rattle.mz_base.specs.Names.{text_of}
 use Rattle.mz_base.specs.declared.fault.Span.{Span}
@@ -11,10 +11,12 @@ use Rattle.mz_lexer.specs.declared.token.Symbol.TheVariants.{SLParen, SRParen, S
 use Rattle.mz_tree.specs.Tree.{Name}
 use Rattle.mz_tree.specs.Data as pure
 use Rattle.mz_tree.specs.Data.{Given, values, lines, is_name}
-use Rattle.mz_cursor.specs.Look.{is_sym}
-use Rattle.mz_cursor.specs.Rules.{Rule, give, refuse, look, pass, enter, leave, part}
-use Rattle.mz_cursor.specs.Reading.{on, Reader, read}
-use Rattle.mz_grammar.specs.Tests.{ident_of, ends_row}
+use Rattle.mz_cursor.specs.Tokens.{told}
+use Rattle.mz_cursor.specs.Look.{is_sym, is_symbol}
+use Rattle.mz_cursor.specs.Rules as rules
+use Rattle.mz_cursor.specs.Rules.{keeps, opens, Rule, give, refuse, when, ahead, leave, part}
+use Rattle.mz_cursor.specs.Reading.{Reader, read}
+use Rattle.mz_grammar.specs.Tests.{ident_in, is_end, ends_row}
 
 -- the number of dimensions that a text names, if it names an array with index sets
 abbrev pub dimensions_in : List ℕ → Option ℕ
@@ -39,7 +41,7 @@ pub data Place : Type 0 where
   file : Dimensions → Place
   item : Dimensions → Place
   datum : Dimensions → Place
-  named : Dimensions → Name → Place
+  named : Option ℕ → Name → Place
   sized : ℕ → Place
   index_sets : ℕ → Place
   plains : Place
@@ -48,7 +50,7 @@ pub data Place : Type 0 where
   plain : Place
   range : pure.Value → Place
   set : Place
-  bounds : pure.Value → Place
+  bounds : Bool → pure.Value → Place
   ones : Place
   one : Place
 
@@ -69,134 +71,136 @@ Value row = List pure.Value
 Value plain = Placed
 Value (range v) = pure.Value
 Value set = pure.Value
-Value (bounds v) = pure.Value
+Value (bounds free v) = pure.Value
 Value ones = List pure.Value
 Value one = Placed
 
+-- The classes of tokens that tell something, and what they tell.
+pub data Class : Type 0 where
+  name_class : Class
+  literal_class : Class
+  number_class : Class
+
+abbrev pub Told : Class → Type 0
+Told name_class = Name
+Told literal_class = pure.Value
+Told number_class = ℤ
+
 abbrev pub Ruled : Place → Type 0
-Ruled n = Rule Value n
+Ruled n = Rule Value Told n
 
 -- a symbol, and no other token
 abbrev pub symbol : {n : Place} → Symbol → Ruled n → Ruled n
-symbol s p = look (λ o. if is_sym s o then pass (λ at. p) else refuse)
+symbol s p = when keeps (is_symbol s) (λ at. p) refuse
 
 abbrev pub opening : {n : Place} → Symbol → Ruled n → Ruled n
-opening s p = look (λ o. if is_sym s o then enter (λ at. p) else refuse)
+opening s p = when opens (is_symbol s) (λ at. p) refuse
+
+-- a symbol; or else
+abbrev pub on_symbol : {n : Place} → Symbol → (Span → Ruled n) → Ruled n → Ruled n
+on_symbol s f q = when keeps (is_symbol s) f q
+
+abbrev pub on_opening : {n : Place} → Symbol → (Span → Ruled n) → Ruled n → Ruled n
+on_opening s f q = when opens (is_symbol s) f q
 
 -- what follows an element of a list: the separator, and then perhaps more, or the closing symbol
 abbrev pub behind_element : {n : Place} → Symbol → Symbol → Ruled n → Ruled n → Ruled n
-behind_element separator closing more done = look (λ o. if is_sym separator o
-    then pass (λ at. more)
-    else (if is_sym closing o then pass (λ at. done) else refuse))
+behind_element separator closing more done = on_symbol separator (λ at. more) (symbol closing done)
 
 -- Values
 
 -- a value that is one token
-abbrev pub literal_of : Option Tok → Option pure.Value
+abbrev pub literal_in : Tok → Option pure.Value
 -- "true"
-literal_of (Some (Word KTrue)) = Some (pure.bool true)
+literal_in (Word KTrue) = Some (pure.bool true)
 -- "false"
-literal_of (Some (Word KFalse)) = Some (pure.bool false)
+literal_in (Word KFalse) = Some (pure.bool false)
 -- INT
-literal_of (Some (Int z)) = Some (pure.int z)
+literal_in (Int z) = Some (pure.int z)
 -- IDENT
-literal_of (Some (Ident n)) = Some (pure.ident n)
-literal_of _ = None
+literal_in (Ident n) = Some (pure.ident n)
+literal_in _ = None
+
+abbrev pub literal_of : Option Tok → Option pure.Value
+literal_of o = told literal_in o
 
 -- the number that a "-" makes of an INT; an INT is never negative itself
+abbrev pub negated_in : Tok → Option ℤ
+negated_in (Int (pos n)) = Some (neg_ℤ (pos n))
+negated_in _ = None
+
 abbrev pub negated_of : Option Tok → Option ℤ
-negated_of (Some (Int (pos n))) = Some (neg_ℤ (pos n))
-negated_of _ = None
+negated_of o = told negated_in o
 
 -- one = "true" | "false" | [ "-" ] INT | IDENT
 abbrev pub one_rule : Ruled one
-one_rule = look (λ o. if is_sym SMinus o
-    then pass (λ s. look (λ o. on (negated_of o) refuse (λ z. pass (λ t. give (s, pure.int z)))))
-    else on (literal_of o) refuse (λ v. pass (λ s. give (s, v))))
+one_rule = on_symbol SMinus (λ s. rules.named keeps number_class negated_in (λ z t. give (s, pure.int z)) refuse) (rules.named keeps literal_class literal_in (λ v s. give (s, v)) refuse)
 
 -- what may follow a one, where it may be a value itself: [ ".." one ]
 abbrev pub range_rule : (v : pure.Value) → Ruled (range v)
-range_rule v = look (λ o. if is_sym SDots o then pass (λ d. part one λ w. give (pure.range v w.1)) else give v)
+range_rule v = on_symbol SDots (λ d. part one λ w. give (pure.range v w.1)) (give v)
 
 -- "{" [ one { "," one } ] "}", after the "{"
 abbrev pub ones_rule : Ruled ones
-ones_rule = look (λ o. if is_sym SRBrace o
-    then pass (λ c. give [])
-    else part one λ v. behind_element SComma SRBrace (part ones λ vs. give (v.1 ∷ vs)) (give (v.1 ∷ [])))
+ones_rule = on_symbol SRBrace (λ c. give []) (part one λ v. behind_element SComma SRBrace (part ones λ vs. give (v.1 ∷ vs)) (give (v.1 ∷ [])))
 
 -- set = "{" [ one { "," one } ] "}" | one ".." one | IDENT
 abbrev pub set_rule : Ruled set
-set_rule = look (λ o. if is_sym SLBrace o
-    then enter (λ s. part ones λ vs. leave (give (pure.set (values vs))))
-    else part one λ v. part (bounds v.1) λ w. give w)
+set_rule = on_opening SLBrace (λ s. part ones λ vs. leave (give (pure.set (values vs)))) (part one λ v. part (bounds (is_name v.1) v.1) λ w. give w)
 
 -- what follows the first one of a set; after an IDENT nothing need
-abbrev pub bounds_rule : (v : pure.Value) → Ruled (bounds v)
-bounds_rule v = look (λ o. if is_sym SDots o
-    then pass (λ d. part one λ w. give (pure.range v w.1))
-    else (if is_name v then give v else refuse))
+abbrev pub bounds_rule : (free : Bool) (v : pure.Value) → Ruled (bounds free v)
+bounds_rule true v = on_symbol SDots (λ d. part one λ w. give (pure.range v w.1)) (give v)
+bounds_rule false v = on_symbol SDots (λ d. part one λ w. give (pure.range v w.1)) refuse
 
 -- plain = one | set | "<>"
 abbrev pub plain_rule : Ruled plain
-plain_rule = look (λ o. if is_sym SLBrace o
-    then enter (λ s. part ones λ vs. leave (give (s, pure.set (values vs))))
-    else (if is_sym SAbsent o
-    then pass (λ s. give (s, pure.absent))
-    else part one λ v. part (range v.1) λ w. give (v.0, w)))
+plain_rule = on_opening SLBrace (λ s. part ones λ vs. leave (give (s, pure.set (values vs))))
+    (on_symbol SAbsent (λ s. give (s, pure.absent))
+    (part one λ v. part (range v.1) λ w. give (v.0, w)))
 
 -- Lists
 
 -- "[" [ plain { "," plain } ] "]", after the "["
 abbrev pub plains_rule : Ruled plains
-plains_rule = look (λ o. if is_sym SRBrack o
-    then pass (λ c. give [])
-    else part plain λ v. behind_element SComma SRBrack (part plains λ vs. give (v.1 ∷ vs)) (give (v.1 ∷ [])))
+plains_rule = on_symbol SRBrack (λ c. give []) (part plain λ v. behind_element SComma SRBrack (part plains λ vs. give (v.1 ∷ vs)) (give (v.1 ∷ [])))
 
 -- drow = plain { "," plain }, where a "," may stand at the end
 abbrev pub row_rule : Ruled row
-row_rule = part plain λ v. look (λ o. if is_sym SComma o
-    then pass (λ c. look (λ o. if ends_row o then give (v.1 ∷ []) else part row λ vs. give (v.1 ∷ vs)))
-    else give (v.1 ∷ []))
+row_rule = part plain λ v. on_symbol SComma (λ c. ahead ends_row (give (v.1 ∷ [])) (part row λ vs. give (v.1 ∷ vs))) (give (v.1 ∷ []))
 
 -- "[|" [ drow { "|" drow } [ "|" ] ] "|]", after the "[|"
 abbrev pub rows_rule : Ruled rows
-rows_rule = look (λ o. if is_sym SRRows o
-    then pass (λ c. give [])
-    else part row λ l. behind_element SBar SRRows (part rows λ ls. give (l ∷ ls)) (give (l ∷ [])))
+rows_rule = on_symbol SRRows (λ c. give []) (part row λ l. behind_element SBar SRRows (part rows λ ls. give (l ∷ ls)) (give (l ∷ [])))
 
 -- set "," { set "," } [ "," ], with this many sets
 abbrev pub index_sets_rule : (d : ℕ) → Ruled (index_sets d)
-index_sets_rule zero = look (λ o. if is_sym SComma o then pass (λ c. give []) else give [])
+index_sets_rule zero = on_symbol SComma (λ c. give []) (give [])
 index_sets_rule (suc d) = part set λ v. symbol SComma (part (index_sets d) λ vs. give (v ∷ vs))
 
 -- ARRAYND "(" set { "," set } "," "[" [ plain { "," plain } ] "]" ")", after the "("
 abbrev pub sized_rule : (d : ℕ) → Ruled (sized d)
 sized_rule d = part (index_sets d) λ ss. opening SLBrack (part plains λ vs. leave (symbol SRParen (give (pure.array_nd (values ss) (values vs)))))
 
--- what follows a value's identifier: the "(" of an ARRAYND, or nothing, or the ".." of a range
-abbrev pub named_rule : (dimensions : Dimensions) (n : Name) → Ruled (named dimensions n)
-named_rule dimensions n = look (λ o. if is_sym SLParen o
-    then on (dimensions n) refuse (λ d. enter (λ p. part (sized d) λ v. leave (give v)))
-    else part (range (pure.ident n)) λ v. give v)
+-- what follows a value's identifier, which may name a number of dimensions: the "(" of an ARRAYND, or nothing, or the ".." of a range
+abbrev pub named_rule : (dimensions : Option ℕ) (n : Name) → Ruled (named dimensions n)
+named_rule None n = ahead (is_sym SLParen) refuse (part (range (pure.ident n)) λ v. give v)
+named_rule (Some d) n = on_opening SLParen (λ p. part (sized d) λ v. leave (give v)) (part (range (pure.ident n)) λ v. give v)
 
 -- datum = plain | "[" .. "]" | "[|" .. "|]" | ARRAYND "(" .. ")"
 abbrev pub datum_rule : (dimensions : Dimensions) → Ruled (datum dimensions)
-datum_rule dimensions = look (λ o. if is_sym SLBrack o
-    then enter (λ s. part plains λ vs. leave (give (s, pure.array (values vs))))
-    else (if is_sym SLRows o
-    then enter (λ s. part rows λ ls. leave (give (s, pure.rows (lines ls))))
-    else on (ident_of o)
-    (part plain λ v. give v)
-    (λ n. pass (λ s. part (named dimensions n) λ v. give (s, v)))))
+datum_rule dimensions = on_opening SLBrack (λ s. part plains λ vs. leave (give (s, pure.array (values vs))))
+    (on_opening SLRows (λ s. part rows λ ls. leave (give (s, pure.rows (lines ls))))
+    (rules.named keeps name_class ident_in (λ n s. part (named (dimensions n) n) λ v. give (s, v))
+    (part plain λ v. give v)))
 
 -- IDENT "=" datum
 abbrev pub item_rule : (dimensions : Dimensions) → Ruled (item dimensions)
-item_rule dimensions = look (λ o. on (ident_of o) refuse (λ n. pass (λ s. symbol SEq (part (datum dimensions) λ v. give (record { name = n; span = s; at = v.0; value = v.1 })))))
+item_rule dimensions = rules.named keeps name_class ident_in (λ n s. symbol SEq (part (datum dimensions) λ v. give (record { name = n; span = s; at = v.0; value = v.1 }))) refuse
 
 -- data = [ IDENT "=" datum { ";" IDENT "=" datum } [ ";" ] ]
 abbrev pub file_rule : (dimensions : Dimensions) → Ruled (file dimensions)
-file_rule dimensions = look (λ o. on o (give []) (λ t. part (item dimensions) λ i.
-    look (λ o. on o (give (i ∷ [])) (λ u. symbol SSemi (part (file dimensions) λ is. give (i ∷ is))))))
+file_rule dimensions = ahead is_end (give []) (part (item dimensions) λ i. ahead is_end (give (i ∷ [])) (symbol SSemi (part (file dimensions) λ is. give (i ∷ is))))
 
 unfoldable pub rule : (n : Place) → Ruled n
 rule (file d) = file_rule d
@@ -211,7 +215,7 @@ rule row = row_rule
 rule plain = plain_rule
 rule (range v) = range_rule v
 rule set = set_rule
-rule (bounds v) = bounds_rule v
+rule (bounds free v) = bounds_rule free v
 rule ones = ones_rule
 rule one = one_rule
 

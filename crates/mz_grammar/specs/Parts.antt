@@ -1,6 +1,7 @@
 -- The parts of a model's file, and what each is read to.
 use Rattle.std.specs.Prelude.{ℕ, Bool, List, [], ◌∷◌, Option}
 use Rattle.mz_base.specs.declared.fault.Span.{Span}
+use Rattle.mz_tree.specs.declared.expr.UnOp.{UnOp}
 use Rattle.mz_tree.specs.declared.expr.BinOp.{BinOp}
 use Rattle.mz_tree.specs.declared.expr.BinOp.TheVariants as op
 use Rattle.mz_tree.specs.Tree.{Name, Tree, Maybe, Generator, Let, Declaration, Written, Based, Part, Shape, node, ident, chain, links}
@@ -8,6 +9,7 @@ use Rattle.mz_tree.specs.Items.{GoalTree, ItemTree}
 use Rattle.mz_grammar.specs.declared.level.Level.{Level}
 use Rattle.mz_grammar.specs.declared.list.Closing.{Closing}
 use Rattle.mz_grammar.specs.declared.list.Generators.{Generators}
+use Rattle.mz_grammar.specs.Tests.{ItemKind, Leaf, Opener}
 
 -- An expression. A name alone and a name in a set may become generators of a call.
 -- The place is that of the first token, a parenthesis too.
@@ -66,6 +68,7 @@ pub data Place : Type 0 where
   level : Level → Place
   operand : Level → Place
   operators : Level → Place
+  more_operators : Level → Bool → Place
   unit : Place
   atom : Place
   accesses : Operand → Place
@@ -115,6 +118,7 @@ Value expr = Tree
 Value (level l) = Operand
 Value (operand l) = Operand
 Value (operators l) = List (BinOp × Tree)
+Value (more_operators l done) = List (BinOp × Tree)
 Value unit = Operand
 Value atom = Operand
 Value (accesses x) = Operand
@@ -141,3 +145,20 @@ Value branch = Tree × Tree
 Value branches = List (Tree × Tree) × Maybe
 Value let_items = List Let
 Value let_item = Let
+
+-- The classes of tokens that tell something, and what they tell.
+pub data Class : Type 0 where
+  name_class : Class
+  prefix_class : Class
+  operator_class : Class
+  item_class : Class
+  leaf_class : Class
+  opener_class : Class
+
+abbrev pub Told : Class → Type 0
+Told name_class = Name
+Told prefix_class = UnOp
+Told operator_class = BinOp
+Told item_class = ItemKind
+Told leaf_class = Leaf
+Told opener_class = Opener

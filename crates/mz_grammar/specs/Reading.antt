@@ -1,6 +1,6 @@
 -- What the grammar of models reads at the beginning of a list of tokens.
-use Rattle.std.specs.Prelude.{ℕ, ◌+◌, [], ◌∷◌, ◌++◌, if◌then◌else◌, ◌||◌}
-use Rattle.mz_cursor.specs.Reading.{Reader, read, ◌>>=◌}
+use Rattle.std.specs.Prelude.{ℕ, ◌+◌}
+use Rattle.mz_cursor.specs.Reading.{Reader, read}
 use Rattle.mz_grammar.specs.declared.level.Level.{Level}
 use Rattle.mz_grammar.specs.declared.level.Level.TheVariants as level_is
 use Rattle.mz_grammar.specs.Parts
@@ -51,6 +51,7 @@ rank Parts.item = 32
 rank Parts.let_items = 33
 rank Parts.file = 33
 rank (Parts.generators c) = 1
+rank (Parts.more_operators l done) = 1
 rank _ = 0
 
 abbrev pub width : ℕ

@@ -22,7 +22,7 @@ use Rattle.mz_cursor.proofs.Laws as Laws
 use Rattle.mz_grammar.specs.Parts.{file}
 use Rattle.mz_grammar.specs.Model.{rule}
 use Rattle.mz_grammar.specs.Reading.{rank, width, reads}
-use Rattle.mz_grammar.proofs.Falls.{low, falls}
+use Rattle.mz_grammar.proofs.Facts.{low, falls}
 use Rattle.mz_parser.specs.Model.{IsModel, IsRefused}
 use Rattle.mz_include.specs.Naming.{File}
 use Rattle.mz_include.specs.Parsing.{AreTokens, IsParsed, IsUnparsed, by_its_bytes, by_its_tokens, end_of}

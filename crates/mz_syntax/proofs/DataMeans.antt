@@ -1,5 +1,5 @@
 -- What the rules of data files take is what the EBNF derives.
-use Rattle.std.proofs.Common.{◌≡◌, ◌<◌, ℕ, zero, suc, List, [], ◌∷◌, length, refl, sym, ap, ◌∙◌, subst, true, false, Bool, Option, inl, inr, ◌⊎◌, append-nil, arith}
+use Rattle.std.proofs.Common.{◌≡◌, ◌<◌, ℕ, zero, suc, List, [], ◌∷◌, length, refl, sym, ap, ◌∙◌, subst, true, false, Bool, inl, inr, ◌⊎◌, append-nil, arith}
 use Rattle.std.specs.Prelude.{Some, None, pos, ℤ, if◌then◌else◌, codes}
 use Rattle.std.specs.Str.{bytes_eq}
 use Rattle.mz_base.specs.Names.{text_of}
@@ -8,24 +8,20 @@ use Rattle.mz_lexer.specs.declared.token.Tok.{Tok}
 use Rattle.mz_lexer.specs.declared.token.Tok.TheVariants.{Word, Sym, Ident, Int}
 use Rattle.mz_base.specs.declared.keyword.Keyword.TheVariants.{KTrue, KFalse}
 use Rattle.mz_lexer.specs.declared.token.Symbol.{Symbol}
-use Rattle.mz_lexer.specs.declared.token.Symbol.TheVariants.{SLParen, SRParen, SLBrack, SRBrack, SLBrace, SRBrace, SLRows, SRRows, SBar, SComma, SSemi, SDots, SEq, SMinus, SAbsent}
+use Rattle.mz_lexer.specs.declared.token.Symbol.TheVariants.{SLParen, SRParen, SLBrack, SRBrack, SRBrace, SRRows, SBar, SComma, SSemi, SEq, SMinus}
 use Rattle.mz_tree.specs.Tree.{Name}
 use Rattle.mz_tree.specs.Data as pure
 use Rattle.mz_tree.specs.Data.{Given, values, is_name}
-use Rattle.mz_cursor.specs.Tokens.{place, tok_at}
-use Rattle.mz_base.specs.declared.fault.Span.{Span}
-use Rattle.mz_cursor.specs.Look.{is_sym}
-use Rattle.mz_cursor.specs.Rules.{give, refuse, pass, enter}
+use Rattle.mz_cursor.specs.Tokens.{place}
 use Rattle.mz_cursor.specs.Promise.{IsWithin, IsLongestPrefix}
-use Rattle.mz_cursor.specs.Reading.{on}
-use Rattle.mz_grammar.specs.Tests.{ident_of, ends_row}
-use Rattle.mz_grammar.specs.Data.{Dimensions, dimensions_of, Place, Value, Ruled, rule, symbol, behind_element, file, item, datum, named, sized, index_sets, plains, rows, row, plain, range, set, bounds, ones, one, literal_of, negated_of}
-use Rattle.mz_syntax.specs.Next.{Next, begins}
+use Rattle.mz_grammar.specs.Tests.{ident_in}
+use Rattle.mz_grammar.specs.Data.{Dimensions, dimensions_of, Place, Value, Ruled, rule, file, item, datum, named, sized, index_sets, plains, rows, row, plain, range, set, bounds, ones, one, literal_in, negated_in}
+use Rattle.mz_syntax.specs.Next.{Next}
 use Rattle.mz_syntax.specs.DataSyntax as ebnf
 use Rattle.mz_syntax.specs.DataSyntax.{Phrase, Meaning, Derives, DerivesFile, list, optional}
 use Rattle.mz_syntax.specs.Promise.{ArePositive}
 use Rattle.mz_syntax.proofs.Means as meant
-use Rattle.mz_syntax.proofs.Means.{Over, over}
+use Rattle.mz_syntax.proofs.Means.{Tells, next_symbol, next_told, Says, said}
 
 -- What is claimed of the parts
 
@@ -37,7 +33,7 @@ abbrev pub Claim : (n : Place) → ℕ → List Token → Value n → List Token
 Claim (file d) k ts x us = ArePositive d → Derives k (optional SSemi (ebnf.item d)) ts x us
 Claim (item d) k ts x us = ArePositive d → Derives k (ebnf.item d) ts x us
 Claim (datum d) k ts x us = (x.0 ≡ place ts) × (ArePositive d → Derives k (ebnf.datum d) ts x.1 us)
-Claim (named d n) k ts x us = (hs : List Token) → ArePositive d → Next (Ident n) hs ts → Derives k (ebnf.datum d) hs x us
+Claim (named o n) k ts x us = (d : Dimensions) (hs : List Token) → ArePositive d → d n ≡ o → Next (Ident n) hs ts → Derives k (ebnf.datum d) hs x us
 Claim (sized m) k ts x us = (d : Dimensions) (n : Name) (hs bs : List Token) → ArePositive d → d n ≡ Some m → Next (Ident n) hs bs → Next (Sym SLParen) bs ts → Derives (suc k) (ebnf.datum d) hs x us
 Claim (index_sets zero) k ts xs us = (xs ≡ []) × ((us ≡ ts) ⊎ Next (Sym SComma) ts us)
 Claim (index_sets (suc m)) k ts xs us = (vs : List Token) × Derives k (list SComma ebnf.set) ts xs vs × Next (Sym SComma) vs us × (length xs ≡ suc m)
@@ -47,7 +43,7 @@ Claim row k ts xs us = Derives k (list SComma ebnf.plain) ts xs us
 Claim plain k ts x us = (x.0 ≡ place ts) × Derives k ebnf.plain ts x.1 us
 Claim (range v) k ts x us = (hs : List Token) → Derives k ebnf.one hs v ts → Derives k ebnf.plain hs x us
 Claim set k ts x us = Derives k ebnf.set ts x us
-Claim (bounds v) k ts x us = (hs : List Token) → Derives k ebnf.one hs v ts → Derives k ebnf.set hs x us
+Claim (bounds free v) k ts x us = (hs : List Token) → is_name v ≡ free → Derives k ebnf.one hs v ts → Derives k ebnf.set hs x us
 Claim ones k ts xs us = Closed SRBrace SComma ebnf.one k ts xs us
 Claim one k ts x us = (x.0 ≡ place ts) × Derives k ebnf.one ts x.1 us
 
@@ -57,54 +53,31 @@ Means start from room ts p = meant.Means Claim start from room ts p
 some_inner : {A : Type 0} {x y : A} → Some x ≡ Some y → x ≡ y
 some_inner e = cc
 
--- Pieces of rules
-
-tested : {n : Place} (start : ℕ) (from : List Token) (room : ℕ) (ts : List Token) (b : Bool) (p q : Ruled n) → (b ≡ true → Means start from room ts p) → (b ≡ false → Means start from room ts q) → Means start from room ts (if b then p else q)
-tested start from room ts b p q h g = meant.tested Claim start from room ts b p q h g
-
-found : {A : Type 0} {n : Place} (start : ℕ) (from : List Token) (room : ℕ) (ts : List Token) (o : Option A) (p : Ruled n) (f : A → Ruled n) → (o ≡ None → Means start from room ts p) → ((a : A) → o ≡ Some a → Means start from room ts (f a)) → Means start from room ts (on o p f)
-found start from room ts o p f h g = meant.found Claim start from room ts o p f h g
-
-by_symbol : {n : Place} (start : ℕ) (from : List Token) (room : ℕ) (ts : List Token) (s : Symbol) (f : Span → Ruled n) (q : Ruled n) → ((us : List Token) → Next (Sym s) ts us → Means start from room us (f (place ts))) → (is_sym s (tok_at ts) ≡ false → Means start from room ts q) → Means start from room ts (if is_sym s (tok_at ts) then pass f else q)
-by_symbol start from room ts s f q h g = meant.by_symbol Claim start from room ts s f q h g
-
-by_opening : {n : Place} (start : ℕ) (from : List Token) (room : ℕ) (ts : List Token) (s : Symbol) (f : Span → Ruled n) (q : Ruled n) → ((r : ℕ) → room ≡ suc r → (us : List Token) → Next (Sym s) ts us → Means start from r us (f (place ts))) → (is_sym s (tok_at ts) ≡ false → Means start from room ts q) → Means start from room ts (if is_sym s (tok_at ts) then enter f else q)
-by_opening start from room ts s f q h g = meant.by_opening Claim start from room ts s f q h g
-
-pub only : {n : Place} (start : ℕ) (from : List Token) (room : ℕ) (ts : List Token) (s : Symbol) (p : Ruled n) → ((us : List Token) → Next (Sym s) ts us → Means start from room us p) → Means start from room ts (symbol s p)
-only start from room ts s p h = by_symbol start from room ts s (λ at. p) refuse h (λ e. tt)
-
-behind : {n : Place} (start : ℕ) (from : List Token) (room : ℕ) (ts : List Token) (separator closing : Symbol) (more done : Ruled n) → ((us : List Token) → Next (Sym separator) ts us → Means start from room us more) → ((us : List Token) → Next (Sym closing) ts us → Means start from room us done) → Means start from room ts (behind_element separator closing more done)
-behind start from room ts separator closing more done h g = by_symbol start from room ts separator (λ at. more) _ h (λ e. by_symbol start from room ts closing (λ at. done) refuse g (λ e. tt))
-
 -- What tokens tell
 
-named_by : (n : Name) (t : Tok) → ident_of (Some t) ≡ Some n → t ≡ Ident n
+named_by : (n : Name) (t : Tok) → ident_in t ≡ Some n → t ≡ Ident n
 named_by n (Ident m) e = cc
 named_by n _ e = absurd (cc)
 
-is_named : (n : Name) {ts us : List Token} → ident_of (tok_at ts) ≡ Some n → Over ts us → Next (Ident n) ts us
-is_named n e (over {t = t}) = begins (named_by n t.tok e)
+is_named : {n : Name} {ts us : List Token} → Tells ident_in n ts us → Next (Ident n) ts us
+is_named {n = n} o = next_told Ident (named_by n) o
 
-literal_one : {k : ℕ} (v : pure.Value) (ts us : List Token) → literal_of (tok_at ts) ≡ Some v → Over ts us → Derives k ebnf.one ts v us
-literal_one {k = k} v ts us e (over {t = t}) = go t.tok refl e
-  where
-    same : {a : pure.Value} → Some a ≡ Some v → Derives k ebnf.one (t ∷ us) a us → Derives k ebnf.one (t ∷ us) v us
-    same e g = subst (λ v. Derives k ebnf.one (t ∷ us) v us) (cc) g
+abbrev IsOne : pure.Value → Tok → Type 0
+IsOne v t = (k : ℕ) (ts us : List Token) → Next t ts us → Derives k ebnf.one ts v us
 
-    go : (o : Tok) → t.tok ≡ o → literal_of (Some o) ≡ Some v → Derives k ebnf.one (t ∷ us) v us
-    go (Word KTrue) e g = same g (ebnf.a_true (begins e))
-    go (Word KFalse) e g = same g (ebnf.a_false (begins e))
-    go (Int z) e g = same g (ebnf.a_number z (begins e))
-    go (Ident n) e g = same g (ebnf.a_name n (begins e))
-    go _ e g = absurd (cc)
+literal_is : (t : Tok) → Says IsOne (literal_in t) t
+literal_is (Word KTrue) = λ k ts us c. ebnf.a_true c
+literal_is (Word KFalse) = λ k ts us c. ebnf.a_false c
+literal_is (Int z) = λ k ts us c. ebnf.a_number z c
+literal_is (Ident n) = λ k ts us c. ebnf.a_name n c
+literal_is _ = tt
 
-minus_one : {k : ℕ} (z : ℤ) (ts us vs : List Token) → Next (Sym SMinus) ts us → negated_of (tok_at us) ≡ Some z → Over us vs → Derives k ebnf.one ts (pure.int z) vs
-minus_one {k = k} z ts us vs c e (over {t = t}) = go t.tok refl e
-  where
-    go : (o : Tok) → t.tok ≡ o → negated_of (Some o) ≡ Some z → Derives k ebnf.one ts (pure.int z) vs
-    go (Int (pos n)) e g = subst (λ z. Derives k ebnf.one ts (pure.int z) vs) (cc) (ebnf.a_negative n c (begins e))
-    go _ e g = absurd (cc)
+abbrev IsNegated : ℤ → Tok → Type 0
+IsNegated z t = (k : ℕ) (ts us vs : List Token) → Next (Sym SMinus) ts us → Next t us vs → Derives k ebnf.one ts (pure.int z) vs
+
+negated_is : (t : Tok) → Says IsNegated (negated_in t) t
+negated_is (Int (pos n)) = λ k ts us vs c d. ebnf.a_negative n c d
+negated_is _ = tt
 
 one_name : {k : ℕ} {v : pure.Value} {ts us : List Token} → Derives k ebnf.one ts v us → is_name v ≡ true → Derives k ebnf.set ts v us
 one_name (ebnf.a_true c) e = absurd (cc)
@@ -145,56 +118,47 @@ assigned {d = d} {k = k} n ts us vs ws v a c h p = subst (λ at. Derives k (ebnf
 
 all_mean : (n : Place) (k : ℕ) (ts : List Token) → Means k ts k ts (rule n)
 unfolding rule
-all_mean (file d) k ts = found k ts k ts (tok_at ts) (give []) _
-    (λ e. (refl, λ p. ebnf.none))
-    (λ t e i us h. found k ts k us (tok_at us) (give (i ∷ [])) _
-    (λ e. (refl, λ p. ebnf.some (ebnf.last (h p))))
-    (λ u e. only k ts k us SSemi _ (λ vs c more ws g. (refl, λ p. ebnf.some (after (h p) c (g p))))))
-all_mean (item d) k ts = found k ts k ts (ident_of (tok_at ts)) refuse _
-    (λ e. tt)
-    (λ n e us o. only k ts k us SEq _ (λ vs c v ws h. (refl, λ p. assigned n ts us vs ws v (is_named n e o) c h p)))
-all_mean (datum d) k ts = by_opening k ts k ts SLBrack _ _
-    (λ r e us c xs vs g. (sym e, (refl, λ p. as_deep e (ebnf.array c g.1 g.2))))
-    (λ e. by_opening k ts k ts SLRows _ _
-    (λ r e us c ls vs g. (sym e, (refl, λ p. as_deep e (ebnf.rows c g.1 g.2))))
-    (λ e. found k ts k ts (ident_of (tok_at ts)) _ _
-    (λ e v us h. (refl, (h.0, λ p. ebnf.by_plain h.1)))
-    (λ n e us o v vs h. (refl, (refl, λ p. h ts p (is_named n e o))))))
-all_mean (named d n) k ts = tested k ts k ts (is_sym SLParen (tok_at ts)) _ _
-    (λ s. found k ts k ts (d n) refuse _
-    (λ e. tt)
-    (λ m q r e us o v vs h. (sym e, λ hs p c. as_deep e (h d n hs ts p q c (meant.next_symbol SLParen s o)))))
-    (λ s v us h. (refl, λ hs p c. ebnf.by_plain (h hs (ebnf.a_name n c))))
-all_mean (sized m) k ts = λ ss us h. by_opening k ts k us SLBrack _ refuse
-    (λ r e vs c es ws g. only k ts (suc r) ws SRParen _ (λ xs f. (sym e, λ d n hs bs p q a b. as_deep (ap suc e) (sized_claim m d n hs bs ts us vs ws xs ss es p q a b (subst (λ k. Claim (index_sets m) k ts ss us) e h) c g f))))
-    (λ e. tt)
-all_mean (index_sets zero) k ts = by_symbol k ts k ts SComma _ _ (λ us c. (refl, (refl, inr c))) (λ e. (refl, (refl, inl refl)))
-all_mean (index_sets (suc m)) k ts = λ v us h. only k ts k us SComma _ (λ vs c xs ws g. (refl, sets_claim m h c g))
-all_mean plains k ts = by_symbol k ts k ts SRBrack _ _
-    (λ us c. (refl, (ts, ebnf.none, c)))
-    (λ e v us h. behind k ts k us SComma SRBrack _ _ (λ vs c xs ws g. (refl, (g.0, ebnf.some (after h.1 c g.1), g.2))) (λ vs c. (refl, (us, ebnf.some (ebnf.last h.1), c))))
-all_mean rows k ts = by_symbol k ts k ts SRRows _ _
-    (λ us c. (refl, (ts, ebnf.none, c)))
-    (λ e l us h. behind k ts k us SBar SRRows _ _ (λ vs c ls ws g. (refl, (g.0, ebnf.some (after h c g.1), g.2))) (λ vs c. (refl, (us, ebnf.some (ebnf.last h), c))))
-all_mean row k ts = λ v us h. by_symbol k ts k us SComma _ _
-    (λ vs c. tested k ts k vs (ends_row (tok_at vs)) _ _ (λ e. (refl, ebnf.trailing h.1 c)) (λ e xs ws g. (refl, ebnf.more h.1 c g)))
-    (λ e. (refl, ebnf.last h.1))
-all_mean plain k ts = by_opening k ts k ts SLBrace _ _
-    (λ r e us c xs vs g. (sym e, (refl, ebnf.by_set (as_deep e (ebnf.braces c g.1 g.2)))))
-    (λ e. by_symbol k ts k ts SAbsent _ _ (λ us c. (refl, (refl, ebnf.absent c))) (λ e v us h w vs g. (refl, (h.0, g ts h.1))))
-all_mean (range v) k ts = by_symbol k ts k ts SDots _ _ (λ us c w vs h. (refl, λ hs g. ebnf.by_set (ebnf.range g c h.1))) (λ e. (refl, λ hs g. ebnf.by_one g))
-all_mean set k ts = by_opening k ts k ts SLBrace _ _
-    (λ r e us c xs vs g. (sym e, as_deep e (ebnf.braces c g.1 g.2)))
-    (λ e v us h w vs g. (refl, g ts h.1))
-all_mean (bounds v) k ts = by_symbol k ts k ts SDots _ _
-    (λ us c w vs h. (refl, λ hs g. ebnf.range g c h.1))
-    (λ e. tested k ts k ts (is_name v) (give v) refuse (λ e. (refl, λ hs g. one_name g e)) (λ e. tt))
-all_mean ones k ts = by_symbol k ts k ts SRBrace _ _
-    (λ us c. (refl, (ts, ebnf.none, c)))
-    (λ e v us h. behind k ts k us SComma SRBrace _ _ (λ vs c xs ws g. (refl, (g.0, ebnf.some (after h.1 c g.1), g.2))) (λ vs c. (refl, (us, ebnf.some (ebnf.last h.1), c))))
-all_mean one k ts = by_symbol k ts k ts SMinus _ _
-    (λ us c. found k ts k us (negated_of (tok_at us)) refuse _ (λ e. tt) (λ z e vs o. (refl, (refl, minus_one z ts us vs c e o))))
-    (λ e. found k ts k ts (literal_of (tok_at ts)) refuse _ (λ e. tt) (λ v e us o. (refl, (refl, literal_one v ts us e o))))
+all_mean (file d) k ts = (λ e. (refl, λ p. ebnf.none), λ e i us h. (λ e. (refl, λ p. ebnf.some (ebnf.last (h p))), λ e. (λ vs c more ws g. (refl, λ p. ebnf.some (after (h p) (next_symbol c) (g p))), λ e. tt)))
+all_mean (item d) k ts = (λ n us o. (λ vs c v ws h. (refl, λ p. assigned n ts us vs ws v (is_named o) (next_symbol c) h p), λ e. tt), λ e. tt)
+all_mean (datum d) k ts =
+    (λ r e us c xs vs g. (sym e, (refl, λ p. as_deep e (ebnf.array (next_symbol c) g.1 g.2))),
+    λ e. (λ r e us c ls vs g. (sym e, (refl, λ p. as_deep e (ebnf.rows (next_symbol c) g.1 g.2))),
+    λ e. (λ n us o v vs h. (refl, (refl, λ p. h d ts p refl (is_named o))),
+    λ e v us h. (refl, (h.0, λ p. ebnf.by_plain h.1)))))
+all_mean (named None n) k ts = (λ e. tt, λ e v us h. (refl, λ d hs p q c. ebnf.by_plain (h hs (ebnf.a_name n c))))
+all_mean (named (Some m) n) k ts =
+    (λ r e us o v vs h. (sym e, λ d hs p q c. as_deep e (h d n hs ts p q c (next_symbol o))),
+    λ e v us h. (refl, λ d hs p q c. ebnf.by_plain (h hs (ebnf.a_name n c))))
+all_mean (sized m) k ts = λ ss us h. (
+  λ r e vs c es ws g. (λ xs f. (sym e, λ d n hs bs p q a b. as_deep (ap suc e) (sized_claim m d n hs bs ts us vs ws xs ss es p q a b (subst (λ k. Claim (index_sets m) k ts ss us) e h) (next_symbol c) g (next_symbol f))), λ e. tt),
+  λ e. tt,
+)
+all_mean (index_sets zero) k ts = (λ us c. (refl, (refl, inr (next_symbol c))), λ e. (refl, (refl, inl refl)))
+all_mean (index_sets (suc m)) k ts = λ v us h. (λ vs c xs ws g. (refl, sets_claim m h (next_symbol c) g), λ e. tt)
+all_mean plains k ts = (λ us c. (refl, (ts, ebnf.none, next_symbol c)), λ e v us h. (
+  λ vs c xs ws g. (refl, (g.0, ebnf.some (after h.1 (next_symbol c) g.1), g.2)),
+  λ e. (λ vs c. (refl, (us, ebnf.some (ebnf.last h.1), next_symbol c)), λ e. tt),
+))
+all_mean rows k ts = (λ us c. (refl, (ts, ebnf.none, next_symbol c)), λ e l us h. (
+  λ vs c ls ws g. (refl, (g.0, ebnf.some (after h (next_symbol c) g.1), g.2)),
+  λ e. (λ vs c. (refl, (us, ebnf.some (ebnf.last h), next_symbol c)), λ e. tt),
+))
+all_mean row k ts = λ v us h. (λ vs c. (λ e. (refl, ebnf.trailing h.1 (next_symbol c)), λ e xs ws g. (refl, ebnf.more h.1 (next_symbol c) g)), λ e. (refl, ebnf.last h.1))
+all_mean plain k ts =
+    (λ r e us c xs vs g. (sym e, (refl, ebnf.by_set (as_deep e (ebnf.braces (next_symbol c) g.1 g.2)))),
+    λ e. (λ us c. (refl, (refl, ebnf.absent (next_symbol c))), λ e v us h w vs g. (refl, (h.0, g ts h.1))))
+all_mean (range v) k ts = (λ us c w vs h. (refl, λ hs g. ebnf.by_set (ebnf.range g (next_symbol c) h.1)), λ e. (refl, λ hs g. ebnf.by_one g))
+all_mean set k ts = (λ r e us c xs vs g. (sym e, as_deep e (ebnf.braces (next_symbol c) g.1 g.2)), λ e v us h w vs g. (refl, g ts refl h.1))
+all_mean (bounds true v) k ts = (λ us c w vs h. (refl, λ hs e g. ebnf.range g (next_symbol c) h.1), λ q. (refl, λ hs e g. one_name g e))
+all_mean (bounds false v) k ts = (λ us c w vs h. (refl, λ hs e g. ebnf.range g (next_symbol c) h.1), λ q. tt)
+all_mean ones k ts = (λ us c. (refl, (ts, ebnf.none, next_symbol c)), λ e v us h. (
+  λ vs c xs ws g. (refl, (g.0, ebnf.some (after h.1 (next_symbol c) g.1), g.2)),
+  λ e. (λ vs c. (refl, (us, ebnf.some (ebnf.last h.1), next_symbol c)), λ e. tt),
+))
+all_mean one k ts = (
+  λ us c. (λ z vs o. let t = said IsNegated negated_is o in (refl, (refl, t.1 k ts us vs (next_symbol c) t.2)), λ e. tt),
+  λ e. (λ v us o. let t = said IsOne literal_is o in (refl, (refl, t.1 k ts us t.2)), λ e. tt),
+)
 
 -- A file
 

@@ -1,6 +1,6 @@
 -- The rules of data files take all that the EBNF derives, where no token follows that would go on.
-use Rattle.std.proofs.Common.{◌≡◌, ℕ, List, suc, [], ◌∷◌, ◌++◌, length, refl, sym, ap, ◌∙◌, subst, append-nil, append_assoc, true, false, Option, inl, inr, ◌⊎◌}
-use Rattle.std.specs.Prelude.{Ok, Some, None, if◌then◌else◌}
+use Rattle.std.proofs.Common.{◌≡◌, ℕ, List, suc, [], ◌∷◌, ◌++◌, length, refl, sym, ap, ◌∙◌, subst, append-nil, append_assoc, true, false, Bool, Option, inl, inr, ◌⊎◌}
+use Rattle.std.specs.Prelude.{Ok, Some, None}
 use Rattle.mz_base.specs.declared.fault.Span.{Span}
 use Rattle.mz_lexer.specs.declared.token.Token.{Token}
 use Rattle.mz_lexer.specs.declared.token.Tok.{Tok}
@@ -9,16 +9,16 @@ use Rattle.mz_lexer.specs.declared.token.Symbol.{Symbol}
 use Rattle.mz_lexer.specs.declared.token.Symbol.TheVariants.{SLParen, SRParen, SLBrack, SRBrack, SLBrace, SRBrace, SLRows, SRRows, SBar, SComma, SSemi, SDots, SAbsent}
 use Rattle.mz_tree.specs.Tree.{Name}
 use Rattle.mz_tree.specs.Data as pure
-use Rattle.mz_tree.specs.Data.{Given}
+use Rattle.mz_tree.specs.Data.{Given, is_name}
 use Rattle.mz_cursor.specs.Tokens.{tok_at, place}
 use Rattle.mz_cursor.specs.Look.{is_sym, symbol_number}
-use Rattle.mz_cursor.specs.Rules.{Reason, syntax, left_out, too_deep, give, look, pass, part}
+use Rattle.mz_cursor.specs.Rules.{Reason, syntax, left_out, too_deep}
 use Rattle.mz_cursor.specs.Reading.{Reader, step}
 use Rattle.mz_cursor.specs.Promise.{IsWithin, IsFault, FailsAt}
 use Rattle.mz_cursor.proofs.Laws
 use Rattle.mz_grammar.specs.Tests.{ident_of, ends_row}
 use Rattle.mz_grammar.specs.Data.{Dimensions, dimensions_of, Place, rule, rank, width, reads, file, item, datum, named, sized, index_sets, plains, rows, row, plain, range, set, bounds, ones, one}
-use Rattle.mz_grammar.proofs.DataFalls.{low, falls}
+use Rattle.mz_grammar.proofs.DataFacts.{low, falls}
 use Rattle.mz_syntax.specs.Next.{Next, begins}
 use Rattle.mz_syntax.specs.DataSyntax as ebnf
 use Rattle.mz_syntax.specs.DataSyntax.{Phrase, Meaning, Derives, DerivesFile, list, optional}
@@ -131,19 +131,20 @@ range_stops : (k : ℕ) (x : pure.Value) (us : List Token) → is_sym SDots (tok
 unfolding step rule symbol_number
 range_stops k x us q = by_rule (range _) _ _ ∙ rw (step, q) refl
 
-bounds_go : {k : ℕ} {us vs ws : List Token} {x y : pure.Value} → Next (Sym SDots) us vs → Derives k ebnf.one vs y ws → reads (bounds x) k us ≡ Ok (pure.range x y, ws)
+bounds_go : (free : Bool) {k : ℕ} {us vs ws : List Token} {x y : pure.Value} → Next (Sym SDots) us vs → Derives k ebnf.one vs y ws → reads (bounds free x) k us ≡ Ok (pure.range x y, ws)
 unfolding step rule symbol_number
-bounds_go (begins e) g = by_rule (bounds _) _ _ ∙ rw (step, e, taken_one g) refl
+bounds_go true (begins e) g = by_rule (bounds true _) _ _ ∙ rw (step, e, taken_one g) refl
+bounds_go false (begins e) g = by_rule (bounds false _) _ _ ∙ rw (step, e, taken_one g) refl
 
-bounds_stop : (k : ℕ) (n : Name) (us : List Token) → is_sym SDots (tok_at us) ≡ false → reads (bounds (pure.ident n)) k us ≡ Ok (pure.ident n, us)
+bounds_stop : (k : ℕ) (v : pure.Value) (us : List Token) → is_sym SDots (tok_at us) ≡ false → reads (bounds true v) k us ≡ Ok (v, us)
 unfolding step rule
-bounds_stop k n us q = by_rule (bounds (pure.ident n)) k us ∙ rw (step, q) refl
+bounds_stop k v us q = by_rule (bounds true v) k us ∙ rw (step, q) refl
 
 taken_set : {k : ℕ} {ts us : List Token} {x : pure.Value} → Derives k ebnf.set ts x us → is_sym SDots (tok_at us) ≡ false → reads set k ts ≡ Ok (x, us)
 unfolding step rule symbol_number
 taken_set (ebnf.braces (begins e) h c) q = by_rule set _ _ ∙ rw (step, e, taken_ones h c) refl
-taken_set (ebnf.range {x = x} h c g) q = by_rule set _ _ ∙ rw (step, (one_begins h).0, taken_one h, bounds_go {x = x} c g) refl
-taken_set {us = us} (ebnf.set_name {k = k} n c) q = by_rule set k _ ∙ rw (step, (one_begins (ebnf.a_name {k = k} n c)).0, taken_one (ebnf.a_name {k = k} n c), bounds_stop k n us q) refl
+taken_set (ebnf.range {x = x} h c g) q = by_rule set _ _ ∙ rw (step, (one_begins h).0, taken_one h, bounds_go (is_name x) {x = x} c g) refl
+taken_set {us = us} (ebnf.set_name {k = k} n c) q = by_rule set k _ ∙ rw (step, (one_begins (ebnf.a_name {k = k} n c)).0, taken_one (ebnf.a_name {k = k} n c), bounds_stop k (pure.ident n) us q) refl
 
 single_plain : {k : ℕ} {ts us : List Token} {x : pure.Value} → Derives k ebnf.one ts x us → is_sym SDots (tok_at us) ≡ false → reads plain k ts ≡ Ok ((place ts, x), us)
 unfolding step rule symbol_number
@@ -191,22 +192,17 @@ list_begins (ebnf.more h c g) = plain_begins h
 abbrev RowEnd : List Token → List Token → Type 0
 RowEnd us rest = (us ≡ rest) × (ends_row (tok_at us) ≡ true) × (is_sym SComma (tok_at us) ≡ false) × (is_sym SDots (tok_at us) ≡ false)
 
--- no comma after a row's element
-row_ends : (k : ℕ) (us : List Token) (x : pure.Value) → is_sym SComma (tok_at us) ≡ false → step reads {n = row} (look (λ o. if is_sym SComma o then pass (λ c. look (λ o. if ends_row o then give (x ∷ []) else part row λ vs. give (x ∷ vs))) else give (x ∷ []))) k us ≡ Ok (x ∷ [], us)
-unfolding step
-row_ends k us x q = rw (step, q) refl
-
 row_last : (k : ℕ) (ts us rest : List Token) (x : pure.Value) → Derives k ebnf.plain ts x us → RowEnd us rest → reads row k ts ≡ Ok (x ∷ [], rest)
 unfolding step rule symbol_number
-row_last k ts us rest x h c = by_rule row k ts ∙ rw (taken_plain h c.3) (row_ends k us x c.2 ∙ ap (λ us. Ok (x ∷ [], us)) c.0)
+row_last k ts us rest x h c = by_rule row k ts ∙ rw (step, taken_plain h c.3, c.2) (ap (λ us. Ok (x ∷ [], us)) c.0)
 
 row_more : (k : ℕ) (ts us vs ws : List Token) (x : pure.Value) (xs : List pure.Value) → Derives k ebnf.plain ts x us → Next (Sym SComma) us vs → Derives k (list SComma ebnf.plain) vs xs ws → (rest : List Token) → RowEnd ws rest → reads row k vs ≡ Ok (xs, rest) → reads row k ts ≡ Ok (x ∷ xs, rest)
 unfolding step rule symbol_number
-row_more k ts us vs ws x xs h (begins e) g rest c again = by_rule row k ts ∙ rw (plain_before refl e h) (rw (step, e) (rw (step, (list_begins g).5, again) refl))
+row_more k ts us vs ws x xs h (begins e) g rest c again = by_rule row k ts ∙ rw (step, plain_before refl e h, e, (list_begins g).5, again) refl
 
 row_trailing : (k : ℕ) (ts us vs rest : List Token) (x : pure.Value) → Derives k ebnf.plain ts x us → Next (Sym SComma) us vs → RowEnd vs rest → reads row k ts ≡ Ok (x ∷ [], rest)
 unfolding step rule symbol_number
-row_trailing k ts us vs rest x h (begins e) c = by_rule row k ts ∙ rw (plain_before refl e h) (rw (step, e) (rw (step, c.1) (ap (λ us. Ok (x ∷ [], us)) c.0)))
+row_trailing k ts us vs rest x h (begins e) c = by_rule row k ts ∙ rw (step, plain_before refl e h, e, c.1) (ap (λ us. Ok (x ∷ [], us)) c.0)
 
 taken_row : {k : ℕ} {ts us : List Token} {xs : List pure.Value} → Derives k (list SComma ebnf.plain) ts xs us → RowEnd us us → reads row k ts ≡ Ok (xs, us)
 taken_row {k = k} {us = us} h c = list_taken {s = SComma} {p = ebnf.plain} {k = k} (reads row k) RowEnd (row_more k) (row_last k) (row_trailing k) h us c
@@ -256,11 +252,12 @@ taken_sets (ebnf.more {xs = xs} h (begins e) g) c q = by_rule (index_sets (suc (
 
 -- Data
 
-named_stops : (d : Dimensions) (k : ℕ) (n : Name) (us : List Token) → EndsValue (tok_at us) → reads (named d n) k us ≡ Ok (pure.ident n, us)
-unfolding step rule symbol_number
-named_stops d k n us q = by_rule (named d n) k us ∙ rw (step, q.1, range_stops k (pure.ident n) us q.0) refl
+named_goes : (o : Option ℕ) (k : ℕ) (n : Name) (us : List Token) {ws : List Token} {x : pure.Value} → is_sym SLParen (tok_at us) ≡ false → reads (range (pure.ident n)) k us ≡ Ok (x, ws) → reads (named o n) k us ≡ Ok (x, ws)
+unfolding step rule
+named_goes None k n us q h = by_rule (named None n) k us ∙ rw (step, q, h) refl
+named_goes (Some m) k n us q h = by_rule (named (Some m) n) k us ∙ rw (step, q, h) refl
 
-by_name : (d : Dimensions) (k : ℕ) (n : Name) {ts us ws : List Token} {x : pure.Value} → Next (Ident n) ts us → reads (named d n) k us ≡ Ok (x, ws) → reads (datum d) k ts ≡ Ok ((place ts, x), ws)
+by_name : (d : Dimensions) (k : ℕ) (n : Name) {ts us ws : List Token} {x : pure.Value} → Next (Ident n) ts us → reads (named (d n) n) k us ≡ Ok (x, ws) → reads (datum d) k ts ≡ Ok ((place ts, x), ws)
 unfolding step rule symbol_number
 by_name d k n (begins e) h = by_rule (datum d) _ _ ∙ rw (step, e, h) refl
 
@@ -270,14 +267,14 @@ by_plain d k ts i e h = by_rule (datum d) _ _ ∙ rw (step, i.0, i.1, e, h) refl
 
 single_datum : (d : Dimensions) {k : ℕ} {ts us : List Token} {x : pure.Value} → Derives k ebnf.one ts x us → EndsValue (tok_at us) → reads (datum d) k ts ≡ Ok ((place ts, x), us)
 single_datum d {k = k} {ts = ts} {us = us} {x = x} h q = elim (one_kind h) [
-  | inl c ↦ subst (λ x. reads (datum d) k ts ≡ Ok ((place ts, x), us)) (sym c.2) (by_name d k c.0 c.1 (named_stops d k c.0 us q))
+  | inl c ↦ subst (λ x. reads (datum d) k ts ≡ Ok ((place ts, x), us)) (sym c.2) (by_name d k c.0 c.1 (named_goes (d c.0) k c.0 us q.1 (range_stops k (pure.ident c.0) us q.0)))
   | inr e ↦ by_plain d k ts (one_begins h).2 e (single_plain h q.0)
 ]
 
 range_datum : (d : Dimensions) {k : ℕ} {ts us vs ws : List Token} {x y : pure.Value} → Derives k ebnf.one ts x us → Next (Sym SDots) us vs → Derives k ebnf.one vs y ws → is_sym SDots (tok_at ws) ≡ false → reads (datum d) k ts ≡ Ok ((place ts, pure.range x y), ws)
 unfolding step rule symbol_number
 range_datum d {k = k} {ts = ts} {us = us} {ws = ws} {x = x} {y = y} h c g q = elim (one_kind h) [
-  | inl e ↦ subst (λ x. reads (datum d) k ts ≡ Ok ((place ts, pure.range x y), ws)) (sym e.2) (by_name d k e.0 e.1 (by_rule (named d e.0) k us ∙ rw (step, not_open refl c, range_goes {x = pure.ident e.0} c g) refl))
+  | inl e ↦ subst (λ x. reads (datum d) k ts ≡ Ok ((place ts, pure.range x y), ws)) (sym e.2) (by_name d k e.0 e.1 (named_goes (d e.0) k e.0 us (not_open refl c) (range_goes {x = pure.ident e.0} c g)))
   | inr e ↦ by_plain d k ts (one_begins h).2 e (taken_plain (ebnf.by_set (ebnf.range h c g)) q)
 ]
 
@@ -298,7 +295,7 @@ taken_datum d (ebnf.by_plain (ebnf.by_set (ebnf.set_name n c))) q = single_datum
 taken_datum d (ebnf.by_plain (ebnf.absent {k = k} (begins {t = t} e))) q = other_datum d (ebnf.absent {k = k} (begins {t = t} e)) (rw (e) refl) q
 taken_datum d (ebnf.array (begins e) h c) q = by_rule (datum d) _ _ ∙ rw (step, e, taken_plains h c) refl
 taken_datum d (ebnf.rows (begins e) h c) q = by_rule (datum d) _ _ ∙ rw (step, e, taken_rows h c) refl
-taken_datum d (ebnf.array_nd n a m (begins p) l c b h f r) q = by_name d _ n a (by_rule (named d n) _ _ ∙ rw (step, p, m, taken_sized l c b h f r) refl)
+taken_datum d (ebnf.array_nd n a m (begins p) l c b h f r) q = by_name d _ n a (rw (m) (by_rule (named (Some _) n) _ _ ∙ rw (step, p, taken_sized l c b h f r) refl))
 
 -- Items, and files
 

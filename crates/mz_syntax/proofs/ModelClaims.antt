@@ -21,17 +21,16 @@ use Rattle.mz_cursor.specs.Tokens.{place, tok_at}
 use Rattle.mz_cursor.specs.Look.{is_sym, symbol_number}
 use Rattle.mz_grammar.specs.declared.level.Level.{Level}
 use Rattle.mz_grammar.specs.declared.level.Level.TheVariants as level_is
-use Rattle.mz_grammar.specs.declared.list.Closing.{Closing}
-use Rattle.mz_grammar.specs.declared.list.Closing.TheVariants.{Paren, Bracket, Elements, Brace}
 use Rattle.mz_grammar.specs.Operators.{operator_of, prefix_of, binary_of, if_level, level_number, is_nonassociative, tighter_level}
 use Rattle.mz_grammar.specs.Arguments.{awaits_in}
+use Rattle.mz_grammar.specs.Tests.{closing_symbol}
 use Rattle.mz_grammar.specs.Parts
 use Rattle.mz_grammar.specs.Parts.{Operand, name, member, other, at_of, tree_of, related, chained, Place, Value}
 use Rattle.mz_grammar.specs.Model.{unless_annotated}
 use Rattle.mz_syntax.specs.Next.{Next, begins}
 use Rattle.mz_syntax.specs.ModelSyntax as ebnf
 use Rattle.mz_syntax.specs.ModelSyntax.{Grade, Ending, closed, with_body, Phrase, Meaning, Derives, list, optional, term, operators, accesses, anns, with_accesses}
-use Rattle.mz_syntax.proofs.Turned.{Kind, Args}
+use Rattle.mz_syntax.proofs.Turned.{Kind, Args, no_some, some_inner}
 
 -- What may follow a term
 
@@ -79,12 +78,6 @@ Told true ts us = (is_sym SLBrack (tok_at us) ≡ false) × (is_sym SColons (tok
 abbrev pub UpTo : Symbol → Symbol → (p : Phrase) → ℕ → List Token → List (Meaning p) → List Token → Type 0
 UpTo closing s p k ts xs us = (vs : List Token) × Derives k (optional s p) ts xs vs × Next (Sym closing) vs us
 
-abbrev pub closing : Closing → Symbol
-closing Paren = SRParen
-closing Bracket = SRBrack
-closing Elements = SRBrack
-closing Brace = SRBrace
-
 abbrev pub Claim : (n : Place) → ℕ → List Token → Value n → List Token → Type 0
 Claim Parts.file k ts x us = Derives k (optional SSemi ebnf.item) ts x us
 Claim Parts.more_items k ts x us = (hs : List Token) (i : ItemTree) → Derives k ebnf.item hs i ts → Derives k (optional SSemi ebnf.item) hs (i ∷ x) us
@@ -107,6 +100,7 @@ Claim Parts.expr k ts x us = Derives k ebnf.expr ts x us × Ended us
 Claim (Parts.level l) k ts x us = Term (ebnf.level l) k ts x us × Sealed us × Looser (level_number l) us
 Claim (Parts.operand l) k ts x us = Term (ebnf.operand l) k ts x us × Sealed us × Looser (suc (level_number l)) us
 Claim (Parts.operators l) k ts x us = Follow l k ts x us
+Claim (Parts.more_operators l done) k ts x us = (hs ms : List Token) (t : Tok) (o : BinOp) (y : Operand) → is_nonassociative l ≡ done → binary_of l (Some t) ≡ Some o → Next t hs ms → Term (ebnf.operand l) k ms y ts × Sealed ts × Looser (suc (level_number l)) ts → Follow l k hs ((o, tree_of y) ∷ x) us
 Claim Parts.unit k ts x us = Term ebnf.unit k ts x us × Sealed us
 Claim Parts.atom k ts x us = Term ebnf.atom k ts x us × Sealed us
 Claim (Parts.accesses y) k ts x us = (is_sym SLBrack (tok_at us) ≡ false) × (((x ≡ y) × (us ≡ ts)) ⊎ Accessed y k ts x us)
@@ -118,7 +112,7 @@ Claim Parts.head k ts x us = Term ebnf.head k ts x us
 Claim (Parts.named n s) k ts x us = (hs : List Token) → s ≡ place hs → Next (Ident n) hs ts → Term ebnf.head k hs x us
 Claim (Parts.arguments t) k ts x us = (vs : List Token) × Args k (awaits_in t) ts x vs × Next (Sym SRParen) vs us
 Claim Parts.text_rest k ts x us = Derives k ebnf.text_rest ts x us
-Claim (Parts.elements c) k ts x us = UpTo (closing c) SComma ebnf.expr k ts x us
+Claim (Parts.elements c) k ts x us = UpTo (closing_symbol c) SComma ebnf.expr k ts x us
 Claim Parts.array_body k ts x us = (hs : List Token) → Next (Sym SLBrack) hs ts → Derives (suc k) (term ebnf.head closed) hs (node (place hs) x) us
 Claim Parts.set_body k ts x us = (hs : List Token) → Next (Sym SLBrace) hs ts → Derives (suc k) (term ebnf.head closed) hs (node (place hs) x) us
 Claim Parts.rows_body k ts x us = UpTo SRRows SBar (list SComma ebnf.expr) k ts x us
@@ -128,7 +122,7 @@ Claim Parts.cells k ts x us = (hs : List Token) (e : Tree) → Derives k ebnf.ex
 Claim Parts.generator k ts x us = Derives k ebnf.gen ts x us
 Claim Parts.more_names k ts x us = (hs : List Token) (n : Name) (s : Span) → s ≡ place hs → Next (Ident n) hs ts → Derives k (list SComma ebnf.name) hs ((n, s) ∷ x) us
 Claim Parts.filter k ts x us = Derives k (ebnf.perhaps (Word KWhere)) ts x us
-Claim (Parts.generators c) k ts x us = UpTo (closing c) SComma ebnf.gen k ts x us
+Claim (Parts.generators c) k ts x us = UpTo (closing_symbol c) SComma ebnf.gen k ts x us
 Claim Parts.branch k ts x us = Derives k ebnf.branch ts x us
 Claim Parts.branches k ts x us = (vs : List Token) × (ws : List Token) × Derives k ebnf.elseifs ts x.0 vs × Derives k (ebnf.perhaps (Word KElse)) vs x.1 ws × Next (Word KEndif) ws us
 Claim Parts.let_items k ts x us = (vs : List Token) × Derives k ebnf.let_items ts x vs × Next (Sym SRBrace) vs us
@@ -138,14 +132,8 @@ Claim Parts.let_item k ts x us = Derives k ebnf.let_item ts x us
 pub as_deep : {k r : ℕ} {p : Phrase} {ts us : List Token} {x : Meaning p} → k ≡ r → Derives r p ts x us → Derives k p ts x us
 as_deep {p = p} {ts = ts} {us = us} {x = x} e h = subst (λ k. Derives k p ts x us) (sym e) h
 
-some_inner : {A : Type 0} {x y : A} → Some x ≡ Some y → x ≡ y
-some_inner e = cc
-
-no_some : {A : Type 0} {x : A} → None ≡ Some x → ⊥
-no_some e = absurd (cc)
-
-true_false : true ≡ false → ⊥
-true_false e = absurd (cc)
+pub differ : {b : Bool} → b ≡ false → b ≡ true → ⊥
+differ e g = absurd (cc)
 
 -- What follows a term
 
@@ -178,13 +166,18 @@ other_level l o e g = go (nat_eq (level_number o.0) (level_number l)) (same (lev
 below : (a b : ℕ) → a < suc b → (a ≡ b → ⊥) → a < b
 below a b h n = lt_of_le-ne (omega (arith, h)) n
 
+-- what operator of the level a token is
+of_level : (l : Level) (q : Option Tok) → if_level l (operator_of q) ≡ binary_of l q
+of_level l None = refl
+of_level l (Some t) = refl
+
 -- no operator of this level follows
 pub looser : (l : Level) (us : List Token) → Looser (suc (level_number l)) us → binary_of l (tok_at us) ≡ None → Looser (level_number l) us
-looser l us h e = λ o g s. below (level_number o.0) (level_number l) (h o g s) (other_level l o (subst (λ q. if_level l q ≡ None) g e))
+looser l us h e = λ o g s. below (level_number o.0) (level_number l) (h o g s) (other_level l o (sym (ap (if_level l) g) ∙ of_level l (tok_at us) ∙ e))
 
 -- operators of this level don't associate
 pub looser_nonassociative : (l : Level) (us : List Token) → Looser (suc (level_number l)) us → is_nonassociative l ≡ true → Looser (level_number l) us
-looser_nonassociative l us h e = λ o g s. below (level_number o.0) (level_number l) (h o g s) (λ q. true_false (sym e ∙ sym (nonassociative_number l) ∙ ap nonassociative_at (sym q) ∙ nonassociative_number o.0 ∙ s))
+looser_nonassociative l us h e = λ o g s. below (level_number o.0) (level_number l) (h o g s) (λ q. differ (sym (nonassociative_number l) ∙ ap nonassociative_at (sym q) ∙ nonassociative_number o.0 ∙ s) e)
 
 -- the operator of a level
 by_level : (l : Level) (q : Option (Level × BinOp)) (o : BinOp) → if_level l q ≡ Some o → (p : Level × BinOp) × (q ≡ Some p) × (level_number p.0 ≡ level_number l) × (p.1 ≡ o)
@@ -202,7 +195,7 @@ by_level l (Some p) o e = (p, refl, go (nat_eq (level_number p.0) (level_number 
 -- an operator that associates doesn't follow the body of a let
 pub no_operator_after : (l : Level) (o : BinOp) (us : List Token) → Ended us → binary_of l (tok_at us) ≡ Some o → is_nonassociative l ≡ false → ⊥
 no_operator_after l o us h e s =
-    let p = by_level l (operator_of (tok_at us)) o e in
+    let p = by_level l (operator_of (tok_at us)) o (of_level l (tok_at us) ∙ e) in
     none_below (number_positive p.0.0) (h.0 p.0 p.1 (sym (nonassociative_number p.0.0) ∙ ap nonassociative_at p.2 ∙ nonassociative_number l ∙ s))
   where
     none_below : {n : ℕ} → 0 < n → n < 1 → ⊥
@@ -219,7 +212,7 @@ told t (begins e) = ap Some e
 
 some_more : {l : Level} {k : ℕ} {f : Ending} {ts us vs : List Token} {y : Tree} (t : Tok) (o : BinOp) (ls : List (BinOp × Tree)) → is_nonassociative l ≡ false → binary_of l (Some t) ≡ Some o → Next t ts us → Derives k (term (ebnf.operand l) f) us y vs → IfBody f vs → Sealed vs → Looser (suc (level_number l)) vs → (ws : List Token) → Follow l k vs ls ws → Follow l k ts ((o, y) ∷ ls) ws
 some_more {l = l} {y = y} t o _ s b n d i c w _ (no_operator e) = some_operators {p = (o, y)} s (ap (binary_of l) (told t n) ∙ b) (ebnf.last_operator l t o b n d) i c (looser l _ w e)
-some_more t o _ s b n d i c w ws (one_operator u q r e m g j z x) = absurd (true_false (sym r ∙ s))
+some_more t o _ s b n d i c w ws (one_operator u q r e m g j z x) = absurd (differ s r)
 some_more {l = l} {k = k} {f = f} {us = us} {vs = vs} {y = y} t o _ s b n d i c w ws (some_operators {p = p} r e g j z x) =
     some_operators {p = (o, y)} s (ap (binary_of l) (told t n) ∙ b) (ebnf.more_operators l t o b n (subst (λ f. Derives k (term (ebnf.operand l) f) us y vs) (is_closed l p.0 f _ i e s) d) g) j z x
 
@@ -375,9 +368,6 @@ unless_tree false x = refl
 unless_at : (b : Bool) (x : Operand) → at_of (unless_annotated b x) ≡ at_of x
 unless_at true x = refl
 unless_at false x = refl
-
-differ : {b : Bool} → b ≡ false → b ≡ true → ⊥
-differ e g = absurd (cc)
 
 -- nothing but the body's own follows a let
 let_atom : {k : ℕ} {ts us ws : List Token} (h : Operand) (b : Bool) → at_of h ≡ place ts → Derives k (term ebnf.head with_body) ts (tree_of h) us → Ended us → Kind k h ts us → Told b us ws → Claim Parts.atom k ts (unless_annotated b h) ws

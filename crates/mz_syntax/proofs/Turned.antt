@@ -75,10 +75,10 @@ pub all_strict : {k : ℕ} {ts us : List Token} {gs : List Generator} → Derive
 all_strict ebnf.none = no_args
 all_strict (ebnf.some h) = list_strict h
 
-no_some : {A : Type 0} {x : A} → None ≡ Some x → ⊥
+pub no_some : {A : Type 0} {x : A} → None ≡ Some x → ⊥
 no_some e = absurd (cc)
 
-some_inner : {A : Type 0} {x y : A} → Some x ≡ Some y → x ≡ y
+pub some_inner : {A : Type 0} {x y : A} → Some x ≡ Some y → x ≡ y
 some_inner e = cc
 
 -- what stands before a list that may not be there

@@ -2,7 +2,7 @@
 use Rattle.std.proofs.Common.{[]}
 use Rattle.mz_cursor.proofs.Laws
 use Rattle.mz_grammar.specs.Data.{file, rule, rank, width}
-use Rattle.mz_grammar.proofs.DataFalls.{low, falls}
+use Rattle.mz_grammar.proofs.DataFacts.{low, falls}
 use Rattle.mz_grammar.proofs.DataViable
 use Rattle.mz_grammar.proofs.DataExamples
 use Rattle.mz_grammar.proofs.law.one_data_reading.Goals as goal

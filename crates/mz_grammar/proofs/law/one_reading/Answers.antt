@@ -4,7 +4,7 @@ use Rattle.mz_cursor.proofs.Laws
 use Rattle.mz_grammar.specs.Parts.{file}
 use Rattle.mz_grammar.specs.Model.{rule}
 use Rattle.mz_grammar.specs.Reading.{rank, width}
-use Rattle.mz_grammar.proofs.Falls.{low, falls}
+use Rattle.mz_grammar.proofs.Facts.{low, falls}
 use Rattle.mz_grammar.proofs.Viability.{may_end_last}
 use Rattle.mz_grammar.proofs.Equations.{expr_reads}
 use Rattle.mz_grammar.proofs.ListEquations.{row_reads}
