@@ -6,6 +6,7 @@ use Rattle.mz_base.specs.declared.fault.Span.{Span}
 use Rattle.mz_base.specs.declared.stop.Stop.{Stop}
 use Rattle.mz_base.specs.declared.stop.Stop.TheVariants.{Refused, Memory}
 use Rattle.mz_lexer.specs.declared.token.Token.{Token}
+use Rattle.mz_lexer.specs.declared.token.Tok.{Tok}
 use Rattle.mz_tree.specs.declared.expr.BinOp.{BinOp}
 use Rattle.mz_cursor.specs.Tokens.{tok_at}
 use Rattle.mz_cursor.specs.Promise.{Stops}
@@ -112,17 +113,7 @@ climbs level.Concat = tightest
 
 number_bound : (l : Level) → level_number l < 13
 number_bound level.Iff = omega arith
-number_bound level.Imp = omega arith
-number_bound level.Or = omega arith
-number_bound level.And = omega arith
-number_bound level.Compare = omega arith
-number_bound level.Member = omega arith
-number_bound level.Union = omega arith
-number_bound level.Range = omega arith
-number_bound level.Sum = omega arith
-number_bound level.Product = omega arith
-number_bound level.Power = omega arith
-number_bound level.Concat = omega arith
+number_bound _ = omega arith
 
 number_positive : (l : Level) → 0 < level_number l
 number_positive level.Iff = omega arith
@@ -130,39 +121,34 @@ number_positive _ = omega arith
 
 numbered_number : (l : Level) → numbered (level_number l) ≡ l
 numbered_number level.Iff = refl
-numbered_number level.Imp = refl
-numbered_number level.Or = refl
-numbered_number level.And = refl
-numbered_number level.Compare = refl
-numbered_number level.Member = refl
-numbered_number level.Union = refl
-numbered_number level.Range = refl
-numbered_number level.Sum = refl
-numbered_number level.Product = refl
-numbered_number level.Power = refl
-numbered_number level.Concat = refl
+numbered_number _ = refl
 
 number_numbered : (n : ℕ) → 0 < n → n < 13 → level_number (numbered n) ≡ n
 number_numbered zero a h = absurd (omega (arith, a))
 number_numbered (suc n) a h = eqb-true (level_number (numbered (suc n))) (suc n) (agree_below_at (λ j. nat_eq (level_number (numbered (suc j))) (suc j)) (λ j. true) 12 n refl (omega (arith, h)))
 
+-- the operator of a level, from the operator with its level
+binary_level : (l : Level) (o : Option Tok) → binary_of l o ≡ if_level l (operator_of o)
+binary_level l None = refl
+binary_level l (Some t) = refl
+
 -- a token that is no operator of a level
-not_here : (k : Level) (ks : List Level) (x : Operand) (room : ℕ) (ts : List Token) → binary_of k (tok_at ts) ≡ None → climbing (k ∷ ks) x room ts ≡ climbing ks x room ts
+not_here : (k : Level) (ks : List Level) (x : Operand) (room : ℕ) (ts : List Token) → if_level k (operator_of (tok_at ts)) ≡ None → climbing (k ∷ ks) x room ts ≡ climbing ks x room ts
 unfolding climbing
-not_here k ks x room ts none = ap (λ o. mapped (λ ls. chained x ls) o >>= λ y. climbing ks y.0 room y.1) (let e = operators_reads k room ts in rw none at e)
+not_here k ks x room ts none = ap (λ o. mapped (λ ls. chained x ls) o >>= λ y. climbing ks y.0 room y.1) (let e = operators_reads k room ts in rw (binary_level k (tok_at ts) ∙ none) at e)
 
 -- a token that is an operator of none of these levels
-none_follows : (n last : ℕ) (x : Operand) (room : ℕ) (ts : List Token) → ((j : ℕ) → last ≤ j → j < n → binary_of (numbered j) (tok_at ts) ≡ None) → climbing (levels n last) x room ts ≡ Ok (x, ts)
+none_follows : (n last : ℕ) (x : Operand) (room : ℕ) (ts : List Token) → ((j : ℕ) → last ≤ j → j < n → if_level (numbered j) (operator_of (tok_at ts)) ≡ None) → climbing (levels n last) x room ts ≡ Ok (x, ts)
 unfolding levels climbing
 none_follows zero last x room ts none = refl
 none_follows (suc n) last x room ts none = go (nat_le last n) refl (λ h. none n (leb-true last n h) (omega arith)) (none_follows n last x room ts (λ j a b. none j a (omega (arith, b))))
   where
-    go : (b : Bool) → nat_le last n ≡ b → (nat_le last n ≡ true → binary_of (numbered n) (tok_at ts) ≡ None) → climbing (levels n last) x room ts ≡ Ok (x, ts) → climbing (if b then numbered n ∷ levels n last else []) x room ts ≡ Ok (x, ts)
+    go : (b : Bool) → nat_le last n ≡ b → (nat_le last n ≡ true → if_level (numbered n) (operator_of (tok_at ts)) ≡ None) → climbing (levels n last) x room ts ≡ Ok (x, ts) → climbing (if b then numbered n ∷ levels n last else []) x room ts ≡ Ok (x, ts)
     go false e here rest = refl
     go true e here rest = not_here (numbered n) (levels n last) x room ts (here e) ∙ rest
 
 -- a token that is an operator of one of these levels, and so of none that is tighter
-jump : (n last : ℕ) (k : Level) (x : Operand) (room : ℕ) (ts : List Token) → level_number k < n → last ≤ level_number k → ((j : ℕ) → level_number k < j → j < n → binary_of (numbered j) (tok_at ts) ≡ None) →
+jump : (n last : ℕ) (k : Level) (x : Operand) (room : ℕ) (ts : List Token) → level_number k < n → last ≤ level_number k → ((j : ℕ) → level_number k < j → j < n → if_level (numbered j) (operator_of (tok_at ts)) ≡ None) →
     climbing (levels n last) x room ts ≡ climbing (k ∷ levels (level_number k) last) x room ts
 unfolding levels
 jump zero last k x room ts below above none = absurd (omega (arith, below))
@@ -241,17 +227,7 @@ climb_end l done x room rest all bound so_far none = sym so_far ∙ none_follows
 rank_number : (l : Level) → operand_rank l + 2 * level_number l ≡ 27
 unfolding operand_rank
 rank_number level.Iff = refl
-rank_number level.Imp = refl
-rank_number level.Or = refl
-rank_number level.And = refl
-rank_number level.Compare = refl
-rank_number level.Member = refl
-rank_number level.Union = refl
-rank_number level.Range = refl
-rank_number level.Sum = refl
-rank_number level.Product = refl
-rank_number level.Power = refl
-rank_number level.Concat = refl
+rank_number _ = refl
 
 -- a level that is taken lies within
 pub level_within : (l : Level) (done : ℕ) (k : Level) (ts : List Token) (room most : ℕ) (entry : Entry) → next_level l done (tok_at ts) ≡ Some k →
