@@ -85,10 +85,15 @@ facts (file d) = record {
   falls = (tt, (omega arith, λ i. (tt, tt)));
   takes = tt;
   complete = ([], tt);
-  can_complete = (before_end (λ o h. ap is_end h), tt, never tt, λ i a. (
-    maybe [] tt ends_value_end (λ o h. subst EndsValue (sym h) ends_value_end),
-    (before_end (λ o h. ap is_end h), tt, never tt, (λ t e s. (([], tt), λ is b. (last (λ o h. h), tt)), never tt, tt)),
-  ));
+  can_complete = (
+    before_end (λ o h. ap is_end h),
+    tt,
+    never tt,
+    λ i a. (
+      maybe [] tt ends_value_end (λ o h. subst EndsValue (sym h) ends_value_end),
+      (before_end (λ o h. ap is_end h), tt, never tt, (λ t e s. (([], tt), λ is b. (last (λ o h. h), tt)), never tt, tt)),
+    ),
+  );
 }
 facts (item d) = record {
   falls = tt;
@@ -100,9 +105,15 @@ facts (datum d) = record {
   falls = (omega arith, λ v. tt);
   takes = tt;
   complete = (a_number ∷ [], tt);
-  can_complete = (λ t e s. ((sign SRBrack ∷ [], tt), λ vs a. (maybe [] tt tt (λ o h. tt), tt)), never tt,
-      (λ t e s. ((sign SRRows ∷ [], tt), λ ls a. (maybe [] tt tt (λ o h. tt), tt)), never tt,
-      (λ t n e s. (([], name_stands (d n) n d s), λ v a. (last (λ o h. h), tt)), never tt, λ v a. (last (λ o h. h), tt))));
+  can_complete = (
+    λ t e s. ((sign SRBrack ∷ [], tt), λ vs a. (maybe [] tt tt (λ o h. tt), tt)),
+    never tt,
+    (
+      λ t e s. ((sign SRRows ∷ [], tt), λ ls a. (maybe [] tt tt (λ o h. tt), tt)),
+      never tt,
+      (λ t n e s. (([], name_stands (d n) n d s), λ v a. (last (λ o h. h), tt)), never tt, λ v a. (last (λ o h. h), tt)),
+    ),
+  );
 }
 facts (named None n) = record {
   falls = (tt, (omega arith, λ v. tt));
@@ -114,8 +125,11 @@ facts (named (Some d) n) = record {
   falls = (omega arith, λ v. tt);
   takes = tt;
   complete = ([], tt);
-  can_complete = (λ t e s. ((sets d ++ elements, done_by rule {n = named (Some d) n} _ _ (in_parentheses (Some d) n d)), λ v a. (maybe [] tt tt (λ o h. tt), tt)), before_end (λ o h. h.1),
-      λ v a. (last (λ o h. h), tt));
+  can_complete = (
+    λ t e s. ((sets d ++ elements, done_by rule {n = named (Some d) n} _ _ (in_parentheses (Some d) n d)), λ v a. (maybe [] tt tt (λ o h. tt), tt)),
+    before_end (λ o h. h.1),
+    λ v a. (last (λ o h. h), tt),
+  );
 }
 facts (sized n) = record {
   falls = (omega arith, λ ss. tt);
@@ -145,19 +159,27 @@ facts plains = record {
   falls = (omega arith, λ v. tt);
   takes = tt;
   complete = (sign SRBrack ∷ [], tt);
-  can_complete = (λ t e s. (([], tt), tt), never tt, λ v a. (
-    tokens (sign SRBrack ∷ []) tt (refl, refl) tt,
-    (λ t e s. ((sign SRBrack ∷ [], tt), λ vs b. (last (λ o h. tt), tt)), never tt, (λ t e s. (([], tt), tt), never tt, tt)),
-  ));
+  can_complete = (
+    λ t e s. (([], tt), tt),
+    never tt,
+    λ v a. (
+      tokens (sign SRBrack ∷ []) tt (refl, refl) tt,
+      (λ t e s. ((sign SRBrack ∷ [], tt), λ vs b. (last (λ o h. tt), tt)), never tt, (λ t e s. (([], tt), tt), never tt, tt)),
+    ),
+  );
 }
 facts rows = record {
   falls = (omega arith, λ l. tt);
   takes = tt;
   complete = (sign SRRows ∷ [], tt);
-  can_complete = (λ t e s. (([], tt), tt), never tt, λ l a. (
-    tokens (sign SRRows ∷ []) tt ((refl, refl), refl, refl) tt,
-    (λ t e s. ((sign SRRows ∷ [], tt), λ ls b. (last (λ o h. tt), tt)), never tt, (λ t e s. (([], tt), tt), never tt, tt)),
-  ));
+  can_complete = (
+    λ t e s. (([], tt), tt),
+    never tt,
+    λ l a. (
+      tokens (sign SRRows ∷ []) tt ((refl, refl), refl, refl) tt,
+      (λ t e s. ((sign SRRows ∷ [], tt), λ ls b. (last (λ o h. tt), tt)), never tt, (λ t e s. (([], tt), tt), never tt, tt)),
+    ),
+  );
 }
 facts row = record {
   falls = (omega arith, λ v. tt);
@@ -172,8 +194,11 @@ facts plain = record {
   falls = (omega arith, λ v. (omega arith, λ w. tt));
   takes = tt;
   complete = (a_number ∷ [], tt);
-  can_complete = (λ t e s. ((sign SRBrace ∷ [], tt), λ vs a. (maybe [] tt tt (λ o h. tt), tt)), never tt,
-      (λ t e s. (([], tt), tt), never tt, λ v a. (maybe [] tt tt (λ o h. tt), λ w b. (last (λ o h. h), tt))));
+  can_complete = (
+    λ t e s. ((sign SRBrace ∷ [], tt), λ vs a. (maybe [] tt tt (λ o h. tt), tt)),
+    never tt,
+    (λ t e s. (([], tt), tt), never tt, λ v a. (maybe [] tt tt (λ o h. tt), λ w b. (last (λ o h. h), tt))),
+  );
 }
 facts (range v) = record {
   falls = tt;
@@ -185,8 +210,11 @@ facts set = record {
   falls = (omega arith, λ v. (omega arith, λ w. tt));
   takes = tt;
   complete = (an_identifier ∷ [], tt);
-  can_complete = (λ t e s. ((sign SRBrace ∷ [], tt), λ vs a. (maybe [] tt tt (λ o h. tt), tt)), never tt,
-      λ v a. (maybe (sign SDots ∷ a_number ∷ []) (bounds_stand (is_name v.1) v.1) tt (λ o h. tt), λ w b. (last (λ o h. h), tt)));
+  can_complete = (
+    λ t e s. ((sign SRBrace ∷ [], tt), λ vs a. (maybe [] tt tt (λ o h. tt), tt)),
+    never tt,
+    λ v a. (maybe (sign SDots ∷ a_number ∷ []) (bounds_stand (is_name v.1) v.1) tt (λ o h. tt), λ w b. (last (λ o h. h), tt)),
+  );
 }
 facts (bounds true v) = record {
   falls = tt;
@@ -204,10 +232,14 @@ facts ones = record {
   falls = (omega arith, λ v. tt);
   takes = tt;
   complete = (sign SRBrace ∷ [], tt);
-  can_complete = (λ t e s. (([], tt), tt), never tt, λ v a. (
-    tokens (sign SRBrace ∷ []) tt tt tt,
-    (λ t e s. ((sign SRBrace ∷ [], tt), λ vs b. (last (λ o h. tt), tt)), never tt, (λ t e s. (([], tt), tt), never tt, tt)),
-  ));
+  can_complete = (
+    λ t e s. (([], tt), tt),
+    never tt,
+    λ v a. (
+      tokens (sign SRBrace ∷ []) tt tt tt,
+      (λ t e s. ((sign SRBrace ∷ [], tt), λ vs b. (last (λ o h. tt), tt)), never tt, (λ t e s. (([], tt), tt), never tt, tt)),
+    ),
+  );
 }
 facts one = record {
   falls = tt;

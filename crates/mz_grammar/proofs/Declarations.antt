@@ -53,15 +53,19 @@ type_facts = record {
   can_complete = (
     λ t e s. (
       (sign SLBrack ∷ keyword KInt ∷ sign SRBrack ∷ keyword KOf ∷ keyword KInt ∷ [], tt),
-      (λ k e' b. (
-        (keyword KInt ∷ sign SRBrack ∷ keyword KOf ∷ keyword KInt ∷ [], tt),
-        (
-          never tt,
-          tt,
-          never tt,
-          λ bs a. (tokens (keyword KOf ∷ keyword KInt ∷ []) tt tt tt, (λ k e' f. ((keyword KInt ∷ [], tt), λ t c. (last (λ o h. h), tt)), never tt, tt)),
+      (
+        λ k e' b. (
+          (keyword KInt ∷ sign SRBrack ∷ keyword KOf ∷ keyword KInt ∷ [], tt),
+          (
+            never tt,
+            tt,
+            never tt,
+            λ bs a. (tokens (keyword KOf ∷ keyword KInt ∷ []) tt tt tt, (λ k e' f. ((keyword KInt ∷ [], tt), λ t c. (last (λ o h. h), tt)), never tt, tt)),
+          ),
         ),
-      ), never tt, tt),
+        never tt,
+        tt,
+      ),
     ),
     never tt,
     (

@@ -236,10 +236,14 @@ can_complete_opened (a_piece n) s = ((a_number ∷ made (TextTail 0) ∷ [], tt)
 can_complete_opened an_if s = ((a_number ∷ keyword KThen ∷ a_number ∷ keyword KEndif ∷ [], tt), λ b a. (tokens (keyword KEndif ∷ []) tt ends_item_endif tt, λ bs c. (maybe [] tt tt (λ o h. tt), tt)))
 can_complete_opened a_let s = (
   (sign SLBrace ∷ sign SRBrace ∷ keyword KIn ∷ a_number ∷ [], tt),
-  (λ k e' b. (
-    (sign SRBrace ∷ keyword KIn ∷ a_number ∷ [], tt),
-    λ ls a. (tokens (keyword KIn ∷ a_number ∷ []) tt tt tt, (λ k e' i. ((a_number ∷ [], tt), λ e c. (maybe [] tt ends_item_end (λ o h. h), tt)), never tt, tt)),
-  ), never tt, tt),
+  (
+    λ k e' b. (
+      (sign SRBrace ∷ keyword KIn ∷ a_number ∷ [], tt),
+      λ ls a. (tokens (keyword KIn ∷ a_number ∷ []) tt tt tt, (λ k e' i. ((a_number ∷ [], tt), λ e c. (maybe [] tt ends_item_end (λ o h. h), tt)), never tt, tt)),
+    ),
+    never tt,
+    tt,
+  ),
 )
 can_complete_opened a_paren s = (
   (a_number ∷ sign SRParen ∷ [], tt),

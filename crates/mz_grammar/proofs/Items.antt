@@ -22,16 +22,20 @@ use Rattle.mz_grammar.proofs.PartEnds.{Facts, made, sign, keyword, no_way, EndsI
 
 can_complete_function : (t : Written) → CanComplete (function_rule t)
 unfolding step read_by rule symbol_number keyword_number
-can_complete_function t = (λ k n e' s. (
-  (sign SEq ∷ a_number ∷ [], tt),
-  λ ds a. (
-    tokens (sign SEq ∷ a_number ∷ []) tt plain_equals (λ m. tt),
-    λ m b. (
-      brought (sign SEq ∷ a_number ∷ []) (λ m. tt) tt refl refl,
-      (λ k e' q. ((a_number ∷ [], tt), λ e c. (last (λ o h. h), tt)), never tt, tt),
+can_complete_function t = (
+  λ k n e' s. (
+    (sign SEq ∷ a_number ∷ [], tt),
+    λ ds a. (
+      tokens (sign SEq ∷ a_number ∷ []) tt plain_equals (λ m. tt),
+      λ m b. (
+        brought (sign SEq ∷ a_number ∷ []) (λ m. tt) tt refl refl,
+        (λ k e' q. ((a_number ∷ [], tt), λ e c. (last (λ o h. h), tt)), never tt, tt),
+      ),
     ),
   ),
-), never tt, tt)
+  never tt,
+  tt,
+)
 
 can_complete_kind : (k : ItemKind) (s : Span) → Completion (item_by k s) × CanComplete (item_by k s)
 unfolding step read_by rule symbol_number keyword_number

@@ -83,13 +83,17 @@ generator_facts = record {
   falls = tt;
   takes = tt;
   complete = (an_identifier ∷ keyword KIn ∷ a_number ∷ [], tt);
-  can_complete = (λ k x e' s. (
-    (keyword KIn ∷ a_number ∷ [], tt),
-    λ ns a. (
-      tokens (keyword KIn ∷ a_number ∷ []) tt ends_names_in tt,
-      (λ k e' i. ((a_number ∷ [], tt), λ r b. (maybe [] tt ends_item_end (λ o h. h), λ w c. (last (λ o h. h), tt))), never tt, tt),
+  can_complete = (
+    λ k x e' s. (
+      (keyword KIn ∷ a_number ∷ [], tt),
+      λ ns a. (
+        tokens (keyword KIn ∷ a_number ∷ []) tt ends_names_in tt,
+        (λ k e' i. ((a_number ∷ [], tt), λ r b. (maybe [] tt ends_item_end (λ o h. h), λ w c. (last (λ o h. h), tt))), never tt, tt),
+      ),
     ),
-  ), never tt, tt);
+    never tt,
+    tt,
+  );
 }
 
 pub more_names_facts : Facts Parts.more_names
@@ -190,10 +194,14 @@ more_rows_facts = record {
   can_complete = (
     λ t e s. (([], tt), tt),
     never tt,
-    (λ k e' s. (
-      (sign SRRows ∷ [], tt),
-      (λ t e c. (([], tt), tt), never tt, λ r a. (tokens (sign SRRows ∷ []) tt row_end tt, λ rs b. (last (λ o h. h), tt))),
-    ), never tt, tt),
+    (
+      λ k e' s. (
+        (sign SRRows ∷ [], tt),
+        (λ t e c. (([], tt), tt), never tt, λ r a. (tokens (sign SRRows ∷ []) tt row_end tt, λ rs b. (last (λ o h. h), tt))),
+      ),
+      never tt,
+      tt,
+    ),
   );
 }
 

@@ -120,41 +120,57 @@ all_mean : (n : Place) (k : ℕ) (ts : List Token) → Means k ts k ts (rule n)
 unfolding rule
 all_mean (file d) k ts = (λ e. (refl, λ p. ebnf.none), λ e i us h. (λ e. (refl, λ p. ebnf.some (ebnf.last (h p))), λ e. (λ vs c more ws g. (refl, λ p. ebnf.some (after (h p) (next_symbol c) (g p))), λ e. tt)))
 all_mean (item d) k ts = (λ n us o. (λ vs c v ws h. (refl, λ p. assigned n ts us vs ws v (is_named o) (next_symbol c) h p), λ e. tt), λ e. tt)
-all_mean (datum d) k ts =
-    (λ r e us c xs vs g. (sym e, (refl, λ p. as_deep e (ebnf.array (next_symbol c) g.1 g.2))),
-    λ e. (λ r e us c ls vs g. (sym e, (refl, λ p. as_deep e (ebnf.rows (next_symbol c) g.1 g.2))),
-    λ e. (λ n us o v vs h. (refl, (refl, λ p. h d ts p refl (is_named o))),
-    λ e v us h. (refl, (h.0, λ p. ebnf.by_plain h.1)))))
+all_mean (datum d) k ts = (
+  λ r e us c xs vs g. (sym e, (refl, λ p. as_deep e (ebnf.array (next_symbol c) g.1 g.2))),
+  λ e. (
+    λ r e us c ls vs g. (sym e, (refl, λ p. as_deep e (ebnf.rows (next_symbol c) g.1 g.2))),
+    λ e. (
+      λ n us o v vs h. (refl, (refl, λ p. h d ts p refl (is_named o))),
+      λ e v us h. (refl, (h.0, λ p. ebnf.by_plain h.1)),
+    ),
+  ),
+)
 all_mean (named None n) k ts = (λ e. tt, λ e v us h. (refl, λ d hs p q c. ebnf.by_plain (h hs (ebnf.a_name n c))))
-all_mean (named (Some m) n) k ts =
-    (λ r e us o v vs h. (sym e, λ d hs p q c. as_deep e (h d n hs ts p q c (next_symbol o))),
-    λ e v us h. (refl, λ d hs p q c. ebnf.by_plain (h hs (ebnf.a_name n c))))
+all_mean (named (Some m) n) k ts = (
+  λ r e us o v vs h. (sym e, λ d hs p q c. as_deep e (h d n hs ts p q c (next_symbol o))),
+  λ e v us h. (refl, λ d hs p q c. ebnf.by_plain (h hs (ebnf.a_name n c))),
+)
 all_mean (sized m) k ts = λ ss us h. (
   λ r e vs c es ws g. (λ xs f. (sym e, λ d n hs bs p q a b. as_deep (ap suc e) (sized_claim m d n hs bs ts us vs ws xs ss es p q a b (subst (λ k. Claim (index_sets m) k ts ss us) e h) (next_symbol c) g (next_symbol f))), λ e. tt),
   λ e. tt,
 )
 all_mean (index_sets zero) k ts = (λ us c. (refl, (refl, inr (next_symbol c))), λ e. (refl, (refl, inl refl)))
 all_mean (index_sets (suc m)) k ts = λ v us h. (λ vs c xs ws g. (refl, sets_claim m h (next_symbol c) g), λ e. tt)
-all_mean plains k ts = (λ us c. (refl, (ts, ebnf.none, next_symbol c)), λ e v us h. (
-  λ vs c xs ws g. (refl, (g.0, ebnf.some (after h.1 (next_symbol c) g.1), g.2)),
-  λ e. (λ vs c. (refl, (us, ebnf.some (ebnf.last h.1), next_symbol c)), λ e. tt),
-))
-all_mean rows k ts = (λ us c. (refl, (ts, ebnf.none, next_symbol c)), λ e l us h. (
-  λ vs c ls ws g. (refl, (g.0, ebnf.some (after h (next_symbol c) g.1), g.2)),
-  λ e. (λ vs c. (refl, (us, ebnf.some (ebnf.last h), next_symbol c)), λ e. tt),
-))
+all_mean plains k ts = (
+  λ us c. (refl, (ts, ebnf.none, next_symbol c)),
+  λ e v us h. (
+    λ vs c xs ws g. (refl, (g.0, ebnf.some (after h.1 (next_symbol c) g.1), g.2)),
+    λ e. (λ vs c. (refl, (us, ebnf.some (ebnf.last h.1), next_symbol c)), λ e. tt),
+  ),
+)
+all_mean rows k ts = (
+  λ us c. (refl, (ts, ebnf.none, next_symbol c)),
+  λ e l us h. (
+    λ vs c ls ws g. (refl, (g.0, ebnf.some (after h (next_symbol c) g.1), g.2)),
+    λ e. (λ vs c. (refl, (us, ebnf.some (ebnf.last h), next_symbol c)), λ e. tt),
+  ),
+)
 all_mean row k ts = λ v us h. (λ vs c. (λ e. (refl, ebnf.trailing h.1 (next_symbol c)), λ e xs ws g. (refl, ebnf.more h.1 (next_symbol c) g)), λ e. (refl, ebnf.last h.1))
-all_mean plain k ts =
-    (λ r e us c xs vs g. (sym e, (refl, ebnf.by_set (as_deep e (ebnf.braces (next_symbol c) g.1 g.2)))),
-    λ e. (λ us c. (refl, (refl, ebnf.absent (next_symbol c))), λ e v us h w vs g. (refl, (h.0, g ts h.1))))
+all_mean plain k ts = (
+  λ r e us c xs vs g. (sym e, (refl, ebnf.by_set (as_deep e (ebnf.braces (next_symbol c) g.1 g.2)))),
+  λ e. (λ us c. (refl, (refl, ebnf.absent (next_symbol c))), λ e v us h w vs g. (refl, (h.0, g ts h.1))),
+)
 all_mean (range v) k ts = (λ us c w vs h. (refl, λ hs g. ebnf.by_set (ebnf.range g (next_symbol c) h.1)), λ e. (refl, λ hs g. ebnf.by_one g))
 all_mean set k ts = (λ r e us c xs vs g. (sym e, as_deep e (ebnf.braces (next_symbol c) g.1 g.2)), λ e v us h w vs g. (refl, g ts refl h.1))
 all_mean (bounds true v) k ts = (λ us c w vs h. (refl, λ hs e g. ebnf.range g (next_symbol c) h.1), λ q. (refl, λ hs e g. one_name g e))
 all_mean (bounds false v) k ts = (λ us c w vs h. (refl, λ hs e g. ebnf.range g (next_symbol c) h.1), λ q. tt)
-all_mean ones k ts = (λ us c. (refl, (ts, ebnf.none, next_symbol c)), λ e v us h. (
-  λ vs c xs ws g. (refl, (g.0, ebnf.some (after h.1 (next_symbol c) g.1), g.2)),
-  λ e. (λ vs c. (refl, (us, ebnf.some (ebnf.last h.1), next_symbol c)), λ e. tt),
-))
+all_mean ones k ts = (
+  λ us c. (refl, (ts, ebnf.none, next_symbol c)),
+  λ e v us h. (
+    λ vs c xs ws g. (refl, (g.0, ebnf.some (after h.1 (next_symbol c) g.1), g.2)),
+    λ e. (λ vs c. (refl, (us, ebnf.some (ebnf.last h.1), next_symbol c)), λ e. tt),
+  ),
+)
 all_mean one k ts = (
   λ us c. (λ z vs o. let t = said IsNegated negated_is o in (refl, (refl, t.1 k ts us vs (next_symbol c) t.2)), λ e. tt),
   λ e. (λ v us o. let t = said IsOne literal_is o in (refl, (refl, t.1 k ts us t.2)), λ e. tt),
