@@ -17,7 +17,7 @@ use Rattle.mz_cells.specs.declared.types.Bound.{Bound}
 use Rattle.mz_cells.specs.declared.types.Item.{Item}
 use Rattle.mz_cells.specs.declared.types.Item.TheVariants as item
 use Rattle.mz_cells.specs.declared.types.Known.{Known}
-use Rattle.mz_cells.specs.Views.{cell_of, cells_of, item_content, known_bound}
+use Rattle.mz_cells.specs.Views.{cells_of, item_content, known_bound}
 use Rattle.mz_access.specs.StepsPlaces.{placed}
 
 -- ---- the element at a place

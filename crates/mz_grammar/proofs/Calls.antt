@@ -13,7 +13,7 @@ use Rattle.mz_grammar.specs.declared.list.Generators.{Generators}
 use Rattle.mz_grammar.specs.declared.list.Generators.TheVariants.{Possible, AwaitingIn, Impossible}
 use Rattle.mz_grammar.specs.declared.list.Closing.TheVariants.{Paren}
 use Rattle.mz_grammar.specs.Parts
-use Rattle.mz_grammar.specs.Parts.{Place, Operand, tree_of}
+use Rattle.mz_grammar.specs.Parts.{Operand, tree_of}
 use Rattle.mz_tree.specs.Tree.{Generator, generator, Maybe}
 use Rattle.mz_grammar.specs.Parts.{Argument, name, member, other, unguarded, guarded, strict}
 use Rattle.mz_grammar.specs.Arguments.{possible_after, awaits_in, takes_where, trees_of, generators_of, generators_behind}

@@ -9,7 +9,6 @@ use Rattle.mz_cursor.specs.Rules.{Runs}
 use Rattle.mz_cursor.specs.Promise.{Gives, Answers}
 use Rattle.mz_cursor.proofs.Answering
 use Rattle.mz_cursor.proofs.Viable as ways
-use Rattle.mz_cursor.proofs.Viable.{never, before_end, last, tokens, maybe, done_by, goes_in, goes_out, goes_over, MayTake, Goes, Done, may_take}
 use Rattle.mz_grammar.specs.Data.{Place, Value, rule, rank, width, reads}
 use Rattle.mz_grammar.proofs.DataFacts.{low, falls, takes, complete, can_complete}
 use Rattle.mz_grammar.proofs.DataPartEnds.{MayEndBefore, takes_token, IsUsable, far, aim}

@@ -12,7 +12,7 @@ use Rattle.mz_cursor.proofs.Viable.{never, before_end, last, tokens, maybe, brou
 use Rattle.mz_grammar.specs.Parts
 use Rattle.mz_grammar.specs.Parts.{Operand}
 use Rattle.mz_tree.specs.Tree.{Written}
-use Rattle.mz_grammar.specs.Parts.{name, member, other}
+use Rattle.mz_grammar.specs.Parts.{name}
 use Rattle.mz_grammar.specs.Tests.{ItemKind, an_include, a_constraint, a_solve, an_output, a_predicate, a_test, a_function, an_annotation, an_enum, is_end}
 use Rattle.mz_grammar.specs.Model.{rule, function_rule, by_expression, item_by}
 use Rattle.mz_grammar.specs.Reading.{rank, operand_rank}

@@ -5,7 +5,7 @@ use Rattle.mz_lexer.specs.declared.token.Token.{Token}
 use Rattle.mz_lexer.specs.declared.token.Tok.{Tok}
 use Rattle.mz_base.specs.declared.keyword.Keyword.TheVariants.{KIn, KWhere, KThen, KElse, KElseif, KEndif, KConstraint}
 use Rattle.mz_lexer.specs.declared.token.Symbol.TheVariants.{SRBrack, SRBrace, SRRows, SBar, SComma, SSemi}
-use Rattle.mz_tree.specs.Tree.{Tree, Generator, Let, array, set, array_comp, set_comp, just, nothing, plain, shown, generator, constrained, trees, gens}
+use Rattle.mz_tree.specs.Tree.{Generator, Let, array, set, array_comp, set_comp, just, nothing, plain, shown, generator, constrained, trees, gens}
 use Rattle.mz_tree.specs.Tree as pure
 use Rattle.mz_cursor.specs.Tokens.{tok_at, behind, place, passes}
 use Rattle.mz_cursor.specs.Look.{is_sym, is_word, is_symbol}

@@ -1,6 +1,6 @@
 // The open block: what its items gave, and the solution that a whole block is.
 
-ghost use Rattle.std.specs.Prelude.{◌≡◌, ◌++◌, ◌∷◌, [], OnOk, map, Some, None};
+ghost use Rattle.std.specs.Prelude.{◌≡◌, [], OnOk, map, Some, None};
 ghost use Rattle.std.specs.Option.{option_map};
 ghost use Rattle.mz_value.specs.Contents.{content};
 ghost use Rattle.soln_items.specs.Contents.{content_of, contents_of};
