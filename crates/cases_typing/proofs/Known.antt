@@ -10,7 +10,7 @@ use Rattle.mz_tree.specs.Data.{Given, given}
 use Rattle.mz_occurrence.specs.Given.{occurrences}
 use Rattle.mz_occurrence.specs.Occurrences.{in_item}
 use Rattle.mz_occurrence.specs.StepsWalk.{items_of}
-use Rattle.mz_occurrence.proofs.Named.{item_named}
+use Rattle.mz_occurrence.proofs.Spots.{item_named}
 use Rattle.mz_include.specs.Views.{AreKnown}
 use Rattle.mz_given.specs.Named.{IsGivenWithin}
 use Rattle.mz_given.proofs.Staying.{stays}

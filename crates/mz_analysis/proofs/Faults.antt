@@ -22,7 +22,7 @@ use Rattle.mz_scoped.specs.Parts.{decls_of, functions_of, decl_at, function_at}
 use Rattle.mz_scoped.specs.Scoped.{IsCyclic, at_decl, at_function}
 use Rattle.mz_spaces.specs.Tests.{first, first_after, is_reserved, is_repeated, is_misfit, first_unknown_of, first_missing_of, solve_in, solve_fault, or_refused, refusal}
 use Rattle.mz_analysis.specs.Known.{OfFunction, OfGiven}
-use Rattle.mz_analysis.proofs.Placed.{item_placed}
+use Rattle.mz_occurrence.proofs.Spots.{item_placed}
 use Rattle.mz_analysis.proofs.Parts as parts
 use Rattle.mz_analysis.proofs.DataParts.{all_placed}
 

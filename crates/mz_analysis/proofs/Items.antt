@@ -14,7 +14,7 @@ use Rattle.mz_tree.proofs.Collected.{all_flat}
 use Rattle.mz_occurrence.specs.Given.{occurrences}
 use Rattle.mz_occurrence.specs.Occurrences.{in_item}
 use Rattle.mz_occurrence.specs.StepsWalk as code
-use Rattle.mz_occurrence.proofs.Named.{item_named}
+use Rattle.mz_occurrence.proofs.Spots.{item_named}
 use Rattle.mz_given.specs.Named.{IsGivenWithin}
 use Rattle.mz_spaces.specs.Tests as tests
 use Rattle.mz_spaces.specs.Tests.{AreNamed, known_in, solve_in, refusal, refusal_of}

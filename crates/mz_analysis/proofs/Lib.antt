@@ -10,7 +10,6 @@ pub mod Leaves
 pub mod Meanings
 pub mod Orders
 pub mod Parts
-pub mod Placed
 pub mod Reasons
 pub mod Single
 pub mod Stopping

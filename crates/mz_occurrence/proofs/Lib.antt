@@ -3,5 +3,5 @@ pub mod Gathered
 pub mod Holding
 pub mod Identifiers
 pub mod Lists
-pub mod Named
 pub mod Seen
+pub mod Spots

@@ -1,5 +1,5 @@
 -- What a name is there for, at one place.
-use Rattle.std.specs.Prelude.{◌≡◌, ℕ, [], ◌∷◌}
+use Rattle.std.specs.Prelude.{ℕ}
 use Rattle.mz_base.specs.declared.fault.Span.{Span}
 use Rattle.mz_occurrence.specs.declared.occurrence.Occurrence.{Occurrence}
 use Rattle.mz_occurrence.specs.declared.occurrence.Role.{Role}

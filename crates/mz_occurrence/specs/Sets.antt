@@ -1,5 +1,5 @@
 -- Sets of names, as lists in the order in which the names were added.
-use Rattle.std.specs.Prelude.{◌≡◌, ℕ, List, [], ◌∷◌, ◌++◌, Bool, nat_eq, if◌then◌else◌}
+use Rattle.std.specs.Prelude.{ℕ, List, [], ◌∷◌, ◌++◌, Bool, nat_eq, if◌then◌else◌}
 use Rattle.std.specs.List.{list_any}
 
 -- the name is one of the list

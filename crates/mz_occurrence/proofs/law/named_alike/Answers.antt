@@ -1,5 +1,5 @@
 use Rattle.std.proofs.Common.{◌≡◌, ◌<◌}
-use Rattle.mz_occurrence.proofs.Named.{item_named}
+use Rattle.mz_occurrence.proofs.Spots.{item_named}
 use Rattle.mz_occurrence.proofs.law.named_alike.Goals as goal
 
 pub returns : goal.returns
