@@ -1,6 +1,6 @@
 // The scoped model of a model's files with their data.
 
-ghost use Rattle.std.specs.Prelude.{◌≡◌, ◌<◌, length, IfOk, IfErr};
+ghost use Rattle.std.specs.Prelude.{◌<◌, length, IfOk, IfErr};
 ghost use Rattle.mz_base.specs.Faults.{IfRefused};
 ghost use Rattle.mz_scoped.specs.Scoped.{scoped_tree, AreRanked};
 ghost use Rattle.mz_analysis.specs.Analysis.{IsScopedModel, IsIllNamed, IsRead, files_read, items_read, count_read};

@@ -1,6 +1,6 @@
 // The typed program of a model's files with their data.
 
-ghost use Rattle.std.specs.Prelude.{◌≡◌, ◌<◌, length, IfOk, IfErr, All};
+ghost use Rattle.std.specs.Prelude.{◌<◌, length, IfOk, IfErr, All};
 ghost use Rattle.mz_base.specs.Faults.{IfRefused};
 ghost use Rattle.mz_core.specs.Program.{plain_program};
 ghost use Rattle.mz_analysis.specs.Analysis.{IsTypedModel, FailsTest, IsRead, files_read, items_read, evaluated, names_of};

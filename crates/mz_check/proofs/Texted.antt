@@ -1,6 +1,5 @@
 -- The texts of a typed model are texts of the model: their names are in the table of names.
 use Rattle.std.proofs.Common.{ℕ, ◌+◌, ◌<◌, List, [], ◌∷◌, ◌++◌, get_or}
-use Rattle.std.specs.Prelude.{if◌then◌else◌}
 use Rattle.std.specs.List.{flat_map}
 use Rattle.mz_core.specs.Tree.{Tree, Decl, DeclaredType, declares, maybe, maybes}
 use Rattle.mz_core.specs.Program.{Function, Goal, satisfy, minimize, maximize}
@@ -8,7 +7,6 @@ use Rattle.mz_tree.specs.Items.{FunctionTree}
 use Rattle.mz_scoped.specs.Parts.{decl_at, function_at}
 use Rattle.mz_scoped.specs.Scoped.{ScopedTree}
 use Rattle.mz_type_order.specs.Subjects.{AreOf}
-use Rattle.mz_checks.specs.Tests.{◌>>=◌, ◌>>◌}
 use Rattle.mz_checks.specs.Headings.{Subject, of_decl, of_function}
 use Rattle.mz_checks.specs.Items.{goal}
 use Rattle.mz_core.specs.Nodes as nodes

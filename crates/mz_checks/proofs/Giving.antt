@@ -1,5 +1,5 @@
 -- What holds of what tests give.
-use Rattle.std.proofs.Common.{◌≡◌, ℕ, Bool, true, false, cond, List, [], ◌∷◌, ◌++◌, Ok, Err, map, zero, suc, ◌<◌, arith}
+use Rattle.std.proofs.Common.{Bool, true, false, cond, List, [], ◌∷◌, ◌++◌, Ok, Err, map, zero, suc, arith}
 use Rattle.std.specs.Prelude.{All}
 use Rattle.mz_base.specs.declared.fault.Fault.{Fault}
 use Rattle.mz_checks.specs.Tests.{Test, ◌>>=◌, loop, one_more, each}

@@ -37,7 +37,7 @@ pub struct Scope {
 }
 
 impl Model for Scope {
-    ghost use Rattle.std.specs.Prelude.{◌≡◌, ℕ, ◌+◌, ◌<◌, ◌^◌, length};
+    ghost use Rattle.std.specs.Prelude.{◌≡◌, ◌+◌, ◌<◌, ◌^◌, length};
     ghost use Rattle.mz_checks.specs.Models.{Env};
     ghost use Rattle.mz_context.specs.Locals.{newest_first, AreNewest};
 

@@ -1,5 +1,5 @@
 -- The nodes of what a scoped model is typed to with its data are so, where the texts in the model are allowed.
-use Rattle.std.proofs.Common.{ℕ, suc, ◌+◌, ◌<◌, Bool, true, false, cond, List, [], ◌∷◌, ◌++◌, Option, Some, None, Ok, arith}
+use Rattle.std.proofs.Common.{ℕ, suc, ◌+◌, Bool, true, false, cond, List, [], ◌∷◌, ◌++◌, Option, Some, None, Ok, arith}
 use Rattle.std.specs.Prelude.{All, nat_eq, if◌then◌else◌}
 use Rattle.std.specs.List.{enumerate_from}
 use Rattle.mz_base.specs.declared.fault.Span.{Span}

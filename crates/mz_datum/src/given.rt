@@ -1,6 +1,6 @@
 // The values that data gives declarations.
 
-ghost use Rattle.std.specs.Prelude.{◌≡◌, map};
+ghost use Rattle.std.specs.Prelude.{map};
 ghost use Rattle.mz_tree.specs.Data.{given};
 ghost use Rattle.mz_scoped.specs.Scoped.{lent_given};
 ghost use Rattle.mz_checks.specs.Passes.{Passes};

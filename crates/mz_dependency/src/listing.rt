@@ -1,6 +1,6 @@
 // What declarations and functions use, as lists of nodes.
 
-ghost use Rattle.std.specs.Prelude.{◌≡◌, ℕ, ◌+◌, ◌<◌, ◌^◌, ◌++◌, length, map, IfOk, OnOk};
+ghost use Rattle.std.specs.Prelude.{◌≡◌, ◌+◌, ◌<◌, ◌^◌, ◌++◌, length, map, IfOk, OnOk};
 ghost use Rattle.mz_graph.specs.Graph.{graph_of};
 ghost use Rattle.mz_uses.specs.Sketches.{sketch, all_of};
 ghost use Rattle.mz_dependency.specs.StepsPlaces.{callee, mentioned, raised_from, callees_in, mentions_in};

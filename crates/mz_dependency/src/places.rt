@@ -1,6 +1,6 @@
 // The names of declarations or functions, and the place of each.
 
-ghost use Rattle.std.specs.Prelude.{◌≡◌, ℕ, ◌+◌, ◌<◌, ◌^◌, [], length, map, IfOk, OnOk, IfSome};
+ghost use Rattle.std.specs.Prelude.{◌≡◌, ℕ, ◌<◌, ◌^◌, [], length, map, IfOk, OnOk, IfSome};
 ghost use Rattle.mz_occurrence.specs.Sets.{with_name};
 ghost use Rattle.mz_uses.specs.Sketches.{sketch};
 ghost use Rattle.mz_dependency.specs.StepsPlaces.{if_in, names_in, place_of};

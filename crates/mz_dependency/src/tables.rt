@@ -1,6 +1,6 @@
 // The names that uses are looked up in.
 
-ghost use Rattle.std.specs.Prelude.{◌≡◌, ℕ, ◌+◌, ◌<◌, ◌^◌, [], length, true, false, map, IfOk, IfSome};
+ghost use Rattle.std.specs.Prelude.{◌≡◌, ◌+◌, ◌<◌, [], length, true, false, map, IfOk, IfSome};
 ghost use Rattle.mz_uses.specs.Sketches.{sketch};
 ghost use Rattle.mz_dependency.specs.Dependencies.{meant_by};
 ghost use Rattle.mz_dependency.specs.StepsPlaces.{names_in, callee, mentioned, or_zero};

@@ -1,6 +1,6 @@
 // The occurrences of names in expressions, declarations and types, in the order of the text.
 
-ghost use Rattle.std.specs.Prelude.{◌≡◌, [], ◌∷◌, ◌++◌, OnOk, map};
+ghost use Rattle.std.specs.Prelude.{◌≡◌, ◌++◌, OnOk, map};
 ghost use Rattle.mz_tree.specs.Tree.{trees, links, branches, parts, gens, lets, bases};
 ghost use Rattle.mz_tree.specs.Views.{tree, part, generator, let_of, declaration, written, based, link, branch};
 ghost use Rattle.mz_occurrence.specs.Occurrences.{bound, in_tree, in_trees, in_links, in_branches, in_part, in_parts, in_generator, in_gens, in_let, in_lets, in_local, in_written, in_based, in_bases};

@@ -1,6 +1,6 @@
 // The names outside that expressions, declarations and types use.
 
-ghost use Rattle.std.specs.Prelude.{◌≡◌, ◌++◌, ◌∷◌, OnOk, map};
+ghost use Rattle.std.specs.Prelude.{◌≡◌, ◌++◌, OnOk, map};
 ghost use Rattle.mz_tree.specs.Tree.{trees, links, branches, parts, gens, lets, bases};
 ghost use Rattle.mz_tree.specs.Views.{tree, part, generator, let_of, declaration, written, based, link, branch};
 ghost use Rattle.mz_uses.specs.Uses.{with_bound, with_generator, with_gens, with_declaration, with_let, with_lets, in_tree, in_trees, in_links, in_branches, in_part, in_parts, in_generator, in_gens, in_let, in_lets, in_declaration, in_written, in_based, in_bases};

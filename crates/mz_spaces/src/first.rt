@@ -1,6 +1,6 @@
 // The first occurrence that a test finds.
 
-ghost use Rattle.std.specs.Prelude.{◌≡◌, ℕ, ◌<◌, length};
+ghost use Rattle.std.specs.Prelude.{◌≡◌, ◌<◌, length};
 ghost use Rattle.mz_spaces.specs.Tests.{begins_reserved, is_reserved, known_in, is_unknown, misfits, is_misfit, is_missing, first, AreNamed};
 
 use crate::spaces::introduces;

@@ -1,6 +1,6 @@
 // The first name that is declared, or given a value, a second time.
 
-ghost use Rattle.std.specs.Prelude.{◌≡◌, ℕ, ◌∷◌, ◌++◌, [], IfOk, OnOk};
+ghost use Rattle.std.specs.Prelude.{◌≡◌, [], IfOk, OnOk};
 ghost use Rattle.mz_occurrence.specs.declared.occurrence.Occurrence.{Occurrence};
 ghost use Rattle.mz_occurrence.specs.Sets.{holds, with_name};
 ghost use Rattle.mz_spaces.specs.Tests.{is_repeated, first_after};

@@ -1,6 +1,6 @@
 // The names that have a role, as sets.
 
-ghost use Rattle.std.specs.Prelude.{◌≡◌, ℕ, ◌++◌, IfOk};
+ghost use Rattle.std.specs.Prelude.{◌≡◌, ℕ, IfOk};
 ghost use Rattle.mz_occurrence.specs.Sets.{holds};
 ghost use Rattle.mz_spaces.specs.Spaces.{declares, introduces, binds, gives, lists, names_with};
 ghost use Rattle.mz_spaces.specs.StepsSpaces.{asked_by};

@@ -1,6 +1,6 @@
 // The table of texts of a typed program.
 
-ghost use Rattle.std.specs.Prelude.{◌≡◌, ◌<◌, ◌++◌, ◌∷◌, [], All, IfOk, OnOk, length, map};
+ghost use Rattle.std.specs.Prelude.{◌≡◌, ◌<◌, [], All, IfOk, OnOk, length, map};
 ghost use Rattle.mz_core.specs.TreeViews.{tree, decl};
 ghost use Rattle.mz_core.specs.Program.{function, goal};
 ghost use Rattle.mz_occurrence.specs.Sets.{with_name};

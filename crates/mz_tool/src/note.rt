@@ -1,6 +1,6 @@
 // The line that a run writes to its notes.
 
-ghost use Rattle.std.specs.Prelude.{◌≡◌, ◌++◌, ℕ, codes};
+ghost use Rattle.std.specs.Prelude.{◌++◌, codes};
 ghost use Rattle.std.specs.List.{flat_map};
 ghost use Rattle.mz_tool.specs.Status.{IsLineNoted, Notes, refusal_line, now};
 

@@ -1,4 +1,4 @@
-use Rattle.std.proofs.Common.{◌∙◌, ◌≡◌, List, false, map, ap, sym}
+use Rattle.std.proofs.Common.{◌∙◌, List, false, map, ap, sym}
 use Rattle.mz_base.specs.Names.{text_of}
 use Rattle.mz_core.specs.Tree.{Decl}
 use Rattle.mz_core.specs.declared.tree.CoreDecl.{CoreDecl}

@@ -1,4 +1,4 @@
-use Rattle.std.proofs.Common.{◌≡◌, ◌∙◌, Option, OnOk, ap, sym, subst}
+use Rattle.std.proofs.Common.{◌≡◌, Option, OnOk, ap, sym, subst}
 use Rattle.mz_scoped.specs.Scoped.{scoped_tree}
 use Rattle.mz_type_order.specs.Subjects.{IsOf}
 use Rattle.mz_checks.specs.Headings.{Subject}

@@ -1,4 +1,4 @@
-use Rattle.std.proofs.Common.{◌≤◌, ◌<◌, List, ℕ, map, length, sym, subst, arith}
+use Rattle.std.proofs.Common.{List, ℕ, map, length, sym, subst, arith}
 use Rattle.mz_scoped.specs.Scoped.{scoped_tree}
 use Rattle.mz_type_order.specs.Subjects.{subject}
 use Rattle.mz_context.specs.Known.{known}

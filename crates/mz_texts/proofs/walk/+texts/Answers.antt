@@ -1,4 +1,4 @@
-use Rattle.std.proofs.Common.{◌≡◌, ◌∙◌, ◌++◌, ℕ, List, sym, subst, OnOk}
+use Rattle.std.proofs.Common.{◌≡◌, ◌++◌, ℕ, List, sym, subst, OnOk}
 use Rattle.mz_texts.proofs.Layers.{texts_of_tree}
 use Rattle.mz_texts.proofs.walk.+texts.Goals as goal
 
