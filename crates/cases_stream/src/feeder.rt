@@ -1,6 +1,6 @@
 // A reader with what was fed to it, and the lines that its answers print.
 
-ghost use Rattle.std.specs.Prelude.{◌≡◌, ◌≤◌, ◌+◌, length};
+ghost use Rattle.std.specs.Prelude.{◌≤◌, ◌+◌, length};
 
 use cases::Page;
 use mz_base::Memory;

@@ -1,5 +1,5 @@
 -- Distinct names read their own values back.
-use Rattle.std.proofs.Common.{◌≡◌, ◌∙◌, suc, ◌<◌, List, [], ◌∷◌, length, map, Bool, true, false, refl, ap, arith}
+use Rattle.std.proofs.Common.{◌≡◌, ◌∙◌, suc, List, [], ◌∷◌, length, map, Bool, true, false, refl, ap, arith}
 use Rattle.std.specs.List.{Contains}
 use Rattle.std.specs.Str.{bytes_eq}
 use Rattle.std.proofs.lemmas.Slice.Eq.{bytes_eq-Decides}

@@ -1,6 +1,6 @@
 // The names of a FlatZinc program, compared pair by pair.
 
-ghost use Rattle.std.specs.Prelude.{◌≡◌, ◌↔◌, ◌++◌, map, string_bytes, IsTrue};
+ghost use Rattle.std.specs.Prelude.{◌↔◌, ◌++◌, map, string_bytes, IsTrue};
 ghost use Rattle.std.specs.List.{Contains};
 ghost use Rattle.fz_program.specs.Flat.{AreDistinct, array_item, array_labels, labels_of, variable};
 

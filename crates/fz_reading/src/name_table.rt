@@ -1,6 +1,6 @@
 // The names of a program, looked up by a table, and whether one stands twice.
 
-ghost use Rattle.std.specs.Prelude.{◌≡◌, ◌++◌, [], map, not, position, IfOk};
+ghost use Rattle.std.specs.Prelude.{◌≡◌, [], map, not, position, IfOk};
 ghost use Rattle.std.specs.Str.{bytes_eq};
 ghost use Rattle.soln_items.specs.Gives.{Gives};
 ghost use Rattle.fz_program.specs.Flat.{array_item, array_labels, labels_of, variable};

@@ -1,6 +1,6 @@
 // A whole program.
 
-ghost use Rattle.std.specs.Prelude.{◌≡◌, map};
+ghost use Rattle.std.specs.Prelude.{map};
 ghost use Rattle.soln_items.specs.Gives.{Gives};
 ghost use Rattle.fz_program.specs.Flat.{program, variable};
 ghost use Rattle.fz_reading.specs.Lines.{body_at, named_at, program_at};

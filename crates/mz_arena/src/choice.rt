@@ -1,6 +1,6 @@
 // The bounds of branches, guards and lists.
 
-ghost use Rattle.std.specs.Prelude.{◌≡◌, ◌<◌, IfOk, length};
+ghost use Rattle.std.specs.Prelude.{◌<◌, IfOk, length};
 ghost use Rattle.mz_interval.specs.Interval.{ends};
 ghost use Rattle.mz_arena.specs.Extents.{whole, truth, subset, branch_extent, if_extent, guard_extent, cons_extent};
 ghost use Rattle.mz_arena.specs.Tables.{known, set_at, IsKept, IsSoundTable, IsShort, TellsIn};

@@ -1,6 +1,6 @@
 // Lists of integers: their elements' bounds, from the first on.
 
-ghost use Rattle.std.specs.Prelude.{◌≡◌, ℕ, ◌<◌, [], drop, take, IfSome, MatchOption};
+ghost use Rattle.std.specs.Prelude.{◌≡◌, ◌<◌, [], drop, take, IfSome, MatchOption};
 ghost use Rattle.mz_interval.specs.Interval.{ends};
 ghost use Rattle.mz_operations.specs.Bounds.{extreme_ends, hull_of_all};
 ghost use Rattle.mz_arena.specs.Tables.{IsSoundTable, HasWholes, SplitsWholes, has_wholes, wholes_of};

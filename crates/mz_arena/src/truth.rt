@@ -1,6 +1,5 @@
 // The bounds of Booleans, and of what a Boolean guards.
 
-ghost use Rattle.std.specs.Prelude.{◌≡◌};
 ghost use Rattle.mz_arena.specs.Extents.{bool_extent, comparison_extent, connective_extent, not_extent, member_extent, set_comparison_extent, to_int_extent, open_truth as any_truth};
 ghost use Rattle.mz_arena.specs.Tables.{Sets, IsShort, TellsAny, known, IsSoundTable, TellsIn};
 

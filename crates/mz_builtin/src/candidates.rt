@@ -1,6 +1,6 @@
 // The signatures of a name.
 
-ghost use Rattle.std.specs.Prelude.{◌≡◌, ◌++◌, ◌∷◌, [], map, IfOk};
+ghost use Rattle.std.specs.Prelude.{◌≡◌, ◌++◌, map, IfOk};
 ghost use Rattle.mz_core.specs.Types.{plain_type};
 ghost use Rattle.mz_builtin.specs.Entries.{plain_entry};
 ghost use Rattle.mz_builtin.specs.Readings.{numbered, with_mark, with_meaning, of_entry};

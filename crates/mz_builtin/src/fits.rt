@@ -1,6 +1,6 @@
 // The lists of parameters that accept a call's arguments, made from the arguments' types.
 
-ghost use Rattle.std.specs.Prelude.{◌≡◌, ◌++◌, ◌∷◌, [], map, filter, IfOk};
+ghost use Rattle.std.specs.Prelude.{◌≡◌, ◌++◌, [], map, filter, IfOk};
 ghost use Rattle.mz_core.specs.Types.{plain_type};
 ghost use Rattle.mz_core.specs.Order.{below, index_below};
 ghost use Rattle.mz_builtin.specs.StepsFits.{indices_above, lists_above, near_lists, near_of_rank, near_arrays, near_types, element, element_fits, may_fit, types_above, accepting};

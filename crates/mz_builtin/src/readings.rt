@@ -1,6 +1,6 @@
 // What an entry's letter and mark stand for.
 
-ghost use Rattle.std.specs.Prelude.{◌≡◌, ◌++◌, ◌∷◌, [], IfOk};
+ghost use Rattle.std.specs.Prelude.{◌≡◌, ◌++◌, IfOk};
 ghost use Rattle.mz_builtin.specs.Readings.{cases, sets_of_cases, scalars, sets, meanings, readings_of, result_var};
 
 use crate::entry::{Letter, Mark};

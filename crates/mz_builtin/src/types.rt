@@ -1,6 +1,6 @@
 // The types of an entry's parameters and of its result in one reading.
 
-ghost use Rattle.std.specs.Prelude.{◌≡◌, ◌++◌, ◌∷◌, [], map, IfOk, ℕ, Option, slice_get};
+ghost use Rattle.std.specs.Prelude.{◌≡◌, ◌++◌, [], map, IfOk, Option, slice_get};
 ghost use Rattle.mz_core.specs.Types.{plain_type};
 ghost use Rattle.mz_builtin.specs.Readings.{set_with, opt_of, base_of, type_of, types_with, set_type, index_sets, index_with, given_indices, array_indices, index_set_base, result_type};
 ghost use Rattle.mz_builtin.specs.Views.{index_lists_of};

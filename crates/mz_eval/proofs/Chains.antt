@@ -1,5 +1,5 @@
 -- The operators of chains, one after the other.
-use Rattle.std.proofs.Common.{◌≡◌, ◌∙◌, ℕ, ◌+◌, ◌<◌, Bool, false, Option, Some, None, is_some, List, [], ◌∷◌, refl, sym, ap, if◌then◌else◌}
+use Rattle.std.proofs.Common.{◌≡◌, ◌∙◌, Bool, false, Option, Some, None, is_some, List, [], ◌∷◌, refl, sym, ap, if◌then◌else◌}
 use Rattle.mz_base.specs.declared.fault.Span.{Span}
 use Rattle.mz_core.specs.Tree.{Tree, Step, steps}
 use Rattle.mz_meaning.specs.Runs.{State, then_do}

@@ -1,6 +1,6 @@
 // A search for components, along a path of them.
 
-ghost use Rattle.std.specs.Prelude.{◌≡◌, ◌+◌, ◌-◌, ◌<◌, ◌≤◌, ℕ, [], ◌∷◌, length, IfOk, OnOk};
+ghost use Rattle.std.specs.Prelude.{◌≡◌, ◌-◌, ◌<◌, ◌≤◌, ℕ, [], ◌∷◌, length, IfOk, OnOk};
 ghost use Rattle.mz_graph.specs.Graph.{Graph, graph_of, IsGraph};
 ghost use Rattle.mz_graph.specs.StepsTurns.{AreBelow};
 ghost use Rattle.mz_graph.specs.StepsSearch.{trail, visit_of, Holds, AllReach, left, IsNew, at, entered, BeginsPath, HasSamePath, StayVisited, AreVisits, AreNumbered, Stepped};

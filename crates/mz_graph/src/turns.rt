@@ -1,6 +1,6 @@
 // Nodes that wait for their turn, each for one head of its edges that had none yet.
 
-ghost use Rattle.std.specs.Prelude.{◌≡◌, ◌+◌, ◌-◌, ◌<◌, ◌≤◌, ℕ, List, [], ◌∷◌, length, IfOk, OnOk};
+ghost use Rattle.std.specs.Prelude.{◌≡◌, ◌-◌, ◌<◌, ℕ, List, [], ◌∷◌, length, IfOk, OnOk};
 ghost use Rattle.mz_graph.specs.Graph.{heads, graph_of, IsGraph};
 ghost use Rattle.mz_graph.specs.StepsTurns.{line, HasRows, Stands, IsFirstPending, AreBelow, from_on, Turned, IsNew};
 

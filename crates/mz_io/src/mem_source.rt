@@ -1,6 +1,6 @@
 // A stream of bytes that comes in, kept in memory.
 
-ghost use Rattle.std.specs.Prelude.{◌≡◌, ◌↔◌, ◌++◌, ◌<◌, [], length, min, take, drop, Some};
+ghost use Rattle.std.specs.Prelude.{◌≡◌, ◌↔◌, ◌++◌, ◌<◌, length, min, take, drop, Some};
 ghost use Rattle.std.specs.List.{Contains};
 ghost use Rattle.mz_io.specs.Source.{Gives, IsWithin, Counts};
 ghost use Rattle.mz_io.specs.MemSource.{source_after, count_of, IsMost};

@@ -1,5 +1,5 @@
 -- What the tokens of a file's bytes are, and where they lie.
-use Rattle.std.specs.Prelude.{ℕ, ◌+◌, ◌-◌, ◌+ℤ◌, List, [], ◌∷◌, Bool, true, false, ◌&&◌, ℤ, pos, Result, Ok, Err, if◌then◌else◌, fold}
+use Rattle.std.specs.Prelude.{ℕ, ◌+◌, ◌+ℤ◌, List, [], ◌∷◌, Bool, true, false, ℤ, pos, Result, Ok, Err, if◌then◌else◌, fold}
 use Rattle.mz_base.specs.declared.limit.TheConstants.{INTEGER_LIMIT}
 use Rattle.mz_base.specs.declared.fault.Span.{Span}
 use Rattle.mz_base.specs.declared.fault.Fault.{Fault}

@@ -1,6 +1,6 @@
 -- Mirror of src/prefix.rt and the files that it calls; private clauses only. The tokens of a file's bytes, as the code finds them,
 -- and the first fault.
-use Rattle.std.specs.Prelude.{ℕ, zero, suc, ◌+◌, ◌-◌, ◌+ℤ◌, List, [], ◌∷◌, take, drop, Bool, true, false, ◌&&◌, not, nat_eq, nat_le, codes, ℤ, pos, Option, Some, None, Ok, Err, if◌then◌else◌}
+use Rattle.std.specs.Prelude.{ℕ, zero, suc, ◌+◌, ◌-◌, List, [], ◌∷◌, take, drop, Bool, true, false, ◌&&◌, not, nat_eq, nat_le, codes, pos, Option, Some, None, Ok, Err, if◌then◌else◌}
 use Rattle.std.specs.Option.{option_map}
 use Rattle.std.specs.List.{take_while, prefix_len}
 use Rattle.std.specs.Str.Lossy.{utf8_valid_len}

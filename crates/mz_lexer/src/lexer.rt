@@ -1,6 +1,6 @@
 // The tokens of a file.
 
-ghost use Rattle.std.specs.Prelude.{◌≡◌, ◌+◌, ◌<◌, ◌≤◌, ◌^◌, length, map, take, drop, IfOk, IfErr, Ok, Err, All};
+ghost use Rattle.std.specs.Prelude.{◌≡◌, ◌+◌, ◌<◌, ◌≤◌, length, map, take, drop, IfOk, IfErr, Ok, Err, All};
 ghost use Rattle.mz_base.specs.declared.limit.TheConstants.{FILE_LIMIT};
 ghost use Rattle.mz_base.specs.Names.{Grows};
 ghost use Rattle.mz_lexer.specs.Lexemes.{after, fault, fault_number};

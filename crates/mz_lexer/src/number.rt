@@ -1,6 +1,6 @@
 // Integer literals.
 
-ghost use Rattle.std.specs.Prelude.{ℕ, List, true, IsTrue, nat_eq, ◌&&◌, ◌≡◌, ◌≤◌, ◌<◌, ◌+◌, ◌*◌, nat_le, length, [], Some, None, if◌then◌else◌};
+ghost use Rattle.std.specs.Prelude.{ℕ, List, true, IsTrue, nat_eq, ◌&&◌, ◌≡◌, ◌≤◌, ◌<◌, ◌+◌, ◌*◌, nat_le, length, Some, None, if◌then◌else◌};
 ghost use Rattle.std.specs.Char.{digit_value};
 ghost use Rattle.mz_base.specs.Words.{is_digit};
 ghost use Rattle.mz_lexer.specs.Bytes.{is_hex_digit, is_octal_digit, first_byte, second_byte, third_byte};

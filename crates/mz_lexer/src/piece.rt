@@ -1,6 +1,6 @@
 // The pieces of texts.
 
-ghost use Rattle.std.specs.Prelude.{◌≡◌, ◌+◌, ◌<◌, ◌≤◌, ◌^◌, length, IfOk};
+ghost use Rattle.std.specs.Prelude.{◌≡◌, ◌+◌, ◌<◌, ◌^◌, length, IfOk};
 ghost use Rattle.mz_base.specs.Names.{Grows};
 ghost use Rattle.mz_lexer.specs.Steps.{piece_end, piece_prefix};
 ghost use Rattle.mz_lexer.specs.Texts.{meaning, content_len};

@@ -1,6 +1,6 @@
 // What some bytes begin with.
 
-ghost use Rattle.std.specs.Prelude.{ℕ, List, ◌≡◌, ◌+◌, ◌<◌, ◌≤◌, ◌^◌, length, true, IfOk};
+ghost use Rattle.std.specs.Prelude.{ℕ, List, ◌≡◌, ◌+◌, ◌<◌, ◌^◌, length, true, IfOk};
 ghost use Rattle.std.specs.List.{list_all};
 ghost use Rattle.mz_base.specs.Names.{Grows};
 ghost use Rattle.mz_lexer.specs.Bytes.{first_byte, second_byte, third_byte};

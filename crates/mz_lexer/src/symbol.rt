@@ -1,6 +1,6 @@
 // The longest symbol that comes first.
 
-ghost use Rattle.std.specs.Prelude.{◌≡◌, ◌≤◌, ◌<◌, IfSome};
+ghost use Rattle.std.specs.Prelude.{◌≡◌, ◌<◌, IfSome};
 ghost use Rattle.mz_lexer.specs.StepsSymbols.{less_at, symbol_at};
 ghost use Rattle.mz_lexer.specs.Views.{IsSpelled};
 

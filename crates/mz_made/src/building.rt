@@ -1,6 +1,6 @@
 // Values of sets, texts and arrays, and index sets.
 
-ghost use Rattle.std.specs.Prelude.{◌≡◌, IfOk, Some, if◌then◌else◌, map};
+ghost use Rattle.std.specs.Prelude.{◌≡◌, IfOk, Some, map};
 ghost use Rattle.std.specs.Option.{option_or};
 ghost use Rattle.mz_value.specs.Contents.{bool, content, set, text, text_bytes};
 ghost use Rattle.mz_operations.specs.Arrays.{element_of, line};

@@ -1,5 +1,5 @@
 -- Edges within a component are on cycles, and no others.
-use Rattle.std.proofs.Common.{◌≡◌, ℕ, ◌+◌, ◌<◌, ◌≤◌, inl, inr, List, ap, sym, ◌∙◌, subst, arith, length}
+use Rattle.std.proofs.Common.{◌≡◌, ℕ, ◌+◌, ◌<◌, inl, inr, List, ap, sym, ◌∙◌, subst, arith, length}
 use Rattle.mz_graph.specs.Graph.{Graph, heads, IsIn, IsGraph, arrived, onward, AreComponents, number_of}
 use Rattle.mz_graph.proofs.Membership.{below_or_not}
 use Rattle.mz_graph.proofs.Classes.{together}

@@ -1,5 +1,5 @@
 -- What comes before in an order.
-use Rattle.std.proofs.Common.{◌≡◌, ℕ, List, [], ◌∷◌, ◌++◌, sym, ◌∙◌, subst, append_assoc, append-nil}
+use Rattle.std.proofs.Common.{◌≡◌, ℕ, List, [], ◌∷◌, ◌++◌, sym, subst, append_assoc, append-nil}
 use Rattle.mz_graph.specs.Graph.{IsIn}
 use Rattle.mz_graph.specs.Order.{Continues, turn}
 

@@ -1,5 +1,5 @@
 -- What declarations depend on, directly and through the functions that they call.
-use Rattle.std.specs.Prelude.{◌≡◌, ℕ, ◌<◌, ◌≤◌, List, ◌++◌, ◌∷◌, [], length}
+use Rattle.std.specs.Prelude.{◌≡◌, ℕ, ◌<◌, ◌≤◌, List, length}
 use Rattle.mz_graph.specs.Graph.{Graph, heads, IsIn, Edge, Path, AreComponents}
 use Rattle.mz_graph.specs.Order.{IsOrder, IsComplete, IsFirstLeft}
 

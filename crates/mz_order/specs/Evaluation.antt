@@ -1,5 +1,5 @@
 -- The answer to the question in which order declarations are evaluated.
-use Rattle.std.specs.Prelude.{ℕ, length}
+use Rattle.std.specs.Prelude.{length}
 use Rattle.mz_graph.specs.Graph.{Graph}
 use Rattle.mz_order.specs.Depends.{DependsOn, IsWholeOrder, IsCyclicAt}
 use Rattle.mz_order.specs.declared.evaluation.Evaluation.{Evaluation}

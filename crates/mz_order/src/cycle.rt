@@ -1,6 +1,6 @@
 // Nodes whose edges lead back to them.
 
-ghost use Rattle.std.specs.Prelude.{◌≡◌, ℕ, ◌<◌, ◌≤◌, ◌↔◌, IsTrue, length, MatchOption, IfOk};
+ghost use Rattle.std.specs.Prelude.{ℕ, ◌<◌, ◌≤◌, ◌↔◌, IsTrue, length, MatchOption, IfOk};
 ghost use Rattle.mz_graph.specs.Graph.{graph_of, IsIn, IsGraph};
 ghost use Rattle.mz_order.specs.Depends.{IsFirstOnCycle, NoneOnCycle, HaveComponents};
 ghost use Rattle.mz_order.specs.StepsLayers.{LeadsWithin};

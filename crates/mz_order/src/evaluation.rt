@@ -1,6 +1,6 @@
 // The order of evaluation, and the first declaration that never has its turn.
 
-ghost use Rattle.std.specs.Prelude.{◌≡◌, ℕ, ◌+◌, ◌<◌, ◌≤◌, IfOk, MatchOption};
+ghost use Rattle.std.specs.Prelude.{◌≡◌, ℕ, ◌+◌, ◌<◌, IfOk, MatchOption};
 ghost use Rattle.mz_graph.specs.Graph.{graph_of, IsIn};
 ghost use Rattle.mz_graph.specs.Order.{IsComplete, IsFirstLeft};
 ghost use Rattle.mz_order.specs.Depends.{AreUses};

@@ -1,6 +1,6 @@
 // Laws of the order of evaluation.
 
-ghost use Rattle.std.specs.Prelude.{◌≡◌, ℕ, ◌+◌, ◌∷◌, ◌++◌, List, [], length};
+ghost use Rattle.std.specs.Prelude.{ℕ, ◌+◌, ◌∷◌, ◌++◌, List, length};
 ghost use Rattle.mz_graph.specs.Graph.{Graph, Edge, IsGraph, IsIn, AreComponents};
 ghost use Rattle.mz_graph.specs.Order.{IsOrder};
 ghost use Rattle.mz_order.specs.Depends.{DependsOn, AllBelow};

@@ -1,6 +1,6 @@
 // Functions, their components and the declarations as one graph.
 
-ghost use Rattle.std.specs.Prelude.{◌≡◌, ℕ, ◌+◌, ◌<◌, ◌≤◌, ◌^◌, ◌++◌, length, IfOk, OnOk};
+ghost use Rattle.std.specs.Prelude.{◌≡◌, ℕ, ◌+◌, ◌<◌, ◌^◌, ◌++◌, length, IfOk, OnOk};
 ghost use Rattle.std.specs.List.{flat_map};
 ghost use Rattle.mz_graph.specs.Graph.{graph_of, heads, IsIn, AreComponents, number_of};
 ghost use Rattle.mz_order.specs.Depends.{AllBelow, AreUses};

@@ -1,6 +1,6 @@
 // Overload resolution: the best among candidates.
 
-ghost use Rattle.std.specs.Prelude.{◌≡◌, ◌+◌, ◌<◌, ◌∷◌, map, length, drop};
+ghost use Rattle.std.specs.Prelude.{◌≡◌, ◌+◌, ◌<◌, map, length, drop};
 ghost use Rattle.mz_core.specs.Types.{plain_type, plain_signature};
 ghost use Rattle.mz_overload.specs.Best.{all_below, accepts, is_least, resolution, IsResolution};
 ghost use Rattle.mz_overload.specs.StepsResolution.{resolution_from, first_accepting};

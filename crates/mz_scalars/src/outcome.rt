@@ -1,6 +1,6 @@
 // A truth value, an integer or a case.
 
-ghost use Rattle.std.specs.Prelude.{◌≡◌, if◌then◌else◌};
+ghost use Rattle.std.specs.Prelude.{◌≡◌};
 ghost use Rattle.mz_operations.specs.Arrays.{element_of};
 ghost use Rattle.mz_scalars.specs.Scalars.{scalar_content};
 

@@ -1,6 +1,6 @@
 // Powers.
 
-ghost use Rattle.std.specs.Prelude.{◌≡◌, pos, negsuc, ◌⊎◌};
+ghost use Rattle.std.specs.Prelude.{◌≡◌, pos, negsuc};
 ghost use Rattle.mz_operations.specs.Numbers.{raised};
 ghost use Rattle.mz_operations.specs.Values as values;
 

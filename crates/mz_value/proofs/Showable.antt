@@ -2,7 +2,7 @@
 use Rattle.std.proofs.Common.{◌≡◌, ℕ, zero, suc, ◌-◌, ◌<◌, ◌≤◌, List, [], ◌∷◌, ◌++◌, length, map, get_or, take, drop, sym, subst, ap, ◌∙◌, append_assoc, add-one, ◌+◌, arith}
 use denote.Param.Weighed.{most, at_most}
 use Rattle.std.proofs.lemmas.List.{take_all, append-nil}
-use Rattle.std.specs.Prelude.{ℤ, ◌≤ℤ◌, codes}
+use Rattle.std.specs.Prelude.{ℤ, codes}
 use Rattle.std.specs.List.{flat_map}
 use Rattle.mz_value.specs.declared.shown.Spelling.{Spelling}
 use Rattle.mz_value.specs.declared.shown.Spelling.TheVariants.{Names}

@@ -1,5 +1,5 @@
 -- Finite sets of integers, as lists of ranges.
-use Rattle.std.specs.Prelude.{◌≡◌, refl, ℕ, suc, ◌+◌, ◌^◌, ℤ, pos, negsuc, neg_ℤ, nat_abs, List, [], ◌∷◌, ◌⊎◌, ◌↔◌, ◌≤ℤ◌, ◌<ℤ◌, ◌+ℤ◌, ◌-ℤ◌, if◌then◌else◌, int_le, Contains}
+use Rattle.std.specs.Prelude.{◌≡◌, refl, ℕ, suc, ◌+◌, ℤ, pos, negsuc, nat_abs, List, [], ◌∷◌, ◌⊎◌, ◌↔◌, ◌≤ℤ◌, ◌<ℤ◌, ◌+ℤ◌, ◌-ℤ◌, if◌then◌else◌, int_le, Contains}
 use Rattle.mz_value.specs.declared.range_set.TheConstants.{LEAST, GREATEST}
 
 -- a least and a greatest element, both inclusive

@@ -1,6 +1,6 @@
 // Elements of a value: a truth value, a number or a set within its domain.
 
-ghost use Rattle.std.specs.Prelude.{◌≡◌, ◌++◌, ◌∷◌, [], None, Some};
+ghost use Rattle.std.specs.Prelude.{◌≡◌, None, Some};
 ghost use Rattle.soln_items.specs.Contents.{content_of};
 ghost use Rattle.soln_items.specs.Items.{has, is_within, truth_in, int_in, set_in, based_at, element_at};
 ghost use Rattle.soln_items.specs.Gives.{Gives, with_rest};

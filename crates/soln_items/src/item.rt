@@ -1,6 +1,5 @@
 // Items of the stream.
 
-ghost use Rattle.std.specs.Prelude.{◌≡◌};
 ghost use Rattle.soln_items.specs.Forms.{form, forms, outputs_from};
 ghost use Rattle.soln_items.specs.Items.{given_at, item_at, item_of, is_empty};
 ghost use Rattle.soln_items.specs.Gives.{Gives};

@@ -1,6 +1,6 @@
 // The output names of shapes, in a table.
 
-ghost use Rattle.std.specs.Prelude.{◌≡◌, ◌++◌, ◌∷◌, [], IfOk, OnOk, ℕ, string_bytes};
+ghost use Rattle.std.specs.Prelude.{◌≡◌, ◌++◌, ◌∷◌, [], IfOk, OnOk, string_bytes};
 ghost use Rattle.std.specs.HashMap.{get_by_text};
 ghost use Rattle.mz_value.specs.Contents.{text_bytes};
 ghost use Rattle.soln_items.specs.Forms.{form, forms, outputs_of, outputs_from};

@@ -1,6 +1,6 @@
 // Sets of an item.
 
-ghost use Rattle.std.specs.Prelude.{◌≡◌, ◌<◌, ◌↔◌, IsTrue, length, Some, All};
+ghost use Rattle.std.specs.Prelude.{◌≡◌, ◌<◌, IsTrue, length, Some, All};
 ghost use Rattle.std.specs.List.{list_all};
 ghost use Rattle.mz_value.specs.Ranges.{IsInLimit};
 ghost use Rattle.soln_items.specs.Items.{after, interval, interval_at, ints_at, listed, filled_at, braces_at, set_at, is_in_limit};

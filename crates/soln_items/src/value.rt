@@ -1,6 +1,6 @@
 // Values of an item: an array with its index sets, or a single element.
 
-ghost use Rattle.std.specs.Prelude.{◌≡◌, ◌++◌, ◌∷◌, ◌≤◌, [], None, Some};
+ghost use Rattle.std.specs.Prelude.{◌≡◌, [], None, Some};
 ghost use Rattle.soln_items.specs.Forms.{form};
 ghost use Rattle.soln_items.specs.Items.{element_at, next_at, more_at, elements_at, is_index, dimension_at, index_at, array_at, filled_array_at, scalar_at, value_at};
 ghost use Rattle.soln_items.specs.Gives.{Gives, Pushes, with_rest};

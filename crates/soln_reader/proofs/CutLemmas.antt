@@ -1,5 +1,5 @@
 -- A stream in pieces is the stream.
-use Rattle.std.proofs.Common.{◌≡◌, ℕ, ◌<◌, ◌≤◌, ◌+◌, List, [], ◌∷◌, ◌++◌, length, take, drop, Bool, true, false, ◌||◌, cond, eqb, ltb, refl, sym, ap, ◌∙◌, arith, rules, tests, subst, Some, None, ◌⊎◌, inl, inr, append_assoc, is_some}
+use Rattle.std.proofs.Common.{◌≡◌, ℕ, ◌<◌, ◌+◌, List, [], ◌∷◌, ◌++◌, length, take, drop, Bool, true, false, ◌||◌, cond, eqb, ltb, refl, sym, ap, ◌∙◌, arith, rules, tests, subst, Some, None, ◌⊎◌, inl, inr, append_assoc, is_some}
 use Rattle.std.proofs.lemmas.Bool.{false≢true, eqb-true}
 use Rattle.std.proofs.lemmas.List.{append-nil, drop-append-le, take-append-le, length-append}
 use Rattle.std.proofs.lemmas.List.Folds.{prefix_len-append}

@@ -1,6 +1,6 @@
 // What lines put into the open block, taken out again.
 
-ghost use Rattle.std.specs.Prelude.{◌≡◌, ◌++◌, ◌∷◌, [], IsTrue, is_some, Some, None};
+ghost use Rattle.std.specs.Prelude.{◌≡◌, IsTrue, is_some, Some, None};
 ghost use Rattle.soln_reader.specs.Blocks.{Block};
 ghost use Rattle.soln_reader.specs.StepsUndo.{cleared_in, cleared, undone, Undo, Restores, cleared_block};
 ghost use Rattle.soln_reader.specs.Views.{given, givens, block_of};

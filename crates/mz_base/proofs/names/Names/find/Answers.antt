@@ -1,4 +1,4 @@
-use Rattle.std.proofs.Common.{◌≡◌, ℕ, Some, length, ◌<◌, sym, ap, subst, ◌∙◌}
+use Rattle.std.proofs.Common.{◌≡◌, Some, length, ◌<◌, sym, ap, subst, ◌∙◌}
 use Rattle.std.specs.String.{string_bytes}
 use Rattle.mz_base.specs.Names.{AreDistinct, text_of}
 use Rattle.mz_base.proofs.Tables.{Stands, found, lacks}
