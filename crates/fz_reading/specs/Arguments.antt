@@ -3,7 +3,7 @@ use Rattle.std.specs.Prelude.{ℕ, ℤ, List, map, true, false, Option, Some, co
 use Rattle.std.specs.Option.{option_map}
 use Rattle.std.specs.Str.{bytes_eq}
 use Rattle.soln_items.specs.Bytes.{is_letter, first_byte}
-use Rattle.soln_items.specs.Items.{Read, choose}
+use Rattle.soln_items.specs.Items.{◌>>=◌, Read, choose}
 use Rattle.fz_program.specs.Names.{Name}
 use Rattle.fz_program.specs.Arguments.{bool, int, set, var, Argument, one, array, plain_of}
 use Rattle.fz_reading.specs.Tokens.{behind, number_at, name_at, interval_from}

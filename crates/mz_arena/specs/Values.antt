@@ -7,7 +7,7 @@ use Rattle.mz_operations.specs.declared.row.Arith.{Arith as ArithRow}
 use Rattle.mz_operations.specs.declared.row.Sign.{Sign as SignRow}
 use Rattle.mz_operations.specs.declared.row.SetOp.{SetOp as SetRow}
 use Rattle.mz_operations.specs.declared.row.Side.{Side}
-use Rattle.mz_operations.specs.Views.{number_of_bool}
+use Rattle.mz_operations.specs.Views.{◌>>=◌, number_of_bool}
 use Rattle.mz_operations.specs.Sets.{combined, contains}
 use Rattle.mz_operations.specs.Numbers.{computed, signed, same, toward}
 

@@ -7,6 +7,7 @@ use Rattle.mz_tree.specs.Items.{FunctionTree}
 use Rattle.mz_scoped.specs.Parts.{decl_at, function_at}
 use Rattle.mz_scoped.specs.Scoped.{ScopedTree}
 use Rattle.mz_type_order.specs.Subjects.{AreOf}
+use Rattle.mz_checks.specs.Tests.{◌>>=◌, ◌>>◌}
 use Rattle.mz_checks.specs.Headings.{Subject, of_decl, of_function}
 use Rattle.mz_checks.specs.Items.{goal}
 use Rattle.mz_core.specs.Nodes as nodes

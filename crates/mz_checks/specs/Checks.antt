@@ -16,7 +16,7 @@ use Rattle.mz_scoped.specs.Parts.{EnumTree, name_of, place_of, decl_at, function
 use Rattle.mz_scoped.specs.Scoped.{ScopedTree}
 use Rattle.mz_checks.specs.declared.meaning.Meaning.{Meaning}
 use Rattle.mz_checks.specs.declared.meaning.Meaning.TheVariants as meaning
-use Rattle.mz_checks.specs.Tests.{Test, each}
+use Rattle.mz_checks.specs.Tests.{Test, ◌>>=◌, ◌>>◌, each}
 use Rattle.mz_checks.specs.Models.{Model, Heading, signature_of, entry_of}
 use Rattle.mz_checks.specs.Headings.{Subject, with_types}
 use Rattle.mz_checks.specs.Duplicates.{Signed, duplicate_after}

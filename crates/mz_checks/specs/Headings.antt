@@ -10,7 +10,7 @@ use Rattle.mz_uses.specs.Sketches.{decl_sketch, function_sketch}
 use Rattle.mz_dependency.specs.Dependencies.{RefersTo}
 use Rattle.mz_scoped.specs.Parts.{decl_at, function_at}
 use Rattle.mz_scoped.specs.Scoped.{ScopedTree}
-use Rattle.mz_checks.specs.Tests.{Test, loop}
+use Rattle.mz_checks.specs.Tests.{Test, ◌>>=◌, ◌>>◌, loop}
 use Rattle.mz_checks.specs.Models.{Model, Heading, Env, outermost, bind}
 use Rattle.mz_checks.specs.Lets.{new_name, decl_of}
 use Rattle.mz_checks.specs.Typing.{check_written}

@@ -10,7 +10,7 @@ use Rattle.mz_tree.specs.Data.{Given}
 use Rattle.mz_scoped.specs.Scoped.{ScopedTree}
 use Rattle.mz_checks.specs.declared.meaning.Meaning.{Meaning}
 use Rattle.mz_checks.specs.declared.meaning.Meaning.TheVariants as meaning
-use Rattle.mz_checks.specs.Tests.{Test, refuse, each}
+use Rattle.mz_checks.specs.Tests.{Test, ◌>>=◌, ◌>>◌, refuse, each}
 use Rattle.mz_checks.specs.Models.{Model, entry_of, type_of_decl}
 use Rattle.mz_checks.specs.Headings.{Subject, with_types, IsTypeOrder}
 use Rattle.mz_checks.specs.Duplicates.{duplicate_after}

@@ -9,7 +9,7 @@ use Rattle.mz_value.specs.Contents as values
 use Rattle.mz_operations.specs.Sets.{is_empty_set}
 use Rattle.mz_core.specs.Program.{PlainProgram}
 use Rattle.mz_core.specs.Tree.{Tree, Shape, Decl, node, chain, a_step, no_steps, slot, shape_of, inner_tree}
-use Rattle.mz_meaning.specs.Runs.{Run, give, loop}
+use Rattle.mz_meaning.specs.Runs.{Run, ◌>>=◌, ◌>>◌, give, loop}
 use Rattle.mz_meaning.specs.Cells.{Cell, Mode, value_of, is_true}
 use Rattle.mz_meaning.specs.Contexts.{Context}
 use Rattle.mz_meaning.specs.Domains.{Domain, Domains, Fixed, Scalar, Places}

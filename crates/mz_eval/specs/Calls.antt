@@ -2,7 +2,7 @@
 use Rattle.mz_base.specs.declared.fault.Span.{Span}
 use Rattle.mz_core.specs.Program.{Function}
 use Rattle.mz_core.specs.Tree.{place_of}
-use Rattle.mz_meaning.specs.Runs.{Run}
+use Rattle.mz_meaning.specs.Runs.{Run, ◌>>=◌, ◌>>◌}
 use Rattle.mz_meaning.specs.Cells.{Cell, Env, Sure, both_sure, guarded}
 use Rattle.mz_meaning.specs.Arrays.{fitted, suits}
 use Rattle.mz_meaning.specs.Contexts.{Untested}

@@ -3,7 +3,7 @@ use Rattle.std.specs.Prelude.{◌≡◌, ℕ, Bool, List, [], ◌∷◌, None, S
 use Rattle.mz_base.specs.declared.fault.Span.{Span}
 use Rattle.mz_core.specs.Program.{Function}
 use Rattle.mz_core.specs.Tree.{Tree, Decl}
-use Rattle.mz_meaning.specs.Runs.{Run}
+use Rattle.mz_meaning.specs.Runs.{Run, ◌>>=◌}
 use Rattle.mz_meaning.specs.Cells.{Cell, Env, Sure, both_sure, bind}
 use Rattle.mz_meaning.specs.Arrays.{Anything}
 use Rattle.mz_meaning.specs.Contexts.{Untested}

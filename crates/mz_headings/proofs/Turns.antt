@@ -1,6 +1,6 @@
 -- One turn of a loop over a list.
 use Rattle.std.proofs.Common.{◌≡◌, ℕ, suc, ◌+◌, ◌<◌, List, ◌∷◌, Ok, map, drop, length, get_or, refl, add-one, drop-cons}
-use Rattle.mz_checks.specs.Tests.{Test, loop}
+use Rattle.mz_checks.specs.Tests.{Test, ◌>>=◌, loop}
 
 after_turn : {A S : Type 0} (step : S → A → Test S) (acc next : S) (x : A) (xs : List A) → step acc x ≡ Ok next → loop step acc (x ∷ xs) ≡ loop step next xs
 after_turn step acc next x xs e = rw e refl

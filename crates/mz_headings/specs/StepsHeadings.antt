@@ -4,7 +4,7 @@ use Rattle.mz_base.specs.declared.fault.Span.{Span}
 use Rattle.mz_core.specs.declared.tree.CoreDecl.{CoreDecl}
 use Rattle.mz_core.specs.TreeViews.{decl}
 use Rattle.mz_tree.specs.Tree.{Name, Written}
-use Rattle.mz_checks.specs.Tests.{Test}
+use Rattle.mz_checks.specs.Tests.{Test, ◌>>=◌, ◌>>◌}
 use Rattle.mz_checks.specs.Models.{Model, Env, bind}
 use Rattle.mz_checks.specs.Lets.{new_name, decl_of}
 use Rattle.mz_checks.specs.Typing.{check_written}

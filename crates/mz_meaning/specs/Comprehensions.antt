@@ -15,7 +15,7 @@ use Rattle.mz_operations.specs.Sets.{contains}
 use Rattle.mz_operations.specs.Arrays.{element_of}
 use Rattle.mz_operations.specs.Bounds.{Bound, Bounds}
 use Rattle.mz_operations.specs.Bounds as bounds
-use Rattle.mz_meaning.specs.Runs.{Run, ◌>>◌, give, spend, loop}
+use Rattle.mz_meaning.specs.Runs.{Run, ◌>>=◌, ◌>>◌, give, spend, loop}
 use Rattle.mz_meaning.specs.Cells.{Cell, Par, Var, Unshaped, Mode, Blank, Given, held, Env, bind, Test, Settled, Open, test_of, is_true, value_of, par_value, bounds_in, Sure, sure, both_sure, guarded, there}
 use Rattle.mz_meaning.specs.Coerced.{enum_in}
 use Rattle.mz_meaning.specs.Arrays.{line_cell, set_cell}

@@ -6,7 +6,7 @@ use Rattle.mz_value.specs.Contents as values
 use Rattle.mz_core.specs.Types.{PlainType}
 use Rattle.mz_core.specs.Tree.{Layer, layer, shape_of, place_of, type_of, inner_tree, root_coercions}
 use Rattle.mz_core.specs.Tree as tree
-use Rattle.mz_meaning.specs.Runs.{Run, stop}
+use Rattle.mz_meaning.specs.Runs.{Run, ◌>>=◌, stop}
 use Rattle.mz_meaning.specs.Cells.{Cell, Env, undefined, par_value, typed}
 use Rattle.mz_meaning.specs.Contexts.{Context, within_links}
 use Rattle.mz_meaning.specs.Forms.{World, Eval, done, text_at, text_cell, all_cases, coerced_by, builtin, chain, array, table, set, access, branches}

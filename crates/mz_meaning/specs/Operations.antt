@@ -30,7 +30,7 @@ use Rattle.mz_operations.specs.Costs.{cost}
 use Rattle.mz_operations.specs.Bounds.{Bounds, no_set}
 use Rattle.mz_operations.specs.Bounds as bounds
 use Rattle.mz_operations.specs.RowBounds.{row_bounds, value_by_bounds}
-use Rattle.mz_meaning.specs.Runs.{Run, give, stop}
+use Rattle.mz_meaning.specs.Runs.{Run, give, stop, ◌>>=◌, ◌>>◌}
 use Rattle.mz_meaning.specs.Cells.{Cell, Par, Var, Unshaped, Mode, held, all_par, value_of, bounds_in, no_bounds, length_of}
 use Rattle.mz_meaning.specs.Coerced.{recast}
 

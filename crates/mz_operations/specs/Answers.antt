@@ -9,6 +9,7 @@ use Rattle.mz_operations.specs.declared.row.ScalarRow.TheVariants.{Power, Assert
 use Rattle.mz_operations.specs.declared.row.MadeRow.TheVariants.{Shaped, AssertValue, AssertArray}
 use Rattle.mz_operations.specs.declared.row.Row.{Row}
 use Rattle.mz_operations.specs.declared.row.Row.TheVariants.{Scalar, Made}
+use Rattle.mz_operations.specs.Views.{◌>>=◌}
 use Rattle.mz_operations.specs.Arguments.{Arguments, bool_at, int_at, items_at}
 use Rattle.mz_operations.specs.Arrays.{shape, is_shape_of}
 use Rattle.mz_operations.specs.Values.{value}

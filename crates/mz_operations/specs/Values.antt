@@ -16,7 +16,7 @@ use Rattle.mz_operations.specs.declared.row.Row.{Row}
 use Rattle.mz_operations.specs.declared.row.Row.TheVariants.{Scalar, Made, Bounding, Show, ShowArray}
 use Rattle.mz_operations.specs.declared.row.Quantifier.TheVariants.{Forall, Exists}
 use Rattle.mz_operations.specs.declared.row.Side.TheVariants.{Least, Greatest}
-use Rattle.mz_operations.specs.Views.{as_bool, as_int, as_set, as_text, as_pair, is_absent, is_single}
+use Rattle.mz_operations.specs.Views.{◌>>=◌, as_bool, as_int, as_set, as_text, as_pair, is_absent, is_single}
 use Rattle.mz_operations.specs.Arguments.{Arguments, at, bool_at, int_at, case_at, ordinal_at, element_at, option_at, set_at, enum_at, text_at, items_at, row_at, index_at, pair}
 use Rattle.mz_operations.specs.Sets.{union, intersection, combined, contains, is_subset, same_set, end_of, up_to}
 use Rattle.mz_operations.specs.Numbers.{connected, ordered, computed, signed, folded, fold_start, raised, nearer, beside, quantified, quantifier_start, counted}

@@ -4,7 +4,7 @@ use Rattle.mz_base.specs.declared.fault.Span.{Span}
 use Rattle.mz_core.specs.Program.{PlainProgram, plain_program}
 use Rattle.mz_core.specs.Tree.{Tree, Step, Decl, Layer, chain_form, place_of}
 use Rattle.mz_core.specs.TreeViews.{tree, decl}
-use Rattle.mz_meaning.specs.Runs.{Run, give, spend, loop}
+use Rattle.mz_meaning.specs.Runs.{Run, ◌>>=◌, ◌>>◌, give, spend, loop}
 use Rattle.mz_meaning.specs.Cells.{Env, Bare, Cell}
 use Rattle.mz_meaning.specs.Contexts.{Untested}
 use Rattle.mz_meaning.specs.Arrays.{Want, declared_count, fitted, suits}

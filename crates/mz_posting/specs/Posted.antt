@@ -4,7 +4,7 @@ use Rattle.mz_base.specs.declared.fault.Span.{Span}
 use Rattle.mz_core.specs.Types.{PlainType}
 use Rattle.mz_core.specs.Program.{PlainProgram}
 use Rattle.mz_core.specs.Tree.{Tree, Step, node, chain, a_step, no_steps, place_of, inner_tree, root_coercions}
-use Rattle.mz_meaning.specs.Runs.{Run, give, loop}
+use Rattle.mz_meaning.specs.Runs.{Run, ◌>>=◌, ◌>>◌, give, loop}
 use Rattle.mz_meaning.specs.Cells.{Cell, Mode, Env, undefined, typed}
 use Rattle.mz_meaning.specs.Contexts.{Context, within_links}
 use Rattle.mz_meaning.specs.Chains.{before, right_in, operand_base, a_step_of}

@@ -3,7 +3,7 @@ use Rattle.std.specs.Prelude.{◌++◌, Option, None}
 use Rattle.mz_base.specs.declared.fault.Span.{Span}
 use Rattle.mz_core.specs.Types.{PlainType}
 use Rattle.mz_core.specs.Tree.{Layer, chain_form, place_of}
-use Rattle.mz_meaning.specs.Runs.{Run, give}
+use Rattle.mz_meaning.specs.Runs.{Run, ◌>>=◌, give}
 use Rattle.mz_meaning.specs.Cells.{Env}
 use Rattle.mz_meaning.specs.Contexts.{Untested}
 use Rattle.mz_meaning.specs.Chains.{Operator, Innermost, chained}

@@ -4,7 +4,7 @@ use Rattle.mz_base.specs.declared.fault.Span.{Span}
 use Rattle.mz_core.specs.Tree.{Tree, Decl, place_of}
 use Rattle.mz_cells.specs.Views.{cell_of}
 use Rattle.mz_cells.specs.declared.types.Known.{Known}
-use Rattle.mz_meaning.specs.Runs.{Run, ◌>>◌, give, spend}
+use Rattle.mz_meaning.specs.Runs.{Run, ◌>>=◌, ◌>>◌, give, spend}
 use Rattle.mz_meaning.specs.Cells.{Cell, Env, Sure, both_sure, bind}
 use Rattle.mz_meaning.specs.Arrays.{Want, fitted}
 use Rattle.mz_meaning.specs.Contexts.{Untested}
