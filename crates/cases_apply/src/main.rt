@@ -6,8 +6,8 @@ mod case;
 
 use crate::case::{arguments_of, sizes_of};
 use cases::Page;
-use mz_apply::{apply_row, cost_of, is_applied, is_failed, read_as, row_of};
 use mz_base::{Fault, Memory, Span, Stop};
+use mz_builtin_apply::{apply_row, cost_of, is_applied, is_failed, read_as, row_of};
 use mz_operations::Row;
 use mz_value::Value;
 use std::alloc::Global;

@@ -6,7 +6,7 @@ use Rattle.fz_program.specs.Arguments.{Argument, plain_of}
 use Rattle.fz_program.specs.Values.{Value, Values}
 use Rattle.fz_program.specs.Flat.{Program, FlatSolves, IsInDomain, plain_value, argument_value}
 use Rattle.fz_build.specs.Build.{IsArgumentOver, with_defined}
-use Rattle.fz_domains.specs.Results.{result_given}
+use Rattle.fz_build_domains.specs.Results.{result_given}
 
 -- the values go on to a solution
 pub record GoesOn (p : Program) (f : Values) : Type 0 where

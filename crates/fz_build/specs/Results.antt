@@ -4,7 +4,7 @@ use Rattle.fz_program.specs.declared.program.Domain.{Domain}
 use Rattle.fz_program.specs.declared.row_name.RowName.{RowName}
 use Rattle.fz_program.specs.Arguments.{Argument}
 use Rattle.fz_program.specs.Flat.{Program, IsSome, IsWellFormedRow}
-use Rattle.fz_domains.specs.Results.{has_result}
+use Rattle.fz_build_domains.specs.Results.{has_result}
 use Rattle.fz_build.specs.Build.{AreOver, defined_variable, defining}
 
 -- a row with a result, inputs over the variables so far, a domain with a value, and a row that is well formed with the new variable

@@ -7,7 +7,7 @@ use Rattle.std.proofs.lemmas.List.{append-nil}
 use Rattle.std.proofs.lemmas.Slice.Eq.{bytes_eq-Decides}
 use Rattle.fz_program.specs.Names.{Name}
 use Rattle.fz_program.specs.Flat.{AreDistinct}
-use Rattle.fz_reading.specs.Tables.{are_new, is_among}
+use Rattle.fz_text_read.specs.Tables.{are_new, is_among}
 
 contains_more : (y x : Name) (xs : List Name) → Contains xs x → Contains (y ∷ xs) x
 contains_more y x xs h = (suc h.0, omega (arith, h.1), h.2)

@@ -1,11 +1,11 @@
 // How a FlatZinc program is written to a sink.
 
 ghost use Rattle.fz_program.specs.Flat.{WellFormed, program};
-ghost use Rattle.fz_spelling.specs.Spelling.{spelling};
+ghost use Rattle.fz_text_spell.specs.Spelling.{spelling};
 ghost use Rattle.fz_text.specs.Writing.{Writes, WriteCounts};
 
 use fz_program::FzProgram;
-use fz_spelling::text;
+use fz_text_spell::text;
 use mz_io::{Sent, Sink};
 use std::alloc::Global;
 
@@ -22,7 +22,7 @@ pub enum Wrote {
 
 /// Writes the program's one spelling with one put: a line for each variable, each array, each
 /// constraint and the solve item, in the order of the program, as the FlatZinc chapter of the MiniZinc Handbook has them.
-/// `well_formed` of `fz_formed` tests what is required.
+/// `well_formed` of `fz_program_check` tests what is required.
 ///
 /// After `Failed` the sink holds what it held and a prefix of the text, after `Memory` what it held.
 pub fn write<S: Sink>(alloc: Global, p: &FzProgram, out: &mut S) -> Wrote

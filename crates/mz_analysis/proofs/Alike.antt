@@ -11,26 +11,26 @@ use Rattle.mz_tree.specs.declared.expr.UnOp.{UnOp}
 use Rattle.mz_tree.specs.declared.expr.BinOp.{BinOp}
 use Rattle.mz_tree.specs.Tree as source
 use Rattle.mz_tree.specs.Tree.{Name}
-use Rattle.mz_occurrence.specs.Sets.{holds, with_name}
-use Rattle.mz_occurrence.proofs.Holding.{holds_added}
-use Rattle.mz_uses.specs.declared.name_use.NameUse.{NameUse}
-use Rattle.mz_uses.specs.declared.name_use.NameUse.TheVariants.{Mention, Call}
-use Rattle.mz_uses.specs.Uses.{mention, with_bound, with_gens, with_lets, in_tree, in_shape, in_maybe, in_trees, in_links, in_rows, in_branches, in_part, in_parts, in_generator, in_gens, in_let, in_lets, in_written, in_based, in_dims, in_bases}
-use Rattle.mz_checks.specs.declared.meaning.Meaning.{Meaning}
-use Rattle.mz_checks.specs.declared.meaning.Meaning.TheVariants as meaning
-use Rattle.mz_checks.specs.Tests.{Test, ◌>>=◌, loop, one_more, each, maybe_some}
-use Rattle.mz_checks.specs.Models.{Model, Heading, Env, Local, entry_of, entries_of, typed_so_far, local_in, bind}
-use Rattle.mz_checks.specs.Coerced.{fitted}
-use Rattle.mz_checks.specs.Calls.{function_candidate, candidates, applied, row_node}
-use Rattle.mz_checks.specs.Chains.{Chained, prefix_name, groups_right, from_left, appended, chain_node}
-use Rattle.mz_checks.specs.Arrays.{listed, tabled, set_literal, accessed}
-use Rattle.mz_checks.specs.Branches.{decided}
-use Rattle.mz_checks.specs.Comprehensions.{Bound, bind_next, bind_names, running_type, comprehended}
-use Rattle.mz_checks.specs.WrittenTypes.{Based, of_bool, of_int, of_set, declared}
-use Rattle.mz_checks.specs.Lets.{new_name, decl_of, let_node}
-use Rattle.mz_checks.specs.Names.{meant, named_or, named, function_meant, bare_or, bare_call}
-use Rattle.mz_checks.specs.Forms.{Check, TypeCheck, part, parts, maybe_part, unary_of, operand_of, left_next, operand, grouped_of, group_right, chain_of, call_of, array_of, row_parts, rows_of, set_of, access_of, Branched, branch_next, choice_of, GenCheck, Generated, gen_next, generators, comp_of, gen_call_of, based_part, written_of, LetCheck, declares_by, constrains_by, Declared, local_value, let_next, let_of, PieceCheck, plain_by, shown_by, piece, texted, text_of}
-use Rattle.mz_checks.specs.Typing.{check, check_form, check_maybe, checks, check_links, check_rows, check_branches, check_piece, check_pieces, check_gen, check_gens, check_let, check_lets, check_written, check_based, check_dims, check_bases}
+use Rattle.mz_scope_names.specs.Sets.{holds, with_name}
+use Rattle.mz_scope_names.proofs.Holding.{holds_added}
+use Rattle.mz_scope_uses.specs.declared.name_use.NameUse.{NameUse}
+use Rattle.mz_scope_uses.specs.declared.name_use.NameUse.TheVariants.{Mention, Call}
+use Rattle.mz_scope_uses.specs.Uses.{mention, with_bound, with_gens, with_lets, in_tree, in_shape, in_maybe, in_trees, in_links, in_rows, in_branches, in_part, in_parts, in_generator, in_gens, in_let, in_lets, in_written, in_based, in_dims, in_bases}
+use Rattle.mz_check_meaning.specs.declared.meaning.Meaning.{Meaning}
+use Rattle.mz_check_meaning.specs.declared.meaning.Meaning.TheVariants as meaning
+use Rattle.mz_check_meaning.specs.Tests.{Test, ◌>>=◌, loop, one_more, each, maybe_some}
+use Rattle.mz_check_meaning.specs.Models.{Model, Heading, Env, Local, entry_of, entries_of, typed_so_far, local_in, bind}
+use Rattle.mz_check_meaning.specs.Coerced.{fitted}
+use Rattle.mz_check_meaning.specs.Calls.{function_candidate, candidates, applied, row_node}
+use Rattle.mz_check_meaning.specs.Chains.{Chained, prefix_name, groups_right, from_left, appended, chain_node}
+use Rattle.mz_check_meaning.specs.Arrays.{listed, tabled, set_literal, accessed}
+use Rattle.mz_check_meaning.specs.Branches.{decided}
+use Rattle.mz_check_meaning.specs.Comprehensions.{Bound, bind_next, bind_names, running_type, comprehended}
+use Rattle.mz_check_meaning.specs.WrittenTypes.{Based, of_bool, of_int, of_set, declared}
+use Rattle.mz_check_meaning.specs.Lets.{new_name, decl_of, let_node}
+use Rattle.mz_check_meaning.specs.Names.{meant, named_or, named, function_meant, bare_or, bare_call}
+use Rattle.mz_check_meaning.specs.Forms.{Check, TypeCheck, part, parts, maybe_part, unary_of, operand_of, left_next, operand, grouped_of, group_right, chain_of, call_of, array_of, row_parts, rows_of, set_of, access_of, Branched, branch_next, choice_of, GenCheck, Generated, gen_next, generators, comp_of, gen_call_of, based_part, written_of, LetCheck, declares_by, constrains_by, Declared, local_value, let_next, let_of, PieceCheck, plain_by, shown_by, piece, texted, text_of}
+use Rattle.mz_check_meaning.specs.Typing.{check, check_form, check_maybe, checks, check_links, check_rows, check_branches, check_piece, check_pieces, check_gen, check_gens, check_let, check_lets, check_written, check_based, check_dims, check_bases}
 
 -- ---- lists
 

@@ -10,15 +10,15 @@ use Rattle.mz_tree.specs.Kinds.{IsSpot}
 use Rattle.mz_tree.specs.Data as pure
 use Rattle.mz_tree.specs.Data.{Value, Values, Given}
 use Rattle.mz_tree.proofs.Collected.{all_flat}
-use Rattle.mz_occurrence.specs.declared.occurrence.Occurrence.{Occurrence}
-use Rattle.mz_occurrence.specs.declared.occurrence.Role.{Role}
-use Rattle.mz_occurrence.specs.declared.occurrence.Role.TheVariants.{Declared, Valued, Listed, Misfit}
-use Rattle.mz_occurrence.specs.Roles.{occurs}
-use Rattle.mz_occurrence.specs.Occurrences.{of_case}
-use Rattle.mz_occurrence.specs.Given.{with_identifier, identifiers, cases_in, enum_of, listed, in_given}
-use Rattle.mz_occurrence.specs.Sets.{holds}
-use Rattle.mz_given.specs.Named.{names_in, names_in_all}
-use Rattle.mz_scoped.specs.Parts.{cases_at, given_cases, unless, given_of}
+use Rattle.mz_scope_names.specs.declared.occurrence.Occurrence.{Occurrence}
+use Rattle.mz_scope_names.specs.declared.occurrence.Role.{Role}
+use Rattle.mz_scope_names.specs.declared.occurrence.Role.TheVariants.{Declared, Valued, Listed, Misfit}
+use Rattle.mz_scope_names.specs.Roles.{occurs}
+use Rattle.mz_scope_names.specs.Occurrences.{of_case}
+use Rattle.mz_scope_names.specs.Given.{with_identifier, identifiers, cases_in, enum_of, listed, in_given}
+use Rattle.mz_scope_names.specs.Sets.{holds}
+use Rattle.mz_data_names.specs.Named.{names_in, names_in_all}
+use Rattle.mz_scope_order.specs.Parts.{cases_at, given_cases, unless, given_of}
 use Rattle.mz_scope.proofs.Parting.{or_none}
 use Rattle.mz_data.specs.WithData.{IsGivenKnown}
 use Rattle.mz_analysis.specs.Known.{OfGiven}

@@ -10,18 +10,18 @@ use Rattle.mz_tree.specs.Tree.{Name, Declaration}
 use Rattle.mz_tree.specs.Kinds.{OfDeclaration}
 use Rattle.mz_tree.specs.Data.{Given}
 use Rattle.mz_meaning.specs.Walk.{ordered, with_decl}
-use Rattle.mz_scoped.specs.Parts.{name_of}
-use Rattle.mz_scoped.specs.Scoped.{ScopedTree, AreDistinct, enum_names, bare_name, shared_names}
-use Rattle.mz_checks.specs.Tests.{Test, ◌>>=◌, each}
-use Rattle.mz_checks.specs.Models.{Model, type_of_decl}
-use Rattle.mz_checks.specs.Items.{value_of, decl, function, constraint, goal, output}
-use Rattle.mz_checks.specs.Headings.{Subject, with_types}
-use Rattle.mz_checks.specs.Checks.{numbered, untyped, Sections, sections, decl_in}
-use Rattle.mz_datum.specs.WithData.{AreNumbered, with_value, with_values, checked_given, checked_with_data}
-use Rattle.mz_datum.proofs.Parted.{parted}
-use Rattle.mz_checks.proofs.Giving.{AllBy, all_indexed, all_mapped, Gives, gives_then, gives_after}
-use Rattle.mz_par.proofs.Programs as par
-use Rattle.mz_par.proofs.Programs.{all_hold}
+use Rattle.mz_scope_order.specs.Parts.{name_of}
+use Rattle.mz_scope_order.specs.Scoped.{ScopedTree, AreDistinct, enum_names, bare_name, shared_names}
+use Rattle.mz_check_meaning.specs.Tests.{Test, ◌>>=◌, each}
+use Rattle.mz_check_meaning.specs.Models.{Model, type_of_decl}
+use Rattle.mz_check_meaning.specs.Items.{value_of, decl, function, constraint, goal, output}
+use Rattle.mz_check_meaning.specs.Headings.{Subject, with_types}
+use Rattle.mz_check_meaning.specs.Checks.{numbered, untyped, Sections, sections, decl_in}
+use Rattle.mz_check_data.specs.WithData.{AreNumbered, with_value, with_values, checked_given, checked_with_data}
+use Rattle.mz_check_data.proofs.Parted.{parted}
+use Rattle.mz_check_meaning.proofs.Giving.{AllBy, all_indexed, all_mapped, Gives, gives_then, gives_after}
+use Rattle.mz_check_laws.proofs.Programs as par
+use Rattle.mz_check_laws.proofs.Programs.{all_hold}
 use Rattle.mz_check.proofs.Assembling.{EachGives, each_given}
 use Rattle.mz_check.proofs.Contexts.{checked_numbered}
 use Rattle.mz_include.specs.Naming.{File}

@@ -14,15 +14,15 @@ use Rattle.mz_tree.specs.declared.expr.BinOp.TheVariants as op
 use Rattle.mz_tree.specs.Tree as source
 use Rattle.mz_tree.specs.Tree.{Name}
 use Rattle.mz_tree.specs.Kinds.{IsSpot, OfTree, OfShape, OfMaybe, OfTrees, OfLinks, OfRows, OfBranches, OfPart, OfParts, OfGenerator, OfGens, OfLet, OfLets, OfDeclaration, OfWritten, OfBased, OfDims, OfBases}
-use Rattle.mz_checks.specs.Tests.{refuse, loop, each}
-use Rattle.mz_checks.specs.Models.{Model, Env}
-use Rattle.mz_checks.specs.Coerced.{fitted}
-use Rattle.mz_checks.specs.Chains.{Chained, prefix_name}
-use Rattle.mz_checks.specs.Comprehensions.{running_type, bind_names}
-use Rattle.mz_checks.specs.WrittenTypes.{Based, of_bool, of_int, of_set}
-use Rattle.mz_checks.specs.Lets.{new_name, decl_of}
-use Rattle.mz_checks.specs.Forms.{Check, TypeCheck, part, parts, maybe_part, unary_of, operand_of, left_next, operand, grouped_of, group_right, chain_of, call_of, array_of, row_parts, rows_of, set_of, access_of, Branched, branch_next, choice_of, GenCheck, Generated, gen_next, generators, comp_of, gen_call_of, based_part, written_of, LetCheck, declares_by, constrains_by, Declared, local_value, let_next, let_of, PieceCheck, plain_by, shown_by, piece, texted, text_of}
-use Rattle.mz_checks.specs.Typing.{check, check_form, check_maybe, checks, check_links, check_rows, check_branches, check_piece, check_pieces, check_gen, check_gens, check_let, check_lets, check_declaration, check_written, check_based, check_dims, check_bases}
+use Rattle.mz_check_meaning.specs.Tests.{refuse, loop, each}
+use Rattle.mz_check_meaning.specs.Models.{Model, Env}
+use Rattle.mz_check_meaning.specs.Coerced.{fitted}
+use Rattle.mz_check_meaning.specs.Chains.{Chained, prefix_name}
+use Rattle.mz_check_meaning.specs.Comprehensions.{running_type, bind_names}
+use Rattle.mz_check_meaning.specs.WrittenTypes.{Based, of_bool, of_int, of_set}
+use Rattle.mz_check_meaning.specs.Lets.{new_name, decl_of}
+use Rattle.mz_check_meaning.specs.Forms.{Check, TypeCheck, part, parts, maybe_part, unary_of, operand_of, left_next, operand, grouped_of, group_right, chain_of, call_of, array_of, row_parts, rows_of, set_of, access_of, Branched, branch_next, choice_of, GenCheck, Generated, gen_next, generators, comp_of, gen_call_of, based_part, written_of, LetCheck, declares_by, constrains_by, Declared, local_value, let_next, let_of, PieceCheck, plain_by, shown_by, piece, texted, text_of}
+use Rattle.mz_check_meaning.specs.Typing.{check, check_form, check_maybe, checks, check_links, check_rows, check_branches, check_piece, check_pieces, check_gen, check_gens, check_let, check_lets, check_declaration, check_written, check_based, check_dims, check_bases}
 use Rattle.mz_analysis.proofs.Stopping.{OfSome, one_more_all, Stops, Any, next, looped, each_stops, there_stops}
 use Rattle.mz_analysis.proofs.Leaves.{At, fitted_stops, IsKnown, applied_stops, row_stops, named_stops, bare_stops, OperandAt, left_stops, appended_stops, listed_stops, tabled_stops, set_stops, accessed_stops, decided_stops, GenAt, running_stops, names_stop, comprehended_stops, BasedAt, declared_stops, ItemAt, new_stops, let_stops}
 

@@ -7,8 +7,8 @@ use Rattle.mz_base.specs.declared.stop.Stop.{Stop}
 use Rattle.mz_base.specs.declared.stop.Stop.TheVariants as stop
 use Rattle.mz_base.specs.Faults.{IfRefused}
 use Rattle.mz_tree.specs.declared.source.SourceFile.{SourceFile}
-use Rattle.mz_scoped.specs.Scoped.{ScopedTree}
-use Rattle.mz_datum.specs.WithData.{IsRefusedWithData}
+use Rattle.mz_scope_order.specs.Scoped.{ScopedTree}
+use Rattle.mz_check_data.specs.WithData.{IsRefusedWithData}
 use Rattle.mz_tree.specs.Data.{Given}
 use Rattle.mz_include.specs.Naming.{File}
 use Rattle.mz_include.specs.Views.{file, IsFileOf, AreKnown}

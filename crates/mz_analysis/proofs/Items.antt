@@ -11,13 +11,13 @@ use Rattle.mz_tree.specs.Items.{ItemTree, item}
 use Rattle.mz_tree.specs.Kinds.{OfItem}
 use Rattle.mz_tree.proofs.Later.{item_later}
 use Rattle.mz_tree.proofs.Collected.{all_flat}
-use Rattle.mz_occurrence.specs.Given.{occurrences}
-use Rattle.mz_occurrence.specs.Occurrences.{in_item}
-use Rattle.mz_occurrence.specs.StepsWalk as code
-use Rattle.mz_occurrence.proofs.Spots.{item_named}
-use Rattle.mz_given.specs.Named.{IsGivenWithin}
-use Rattle.mz_spaces.specs.Tests as tests
-use Rattle.mz_spaces.specs.Tests.{AreNamed, known_in, solve_in, refusal, refusal_of}
+use Rattle.mz_scope_names.specs.Given.{occurrences}
+use Rattle.mz_scope_names.specs.Occurrences.{in_item}
+use Rattle.mz_scope_names.specs.StepsWalk as code
+use Rattle.mz_scope_names.proofs.Spots.{item_named}
+use Rattle.mz_data_names.specs.Named.{IsGivenWithin}
+use Rattle.mz_scope_faults.specs.Tests as tests
+use Rattle.mz_scope_faults.specs.Tests.{AreNamed, known_in, solve_in, refusal, refusal_of}
 use Rattle.mz_scope.proofs.Naming.{all_named}
 use Rattle.mz_include.specs.Trees.{IsItemOf}
 use Rattle.mz_include.specs.Views.{file, IsFileOf, AreKnown}

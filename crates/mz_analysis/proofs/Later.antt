@@ -6,9 +6,9 @@ use Rattle.mz_tree.specs.Tree.{Name, Tree, Declaration}
 use Rattle.mz_tree.specs.Items.{GoalTree, satisfy, minimize, maximize, FunctionTree, declare, constraint, function}
 use Rattle.mz_tree.specs.Kinds.{IsSpot, OfTree, OfDeclaration, OfGoal}
 use Rattle.mz_tree.proofs.Later.{item_later}
-use Rattle.mz_scoped.specs.Parts.{EnumTree}
-use Rattle.mz_scoped.specs.Scoped.{ScopedTree}
-use Rattle.mz_headings.specs.Naming.{AreNamed, HasNamedCases, IsNamedFunction}
+use Rattle.mz_scope_order.specs.Parts.{EnumTree}
+use Rattle.mz_scope_order.specs.Scoped.{ScopedTree}
+use Rattle.mz_check_exprs.specs.NamedModels.{AreNamed, HasNamedCases, IsNamedFunction}
 use Rattle.mz_analysis.specs.Known.{OfEnum, OfFunction, IsWithin}
 
 module _ (count files : ℕ) where

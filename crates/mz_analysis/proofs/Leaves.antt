@@ -18,21 +18,21 @@ use Rattle.mz_overload.specs.Best.{resolution}
 use Rattle.mz_builtin.specs.Signatures.{fitting}
 use Rattle.mz_tree.specs.Tree.{Name}
 use Rattle.mz_tree.specs.declared.expr.BinOp.{BinOp}
-use Rattle.mz_checks.specs.declared.callee.Callee.{Callee}
-use Rattle.mz_checks.specs.declared.callee.Callee.TheVariants as callee
-use Rattle.mz_checks.specs.declared.meaning.Meaning.{Meaning}
-use Rattle.mz_checks.specs.declared.meaning.Meaning.TheVariants as meaning
-use Rattle.mz_checks.specs.Tests.{Test, refuse, require, loop, each, if_there}
-use Rattle.mz_checks.specs.Models.{Model, Env, Local, entry_of, entries_of, typed_so_far, type_of_decl, heading_of, local_in, is_bound_since}
-use Rattle.mz_checks.specs.Coerced.{wrapped, coerced, coercions_to, fitted, is_below, condition, as_var, allowed_at, is_scalar, is_set_type, made_var, bottom_type, scalar, element_of}
-use Rattle.mz_checks.specs.Calls.{Candidate, chosen, unfit, is_left_out, best, function_candidate, candidates, row_candidate, called_node, call_node, applied, row_of, row_node}
-use Rattle.mz_checks.specs.Chains.{Operand, Chained, operator_name, operated, from_left, from_right, from_right_at, appended}
-use Rattle.mz_checks.specs.Arrays.{join_next, element_next, elements_join, listed, all_in, tabled, is_var, member_next, set_literal, index_base, index_pair, indices_fitted, element_type, accessed}
-use Rattle.mz_checks.specs.Branches.{branches_join, whole_type, else_list, decided}
-use Rattle.mz_checks.specs.Comprehensions.{running_type, is_list_type, member_of, Bound, bind_next, bind_names, where_fitted, is_var_gen, head_type, listed_heads, set_of_heads, heads, comprehended}
-use Rattle.mz_checks.specs.WrittenTypes.{Based, of_bool, of_int, of_set, par_set, index, values, set_of_values, declared_base, declared, with_base}
-use Rattle.mz_checks.specs.Lets.{new_name, item_fitted, is_var_item, let_node}
-use Rattle.mz_checks.specs.Names.{meant, named_or, named, function_meant, bare_or, bare_call}
+use Rattle.mz_check_meaning.specs.declared.callee.Callee.{Callee}
+use Rattle.mz_check_meaning.specs.declared.callee.Callee.TheVariants as callee
+use Rattle.mz_check_meaning.specs.declared.meaning.Meaning.{Meaning}
+use Rattle.mz_check_meaning.specs.declared.meaning.Meaning.TheVariants as meaning
+use Rattle.mz_check_meaning.specs.Tests.{Test, refuse, require, loop, each, if_there}
+use Rattle.mz_check_meaning.specs.Models.{Model, Env, Local, entry_of, entries_of, typed_so_far, type_of_decl, heading_of, local_in, is_bound_since}
+use Rattle.mz_check_meaning.specs.Coerced.{wrapped, coerced, coercions_to, fitted, is_below, condition, as_var, allowed_at, is_scalar, is_set_type, made_var, bottom_type, scalar, element_of}
+use Rattle.mz_check_meaning.specs.Calls.{Candidate, chosen, unfit, is_left_out, best, function_candidate, candidates, row_candidate, called_node, call_node, applied, row_of, row_node}
+use Rattle.mz_check_meaning.specs.Chains.{Operand, Chained, operator_name, operated, from_left, from_right, from_right_at, appended}
+use Rattle.mz_check_meaning.specs.Arrays.{join_next, element_next, elements_join, listed, all_in, tabled, is_var, member_next, set_literal, index_base, index_pair, indices_fitted, element_type, accessed}
+use Rattle.mz_check_meaning.specs.Branches.{branches_join, whole_type, else_list, decided}
+use Rattle.mz_check_meaning.specs.Comprehensions.{running_type, is_list_type, member_of, Bound, bind_next, bind_names, where_fitted, is_var_gen, head_type, listed_heads, set_of_heads, heads, comprehended}
+use Rattle.mz_check_meaning.specs.WrittenTypes.{Based, of_bool, of_int, of_set, par_set, index, values, set_of_values, declared_base, declared, with_base}
+use Rattle.mz_check_meaning.specs.Lets.{new_name, item_fitted, is_var_item, let_node}
+use Rattle.mz_check_meaning.specs.Names.{meant, named_or, named, function_meant, bare_or, bare_call}
 use Rattle.mz_analysis.specs.Analysis.{IsOfTests}
 use Rattle.mz_analysis.proofs.Stopping.{OfSome, entry_all, both_all, Stops, Any, next, required, is_found, looped, each_stops, there_stops}
 

@@ -8,18 +8,18 @@ use Rattle.mz_core.specs.Tree.{DeclaredType}
 use Rattle.mz_tree.specs.Tree as source
 use Rattle.mz_tree.specs.Tree.{Name, Declaration}
 use Rattle.mz_tree.specs.Items.{FunctionTree}
-use Rattle.mz_uses.specs.declared.name_use.NameUse.{NameUse}
-use Rattle.mz_uses.specs.declared.name_use.NameUse.TheVariants.{Mention, Call}
-use Rattle.mz_uses.specs.Uses.{in_tree}
-use Rattle.mz_uses.specs.Sketches.{decl_sketch, function_sketch, has_parameters}
-use Rattle.mz_dependency.specs.Dependencies.{sketch_at, meant_by, IsUsed, RefersTo}
-use Rattle.mz_scoped.specs.Parts.{EnumTree, name_of, decl_at, function_at}
-use Rattle.mz_scoped.specs.Scoped.{ScopedTree}
-use Rattle.mz_checks.specs.declared.meaning.Meaning.{Meaning}
-use Rattle.mz_checks.specs.declared.meaning.Meaning.TheVariants as meaning
-use Rattle.mz_checks.specs.Tests.{Test}
-use Rattle.mz_checks.specs.Models.{Model, Heading, entry_of, entries_of}
-use Rattle.mz_checks.specs.Checks.{numbered, untyped, enum_meanings, case_meaning, decl_meaning, bare_meaning, function_meaning, with_parameters, applied_name}
+use Rattle.mz_scope_uses.specs.declared.name_use.NameUse.{NameUse}
+use Rattle.mz_scope_uses.specs.declared.name_use.NameUse.TheVariants.{Mention, Call}
+use Rattle.mz_scope_uses.specs.Uses.{in_tree}
+use Rattle.mz_scope_uses.specs.Sketches.{decl_sketch, function_sketch, has_parameters}
+use Rattle.mz_scope_order.specs.Dependencies.{sketch_at, meant_by, IsUsed, RefersTo}
+use Rattle.mz_scope_order.specs.Parts.{EnumTree, name_of, decl_at, function_at}
+use Rattle.mz_scope_order.specs.Scoped.{ScopedTree}
+use Rattle.mz_check_meaning.specs.declared.meaning.Meaning.{Meaning}
+use Rattle.mz_check_meaning.specs.declared.meaning.Meaning.TheVariants as meaning
+use Rattle.mz_check_meaning.specs.Tests.{Test}
+use Rattle.mz_check_meaning.specs.Models.{Model, Heading, entry_of, entries_of}
+use Rattle.mz_check_meaning.specs.Checks.{numbered, untyped, enum_meanings, case_meaning, decl_meaning, bare_meaning, function_meaning, with_parameters, applied_name}
 use Rattle.mz_analysis.proofs.Stopping.{both_all}
 use Rattle.mz_analysis.proofs.Alike.{MeantAlike, HeadingAlike, UseAlike, Alike}
 

@@ -9,18 +9,18 @@ use Rattle.mz_tree.specs.Tree as source
 use Rattle.mz_tree.specs.Tree.{Name, Declaration, Written}
 use Rattle.mz_tree.specs.Items.{FunctionTree}
 use Rattle.mz_graph.proofs.Membership.{same_or_not}
-use Rattle.mz_occurrence.specs.Sets.{with_name}
-use Rattle.mz_uses.specs.declared.name_use.NameUse.{NameUse}
-use Rattle.mz_uses.specs.Uses.{in_written}
-use Rattle.mz_uses.specs.Sketches.{decl_sketch, function_sketch, in_parameters, with_parameters}
-use Rattle.mz_scoped.specs.Parts.{decl_at, function_at}
-use Rattle.mz_scoped.specs.Scoped.{ScopedTree}
-use Rattle.mz_checks.specs.Tests.{Test, ◌>>=◌, loop}
-use Rattle.mz_checks.specs.Models.{Model, Heading, entry_of, outermost, bind}
-use Rattle.mz_checks.specs.Typing.{check_written}
-use Rattle.mz_checks.specs.Lets.{new_name, decl_of}
-use Rattle.mz_checks.specs.Headings.{Parameters, param_next, heading, written_in, Subject, of_decl, of_function, with_type, with_types, IsAmong, AreTyped, types_in, ComeAfterNeeds}
-use Rattle.mz_checks.specs.Checks.{untyped}
+use Rattle.mz_scope_names.specs.Sets.{with_name}
+use Rattle.mz_scope_uses.specs.declared.name_use.NameUse.{NameUse}
+use Rattle.mz_scope_uses.specs.Uses.{in_written}
+use Rattle.mz_scope_uses.specs.Sketches.{decl_sketch, function_sketch, in_parameters, with_parameters}
+use Rattle.mz_scope_order.specs.Parts.{decl_at, function_at}
+use Rattle.mz_scope_order.specs.Scoped.{ScopedTree}
+use Rattle.mz_check_meaning.specs.Tests.{Test, ◌>>=◌, loop}
+use Rattle.mz_check_meaning.specs.Models.{Model, Heading, entry_of, outermost, bind}
+use Rattle.mz_check_meaning.specs.Typing.{check_written}
+use Rattle.mz_check_meaning.specs.Lets.{new_name, decl_of}
+use Rattle.mz_check_meaning.specs.Headings.{Parameters, param_next, heading, written_in, Subject, of_decl, of_function, with_type, with_types, IsAmong, AreTyped, types_in, ComeAfterNeeds}
+use Rattle.mz_check_meaning.specs.Checks.{untyped}
 use Rattle.mz_analysis.proofs.Meanings.{uses_alike}
 use Rattle.mz_analysis.proofs.Alike.{front_all, back_all, same_next, same_then, given_by, Gives, gives_next, Hides, bound_hides, told, UseAlike, Alike, type_alike}
 

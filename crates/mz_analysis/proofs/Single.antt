@@ -7,14 +7,14 @@ use Rattle.mz_tree.specs.Items.{ItemTree}
 use Rattle.mz_tree.specs.Data.{Given}
 use Rattle.mz_graph.specs.Graph.{IsIn}
 use Rattle.mz_graph.proofs.OneOrder.{one_order}
-use Rattle.mz_scoped.specs.Parts.{decls_of, functions_of, constraint_in, output_in, goal_of, enums_of, given_of, decl_at}
-use Rattle.mz_scoped.specs.Scoped.{ScopedTree, IsScoped, IsCyclic, at_decl, at_function}
+use Rattle.mz_scope_order.specs.Parts.{decls_of, functions_of, constraint_in, output_in, goal_of, enums_of, given_of, decl_at}
+use Rattle.mz_scope_order.specs.Scoped.{ScopedTree, IsScoped, IsCyclic, at_decl, at_function}
 use Rattle.mz_include.specs.Naming.{File}
 use Rattle.mz_analysis.proofs.Verdicts.{same_verdict}
 use Rattle.mz_core.specs.Program.{PlainProgram}
-use Rattle.mz_checks.specs.Headings.{Subject}
-use Rattle.mz_checks.specs.Checks.{Sections}
-use Rattle.mz_datum.specs.WithData.{ChecksWithData, IsRefusedWithData, checked_with_data}
+use Rattle.mz_check_meaning.specs.Headings.{Subject}
+use Rattle.mz_check_meaning.specs.Checks.{Sections}
+use Rattle.mz_check_data.specs.WithData.{ChecksWithData, IsRefusedWithData, checked_with_data}
 use Rattle.mz_analysis.specs.Analysis.{items_of, IsScopedModel, IsIllNamed, by_a_test, by_a_cycle, IsRefused, by_names, by_types, HasTypedModel}
 
 -- the scoped model with this order

@@ -5,8 +5,8 @@ use Rattle.std.specs.List.{AllByRecursion}
 use Rattle.mz_base.specs.declared.fault.Span.{Span}
 use Rattle.mz_base.specs.declared.fault.Fault.{Fault}
 use Rattle.mz_base.specs.declared.kind.Kind.{Kind}
-use Rattle.mz_checks.specs.Tests.{Test, ◌>>=◌, require, found, loop, one_more, each, maybe_some, if_there}
-use Rattle.mz_checks.specs.Models.{entry_of}
+use Rattle.mz_check_meaning.specs.Tests.{Test, ◌>>=◌, require, found, loop, one_more, each, maybe_some, if_there}
+use Rattle.mz_check_meaning.specs.Models.{entry_of}
 use Rattle.mz_analysis.specs.Analysis.{IsOfTests}
 
 -- lists

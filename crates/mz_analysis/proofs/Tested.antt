@@ -11,13 +11,13 @@ use Rattle.mz_tree.specs.declared.source.SourceFile.{SourceFile}
 use Rattle.mz_tree.specs.declared.data.DataItem.{DataItem}
 use Rattle.mz_tree.specs.Data.{given}
 use Rattle.std.proofs.lemmas.List.Elements.{All-weaker}
-use Rattle.mz_occurrence.specs.Given.{occurrences}
-use Rattle.mz_occurrence.specs.StepsWalk as code
-use Rattle.mz_scoped.specs.declared.scoped.Scoped.{Scoped}
-use Rattle.mz_scoped.specs.Scoped.{scoped_tree, IsScoped, IsCyclic}
+use Rattle.mz_scope_names.specs.Given.{occurrences}
+use Rattle.mz_scope_names.specs.StepsWalk as code
+use Rattle.mz_scope_order.specs.declared.scoped.Scoped.{Scoped}
+use Rattle.mz_scope_order.specs.Scoped.{scoped_tree, IsScoped, IsCyclic}
 use Rattle.mz_scope.specs.Scope as scope
-use Rattle.mz_spaces.specs.Tests as tests
-use Rattle.mz_spaces.specs.Tests.{known_in, solve_in, refusal_of}
+use Rattle.mz_scope_faults.specs.Tests as tests
+use Rattle.mz_scope_faults.specs.Tests.{known_in, solve_in, refusal_of}
 use Rattle.mz_include.specs.Views.{file, IsFileOf, AreKnown}
 use Rattle.mz_data.specs.WithData.{IsGivenKnown}
 use Rattle.mz_analysis.specs.Analysis.{IsScopedModel, IsIllNamed, by_a_test, by_a_cycle}

@@ -16,21 +16,21 @@ use Rattle.mz_tree.specs.Items as item
 use Rattle.mz_tree.specs.Items.{FunctionTree, GoalTree}
 use Rattle.mz_tree.specs.Data.{Given}
 use Rattle.mz_tree.specs.Kinds.{OfTree, OfMaybe, OfDeclaration, OfWritten, OfGoal}
-use Rattle.mz_scoped.specs.Parts.{place_of, decl_at, function_at}
-use Rattle.mz_scoped.specs.Scoped.{ScopedTree}
-use Rattle.mz_checks.specs.Tests.{Test, refuse, loop, each}
-use Rattle.mz_checks.specs.Models.{Model, Heading, outermost, in_output, type_of_decl, heading_of, entry_of}
-use Rattle.mz_checks.specs.Coerced.{fitted, is_scalar}
-use Rattle.mz_checks.specs.Typing.{check, check_written}
-use Rattle.mz_checks.specs.Lets.{new_name}
-use Rattle.mz_checks.specs.Headings.{Parameters, param_next, heading, written_in, Subject, of_decl, of_function, with_type, with_types}
-use Rattle.mz_checks.specs.Duplicates.{Signed, is_taken, duplicate_after}
-use Rattle.mz_checks.specs.Items.{value_of, decl, function, with_params, constraint, objective, goal, output}
-use Rattle.mz_checks.specs.Checks.{numbered, Met, met, first_from, stands_before, none_met, type_met, heading_met, types_met, signed_by, signed, no_fault, decl_met, function_met, tree_met, tree_place, value_place, goal_place, items_met, sections, untyped}
-use Rattle.mz_checks.specs.declared.meaning.Meaning.{Meaning}
-use Rattle.mz_checks.specs.declared.meaning.Meaning.TheVariants as meaning
-use Rattle.mz_datum.specs.Datum.{Meanings, as_data_form, typed_value}
-use Rattle.mz_datum.specs.WithData.{declared_as, given_value, given_values, checked_given, checked_with_data, IsRefusedWithData}
+use Rattle.mz_scope_order.specs.Parts.{place_of, decl_at, function_at}
+use Rattle.mz_scope_order.specs.Scoped.{ScopedTree}
+use Rattle.mz_check_meaning.specs.Tests.{Test, refuse, loop, each}
+use Rattle.mz_check_meaning.specs.Models.{Model, Heading, outermost, in_output, type_of_decl, heading_of, entry_of}
+use Rattle.mz_check_meaning.specs.Coerced.{fitted, is_scalar}
+use Rattle.mz_check_meaning.specs.Typing.{check, check_written}
+use Rattle.mz_check_meaning.specs.Lets.{new_name}
+use Rattle.mz_check_meaning.specs.Headings.{Parameters, param_next, heading, written_in, Subject, of_decl, of_function, with_type, with_types}
+use Rattle.mz_check_meaning.specs.Duplicates.{Signed, is_taken, duplicate_after}
+use Rattle.mz_check_meaning.specs.Items.{value_of, decl, function, with_params, constraint, objective, goal, output}
+use Rattle.mz_check_meaning.specs.Checks.{numbered, Met, met, first_from, stands_before, none_met, type_met, heading_met, types_met, signed_by, signed, no_fault, decl_met, function_met, tree_met, tree_place, value_place, goal_place, items_met, sections, untyped}
+use Rattle.mz_check_meaning.specs.declared.meaning.Meaning.{Meaning}
+use Rattle.mz_check_meaning.specs.declared.meaning.Meaning.TheVariants as meaning
+use Rattle.mz_check_data.specs.Datum.{Meanings, as_data_form, typed_value}
+use Rattle.mz_check_data.specs.WithData.{declared_as, given_value, given_values, checked_given, checked_with_data, IsRefusedWithData}
 use Rattle.mz_analysis.specs.Known.{OfFunction, OfGiven, OfScoped}
 use Rattle.mz_analysis.proofs.Stopping.{both_all, one_more_all, Refuses, Stops, Any, next, looped, each_stops}
 use Rattle.mz_analysis.proofs.Leaves.{At, fitted_stops, condition_stops, IsKnown, type_stops, heading_stops, new_stops}

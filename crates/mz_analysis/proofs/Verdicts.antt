@@ -12,24 +12,24 @@ use Rattle.mz_tree.specs.Tree.{Declaration}
 use Rattle.mz_tree.specs.Items as item
 use Rattle.mz_tree.specs.Items.{FunctionTree, GoalTree}
 use Rattle.mz_graph.proofs.Membership.{below_or_not}
-use Rattle.mz_uses.specs.declared.name_use.NameUse.{NameUse}
-use Rattle.mz_uses.specs.Uses.{in_tree}
-use Rattle.mz_uses.specs.Sketches.{decl_sketch, function_sketch}
-use Rattle.mz_scoped.specs.Parts.{decl_at, function_at}
-use Rattle.mz_scoped.specs.Scoped.{ScopedTree}
-use Rattle.mz_checks.specs.Tests.{Test, ◌>>=◌, ◌>>◌, each}
-use Rattle.mz_checks.specs.Models.{Model, Heading, Env, outermost, in_output, entry_of, typed_so_far, type_of_decl, heading_of}
-use Rattle.mz_checks.specs.Coerced.{condition}
-use Rattle.mz_checks.specs.WrittenTypes.{declared, values, declared_base}
-use Rattle.mz_checks.specs.Typing.{check, check_written}
-use Rattle.mz_checks.specs.Headings.{heading, written_in, Subject, of_decl, of_function, with_type, with_types, IsAmong, AreTyped, types_in, ComeAfterNeeds, IsTypeOrder}
-use Rattle.mz_checks.specs.Duplicates.{duplicate_after}
-use Rattle.mz_checks.specs.Items.{value_of, decl, function, with_params, constraint, integer, objective, goal, texts_fitted, output}
-use Rattle.mz_checks.specs.Checks.{numbered, Met, met, none_met, type_met, heading_met, types_met, signed_by, signed, no_fault, decl_met, function_met, tree_met, tree_place, value_place, goal_place, items_met, Sections, sections, untyped}
-use Rattle.mz_checks.specs.declared.meaning.Meaning.{Meaning}
-use Rattle.mz_checks.specs.declared.meaning.Meaning.TheVariants as meaning
+use Rattle.mz_scope_uses.specs.declared.name_use.NameUse.{NameUse}
+use Rattle.mz_scope_uses.specs.Uses.{in_tree}
+use Rattle.mz_scope_uses.specs.Sketches.{decl_sketch, function_sketch}
+use Rattle.mz_scope_order.specs.Parts.{decl_at, function_at}
+use Rattle.mz_scope_order.specs.Scoped.{ScopedTree}
+use Rattle.mz_check_meaning.specs.Tests.{Test, ◌>>=◌, ◌>>◌, each}
+use Rattle.mz_check_meaning.specs.Models.{Model, Heading, Env, outermost, in_output, entry_of, typed_so_far, type_of_decl, heading_of}
+use Rattle.mz_check_meaning.specs.Coerced.{condition}
+use Rattle.mz_check_meaning.specs.WrittenTypes.{declared, values, declared_base}
+use Rattle.mz_check_meaning.specs.Typing.{check, check_written}
+use Rattle.mz_check_meaning.specs.Headings.{heading, written_in, Subject, of_decl, of_function, with_type, with_types, IsAmong, AreTyped, types_in, ComeAfterNeeds, IsTypeOrder}
+use Rattle.mz_check_meaning.specs.Duplicates.{duplicate_after}
+use Rattle.mz_check_meaning.specs.Items.{value_of, decl, function, with_params, constraint, integer, objective, goal, texts_fitted, output}
+use Rattle.mz_check_meaning.specs.Checks.{numbered, Met, met, none_met, type_met, heading_met, types_met, signed_by, signed, no_fault, decl_met, function_met, tree_met, tree_place, value_place, goal_place, items_met, Sections, sections, untyped}
+use Rattle.mz_check_meaning.specs.declared.meaning.Meaning.{Meaning}
+use Rattle.mz_check_meaning.specs.declared.meaning.Meaning.TheVariants as meaning
 use Rattle.mz_tree.specs.Data.{Given}
-use Rattle.mz_datum.specs.WithData.{declared_as, given_value, given_values, with_values, checked_given, checked_with_data}
+use Rattle.mz_check_data.specs.WithData.{declared_as, given_value, given_values, with_values, checked_given, checked_with_data}
 use Rattle.mz_analysis.proofs.Stopping.{OfSome, one_more_all, entry_all}
 use Rattle.mz_analysis.proofs.Alike.{same_case, same_next, same_then, same_all, told, Alike, tree_alike}
 use Rattle.mz_analysis.proofs.Meanings.{uses_alike, Calls, functions_call, any_list, IsAt, numbered_at, declared_below}

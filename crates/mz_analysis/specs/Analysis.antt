@@ -8,13 +8,13 @@ use Rattle.mz_base.specs.declared.kind.Kind.TheVariants.{ReservedName, Duplicate
 use Rattle.mz_base.specs.Faults.{start_of, fault_at}
 use Rattle.mz_tree.specs.Items.{ItemTree, satisfy, solve}
 use Rattle.mz_tree.specs.Data.{Given, given}
-use Rattle.mz_occurrence.specs.Given.{occurrences}
-use Rattle.mz_scoped.specs.Scoped.{ScopedTree, IsScoped, IsCyclic}
+use Rattle.mz_scope_names.specs.Given.{occurrences}
+use Rattle.mz_scope_order.specs.Scoped.{ScopedTree, IsScoped, IsCyclic}
 use Rattle.mz_core.specs.Program.{PlainProgram}
 use Rattle.mz_core.specs.Tree.{Decl}
 use Rattle.mz_meaning.specs.Walk.{ordered}
-use Rattle.mz_datum.specs.WithData.{ChecksWithData, IsRefusedWithData}
-use Rattle.mz_spaces.specs.Tests.{known_in, solve_in, refusal, first, first_after}
+use Rattle.mz_check_data.specs.WithData.{ChecksWithData, IsRefusedWithData}
+use Rattle.mz_scope_faults.specs.Tests.{known_in, solve_in, refusal, first, first_after}
 use Rattle.mz_include.specs.Naming.{File}
 use Rattle.mz_include.specs.Views.{file, AreKnown}
 use Rattle.mz_data.specs.declared.gathering.SourcesWithData.{SourcesWithData}

@@ -5,9 +5,9 @@ use Rattle.mz_tree.specs.Tree.{Name}
 use Rattle.mz_tree.specs.Items.{FunctionTree}
 use Rattle.mz_tree.specs.Kinds.{IsSpot, OfTree, OfDeclaration, OfWritten, OfGoal}
 use Rattle.mz_tree.specs.Data.{Given}
-use Rattle.mz_given.specs.Named.{names_in}
-use Rattle.mz_scoped.specs.Parts.{EnumTree}
-use Rattle.mz_scoped.specs.Scoped.{ScopedTree}
+use Rattle.mz_data_names.specs.Named.{names_in}
+use Rattle.mz_scope_order.specs.Parts.{EnumTree}
+use Rattle.mz_scope_order.specs.Scoped.{ScopedTree}
 
 module _ (Named : Name → Type 0) (Placed : Span → Type 0) where
   abbrev pub OfEnum : EnumTree → Type 0

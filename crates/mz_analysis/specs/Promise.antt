@@ -3,10 +3,10 @@ use Rattle.std.specs.Prelude.{◌≡◌, ◌<◌, ℕ, List, Ok}
 use Rattle.mz_base.specs.declared.fault.Fault.{Fault}
 use Rattle.mz_tree.specs.Data.{Given}
 use Rattle.mz_include.specs.Naming.{File}
-use Rattle.mz_scoped.specs.Scoped.{ScopedTree, AreDistinct}
-use Rattle.mz_checks.specs.Headings.{Subject, IsTypeOrder}
-use Rattle.mz_checks.specs.Checks.{Sections}
-use Rattle.mz_datum.specs.WithData.{AreNumbered, checked_with_data, IsRefusedWithData}
+use Rattle.mz_scope_order.specs.Scoped.{ScopedTree, AreDistinct}
+use Rattle.mz_check_meaning.specs.Headings.{Subject, IsTypeOrder}
+use Rattle.mz_check_meaning.specs.Checks.{Sections}
+use Rattle.mz_check_data.specs.WithData.{AreNumbered, checked_with_data, IsRefusedWithData}
 use Rattle.mz_analysis.specs.Known.{IsWithin}
 use Rattle.mz_core.specs.Program.{PlainProgram}
 use Rattle.mz_analysis.specs.Analysis.{IsScopedModel, IsIllNamed, IsTypedModel, IsRefused, HasTypedModel, IsOfTests, evaluated, names_of}

@@ -2,14 +2,14 @@
 
 ghost use Rattle.std.specs.Prelude.{◌<◌, length, IfOk, IfErr};
 ghost use Rattle.mz_base.specs.Faults.{IfRefused};
-ghost use Rattle.mz_scoped.specs.Scoped.{scoped_tree, AreRanked};
+ghost use Rattle.mz_scope_order.specs.Scoped.{scoped_tree, AreRanked};
 ghost use Rattle.mz_analysis.specs.Analysis.{IsScopedModel, IsIllNamed, IsRead, files_read, items_read, count_read};
 ghost use Rattle.mz_analysis.specs.Known.{IsWithin};
 
 use mz_base::{Names, Stop};
 use mz_data::SourcesWithData;
 use mz_scope::scope;
-use mz_scoped::Scoped;
+use mz_scope_order::Scoped;
 use std::alloc::Global;
 
 /// The scoped model of a model's files with the items of its data, by the table of their names.

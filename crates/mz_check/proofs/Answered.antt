@@ -4,11 +4,11 @@ use Rattle.std.specs.Result.{IsErrAnd, IfErr}
 use Rattle.mz_base.specs.declared.stop.Stop.{Stop}
 use Rattle.mz_base.specs.declared.stop.Stop.TheVariants.{Refused, Memory}
 use Rattle.mz_base.specs.Faults.{IfRefused}
-use Rattle.mz_scoped.specs.Scoped.{ScopedTree}
-use Rattle.mz_type_order.specs.Subjects.{IsOrderOf}
-use Rattle.mz_checks.specs.Headings.{Subject}
-use Rattle.mz_checks.specs.Passes.{Passes}
-use Rattle.mz_datum.specs.WithData.{checked_with_data, IsRefusedWithData}
+use Rattle.mz_scope_order.specs.Scoped.{ScopedTree}
+use Rattle.mz_check_exprs.specs.Subjects.{IsOrderOf}
+use Rattle.mz_check_meaning.specs.Headings.{Subject}
+use Rattle.mz_check_meaning.specs.Passes.{Passes}
+use Rattle.mz_check_data.specs.WithData.{checked_with_data, IsRefusedWithData}
 use Rattle.mz_check.specs.StepsParts.{sections_of}
 
 refused_with : (texts : List (List ℕ)) (s : ScopedTree) (order : List Subject) (stop : Stop) → IsOrderOf s order → Passes sections_of (Err stop) (checked_with_data texts s order) → IfRefused stop (IsRefusedWithData texts s)

@@ -7,15 +7,15 @@ use Rattle.mz_core.specs.Program.{Function, Goal}
 use Rattle.mz_tree.specs.Tree as source
 use Rattle.mz_tree.specs.Tree.{Declaration}
 use Rattle.mz_tree.specs.Items.{FunctionTree}
-use Rattle.mz_scoped.specs.Scoped.{ScopedTree}
-use Rattle.mz_checks.specs.Tests.{Test, ◌>>=◌, loop, one_more, each}
-use Rattle.mz_checks.specs.Models.{Model, Heading, entry_of, typed_so_far, outermost}
-use Rattle.mz_checks.specs.Coerced.{fitted}
-use Rattle.mz_checks.specs.Typing.{check}
-use Rattle.mz_checks.specs.Items.{value_of, with_params, decl, function, constraint, goal, output}
-use Rattle.mz_checks.specs.Checks.{numbered, Sections, sections}
-use Rattle.mz_checks.proofs.Giving.{Gives, gives_after}
-use Rattle.mz_datum.specs.WithData.{AreNumbered}
+use Rattle.mz_scope_order.specs.Scoped.{ScopedTree}
+use Rattle.mz_check_meaning.specs.Tests.{Test, ◌>>=◌, loop, one_more, each}
+use Rattle.mz_check_meaning.specs.Models.{Model, Heading, entry_of, typed_so_far, outermost}
+use Rattle.mz_check_meaning.specs.Coerced.{fitted}
+use Rattle.mz_check_meaning.specs.Typing.{check}
+use Rattle.mz_check_meaning.specs.Items.{value_of, with_params, decl, function, constraint, goal, output}
+use Rattle.mz_check_meaning.specs.Checks.{numbered, Sections, sections}
+use Rattle.mz_check_meaning.proofs.Giving.{Gives, gives_after}
+use Rattle.mz_check_data.specs.WithData.{AreNumbered}
 use Rattle.mz_check.specs.StepsParts.{value_in, body_in, value_of_each, body_of_each, Parts, AreParts}
 use Rattle.mz_check.specs.StepsTaking.{decl_with, function_with, decl_by, function_by, from_number}
 

@@ -2,21 +2,21 @@
 use Rattle.std.proofs.Common.{◌≡◌, ℕ, List, [], ◌∷◌, Ok, length, refl, ap, sym, subst}
 use Rattle.std.specs.List.{flat_map}
 use Rattle.mz_core.specs.Tree.{Tree}
-use Rattle.mz_scoped.specs.Scoped.{ScopedTree}
-use Rattle.mz_type_order.specs.Subjects.{IsOrderOf}
-use Rattle.mz_checks.specs.Tests.{Test}
-use Rattle.mz_checks.specs.Models.{Model}
-use Rattle.mz_checks.specs.Headings.{Subject, of_decl, of_function, with_type, with_types}
-use Rattle.mz_checks.specs.Checks.{numbered, with_parameters, untyped, Sections}
-use Rattle.mz_datum.specs.WithData.{AreNumbered, with_values, checked_given, checked_with_data}
-use Rattle.mz_datum.proofs.Parted.{parted}
-use Rattle.mz_datum.proofs.Slots.{numbered_stays}
-use Rattle.mz_headings.specs.Naming.{AreNamed}
-use Rattle.mz_headings.specs.Subjects.{AreNew}
-use Rattle.mz_headings.proofs.New.{all_new}
+use Rattle.mz_scope_order.specs.Scoped.{ScopedTree}
+use Rattle.mz_check_exprs.specs.Subjects.{IsOrderOf}
+use Rattle.mz_check_meaning.specs.Tests.{Test}
+use Rattle.mz_check_meaning.specs.Models.{Model}
+use Rattle.mz_check_meaning.specs.Headings.{Subject, of_decl, of_function, with_type, with_types}
+use Rattle.mz_check_meaning.specs.Checks.{numbered, with_parameters, untyped, Sections}
+use Rattle.mz_check_data.specs.WithData.{AreNumbered, with_values, checked_given, checked_with_data}
+use Rattle.mz_check_data.proofs.Parted.{parted}
+use Rattle.mz_check_data.proofs.Slots.{numbered_stays}
+use Rattle.mz_check_exprs.specs.NamedModels.{AreNamed}
+use Rattle.mz_check_exprs.specs.NewSubjects.{AreNew}
+use Rattle.mz_check_exprs.proofs.New.{all_new}
 use Rattle.mz_check.specs.StepsProgram.{AreTexted}
 use Rattle.mz_check.proofs.Assembling.{sections_numbered}
-use Rattle.mz_checks.proofs.Giving.{Gives}
+use Rattle.mz_check_meaning.proofs.Giving.{Gives}
 use Rattle.mz_check.proofs.Texted.{checked_texted}
 
 -- what stays as types are typed

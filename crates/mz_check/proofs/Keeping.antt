@@ -11,11 +11,11 @@ use Rattle.mz_core.specs.declared.program.CoreGoal.{CoreGoal}
 use Rattle.mz_core.specs.Program.{Goal, satisfy, goal as typed_goal}
 use Rattle.mz_tree.specs.Items as item
 use Rattle.mz_tree.specs.Items.{GoalTree}
-use Rattle.mz_checks.specs.Tests.{Test, ◌>>=◌, loop, one_more, each}
-use Rattle.mz_checks.specs.Models.{Model}
-use Rattle.mz_checks.specs.Items.{goal}
-use Rattle.mz_checks.specs.Passes.{Passes}
-use Rattle.mz_checks.specs.Checks.{Met, met, goal_place}
+use Rattle.mz_check_meaning.specs.Tests.{Test, ◌>>=◌, loop, one_more, each}
+use Rattle.mz_check_meaning.specs.Models.{Model}
+use Rattle.mz_check_meaning.specs.Items.{goal}
+use Rattle.mz_check_meaning.specs.Passes.{Passes}
+use Rattle.mz_check_meaning.specs.Checks.{Met, met, goal_place}
 use Rattle.mz_check.specs.StepsMeeting.{sooner, after, IsKept, met_by, AreTested, IsGoalKept, IsGoalTested}
 
 -- all of `xs` but `rest` are tested

@@ -1,6 +1,6 @@
 -- The fault that is met first among lists of faults.
 use Rattle.std.proofs.Common.{◌≡◌, List, [], ◌∷◌, ◌++◌, Option, Some, None, Ok, refl, ap, sym}
-use Rattle.mz_checks.specs.Checks.{Met, first_from, none_met}
+use Rattle.mz_check_meaning.specs.Checks.{Met, first_from, none_met}
 use Rattle.mz_check.specs.StepsMeeting.{sooner, after, test_of}
 
 pub after_both : (first : Option Met) (xs ys : List Met) → after first (xs ++ ys) ≡ after (after first xs) ys

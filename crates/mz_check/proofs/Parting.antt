@@ -5,13 +5,13 @@ use Rattle.mz_base.specs.declared.fault.Span.{Span}
 use Rattle.mz_tree.specs.Tree as source
 use Rattle.mz_tree.specs.Tree.{Declaration}
 use Rattle.mz_tree.specs.Items.{FunctionTree}
-use Rattle.mz_scoped.specs.Scoped.{ScopedTree}
-use Rattle.mz_checks.specs.Tests.{Test, ◌>>=◌}
-use Rattle.mz_checks.specs.Models.{Model, outermost, type_of_decl, heading_of}
-use Rattle.mz_checks.specs.Coerced.{fitted}
-use Rattle.mz_checks.specs.Typing.{check}
-use Rattle.mz_checks.specs.Items.{value_of, with_params, decl, function, constraint, goal, output}
-use Rattle.mz_checks.specs.Checks.{Met, met, numbered, value_place, tree_place, goal_place, decl_met, function_met, tree_met, none_met, items_met}
+use Rattle.mz_scope_order.specs.Scoped.{ScopedTree}
+use Rattle.mz_check_meaning.specs.Tests.{Test, ◌>>=◌}
+use Rattle.mz_check_meaning.specs.Models.{Model, outermost, type_of_decl, heading_of}
+use Rattle.mz_check_meaning.specs.Coerced.{fitted}
+use Rattle.mz_check_meaning.specs.Typing.{check}
+use Rattle.mz_check_meaning.specs.Items.{value_of, with_params, decl, function, constraint, goal, output}
+use Rattle.mz_check_meaning.specs.Checks.{Met, met, numbered, value_place, tree_place, goal_place, decl_met, function_met, tree_met, none_met, items_met}
 use Rattle.mz_check.specs.StepsMeeting.{after, test_of, met_by, AreTested, IsGoalTested}
 use Rattle.mz_check.specs.StepsParts.{value_of_each, body_of_each, value_at, body_at, Parts, AreParts, AreAllTested}
 use Rattle.mz_check.proofs.Meeting.{after_both, none_before, none_met_is}

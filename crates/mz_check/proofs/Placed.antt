@@ -12,9 +12,9 @@ use Rattle.std.proofs.lemmas.Grind.{get_or-set_at}
 use Rattle.std.proofs.lemmas.List.Sorted.{IsPermutation-sym, Contains-permutation, length_permutation}
 use Rattle.mz_base.specs.declared.fault.Span.{Span}
 use Rattle.mz_core.specs.Tree.{Decl}
-use Rattle.mz_checks.specs.Checks.{stands_before, decl_in, NoneStandsBefore, StandInSourceOrder}
+use Rattle.mz_check_meaning.specs.Checks.{stands_before, decl_in, NoneStandsBefore, StandInSourceOrder}
 use Rattle.mz_check.specs.StepsPlacing.{HasSlot, HoldPlaces, ArePlaces}
-use Rattle.mz_datum.specs.WithData.{AreNumbered}
+use Rattle.mz_check_data.specs.WithData.{AreNumbered}
 
 -- ---- the order of places
 

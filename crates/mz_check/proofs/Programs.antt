@@ -11,12 +11,12 @@ use Rattle.mz_core.specs.TreeViews.{tree, decl}
 use Rattle.mz_core.specs.declared.tree.Core.{Core}
 use Rattle.mz_core.specs.declared.tree.CoreDecl.{CoreDecl}
 use Rattle.mz_core.specs.declared.program.CoreFunction.{CoreFunction}
-use Rattle.mz_scoped.specs.Scoped.{ScopedTree}
-use Rattle.mz_checks.specs.Texts.{texts_in, in_decl, in_function, in_goal, once, all_texts, text_names}
-use Rattle.mz_checks.specs.Checks.{Sections, StandInSourceOrder, text_entry, IsProgramOf}
-use Rattle.mz_texts.specs.StepsLayers.{names_in}
+use Rattle.mz_scope_order.specs.Scoped.{ScopedTree}
+use Rattle.mz_check_meaning.specs.Texts.{texts_in, in_decl, in_function, in_goal, once, all_texts, text_names}
+use Rattle.mz_check_meaning.specs.Checks.{Sections, StandInSourceOrder, text_entry, IsProgramOf}
+use Rattle.mz_check_data.specs.StepsLayers.{names_in}
 use Rattle.mz_check.specs.StepsPlacing.{ArePlaces}
-use Rattle.mz_datum.specs.WithData.{AreNumbered}
+use Rattle.mz_check_data.specs.WithData.{AreNumbered}
 use Rattle.mz_check.specs.StepsProgram.{case_texts, AreBelow, AreTexted}
 use Rattle.mz_check.proofs.Keeping.{split}
 use Rattle.mz_check.proofs.Placed.{found_all}

@@ -3,11 +3,11 @@ use Rattle.std.proofs.Common.{◌≡◌, ◌∙◌, ℕ, List, [], ◌∷◌, �
 use Rattle.std.specs.List.{flat_map}
 use Rattle.mz_base.specs.declared.fault.Fault.{Fault}
 use Rattle.mz_core.specs.Tree.{DeclaredType}
-use Rattle.mz_scoped.specs.Scoped.{ScopedTree}
-use Rattle.mz_checks.specs.Tests.{Test}
-use Rattle.mz_checks.specs.Models.{Model, Heading}
-use Rattle.mz_checks.specs.Checks.{Met, type_met, heading_met, types_met, none_met}
-use Rattle.mz_context.specs.Headings.{refused}
+use Rattle.mz_scope_order.specs.Scoped.{ScopedTree}
+use Rattle.mz_check_meaning.specs.Tests.{Test}
+use Rattle.mz_check_meaning.specs.Models.{Model, Heading}
+use Rattle.mz_check_meaning.specs.Checks.{Met, type_met, heading_met, types_met, none_met}
+use Rattle.mz_check_context.specs.Headings.{refused}
 use Rattle.mz_check.specs.StepsMeeting.{after, test_of}
 use Rattle.mz_check.specs.StepsTesting.{decl_met_at, function_met_at}
 use Rattle.mz_check.proofs.Meeting.{after_both, none_met_is}

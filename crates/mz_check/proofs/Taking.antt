@@ -5,8 +5,8 @@ use Rattle.std.specs.Slice.{IsItemAt}
 use Rattle.std.proofs.lemmas.Option.{slice_get_past}
 use Rattle.std.proofs.lemmas.Bool.{ne_eqb}
 use Rattle.std.proofs.lemmas.List.{length-map}
-use Rattle.mz_checks.specs.Tests.{Test}
-use Rattle.mz_checks.specs.Models.{entry_of}
+use Rattle.mz_check_meaning.specs.Tests.{Test}
+use Rattle.mz_check_meaning.specs.Models.{entry_of}
 use Rattle.mz_check.specs.StepsTaking.{at_number, from_number}
 
 -- what is left of a list from a number on, by the element there

@@ -4,24 +4,24 @@ use Rattle.std.specs.List.{flat_map}
 use Rattle.mz_core.specs.Tree.{Tree, Decl, DeclaredType, declares, maybe, maybes}
 use Rattle.mz_core.specs.Program.{Function, Goal, satisfy, minimize, maximize}
 use Rattle.mz_tree.specs.Items.{FunctionTree}
-use Rattle.mz_scoped.specs.Parts.{decl_at, function_at}
-use Rattle.mz_scoped.specs.Scoped.{ScopedTree}
-use Rattle.mz_type_order.specs.Subjects.{AreOf}
-use Rattle.mz_checks.specs.Tests.{◌>>=◌, ◌>>◌}
-use Rattle.mz_checks.specs.Headings.{Subject, of_decl, of_function}
-use Rattle.mz_checks.specs.Items.{goal}
+use Rattle.mz_scope_order.specs.Parts.{decl_at, function_at}
+use Rattle.mz_scope_order.specs.Scoped.{ScopedTree}
+use Rattle.mz_check_exprs.specs.Subjects.{AreOf}
+use Rattle.mz_check_meaning.specs.Tests.{◌>>=◌, ◌>>◌}
+use Rattle.mz_check_meaning.specs.Headings.{Subject, of_decl, of_function}
+use Rattle.mz_check_meaning.specs.Items.{goal}
 use Rattle.mz_core.specs.Nodes as nodes
 use Rattle.mz_core.specs.Nodes.{nodes_in, in_maybe, in_maybes}
-use Rattle.mz_checks.specs.Texts.{texts_in, in_decl, in_type, in_function, in_goal}
-use Rattle.mz_checks.specs.Checks.{Sections}
-use Rattle.mz_datum.specs.WithData.{checked_with_data}
-use Rattle.mz_datum.proofs.Models.{AllowsFunction, AllowsModel, AllowsSubject, IsKeptFunction, IsKeptGoal, AreKeptSections, checked_kept}
-use Rattle.mz_checks.proofs.Giving.{AllBy, all_both, all_indexed, Gives, gives_more}
-use Rattle.mz_checks.proofs.Rules.{Rules}
-use Rattle.mz_checks.proofs.Leaves.{IsKept, IsKeptType, IsKeptDecl, items_kept, maybe_kept, maybes_kept}
-use Rattle.mz_texts.proofs.Texted.{texts, among}
-use Rattle.mz_headings.specs.Naming.{IsNamedFunction, AreNamed}
-use Rattle.mz_headings.proofs.Named.{type_named, decl_named, function_named}
+use Rattle.mz_check_meaning.specs.Texts.{texts_in, in_decl, in_type, in_function, in_goal}
+use Rattle.mz_check_meaning.specs.Checks.{Sections}
+use Rattle.mz_check_data.specs.WithData.{checked_with_data}
+use Rattle.mz_check_data.proofs.Models.{AllowsFunction, AllowsModel, AllowsSubject, IsKeptFunction, IsKeptGoal, AreKeptSections, checked_kept}
+use Rattle.mz_check_meaning.proofs.Giving.{AllBy, all_both, all_indexed, Gives, gives_more}
+use Rattle.mz_check_meaning.proofs.Rules.{Rules}
+use Rattle.mz_check_meaning.proofs.Leaves.{IsKept, IsKeptType, IsKeptDecl, items_kept, maybe_kept, maybes_kept}
+use Rattle.mz_check_data.proofs.Texted.{texts, among}
+use Rattle.mz_check_exprs.specs.NamedModels.{IsNamedFunction, AreNamed}
+use Rattle.mz_check_exprs.proofs.Named.{type_named, decl_named, function_named}
 use Rattle.mz_check.specs.StepsProgram.{AreTexted as HaveTexts, AreBelow}
 
 module _ (k : ℕ) where

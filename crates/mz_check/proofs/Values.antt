@@ -9,11 +9,11 @@ use Rattle.mz_tree.specs.Tree as source
 use Rattle.mz_tree.specs.Tree.{Name, Tree, Written}
 use Rattle.mz_tree.specs.Kinds.{OfTree}
 use Rattle.mz_tree.specs.Views.{written}
-use Rattle.mz_scoped.specs.declared.scoped.ScopedDecl.{ScopedDecl}
-use Rattle.mz_scoped.specs.Parts.{place_of, decl_at}
-use Rattle.mz_scoped.specs.Scoped.{scoped_decl, lent_tree}
-use Rattle.mz_checks.specs.Checks.{value_place}
-use Rattle.mz_headings.specs.Naming.{IsNamedDeclaration}
+use Rattle.mz_scope_order.specs.declared.scoped.ScopedDecl.{ScopedDecl}
+use Rattle.mz_scope_order.specs.Parts.{place_of, decl_at}
+use Rattle.mz_scope_order.specs.Scoped.{scoped_decl, lent_tree}
+use Rattle.mz_check_meaning.specs.Checks.{value_place}
+use Rattle.mz_check_exprs.specs.NamedModels.{IsNamedDeclaration}
 use Rattle.mz_check.specs.StepsParts.{IsNamedValue, place_or}
 
 named_case : (k : ℕ) (t : Written) (n : Name) (at : Span) (o : Option Tree) → IsNamedDeclaration k (source.declaration t n at (source.maybe o)) → IsNamedValue k o

@@ -7,10 +7,10 @@ use Rattle.mz_base.specs.declared.stop.Stop.TheVariants.{Refused, Memory}
 use Rattle.mz_core.specs.declared.program.CoreGoal.{CoreGoal}
 use Rattle.mz_core.specs.Program.{Goal}
 use Rattle.mz_tree.specs.Items.{GoalTree}
-use Rattle.mz_checks.specs.Tests.{Test, each}
-use Rattle.mz_checks.specs.Models.{Model}
-use Rattle.mz_checks.specs.Items.{goal}
-use Rattle.mz_checks.specs.Checks.{Met, met, stands_before, goal_place}
+use Rattle.mz_check_meaning.specs.Tests.{Test, each}
+use Rattle.mz_check_meaning.specs.Models.{Model}
+use Rattle.mz_check_meaning.specs.Items.{goal}
+use Rattle.mz_check_meaning.specs.Checks.{Met, met, stands_before, goal_place}
 use Rattle.mz_check.specs.declared.faults.Met.{Met as Noted}
 
 abbrev pub met_of : Noted → Met

@@ -10,15 +10,15 @@ use Rattle.mz_core.specs.Program.{Goal}
 use Rattle.mz_tree.specs.Tree as source
 use Rattle.mz_tree.specs.Tree.{Declaration}
 use Rattle.mz_tree.specs.Items.{FunctionTree}
-use Rattle.mz_scoped.specs.Scoped.{ScopedTree}
-use Rattle.mz_checks.specs.Tests.{Test, ◌>>=◌, each}
-use Rattle.mz_checks.specs.Models.{Model, outermost, type_of_decl, heading_of}
-use Rattle.mz_checks.specs.Coerced.{fitted}
-use Rattle.mz_checks.specs.Typing.{check}
-use Rattle.mz_checks.specs.Items.{value_of, with_params, constraint, goal, output}
-use Rattle.mz_checks.specs.Checks.{Met, numbered, value_place, tree_place, items_met, Sections}
+use Rattle.mz_scope_order.specs.Scoped.{ScopedTree}
+use Rattle.mz_check_meaning.specs.Tests.{Test, ◌>>=◌, each}
+use Rattle.mz_check_meaning.specs.Models.{Model, outermost, type_of_decl, heading_of}
+use Rattle.mz_check_meaning.specs.Coerced.{fitted}
+use Rattle.mz_check_meaning.specs.Typing.{check}
+use Rattle.mz_check_meaning.specs.Items.{value_of, with_params, constraint, goal, output}
+use Rattle.mz_check_meaning.specs.Checks.{Met, numbered, value_place, tree_place, items_met, Sections}
 use Rattle.mz_check.specs.StepsMeeting.{after}
-use Rattle.mz_typing.specs.Naming.{IsNamed}
+use Rattle.mz_check_exprs.specs.Naming.{IsNamed}
 use Rattle.mz_check.specs.declared.parts.TypedItems.{TypedItems}
 use Rattle.mz_check.specs.declared.parts.TypedSections.{TypedSections}
 

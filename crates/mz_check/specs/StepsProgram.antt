@@ -1,9 +1,9 @@
 -- Typed sections of which a program is made. Mirror of src/program.rt; private clauses only.
 use Rattle.std.specs.Prelude.{ℕ, ◌<◌, List, All, map}
 use Rattle.mz_base.specs.Names.{text_of}
-use Rattle.mz_scoped.specs.Parts.{EnumTree}
-use Rattle.mz_checks.specs.Texts.{texts_in, in_decl, in_function, in_goal}
-use Rattle.mz_checks.specs.Checks.{Sections}
+use Rattle.mz_scope_order.specs.Parts.{EnumTree}
+use Rattle.mz_check_meaning.specs.Texts.{texts_in, in_decl, in_function, in_goal}
+use Rattle.mz_check_meaning.specs.Checks.{Sections}
 
 abbrev pub case_texts : List (List ℕ) → EnumTree → List (List ℕ)
 case_texts table e = map (λ c. text_of table c.0) e.cases

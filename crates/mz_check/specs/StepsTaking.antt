@@ -5,8 +5,8 @@ use Rattle.mz_core.specs.Program.{Function}
 use Rattle.mz_tree.specs.Tree as source
 use Rattle.mz_tree.specs.Tree.{Declaration}
 use Rattle.mz_tree.specs.Items.{FunctionTree}
-use Rattle.mz_checks.specs.Tests.{Test}
-use Rattle.mz_checks.specs.Models.{Heading, entry_of}
+use Rattle.mz_check_meaning.specs.Tests.{Test}
+use Rattle.mz_check_meaning.specs.Models.{Heading, entry_of}
 
 abbrev pub taken : {A : Type 0} → Option (Test A) → Option A
 taken (Some (Ok x)) = Some x

@@ -5,22 +5,22 @@ ghost use Rattle.std.specs.Option.{option_map};
 ghost use Rattle.mz_core.specs.TreeViews.{tree, decl, declared_type};
 ghost use Rattle.mz_core.specs.Program.{function};
 ghost use Rattle.mz_tree.specs.Items.{function_of};
-ghost use Rattle.mz_scoped.specs.Scoped.{scoped_decl, lent_function, scoped_tree};
-ghost use Rattle.mz_checks.specs.Models.{entry_of};
-ghost use Rattle.mz_checks.specs.Checks.{sections};
-ghost use Rattle.mz_context.specs.Headings.{heading, tested};
-ghost use Rattle.mz_context.specs.Known.{answers, known};
+ghost use Rattle.mz_scope_order.specs.Scoped.{scoped_decl, lent_function, scoped_tree};
+ghost use Rattle.mz_check_meaning.specs.Models.{entry_of};
+ghost use Rattle.mz_check_meaning.specs.Checks.{sections};
+ghost use Rattle.mz_check_context.specs.Headings.{heading, tested};
+ghost use Rattle.mz_check_context.specs.Known.{answers, known};
 ghost use Rattle.mz_check.specs.StepsParts.{AreParts, parts, sections_of};
 ghost use Rattle.mz_check.specs.StepsTaking.{taken, decl_with, function_with, decl_by, function_by, at_number, from_number};
 
 use crate::parts::{TypedItems, TypedSections};
 use indexmap::IndexMap;
 use mz_base::{Fault, Memory};
-use mz_context::{Context, Heading, TypeTables};
+use mz_check_context::{Context, Heading, TypeTables};
 use mz_core::{Core, CoreDecl, CoreFunction, CoreType};
-use mz_scoped::{Scoped, ScopedDecl};
+use mz_core_nodes::make_declaration;
+use mz_scope_order::{Scoped, ScopedDecl};
 use mz_tree::Function;
-use mz_typed::make_declaration;
 use std::alloc::Global;
 
 /// A type, where there is one that isn't refused.
@@ -35,7 +35,7 @@ fn typed(t: Option<Result<CoreType, Fault>>) -> Option<CoreType>
 }
 
 /// Takes out the type of a declaration. None, where it has none or is refused.
-#[tactic(auto, using(mz_context::proofs::Answering::answer_found))]
+#[tactic(auto, using(mz_check_context::proofs::Answering::answer_found))]
 fn take_type(types: &mut IndexMap<u64, Result<CoreType, Fault>>, d: u64) -> Option<CoreType>
     ensures taken { option_map declared_type result ≡ taken (entry_of d (answers declared_type types.old.entries)) }
     ensures others { (k : ℕ) → nat_eq d k ≡ false → entry_of k (answers declared_type types.new.entries) ≡ entry_of k (answers declared_type types.old.entries) }
@@ -55,7 +55,7 @@ fn typed_heading(h: Option<Result<Heading, Fault>>) -> Option<Heading>
 }
 
 /// Takes out the types of a function. None, where it has none or they are refused.
-#[tactic(auto, using(mz_context::proofs::Answering::answer_found))]
+#[tactic(auto, using(mz_check_context::proofs::Answering::answer_found))]
 fn take_heading(headings: &mut IndexMap<u64, Result<Heading, Fault>>, f: u64) -> Option<Heading>
     ensures taken { option_map heading result ≡ taken (entry_of f (answers heading headings.old.entries)) }
     ensures others { (k : ℕ) → nat_eq f k ≡ false → entry_of k (answers heading headings.new.entries) ≡ entry_of k (answers heading headings.old.entries) }

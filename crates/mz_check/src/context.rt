@@ -1,18 +1,17 @@
 // What is known of a model when all its types are typed.
 
 ghost use Rattle.std.specs.Prelude.{◌≡◌, length, map, IfOk};
-ghost use Rattle.mz_scoped.specs.Scoped.{scoped_tree, shared_names, AreDistinct};
-ghost use Rattle.mz_type_order.specs.Subjects.{subject, IsOrderOf};
-ghost use Rattle.mz_checks.specs.Headings.{with_types};
-ghost use Rattle.mz_checks.specs.Checks.{untyped};
-ghost use Rattle.mz_context.specs.Known.{known};
-ghost use Rattle.mz_headings.specs.Naming.{AreNamed};
+ghost use Rattle.mz_scope_order.specs.Scoped.{scoped_tree, shared_names, AreDistinct};
+ghost use Rattle.mz_check_exprs.specs.Subjects.{subject, IsOrderOf};
+ghost use Rattle.mz_check_meaning.specs.Headings.{with_types};
+ghost use Rattle.mz_check_meaning.specs.Checks.{untyped};
+ghost use Rattle.mz_check_context.specs.Known.{known};
+ghost use Rattle.mz_check_exprs.specs.NamedModels.{AreNamed};
 
 use mz_base::{Memory, Names};
-use mz_context::Context;
-use mz_headings::{untyped, with_types};
-use mz_scoped::Scoped;
-use mz_type_order::Subject;
+use mz_check_context::Context;
+use mz_check_exprs::{Subject, untyped, with_types};
+use mz_scope_order::Scoped;
 use std::alloc::Global;
 
 /// What is known of a model when its types are typed in this order.

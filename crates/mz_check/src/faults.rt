@@ -2,8 +2,8 @@
 
 ghost use Rattle.std.specs.Prelude.{◌≡◌, OnOk};
 ghost use Rattle.std.specs.Option.{option_map};
-ghost use Rattle.mz_checks.specs.Checks.{stands_before};
-ghost use Rattle.mz_checks.specs.Passes.{Passes};
+ghost use Rattle.mz_check_meaning.specs.Checks.{stands_before};
+ghost use Rattle.mz_check_meaning.specs.Passes.{Passes};
 ghost use Rattle.mz_check.specs.StepsMeeting.{met_of, sooner, IsNoted, test_of};
 
 use mz_base::{Fault, Memory, Span, Stop};

@@ -8,24 +8,24 @@ ghost use Rattle.mz_core.specs.Program.{goal as typed_goal};
 ghost use Rattle.mz_tree.specs.Views.{tree as source};
 ghost use Rattle.mz_tree.specs.Tree.{just};
 ghost use Rattle.mz_tree.specs.Items.{function_of, goal as goal_of};
-ghost use Rattle.mz_scoped.specs.Scoped.{scoped_decl, lent_tree};
-ghost use Rattle.mz_checks.specs.Checks.{tree_place, value_place};
-ghost use Rattle.mz_checks.specs.Models.{bind};
-ghost use Rattle.mz_checks.specs.Items.{value_of, constraint, objective, goal, output, with_params, texts_like, texts_fitted};
-ghost use Rattle.mz_checks.specs.Passes.{Passes};
-ghost use Rattle.mz_context.specs.Known.{known};
-ghost use Rattle.mz_typing.specs.Naming.{IsNamed};
-ghost use Rattle.mz_headings.specs.Naming.{IsNamedDeclaration, IsNamedFunction, IsNamedGoal};
+ghost use Rattle.mz_scope_order.specs.Scoped.{scoped_decl, lent_tree};
+ghost use Rattle.mz_check_meaning.specs.Checks.{tree_place, value_place};
+ghost use Rattle.mz_check_meaning.specs.Models.{bind};
+ghost use Rattle.mz_check_meaning.specs.Items.{value_of, constraint, objective, goal, output, with_params, texts_like, texts_fitted};
+ghost use Rattle.mz_check_meaning.specs.Passes.{Passes};
+ghost use Rattle.mz_check_context.specs.Known.{known};
+ghost use Rattle.mz_check_exprs.specs.Naming.{IsNamed};
+ghost use Rattle.mz_check_exprs.specs.NamedModels.{IsNamedDeclaration, IsNamedFunction, IsNamedGoal};
 ghost use Rattle.mz_check.specs.StepsParts.{IsNamedValue, value_by, value_in, body_in, place_or};
 
 use mz_base::{Memory, Span, Stop};
-use mz_context::{Context, Scope, param_type, type_in};
+use mz_check_context::{Context, Scope, param_type, type_in};
+use mz_check_exprs::check as check_expression;
+use mz_check_forms::{condition, dims_of, fitted, is_scalar, mismatch, typed_as};
 use mz_core::{Base, Core, CoreDecl, CoreGoal, TypeInst, copy_type, make_type};
-use mz_premises::{condition, dims_of, fitted, is_scalar, mismatch, typed_as};
-use mz_scoped::ScopedDecl;
+use mz_core_nodes::{place_of, type_of};
+use mz_scope_order::ScopedDecl;
 use mz_tree::{Expr, Function, Goal};
-use mz_typed::{place_of, type_of};
-use mz_typing::check as check_expression;
 use std::alloc::Global;
 
 /// An expression as the value of a declaration of this type.
@@ -84,7 +84,7 @@ fn bind_param(alloc: Global, scope: &mut Scope, d: &CoreDecl) -> Result<(), Memo
 }
 
 /// The parameters come into scope.
-#[tactic(auto, unfolding(mz_checks::specs::Items::with_params))]
+#[tactic(auto, unfolding(mz_check_meaning::specs::Items::with_params))]
 fn bind_params(alloc: Global, scope: &mut Scope, params: &[CoreDecl]) -> Result<(), Memory>
     ensures { OnOk result (scope.new ≡ with_params (map decl params.now) scope.old) }
 {
@@ -112,7 +112,7 @@ pub(crate) fn body(
 }
 
 /// A constraint: a Boolean.
-#[tactic(auto, unfolding(mz_checks::specs::Items::constraint))]
+#[tactic(auto, unfolding(mz_check_meaning::specs::Items::constraint))]
 pub(crate) fn constraint(alloc: Global, context: &Context<'_>, e: &Expr) -> Result<Core, Stop>
     requires { IsNamed (length (known context.now).texts) (source e.now) }
     ensures { Passes tree result (constraint (known context.now) (source e.now)) }
@@ -134,7 +134,7 @@ fn objective(alloc: Global, context: &Context<'_>, e: &Expr) -> Result<Core, Sto
 }
 
 /// What is asked for.
-#[tactic(auto, unfolding(mz_checks::specs::Items::goal))]
+#[tactic(auto, unfolding(mz_check_meaning::specs::Items::goal))]
 pub(crate) fn goal(alloc: Global, context: &Context<'_>, g: &Goal) -> Result<CoreGoal, Stop>
     requires { IsNamedGoal (length (known context.now).texts) (goal_of g.now) }
     ensures { Passes typed_goal result (goal (known context.now) (goal_of g.now)) }
@@ -171,7 +171,7 @@ fn texts_fitted(alloc: Global, e: Core) -> Result<Core, Stop>
 }
 
 /// An output item, in which the values of declarations are known.
-#[tactic(auto, unfolding(mz_checks::specs::Items::output))]
+#[tactic(auto, unfolding(mz_check_meaning::specs::Items::output))]
 pub(crate) fn output(alloc: Global, context: &Context<'_>, e: &Expr) -> Result<Core, Stop>
     requires { IsNamed (length (known context.now).texts) (source e.now) }
     ensures { Passes tree result (output (known context.now) (source e.now)) }

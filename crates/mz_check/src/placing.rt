@@ -3,7 +3,7 @@
 ghost use Rattle.std.specs.Prelude.{◌≡◌, map, IsPermutation, IfOk};
 ghost use Rattle.std.proofs.Common.{set};
 ghost use Rattle.mz_core.specs.TreeViews.{decl};
-ghost use Rattle.mz_checks.specs.Checks.{StandInSourceOrder};
+ghost use Rattle.mz_check_meaning.specs.Checks.{StandInSourceOrder};
 ghost use Rattle.mz_check.specs.StepsPlacing.{ArePlaces};
 
 use mz_base::Memory;

@@ -4,19 +4,19 @@ ghost use Rattle.std.specs.Prelude.{◌≡◌, ◌<◌, All, length, map, IfOk};
 ghost use Rattle.mz_base.specs.Names.{text_of};
 ghost use Rattle.mz_value.specs.Contents.{text_bytes, case_names};
 ghost use Rattle.mz_core.specs.Program.{plain_program};
-ghost use Rattle.mz_scoped.specs.Scoped.{scoped_tree, enum_tree};
-ghost use Rattle.mz_checks.specs.Checks.{IsProgramOf};
-ghost use Rattle.mz_headings.specs.Naming.{HasNamedCases, AreNamed};
+ghost use Rattle.mz_scope_order.specs.Scoped.{scoped_tree, enum_tree};
+ghost use Rattle.mz_check_meaning.specs.Checks.{IsProgramOf};
+ghost use Rattle.mz_check_exprs.specs.NamedModels.{HasNamedCases, AreNamed};
 ghost use Rattle.mz_check.specs.StepsParts.{sections_of};
-ghost use Rattle.mz_datum.specs.WithData.{AreNumbered};
+ghost use Rattle.mz_check_data.specs.WithData.{AreNumbered};
 ghost use Rattle.mz_check.specs.StepsProgram.{AreTexted, case_texts};
 
 use crate::parts::TypedSections;
 use crate::placing::{in_source_order, places_of};
 use mz_base::{Memory, Name, Names, Span};
+use mz_check_data::texts_of;
 use mz_core::Program;
-use mz_scoped::{Scoped, ScopedEnum};
-use mz_texts::texts_of;
+use mz_scope_order::{Scoped, ScopedEnum};
 use mz_value::{Cases, TextValue};
 use std::alloc::Global;
 

@@ -5,13 +5,13 @@ ghost use Rattle.std.specs.Option.{option_map};
 ghost use Rattle.mz_core.specs.TreeViews.{tree};
 ghost use Rattle.mz_core.specs.Program.{goal as typed_goal};
 ghost use Rattle.mz_tree.specs.Items.{goal as goal_of};
-ghost use Rattle.mz_scoped.specs.Scoped.{scoped_decl, lent_function, lent_tree, asked, scoped_tree};
-ghost use Rattle.mz_checks.specs.Items.{constraint, goal, output};
-ghost use Rattle.mz_checks.specs.Checks.{numbered, tree_place, goal_place, none_met, items_met};
-ghost use Rattle.mz_checks.specs.Passes.{Passes};
-ghost use Rattle.mz_context.specs.Known.{known};
-ghost use Rattle.mz_typing.specs.Naming.{IsNamed};
-ghost use Rattle.mz_headings.specs.Naming.{IsNamedDeclaration, IsNamedFunction, IsNamedGoal, AreNamed};
+ghost use Rattle.mz_scope_order.specs.Scoped.{scoped_decl, lent_function, lent_tree, asked, scoped_tree};
+ghost use Rattle.mz_check_meaning.specs.Items.{constraint, goal, output};
+ghost use Rattle.mz_check_meaning.specs.Checks.{numbered, tree_place, goal_place, none_met, items_met};
+ghost use Rattle.mz_check_meaning.specs.Passes.{Passes};
+ghost use Rattle.mz_check_context.specs.Known.{known};
+ghost use Rattle.mz_check_exprs.specs.Naming.{IsNamed};
+ghost use Rattle.mz_check_exprs.specs.NamedModels.{IsNamedDeclaration, IsNamedFunction, IsNamedGoal, AreNamed};
 ghost use Rattle.mz_check.specs.StepsMeeting.{met_of, places, AreTested, IsGoalKept, IsGoalTested};
 ghost use Rattle.mz_check.specs.StepsParts.{value_of_each, body_of_each, value_at, body_at, parts, AreParts, AreAllTested};
 
@@ -20,9 +20,9 @@ use crate::items::{body, constraint, expr_place, goal, output, value, value_plac
 use crate::kept::{keep_tree, keep_value};
 use crate::parts::TypedItems;
 use mz_base::{Memory, Span, Stop};
-use mz_context::Context;
+use mz_check_context::Context;
 use mz_core::{Core, CoreGoal};
-use mz_scoped::{Scoped, ScopedDecl};
+use mz_scope_order::{Scoped, ScopedDecl};
 use mz_tree::{Expr, Function, Goal};
 use std::alloc::Global;
 

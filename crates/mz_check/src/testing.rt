@@ -3,21 +3,21 @@
 ghost use Rattle.std.specs.Prelude.{◌≡◌, [], length, map};
 ghost use Rattle.std.specs.List.{flat_map};
 ghost use Rattle.std.specs.Option.{option_map};
-ghost use Rattle.mz_scoped.specs.Parts.{place_of, decl_at};
-ghost use Rattle.mz_scoped.specs.Scoped.{scoped_tree};
-ghost use Rattle.mz_checks.specs.Checks.{numbered, with_parameters, none_met, types_met, no_fault, signed};
-ghost use Rattle.mz_checks.specs.Duplicates.{duplicate_after};
-ghost use Rattle.mz_checks.specs.Passes.{Passes};
-ghost use Rattle.mz_context.specs.Known.{known};
-ghost use Rattle.mz_headings.specs.Naming.{AreNamed};
+ghost use Rattle.mz_scope_order.specs.Parts.{place_of, decl_at};
+ghost use Rattle.mz_scope_order.specs.Scoped.{scoped_tree};
+ghost use Rattle.mz_check_meaning.specs.Checks.{numbered, with_parameters, none_met, types_met, no_fault, signed};
+ghost use Rattle.mz_check_meaning.specs.Duplicates.{duplicate_after};
+ghost use Rattle.mz_check_meaning.specs.Passes.{Passes};
+ghost use Rattle.mz_check_context.specs.Known.{known};
+ghost use Rattle.mz_check_exprs.specs.NamedModels.{AreNamed};
 ghost use Rattle.mz_check.specs.StepsMeeting.{met_of, after};
 ghost use Rattle.mz_check.specs.StepsTesting.{decl_met_at, function_met_at};
 
 use crate::faults::{Met, passed, sooner};
 use mz_base::{Fault, Span, Stop};
-use mz_context::Context;
-use mz_headings::{duplicate, function_place};
-use mz_scoped::Scoped;
+use mz_check_context::Context;
+use mz_check_exprs::{duplicate, function_place};
+use mz_scope_order::Scoped;
 use std::alloc::Global;
 
 /// The place of a declaration.

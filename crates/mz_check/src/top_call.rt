@@ -4,14 +4,14 @@ ghost use Rattle.std.specs.Prelude.{◌≡◌, length, map, IfOk, IfErr};
 ghost use Rattle.std.specs.List.{flat_map};
 ghost use Rattle.mz_base.specs.Faults.{IfRefused};
 ghost use Rattle.mz_core.specs.Program.{plain_program};
-ghost use Rattle.mz_scoped.specs.Scoped.{scoped_tree, shared_names, AreDistinct, AreRanked};
-ghost use Rattle.mz_type_order.specs.Subjects.{subject, IsOrderOf};
-ghost use Rattle.mz_checks.specs.Checks.{numbered, with_parameters};
-ghost use Rattle.mz_checks.specs.Passes.{Passes};
-ghost use Rattle.mz_context.specs.Known.{known};
-ghost use Rattle.mz_headings.specs.Naming.{AreNamed};
-ghost use Rattle.mz_datum.specs.WithData.{with_values, checked_given, checked_with_data, AreNumbered, ChecksWithData, IsRefusedWithData};
-ghost use Rattle.mz_datum.specs.Views.{typed_item};
+ghost use Rattle.mz_scope_order.specs.Scoped.{scoped_tree, shared_names, AreDistinct, AreRanked};
+ghost use Rattle.mz_check_exprs.specs.Subjects.{subject, IsOrderOf};
+ghost use Rattle.mz_check_meaning.specs.Checks.{numbered, with_parameters};
+ghost use Rattle.mz_check_meaning.specs.Passes.{Passes};
+ghost use Rattle.mz_check_context.specs.Known.{known};
+ghost use Rattle.mz_check_exprs.specs.NamedModels.{AreNamed};
+ghost use Rattle.mz_check_data.specs.WithData.{with_values, checked_given, checked_with_data, AreNumbered, ChecksWithData, IsRefusedWithData};
+ghost use Rattle.mz_check_data.specs.Views.{typed_item};
 ghost use Rattle.mz_check.specs.StepsParts.{sections_of};
 
 use crate::assemble::assembled;
@@ -21,15 +21,15 @@ use crate::program::program_of;
 use crate::sections::typed_items;
 use crate::testing::{test_duplicates, test_types};
 use mz_base::{Names, Stop};
-use mz_context::Context;
+use mz_check_context::Context;
+use mz_check_data::{given_values, with_values};
+use mz_check_exprs::{Subject, type_order};
 use mz_core::{Core, Program};
-use mz_datum::{given_values, with_values};
-use mz_scoped::Scoped;
-use mz_type_order::{Subject, type_order};
+use mz_scope_order::Scoped;
 use std::alloc::Global;
 
 /// The typed sections, whose declarations have the values that data gives them.
-#[tactic(auto, unfolding(mz_datum::specs::WithData::with_values))]
+#[tactic(auto, unfolding(mz_check_data::specs::WithData::with_values))]
 fn with_data(sections: TypedSections, values: Vec<(u64, Core)>) -> TypedSections
     requires { AreNumbered (sections_of sections).decls }
     ensures { sections_of result ≡ with_values (map typed_item values.items) (sections_of sections) }
@@ -51,7 +51,7 @@ fn with_data(sections: TypedSections, values: Vec<(u64, Core)>) -> TypedSections
 }
 
 /// The typed sections of a model all of whose types are typed, with its data; or the fault that is met first.
-#[tactic(auto, unfolding(mz_datum::specs::WithData::checked_given))]
+#[tactic(auto, unfolding(mz_check_data::specs::WithData::checked_given))]
 fn checked_sections(
     alloc: Global,
     scoped: &Scoped<'_>,

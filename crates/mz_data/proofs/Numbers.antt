@@ -8,7 +8,7 @@ use Rattle.mz_base.specs.Faults.{start_of}
 use Rattle.mz_io.specs.Files.{Texts}
 use Rattle.mz_lexer.specs.declared.token.Token.{Token}
 use Rattle.mz_lexer.specs.Views.{lex}
-use Rattle.mz_cursor.specs.Tokens.{place_or}
+use Rattle.mz_grammar_rules.specs.Tokens.{place_or}
 use Rattle.mz_include.specs.Parsing.{AreTokens, end_of}
 use Rattle.mz_include.proofs.Places.{EachIn, lexed_in, after_file}
 use Rattle.mz_data.specs.DataTexts.{IsUnfitText, by_its_bytes, by_its_tokens}

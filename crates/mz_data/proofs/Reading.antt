@@ -7,8 +7,8 @@ use Rattle.mz_base.specs.declared.fault.Fault.{Fault}
 use Rattle.mz_base.specs.Names.{text_of, Grows}
 use Rattle.mz_io.specs.Files.{Texts}
 use Rattle.mz_tree.specs.Data.{Given}
-use Rattle.mz_given.specs.Named.{IsGivenWithin}
-use Rattle.mz_given.proofs.Staying.{stays}
+use Rattle.mz_data_names.specs.Named.{IsGivenWithin}
+use Rattle.mz_data_names.proofs.Staying.{stays}
 use Rattle.mz_dzn.specs.DataFile.{IsGivenIn}
 use Rattle.mz_include.specs.declared.end.GatherEnd.{GatherEnd}
 use Rattle.mz_include.specs.declared.end.GatherEnd.TheVariants.{Refused, ReadFault, Memory}

@@ -11,7 +11,7 @@ use Rattle.mz_base.specs.Faults.{IfRefused}
 use Rattle.mz_lexer.specs.declared.token.Token.{Token}
 use Rattle.mz_tree.specs.declared.data.Data.{Data}
 use Rattle.mz_tree.specs.Data.{given}
-use Rattle.mz_cursor.specs.Promise.{Answers, IsFault, fault_of, reason_of}
+use Rattle.mz_grammar_rules.specs.Promise.{Answers, IsFault, fault_of, reason_of}
 use Rattle.mz_grammar.specs.Data.{rule, dimensions_of, file}
 use Rattle.mz_dzn.specs.DataFile.{IsRefusedData}
 use Rattle.mz_include.specs.Parsing as parsing

@@ -5,7 +5,7 @@ use Rattle.mz_base.specs.declared.fault.Fault.{Fault}
 use Rattle.mz_base.specs.Names.{text_of}
 use Rattle.mz_io.specs.Files.{Texts}
 use Rattle.mz_tree.specs.Data.{Given, given}
-use Rattle.mz_given.specs.Named.{IsGivenWithin}
+use Rattle.mz_data_names.specs.Named.{IsGivenWithin}
 use Rattle.mz_include.specs.Naming.{File}
 use Rattle.mz_include.specs.Sources.{IsSources, IsFirstFailure}
 use Rattle.mz_include.specs.Views.{AreKnown}

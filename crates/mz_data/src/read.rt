@@ -5,7 +5,7 @@ ghost use Rattle.mz_base.specs.Names.{Grows, text_of};
 ghost use Rattle.mz_base.specs.declared.limit.TheConstants.{FILE_LIMIT};
 ghost use Rattle.mz_base.specs.Faults.{IfRefused as IfStopped, start_of, fault_at};
 ghost use Rattle.mz_tree.specs.Data.{given};
-ghost use Rattle.mz_given.specs.Named.{IsGivenWithin};
+ghost use Rattle.mz_data_names.specs.Named.{IsGivenWithin};
 ghost use Rattle.mz_dzn.specs.DataFile.{IsGivenIn};
 ghost use Rattle.mz_include.specs.Ends.{IfRefused, CountsFiles};
 ghost use Rattle.mz_data.specs.DataTexts.{IsDataText, IsUnfitText};

@@ -8,10 +8,10 @@ use Rattle.mz_lexer.specs.Views.{HasName}
 use Rattle.mz_tree.specs.Tree.{Name}
 use Rattle.mz_tree.specs.Data.{Given}
 use Rattle.mz_grammar.specs.Data.{Dimensions}
-use Rattle.mz_given.specs.Named.{IsGivenWithin}
-use Rattle.mz_syntax.specs.DataSyntax.{DerivesFile}
-use Rattle.mz_syntax.specs.TokenParts.{OfGiven}
-use Rattle.mz_syntax.proofs.Holds.{OfToken, known_name, data_items_hold}
+use Rattle.mz_data_names.specs.Named.{IsGivenWithin}
+use Rattle.mz_grammar_ebnf.specs.DataSyntax.{DerivesFile}
+use Rattle.mz_grammar_ebnf.specs.TokenParts.{OfGiven}
+use Rattle.mz_grammar_ebnf.proofs.Holds.{OfToken, known_name, data_items_hold}
 use Rattle.mz_dzn.specs.DataFile.{IsGivenIn}
 
 module _ (texts : List (List ℕ)) where

@@ -7,10 +7,10 @@ use Rattle.mz_base.specs.declared.kind.Kind.TheVariants.{Syntax}
 use Rattle.mz_base.specs.Faults.{fault_at}
 use Rattle.mz_lexer.specs.declared.token.Token.{Token}
 use Rattle.mz_tree.specs.Data.{Given}
-use Rattle.mz_cursor.specs.Rules.{syntax}
-use Rattle.mz_cursor.specs.Promise.{IsWithin, IsUnfit}
+use Rattle.mz_grammar_rules.specs.Rules.{syntax}
+use Rattle.mz_grammar_rules.specs.Promise.{IsWithin, IsUnfit}
 use Rattle.mz_grammar.specs.Data.{rule, dimensions_of, file}
-use Rattle.mz_syntax.specs.DataSyntax.{DerivesFile}
+use Rattle.mz_grammar_ebnf.specs.DataSyntax.{DerivesFile}
 
 -- these are the items of a data file with these tokens
 abbrev pub IsDataFile : List (List ℕ) → List Token → List Given → Type 0

@@ -4,8 +4,8 @@ use Rattle.mz_core.specs.declared.tree.Core.{Core}
 use Rattle.mz_core.specs.declared.tree.CoreDecl.{CoreDecl}
 use Rattle.mz_core.specs.Tree.{Tree, Decl}
 use Rattle.mz_core.specs.TreeViews.{tree, decl}
-use Rattle.mz_cells.specs.declared.types.Known.{Known}
-use Rattle.mz_cells.specs.Views.{cell_of, cells_of}
+use Rattle.mz_eval_cells.specs.declared.types.Known.{Known}
+use Rattle.mz_eval_cells.specs.Views.{cell_of, cells_of}
 use Rattle.mz_meaning.specs.Cells.{Cell}
 use Rattle.mz_meaning.specs.Calls.{arguments}
 

@@ -7,8 +7,8 @@ use Rattle.mz_meaning.specs.Cells.{Cell, Env}
 use Rattle.mz_meaning.specs.Contexts.{Untested}
 use Rattle.mz_meaning.specs.Chains.{Operator, Innermost, with_innermost, chained, innermost_of, chain_level, same_level, backed, operand_base}
 use Rattle.mz_meaning.specs.Forms.{World, Eval, coerced_by, operated, operators, operand_place, chain, chain_by}
-use Rattle.mz_steps.specs.Operators.{operator_step}
-use Rattle.mz_chains.proofs.Runs.{regroup}
+use Rattle.mz_eval_nodes.specs.Operators.{operator_step}
+use Rattle.mz_eval_chains.proofs.Runs.{regroup}
 
 pub operators_next : (w : World) (go : Eval) (env : Env) (at : Span) (left : Cell) (o : Operator) (os : List Operator) (s : State) → operators w go Untested env at left (o ∷ os) s ≡ then_do (operator_step w go env at left o s) (λ next. operators w go Untested env o.at next os)
 operators_next w go env at left o os s = regroup (coerced_by w at o.step.left left s) (λ a. go Untested o.step.operand env) (λ a c. coerced_by w (operand_place o.step) o.step.right c) (λ a c b. operated w o.at o.step.ty o.step.row (operand_base o.step) (a ∷ b ∷ [])) (λ next. operators w go Untested env o.at next os)

@@ -9,10 +9,10 @@ use Rattle.mz_meaning.specs.Cells.{Cell, Env}
 use Rattle.mz_meaning.specs.Contexts.{Untested}
 use Rattle.mz_meaning.specs.Forms.{World}
 use Rattle.mz_meaning.specs.Evaluation.{eval}
-use Rattle.mz_frames.specs.Runs.{Meets, at_work}
+use Rattle.mz_eval_scopes.specs.Runs.{Meets, at_work}
 use Rattle.mz_eval.specs.Answers.{StopsAtFewKinds}
-use Rattle.mz_spending.specs.Spending.{EndsWithin}
-use Rattle.mz_spending.proofs.Budgets.{ends_within}
+use Rattle.mz_meaning_laws.specs.Spending.{EndsWithin}
+use Rattle.mz_meaning_laws.proofs.Budgets.{ends_within}
 
 pub meets_few : {A B : Type 0} (see : A → B) (r : Result A Stop) (n : ℕ) (s : State) (run : Run B) → IsEvaluation run → Meets see r n (run s) → StopsAtFewKinds r
 meets_few see (Ok x) n s run w h = tt

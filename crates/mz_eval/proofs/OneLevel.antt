@@ -16,8 +16,8 @@ use Rattle.mz_meaning.specs.Arrays.{fitted}
 use Rattle.mz_meaning.specs.Lets.{Names, names_in, with_local, index_wants, want}
 use Rattle.mz_meaning.specs.Calls.{parameter}
 use Rattle.mz_meaning.specs.Evaluation.{eval, node, is_name}
-use Rattle.mz_steps.specs.Operators.{argument, suited}
-use Rattle.mz_chains.proofs.Runs.{regroup}
+use Rattle.mz_eval_nodes.specs.Operators.{argument, suited}
+use Rattle.mz_eval_chains.proofs.Runs.{regroup}
 
 pub eval_end : (w : World) (left : ℕ) (e b : Core) (env : Env) (s : State) → left ≡ 0 → inner_tree (tree e) ≡ tree b → eval w left Untested (tree e) env s ≡ stop Depth b.span (pos 601) s
 unfolding eval

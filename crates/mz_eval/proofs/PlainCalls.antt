@@ -6,8 +6,8 @@ use Rattle.mz_core.specs.declared.tree.CoreDecl.{CoreDecl}
 use Rattle.mz_core.specs.Program.{Function}
 use Rattle.mz_core.specs.Tree.{Tree, Decl, place_of}
 use Rattle.mz_core.specs.TreeViews.{tree, decl}
-use Rattle.mz_frames.specs.declared.types.World.{World as FrameWorld}
-use Rattle.mz_frames.specs.Views.{world_of}
+use Rattle.mz_eval_scopes.specs.declared.types.World.{World as FrameWorld}
+use Rattle.mz_eval_scopes.specs.Views.{world_of}
 use Rattle.mz_meaning.specs.Runs.{State, Answer, Out, Stopped, Run, ◌>>=◌, then_do, give, loop}
 use Rattle.mz_meaning.specs.Cells.{Cell, Env, Sure, sure, both_sure, bind, bind_all}
 use Rattle.mz_meaning.specs.Arrays.{Anything, fitted}
@@ -15,7 +15,7 @@ use Rattle.mz_meaning.specs.Contexts.{Untested}
 use Rattle.mz_meaning.specs.Forms.{World, Eval, part, parts}
 use Rattle.mz_meaning.specs.Lets.{Names, nothing_bound, names_in, with_local, index_wants, want, all_have_sets}
 use Rattle.mz_meaning.specs.Calls.{argument_suits, arguments, parameter, called, call_of, call}
-use Rattle.mz_chains.proofs.Runs.{then_again, then_same}
+use Rattle.mz_eval_chains.proofs.Runs.{then_again, then_same}
 use Rattle.mz_eval.specs.Calls.{called_in}
 use Rattle.mz_eval.specs.PlainCalls.{IsPlain, ArePlain, IsPlainAt, all_suit, with_arguments, called_on}
 

@@ -10,18 +10,18 @@ ghost use Rattle.mz_meaning.specs.Contexts.{Untested};
 ghost use Rattle.mz_meaning.specs.Arrays.{branch_cell};
 ghost use Rattle.mz_meaning.specs.Forms.{is_met, open_branch, last_branch, otherwise, branches};
 ghost use Rattle.mz_meaning.specs.Evaluation.{eval};
-ghost use Rattle.mz_cells.specs.Views.{cell_of, test_if};
-ghost use Rattle.mz_arrays.specs.Gathered.{pairs_of};
-ghost use Rattle.mz_frames.specs.Runs.{Meets, at_work};
-ghost use Rattle.mz_frames.specs.Views.{world_of, env_of};
+ghost use Rattle.mz_eval_cells.specs.Views.{cell_of, test_if};
+ghost use Rattle.mz_eval_arrays.specs.Gathered.{pairs_of};
+ghost use Rattle.mz_eval_scopes.specs.Runs.{Meets, at_work};
+ghost use Rattle.mz_eval_scopes.specs.Views.{world_of, env_of};
 
 use crate::forms::eval_expression;
-use mz_arrays::branch_cell;
 use mz_base::{Span, Stop};
-use mz_cells::{Item, Known, one, test_of};
 use mz_core::{Core, TypeInst};
-use mz_frames::{Scope, World, spend};
-use mz_steps::with_branch;
+use mz_eval_arrays::branch_cell;
+use mz_eval_cells::{Item, Known, one, test_of};
+use mz_eval_nodes::with_branch;
+use mz_eval_scopes::{Scope, World, spend};
 use std::alloc::Global;
 
 // Branches with their conditions.

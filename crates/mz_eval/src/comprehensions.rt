@@ -8,23 +8,23 @@ ghost use Rattle.mz_meaning.specs.Cells.{Bare};
 ghost use Rattle.mz_meaning.specs.Contexts.{Untested};
 ghost use Rattle.mz_meaning.specs.Comprehensions.{added, where_, names, generators, comprehension};
 ghost use Rattle.mz_meaning.specs.Evaluation.{eval};
-ghost use Rattle.mz_cells.specs.Views.{cell_of};
-ghost use Rattle.mz_arrays.specs.Gathered.{occurs_if, elements_of};
-ghost use Rattle.mz_frames.specs.Runs.{Meets, at_work};
-ghost use Rattle.mz_frames.specs.Views.{world_of, env_of};
-ghost use Rattle.mz_steps.specs.Views.{made_of, turn_of};
-ghost use Rattle.mz_steps.specs.Operators.{turn};
+ghost use Rattle.mz_eval_cells.specs.Views.{cell_of};
+ghost use Rattle.mz_eval_arrays.specs.Gathered.{occurs_if, elements_of};
+ghost use Rattle.mz_eval_scopes.specs.Runs.{Meets, at_work};
+ghost use Rattle.mz_eval_scopes.specs.Views.{world_of, env_of};
+ghost use Rattle.mz_eval_nodes.specs.Views.{made_of, turn_of};
+ghost use Rattle.mz_eval_nodes.specs.Operators.{turn};
 
 use crate::forms::eval_expression;
-use mz_arrays::{Elements, elements_in};
 use mz_base::{Span, Stop};
-use mz_cells::{Known, test_of};
-use mz_chains::base_of;
 use mz_core::{Core, CoreGen, TypeInst};
-use mz_frames::{Scope, World, done, spend};
-use mz_steps::{
+use mz_eval_arrays::{Elements, elements_in};
+use mz_eval_cells::{Known, test_of};
+use mz_eval_chains::base_of;
+use mz_eval_nodes::{
     Made, Turn, add_element, add_set, all_turns, both_surely, comprehended, next_turn, nothing_made,
 };
+use mz_eval_scopes::{Scope, World, done, spend};
 use std::alloc::Global;
 
 // A comprehension.

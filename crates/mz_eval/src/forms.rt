@@ -10,10 +10,10 @@ ghost use Rattle.mz_meaning.specs.Contexts.{Untested};
 ghost use Rattle.mz_meaning.specs.Operations.{row_at};
 ghost use Rattle.mz_meaning.specs.Forms.{done, parts, text_at, text_cell, all_cases, builtin, array, row_of_parts, table, set, access};
 ghost use Rattle.mz_meaning.specs.Evaluation.{eval, node};
-ghost use Rattle.mz_cells.specs.Views.{cell_of, cells_of};
-ghost use Rattle.mz_arrays.specs.Gathered.{gathered};
-ghost use Rattle.mz_frames.specs.Runs.{Meets, at_work};
-ghost use Rattle.mz_frames.specs.Views.{world_of, env_of};
+ghost use Rattle.mz_eval_cells.specs.Views.{cell_of, cells_of};
+ghost use Rattle.mz_eval_arrays.specs.Gathered.{gathered};
+ghost use Rattle.mz_eval_scopes.specs.Runs.{Meets, at_work};
+ghost use Rattle.mz_eval_scopes.specs.Views.{world_of, env_of};
 ghost use Rattle.mz_eval.specs.Rows.{with_row};
 
 use crate::calls::eval_call;
@@ -21,14 +21,14 @@ use crate::choices::eval_if;
 use crate::comprehensions::eval_comprehension;
 use crate::locals::eval_let;
 use crate::operators::eval_chain;
-use mz_access::access_cell;
-use mz_arrays::{Gathered, gathered_with, line_cell, nothing_gathered, set_cell, table_cell};
 use mz_base::{Fault, Kind, Name, Span, Stop};
-use mz_cells::{Item, Known, one, undefined};
-use mz_chains::{finished, inner};
 use mz_core::{Base, Core, CoreForm, TypeInst};
-use mz_frames::{Scope, World, all_cases, at_slot, done, literal_text, spend};
-use mz_steps::{arguments_base, operated_all, operated_one, operated_two};
+use mz_eval_access::access_cell;
+use mz_eval_arrays::{Gathered, gathered_with, line_cell, nothing_gathered, set_cell, table_cell};
+use mz_eval_cells::{Item, Known, one, undefined};
+use mz_eval_chains::{finished, inner};
+use mz_eval_nodes::{arguments_base, operated_all, operated_one, operated_two};
+use mz_eval_scopes::{Scope, World, all_cases, at_slot, done, literal_text, spend};
 use std::alloc::Global;
 
 // An expression below which this many levels of nesting are left.

@@ -10,5 +10,5 @@ mod operators;
 mod plain_calls;
 mod top_call;
 
-pub use mz_frames::Env;
+pub use mz_eval_scopes::Env;
 pub use top_call::{evaluated, value};

@@ -11,22 +11,22 @@ ghost use Rattle.mz_meaning.specs.Contexts.{Untested};
 ghost use Rattle.mz_meaning.specs.Arrays.{declared_count};
 ghost use Rattle.mz_meaning.specs.Lets.{want, index_want, index_wants, names_in, given_value, declared, let_item, let_of};
 ghost use Rattle.mz_meaning.specs.Evaluation.{eval};
-ghost use Rattle.mz_cells.specs.Views.{cell_of};
-ghost use Rattle.mz_declared.specs.Wants.{wanted, wants_of, local_of};
-ghost use Rattle.mz_frames.specs.Runs.{Meets, at_work};
-ghost use Rattle.mz_frames.specs.Views.{world_of, env_of};
-ghost use Rattle.mz_steps.specs.Views.{names_of};
+ghost use Rattle.mz_eval_cells.specs.Views.{cell_of};
+ghost use Rattle.mz_eval_domains.specs.Wants.{wanted, wants_of, local_of};
+ghost use Rattle.mz_eval_scopes.specs.Runs.{Meets, at_work};
+ghost use Rattle.mz_eval_scopes.specs.Views.{world_of, env_of};
+ghost use Rattle.mz_eval_nodes.specs.Views.{names_of};
 ghost use Rattle.mz_meaning.specs.Lets as lets;
 ghost use Rattle.mz_meaning.specs.Cells as meaning;
 
 use crate::forms::eval_expression;
 use mz_base::{Span, Stop};
-use mz_cells::{Known, Sure, guarded, undefined};
-use mz_chains::place_of;
 use mz_core::{Core, CoreDecl, CoreItem, TypeInst};
-use mz_declared::{Want, chosen, index_want, kept, want_of};
-use mz_frames::{Scope, World, done};
-use mz_steps::{Names, constrained, counted, nothing_bound, with_local};
+use mz_eval_cells::{Known, Sure, guarded, undefined};
+use mz_eval_chains::place_of;
+use mz_eval_domains::{Want, chosen, index_want, kept, want_of};
+use mz_eval_nodes::{Names, constrained, counted, nothing_bound, with_local};
+use mz_eval_scopes::{Scope, World, done};
 use std::alloc::Global;
 
 // A let.

@@ -7,19 +7,21 @@ ghost use Rattle.mz_meaning.specs.Contexts.{Untested};
 ghost use Rattle.mz_meaning.specs.Chains.{with_innermost, chained};
 ghost use Rattle.mz_meaning.specs.Forms.{chain, chain_by, operators, append_operand};
 ghost use Rattle.mz_meaning.specs.Evaluation.{eval};
-ghost use Rattle.mz_cells.specs.Views.{cell_of};
-ghost use Rattle.mz_frames.specs.Runs.{Meets, at_work};
-ghost use Rattle.mz_frames.specs.Views.{world_of, env_of};
-ghost use Rattle.mz_chains.specs.Innermosts.{operator_of, innermost_of};
-ghost use Rattle.mz_steps.specs.Operators.{operator_step, appended_of};
+ghost use Rattle.mz_eval_cells.specs.Views.{cell_of};
+ghost use Rattle.mz_eval_scopes.specs.Runs.{Meets, at_work};
+ghost use Rattle.mz_eval_scopes.specs.Views.{world_of, env_of};
+ghost use Rattle.mz_eval_chains.specs.Innermosts.{operator_of, innermost_of};
+ghost use Rattle.mz_eval_nodes.specs.Operators.{operator_step, appended_of};
 
 use crate::forms::eval_expression;
 use mz_base::{Span, Stop};
-use mz_cells::Known;
-use mz_chains::{Innermost, Operator, all_operators, has_innermost, is_appended, place_of};
 use mz_core::{Core, CoreStep};
-use mz_frames::{Scope, World};
-use mz_steps::{Appended, append_operand, appended_nodes, nothing_appended, operated_on, prepared};
+use mz_eval_cells::Known;
+use mz_eval_chains::{Innermost, Operator, all_operators, has_innermost, is_appended, place_of};
+use mz_eval_nodes::{
+    Appended, append_operand, appended_nodes, nothing_appended, operated_on, prepared,
+};
+use mz_eval_scopes::{Scope, World};
 use std::alloc::Global;
 
 // The operators of a chain.

@@ -8,17 +8,17 @@ ghost use Rattle.mz_meaning.specs.Cells.{sure};
 ghost use Rattle.mz_meaning.specs.Arrays.{Anything};
 ghost use Rattle.mz_meaning.specs.Calls.{argument_suits};
 ghost use Rattle.mz_meaning.specs.Evaluation.{eval};
-ghost use Rattle.mz_cells.specs.Views.{cell_of, sure_of};
-ghost use Rattle.mz_frames.specs.Runs.{Meets, at_work};
-ghost use Rattle.mz_frames.specs.Views.{world_of, env_of};
+ghost use Rattle.mz_eval_cells.specs.Views.{cell_of, sure_of};
+ghost use Rattle.mz_eval_scopes.specs.Runs.{Meets, at_work};
+ghost use Rattle.mz_eval_scopes.specs.Views.{world_of, env_of};
 ghost use Rattle.mz_eval.specs.PlainCalls.{IsPlain, ArePlain, IsPlainAt, called_on};
 
 use crate::calls::{eval_called, function_at};
 use crate::forms::{eval_expression, eval_parts};
 use mz_base::{Span, Stop};
-use mz_cells::{Known, Sure, both_sure, surely, there};
 use mz_core::{Core, CoreDecl, CoreFunction, Program};
-use mz_frames::{Scope, World};
+use mz_eval_cells::{Known, Sure, both_sure, surely, there};
+use mz_eval_scopes::{Scope, World};
 use std::alloc::Global;
 
 // whether an argument suits its parameter, which has no declared set

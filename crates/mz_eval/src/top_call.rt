@@ -10,16 +10,16 @@ ghost use Rattle.mz_meaning.specs.Runs.{give, then_do};
 ghost use Rattle.mz_meaning.specs.Cells.{value_of};
 ghost use Rattle.mz_meaning.specs.Contexts.{Untested};
 ghost use Rattle.mz_meaning.specs.Evaluation.{eval};
-ghost use Rattle.mz_cells.specs.Views.{cell_of};
-ghost use Rattle.mz_frames.specs.Runs.{Meets, at_work};
-ghost use Rattle.mz_frames.specs.Views.{env_cells, world_for, world_of};
+ghost use Rattle.mz_eval_cells.specs.Views.{cell_of};
+ghost use Rattle.mz_eval_scopes.specs.Runs.{Meets, at_work};
+ghost use Rattle.mz_eval_scopes.specs.Views.{env_cells, world_for, world_of};
 ghost use Rattle.mz_eval.specs.Answers.{StopsAtFewKinds};
 
 use crate::forms::eval_expression;
 use mz_base::{Depth, Steps, Stop};
-use mz_cells::Known;
 use mz_core::{Core, Program};
-use mz_frames::{Env, Scope, World};
+use mz_eval_cells::Known;
+use mz_eval_scopes::{Env, Scope, World};
 use mz_value::Value;
 use std::alloc::Global;
 

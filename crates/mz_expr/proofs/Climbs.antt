@@ -8,10 +8,10 @@ use Rattle.mz_base.specs.declared.stop.Stop.TheVariants.{Refused, Memory}
 use Rattle.mz_lexer.specs.declared.token.Token.{Token}
 use Rattle.mz_lexer.specs.declared.token.Tok.{Tok}
 use Rattle.mz_tree.specs.declared.expr.BinOp.{BinOp}
-use Rattle.mz_cursor.specs.Tokens.{tok_at}
-use Rattle.mz_cursor.specs.Promise.{Stops}
-use Rattle.mz_cursor.specs.Reading.{Read, mapped, ◌>>=◌}
-use Rattle.mz_cursor.proofs.Steps.{grouped, same_then, itself}
+use Rattle.mz_grammar_rules.specs.Tokens.{tok_at}
+use Rattle.mz_grammar_rules.specs.Promise.{Stops}
+use Rattle.mz_grammar_rules.specs.Reading.{Read, mapped, ◌>>=◌}
+use Rattle.mz_grammar_rules.proofs.Steps.{grouped, same_then, itself}
 use Rattle.mz_grammar.specs.declared.level.Level.{Level}
 use Rattle.mz_grammar.specs.declared.level.Level.TheVariants as level
 use Rattle.mz_grammar.specs.Operators.{operator_of, if_level, binary_of, level_number, tighter_level}
@@ -21,7 +21,7 @@ use Rattle.mz_grammar.specs.Reading.{reads, operand_rank}
 use Rattle.mz_grammar.proofs.Equations.{level_reads, operand_reads, operators_reads}
 use Rattle.mz_expr.specs.declared.parser.descent.Entry.{Entry}
 use Rattle.mz_expr.specs.declared.parser.descent.Entry.TheVariants as entry_is
-use Rattle.mz_operand.specs.Levels.{if_within, next_level}
+use Rattle.mz_expr_operands.specs.Levels.{if_within, next_level}
 use Rattle.mz_expr.specs.StepsClimb.{numbered, levels, with_operators, climbing}
 use Rattle.mz_expr.specs.Descent.{extent}
 

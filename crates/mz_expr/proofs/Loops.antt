@@ -7,15 +7,15 @@ use Rattle.mz_base.specs.declared.keyword.Keyword.TheVariants.{KElseif}
 use Rattle.mz_tree.specs.declared.expr.BinOp.{BinOp}
 use Rattle.mz_tree.specs.Tree.{Tree, Maybe, Part}
 use Rattle.mz_tree.specs.Tree as pure
-use Rattle.mz_cursor.specs.Tokens.{tok_at, behind}
-use Rattle.mz_cursor.specs.Look.{is_word}
+use Rattle.mz_grammar_rules.specs.Tokens.{tok_at, behind}
+use Rattle.mz_grammar_rules.specs.Look.{is_word}
 use Rattle.mz_base.specs.declared.fault.Span.{Span}
 use Rattle.mz_base.specs.declared.stop.Stop.{Stop}
 use Rattle.mz_base.specs.declared.stop.Stop.TheVariants.{Refused, Memory}
-use Rattle.mz_cursor.specs.Promise.{Gives}
-use Rattle.mz_cursor.specs.Rules.{syntax}
-use Rattle.mz_cursor.specs.Reading.{Read, mapped, with_prefix, on, stuck}
-use Rattle.mz_cursor.proofs.Steps.{prefix_prefix, prefix_more}
+use Rattle.mz_grammar_rules.specs.Promise.{Gives}
+use Rattle.mz_grammar_rules.specs.Rules.{syntax}
+use Rattle.mz_grammar_rules.specs.Reading.{Read, mapped, with_prefix, on, stuck}
+use Rattle.mz_grammar_rules.proofs.Steps.{prefix_prefix, prefix_more}
 use Rattle.mz_grammar.specs.Parts as parts
 use Rattle.mz_grammar.specs.Parts.{Operand, tree_of}
 use Rattle.mz_grammar.specs.Tests.{middle_of, tail_of}

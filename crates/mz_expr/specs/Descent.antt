@@ -3,17 +3,17 @@ use Rattle.std.specs.Prelude.{ℕ, ◌+◌, ◌*◌, ◌<◌, ◌≤◌, Bool, t
 use Rattle.std.specs.declared.alloc.Global.{Global}
 use denote.Ref.{MutBor}
 use Rattle.mz_base.specs.declared.stop.Stop.{Stop}
-use Rattle.mz_cursor.specs.declared.cursor.Cursor.{Cursor}
-use Rattle.mz_cursor.specs.Reads.{Reads}
-use Rattle.mz_cursor.specs.Reading.{Read, Reader, mapped, on}
+use Rattle.mz_grammar_rules.specs.declared.cursor.Cursor.{Cursor}
+use Rattle.mz_grammar_rules.specs.Reads.{Reads}
+use Rattle.mz_grammar_rules.specs.Reading.{Read, Reader, mapped, on}
 use Rattle.mz_grammar.specs.declared.level.Level.{Level}
 use Rattle.mz_grammar.specs.Operators.{tighter_level}
 use Rattle.mz_grammar.specs.Parts as parts
 use Rattle.mz_grammar.specs.Reading.{reads, operand_rank}
 use Rattle.mz_expr.specs.declared.parser.descent.Entry.{Entry}
 use Rattle.mz_expr.specs.declared.parser.descent.Entry.TheVariants as entry_is
-use Rattle.mz_operand.specs.declared.operand.Operand.{Operand}
-use Rattle.mz_operand.specs.Views.{operand}
+use Rattle.mz_expr_operands.specs.declared.operand.Operand.{Operand}
+use Rattle.mz_expr_operands.specs.Views.{operand}
 
 -- what is read from an entry on
 abbrev pub entry_at : Entry → ℕ → Reader parts.Operand

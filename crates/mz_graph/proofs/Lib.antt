@@ -7,3 +7,8 @@ pub mod OneOrder
 pub mod Placing
 pub mod Tables
 pub mod Visits
+pub mod Cycles
+pub mod Joining
+pub mod Layered
+pub mod Needed
+pub mod Reading

@@ -3,3 +3,7 @@ pub mod Graph
 pub mod Order
 pub mod StepsSearch
 pub mod StepsTurns
+pub mod Depends
+pub mod Evaluation
+pub mod Members
+pub mod StepsLayers

@@ -8,8 +8,8 @@ use Rattle.mz_lexer.specs.declared.token.Token.{Token}
 use Rattle.mz_lexer.specs.Views.{lex, HasName}
 use Rattle.mz_tree.specs.Tree.{Name}
 use Rattle.mz_tree.specs.Items.{ItemTree, include, declare, assign, constraint, solve, output, function, enum, annotation}
-use Rattle.mz_syntax.proofs.Holds.{OfToken, known_name, items_hold}
-use Rattle.mz_syntax.proofs.ModelMeans.{models_derived}
+use Rattle.mz_grammar_ebnf.proofs.Holds.{OfToken, known_name, items_hold}
+use Rattle.mz_grammar_ebnf.proofs.ModelMeans.{models_derived}
 use Rattle.mz_parser.specs.Model.{IsModel}
 use Rattle.mz_include.specs.Trees.{IsItemOf, IsIncludeKnown}
 use Rattle.mz_include.specs.Parsing.{AreTokens}

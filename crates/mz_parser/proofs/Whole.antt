@@ -12,14 +12,14 @@ use Rattle.mz_lexer.specs.declared.token.Token.{Token}
 use Rattle.mz_tree.specs.declared.item.Item.{Item}
 use Rattle.mz_tree.specs.Height.{most, most_in_a_file}
 use Rattle.mz_tree.specs.Items.{ItemTree, item, item_height, items_height}
-use Rattle.mz_cursor.specs.Promise.{Gives, IsLongestPrefix}
+use Rattle.mz_grammar_rules.specs.Promise.{Gives, IsLongestPrefix}
 use Rattle.mz_grammar.specs.Model.{rule}
 use Rattle.mz_grammar.specs.Parts
 use Rattle.mz_grammar.specs.Reading.{reads}
 use Rattle.mz_grammar.proofs.Viability.{answers}
-use Rattle.mz_syntax.specs.ModelSyntax.{DerivesModel}
-use Rattle.mz_syntax.proofs.ModelMeans.{models_derived}
-use Rattle.mz_syntax.proofs.Heights.{items_are_high}
+use Rattle.mz_grammar_ebnf.specs.ModelSyntax.{DerivesModel}
+use Rattle.mz_grammar_ebnf.proofs.ModelMeans.{models_derived}
+use Rattle.mz_grammar_ebnf.proofs.Heights.{items_are_high}
 use Rattle.mz_parser.specs.Model.{IsModel, IsItems}
 
 -- a prefix that nothing follows is the whole file

@@ -5,7 +5,7 @@ ghost use Rattle.std.specs.Prelude.{◌≤◌, map, IfOk};
 ghost use Rattle.mz_base.specs.declared.limit.TheConstants.{OPEN_LIMIT};
 ghost use Rattle.mz_tree.specs.declared.height.TheConstants.{HEIGHT_LIMIT};
 ghost use Rattle.mz_tree.specs.Items.{item, items_height};
-ghost use Rattle.mz_syntax.specs.ModelSyntax.{DerivesModel};
+ghost use Rattle.mz_grammar_ebnf.specs.ModelSyntax.{DerivesModel};
 ghost use Rattle.mz_parser.specs.Model.{IsItems};
 
 mod enums;
@@ -16,7 +16,7 @@ mod token;
 
 use crate::file::all_items;
 use mz_base::{Span, Stop};
-use mz_cursor::Cursor;
+use mz_grammar_rules::Cursor;
 use mz_lexer::Token;
 use mz_tree::Item;
 use std::alloc::Global;

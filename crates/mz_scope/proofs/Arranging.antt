@@ -17,19 +17,19 @@ use Rattle.mz_tree.specs.Items.{ItemTree}
 use Rattle.mz_tree.specs.Data.{Given}
 use Rattle.mz_graph.specs.Graph.{IsIn}
 use Rattle.mz_graph.proofs.Membership.{in_at}
-use Rattle.mz_occurrence.specs.Given.{occurrences}
-use Rattle.mz_occurrence.specs.Sets.{holds}
-use Rattle.mz_uses.specs.declared.name_use.NameUse.{NameUse}
-use Rattle.mz_uses.specs.Uses.{in_tree}
-use Rattle.mz_uses.specs.Sketches.{Sketch, decl_sketch, function_sketch}
-use Rattle.mz_dependency.specs.Dependencies.{sketch_at, meant_by, IsUsed, RefersTo, AreRanks, HaveRanks, IsSequence, IsStuckAt, IsBackAt}
-use Rattle.mz_dependency.specs.declared.sequence.Sequence.{Sequence}
-use Rattle.mz_dependency.specs.declared.sequence.Sequence.TheVariants.{Ordered, CyclicDecl, CyclicFunction}
-use Rattle.mz_dependency.specs.Answer.{IsAnswer}
-use Rattle.mz_scoped.specs.declared.parts.ModelParts.{ModelParts}
-use Rattle.mz_scoped.specs.declared.scoped.ScopedDecl.{ScopedDecl}
-use Rattle.mz_scoped.specs.Parts.{name_of, place_of, decl_at, function_at}
-use Rattle.mz_scoped.specs.Scoped.{ScopedTree, AreDistinct, shared_names, scoped_decl, lent_function, parts_tree, source_parts, IsScoped, AreRanked, IsCyclic, at_decl, at_function}
+use Rattle.mz_scope_names.specs.Given.{occurrences}
+use Rattle.mz_scope_names.specs.Sets.{holds}
+use Rattle.mz_scope_uses.specs.declared.name_use.NameUse.{NameUse}
+use Rattle.mz_scope_uses.specs.Uses.{in_tree}
+use Rattle.mz_scope_uses.specs.Sketches.{Sketch, decl_sketch, function_sketch}
+use Rattle.mz_scope_order.specs.Dependencies.{sketch_at, meant_by, IsUsed, RefersTo, AreRanks, HaveRanks, IsSequence, IsStuckAt, IsBackAt}
+use Rattle.mz_scope_order.specs.declared.sequence.Sequence.{Sequence}
+use Rattle.mz_scope_order.specs.declared.sequence.Sequence.TheVariants.{Ordered, CyclicDecl, CyclicFunction}
+use Rattle.mz_scope_order.specs.Answer.{IsAnswer}
+use Rattle.mz_scope_order.specs.declared.parts.ModelParts.{ModelParts}
+use Rattle.mz_scope_order.specs.declared.scoped.ScopedDecl.{ScopedDecl}
+use Rattle.mz_scope_order.specs.Parts.{name_of, place_of, decl_at, function_at}
+use Rattle.mz_scope_order.specs.Scoped.{ScopedTree, AreDistinct, shared_names, scoped_decl, lent_function, parts_tree, source_parts, IsScoped, AreRanked, IsCyclic, at_decl, at_function}
 use Rattle.mz_scope.specs.StepsScope.{IsArranged, HasCycle, of_decl, of_function}
 use Rattle.mz_scope.proofs.Turned.{in_order_counted, all_counted}
 use Rattle.mz_scope.proofs.Distinct.{HavePassed}

@@ -5,8 +5,8 @@ use Rattle.std.specs.List.{flat_map}
 use Rattle.std.proofs.lemmas.Bool.{eqb-true, eq-eqb}
 use Rattle.std.proofs.lemmas.List.{map-append}
 use Rattle.std.proofs.lemmas.Grind.{flat_map-append}
-use Rattle.mz_occurrence.specs.Sets.{holds}
-use Rattle.mz_scoped.specs.Scoped.{AreDistinct}
+use Rattle.mz_scope_names.specs.Sets.{holds}
+use Rattle.mz_scope_order.specs.Scoped.{AreDistinct}
 
 abbrev pub one_if : Bool → ℕ
 one_if true = 1

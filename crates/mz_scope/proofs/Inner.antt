@@ -6,13 +6,13 @@ use Rattle.mz_base.specs.declared.fault.Span.{Span}
 use Rattle.mz_tree.specs.Tree as pure
 use Rattle.mz_tree.specs.Tree.{Name, Tree, Shape, Maybe, Trees, Links, Rows, Branches, Part, Parts, Generator, Gens, Let, Lets, Declaration, Written, Based, Dims, Bases}
 use Rattle.mz_tree.specs.Items.{GoalTree, satisfy, minimize, maximize}
-use Rattle.mz_occurrence.specs.declared.occurrence.Occurrence.{Occurrence}
-use Rattle.mz_occurrence.specs.declared.occurrence.Role.{Role}
-use Rattle.mz_occurrence.specs.declared.occurrence.Role.TheVariants.{Used, Local, Lacking}
-use Rattle.mz_occurrence.specs.Roles.{occurs}
-use Rattle.mz_occurrence.specs.Occurrences.{bound, is_par, lack, in_tree, in_shape, in_maybe, in_trees, in_links, in_rows, in_branches, in_part, in_parts, in_generator, in_gens, in_let, in_lets, in_local, in_written, in_based, in_dims, in_bases, in_parameter, in_goal}
-use Rattle.mz_occurrence.proofs.Lists.{flat_of_both}
-use Rattle.mz_spaces.specs.Spaces.{name_in, names_with}
+use Rattle.mz_scope_names.specs.declared.occurrence.Occurrence.{Occurrence}
+use Rattle.mz_scope_names.specs.declared.occurrence.Role.{Role}
+use Rattle.mz_scope_names.specs.declared.occurrence.Role.TheVariants.{Used, Local, Lacking}
+use Rattle.mz_scope_names.specs.Roles.{occurs}
+use Rattle.mz_scope_names.specs.Occurrences.{bound, is_par, lack, in_tree, in_shape, in_maybe, in_trees, in_links, in_rows, in_branches, in_part, in_parts, in_generator, in_gens, in_let, in_lets, in_local, in_written, in_based, in_dims, in_bases, in_parameter, in_goal}
+use Rattle.mz_scope_names.proofs.Lists.{flat_of_both}
+use Rattle.mz_scope_faults.specs.Spaces.{name_in, names_with}
 
 module _ (has : Role → Bool) (used : has Used ≡ false) (local : has Local ≡ false) (lacking : has Lacking ≡ false) where
   abbrev IsBare : List Occurrence → Type 0

@@ -8,13 +8,13 @@ use Rattle.mz_tree.specs.Tree.{Name}
 use Rattle.mz_tree.specs.Items.{ItemTree}
 use Rattle.mz_tree.specs.Data as pure
 use Rattle.mz_tree.specs.Data.{Value, Values, Given}
-use Rattle.mz_occurrence.specs.declared.occurrence.Occurrence.{Occurrence}
-use Rattle.mz_occurrence.specs.declared.occurrence.Role.TheVariants.{Declared, Valued, Listed, Misfit}
-use Rattle.mz_occurrence.specs.Roles.{occurs}
-use Rattle.mz_occurrence.specs.Occurrences.{of_case, in_item}
-use Rattle.mz_occurrence.specs.Given.{with_identifier, identifiers, cases_in, enum_of, listed, in_given, occurrences}
-use Rattle.mz_occurrence.specs.Sets.{holds}
-use Rattle.mz_given.specs.Named.{names_in, names_in_all, IsGivenWithin}
+use Rattle.mz_scope_names.specs.declared.occurrence.Occurrence.{Occurrence}
+use Rattle.mz_scope_names.specs.declared.occurrence.Role.TheVariants.{Declared, Valued, Listed, Misfit}
+use Rattle.mz_scope_names.specs.Roles.{occurs}
+use Rattle.mz_scope_names.specs.Occurrences.{of_case, in_item}
+use Rattle.mz_scope_names.specs.Given.{with_identifier, identifiers, cases_in, enum_of, listed, in_given, occurrences}
+use Rattle.mz_scope_names.specs.Sets.{holds}
+use Rattle.mz_data_names.specs.Named.{names_in, names_in_all, IsGivenWithin}
 use Rattle.mz_scope.proofs.Parting.{or_none}
 
 module _ (count : ℕ) where

@@ -8,17 +8,17 @@ use Rattle.mz_tree.specs.Tree as pure
 use Rattle.mz_tree.specs.Tree.{Name, Maybe, Declaration, Written}
 use Rattle.mz_tree.specs.Items.{FunctionTree, ItemTree, include, declare, assign, constraint, solve, output, function, enum, annotation}
 use Rattle.mz_tree.specs.Data.{Given}
-use Rattle.mz_occurrence.specs.declared.occurrence.Role.{Role}
-use Rattle.mz_occurrence.specs.declared.occurrence.Role.TheVariants.{Declared, Used, Local, Lacking}
-use Rattle.mz_occurrence.specs.Roles.{occurs}
-use Rattle.mz_occurrence.specs.Occurrences.{is_par, in_tree, in_maybe, in_written, in_parameter, value_of, in_top, of_case, of_function, in_item}
-use Rattle.mz_occurrence.specs.Given.{cases_in, enum_of, listed, in_given, occurrences}
-use Rattle.mz_occurrence.specs.Sets.{holds}
-use Rattle.mz_occurrence.proofs.Lists.{flat_of_both}
-use Rattle.mz_uses.specs.Sketches.{has_parameters}
-use Rattle.mz_scoped.specs.Parts.{declared_in, function_in, cases_at, given_cases, enum_in, enums_of, name_of}
-use Rattle.mz_scoped.specs.Scoped.{enum_names, name_unless, bare_name}
-use Rattle.mz_spaces.specs.Spaces.{declares, gives, name_in, names_with}
+use Rattle.mz_scope_names.specs.declared.occurrence.Role.{Role}
+use Rattle.mz_scope_names.specs.declared.occurrence.Role.TheVariants.{Declared, Used, Local, Lacking}
+use Rattle.mz_scope_names.specs.Roles.{occurs}
+use Rattle.mz_scope_names.specs.Occurrences.{is_par, in_tree, in_maybe, in_written, in_parameter, value_of, in_top, of_case, of_function, in_item}
+use Rattle.mz_scope_names.specs.Given.{cases_in, enum_of, listed, in_given, occurrences}
+use Rattle.mz_scope_names.specs.Sets.{holds}
+use Rattle.mz_scope_names.proofs.Lists.{flat_of_both}
+use Rattle.mz_scope_uses.specs.Sketches.{has_parameters}
+use Rattle.mz_scope_order.specs.Parts.{declared_in, function_in, cases_at, given_cases, enum_in, enums_of, name_of}
+use Rattle.mz_scope_order.specs.Scoped.{enum_names, name_unless, bare_name}
+use Rattle.mz_scope_faults.specs.Spaces.{declares, gives, name_in, names_with}
 use Rattle.mz_scope.proofs.Counting.{one_if, count, total, counted_both, counted_flat, total_sum, total_same, total_most, none_counted, flat_flat}
 use Rattle.mz_scope.proofs.Inner.{expression_bare, maybe_bare, written_bare, parameters_bare, goal_bare, bare_both}
 

@@ -1,11 +1,11 @@
 -- Tests that ask sets with the same names find the same.
 use Rattle.std.proofs.Common.{◌≡◌, ℕ, Bool, List, [], ◌∷◌, refl, ap, ◌∙◌, not, Some}
 use Rattle.std.specs.Prelude.{◌&&◌, if◌then◌else◌}
-use Rattle.mz_occurrence.specs.declared.occurrence.Occurrence.{Occurrence}
-use Rattle.mz_occurrence.specs.declared.occurrence.Role.{Role}
-use Rattle.mz_occurrence.specs.declared.occurrence.Role.TheVariants.{Declared, Overloaded, Valued, Used, Local, Lacking, Wanting, Caseless, Listed, Misfit}
-use Rattle.mz_occurrence.specs.Sets.{holds}
-use Rattle.mz_spaces.specs.Tests.{first, unknown_as, is_unknown, missing_as, is_missing}
+use Rattle.mz_scope_names.specs.declared.occurrence.Occurrence.{Occurrence}
+use Rattle.mz_scope_names.specs.declared.occurrence.Role.{Role}
+use Rattle.mz_scope_names.specs.declared.occurrence.Role.TheVariants.{Declared, Overloaded, Valued, Used, Local, Lacking, Wanting, Caseless, Listed, Misfit}
+use Rattle.mz_scope_names.specs.Sets.{holds}
+use Rattle.mz_scope_faults.specs.Tests.{first, unknown_as, is_unknown, missing_as, is_missing}
 
 pub same_first : (f g : Occurrence → Bool) → ((o : Occurrence) → f o ≡ g o) → (os : List Occurrence) → first f os ≡ first g os
 unfolding first

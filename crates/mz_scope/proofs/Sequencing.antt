@@ -1,9 +1,9 @@
 -- The order of evaluation of what stands in memory is that of the parts.
 use Rattle.std.proofs.Common.{◌≡◌, List, ap, ◌∙◌, map, subst}
-use Rattle.mz_uses.specs.declared.sketch.Sketch.{Sketch as CodeSketch}
-use Rattle.mz_uses.specs.Sketches.{Sketch, sketch}
-use Rattle.mz_dependency.specs.declared.sequence.Sequence.{Sequence}
-use Rattle.mz_dependency.specs.Answer.{IsAnswer}
+use Rattle.mz_scope_uses.specs.declared.sketch.Sketch.{Sketch as CodeSketch}
+use Rattle.mz_scope_uses.specs.Sketches.{Sketch, sketch}
+use Rattle.mz_scope_order.specs.declared.sequence.Sequence.{Sequence}
+use Rattle.mz_scope_order.specs.Answer.{IsAnswer}
 
 pub sketched : {X T : Type 0} (view : X → T) (f : T → Sketch) (read sketches : List CodeSketch) (seen xs : List X) → read ≡ sketches → map sketch sketches ≡ map f (map view seen) → seen ≡ xs → map sketch read ≡ map f (map view xs)
 sketched view f read sketches seen xs p q r = ap (λ z. map sketch z) p ∙ q ∙ ap (λ z. map f (map view z)) r

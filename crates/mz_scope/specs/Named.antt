@@ -2,9 +2,9 @@
 use Rattle.std.specs.Prelude.{ℕ, ◌<◌, List, All}
 use Rattle.mz_tree.specs.Items.{ItemTree}
 use Rattle.mz_tree.specs.Data.{Given}
-use Rattle.mz_given.specs.Named.{IsGivenWithin}
-use Rattle.mz_occurrence.specs.Occurrences.{in_item}
-use Rattle.mz_occurrence.specs.Given.{occurrences}
+use Rattle.mz_data_names.specs.Named.{IsGivenWithin}
+use Rattle.mz_scope_names.specs.Occurrences.{in_item}
+use Rattle.mz_scope_names.specs.Given.{occurrences}
 
 -- the names of all occurrences are of the table that has those of the items and of the data
 abbrev pub AreAllNamed : Type 0

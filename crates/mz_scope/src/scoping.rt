@@ -5,23 +5,23 @@ ghost use Rattle.mz_base.specs.Faults.{IfRefused, fault_at};
 ghost use Rattle.mz_base.specs.declared.kind.Kind.TheVariants.{Cyclic};
 ghost use Rattle.mz_base.specs.declared.stop.Stop.TheVariants.{Refused};
 ghost use Rattle.mz_tree.specs.Data.{given};
-ghost use Rattle.mz_occurrence.specs.Given.{occurrences};
-ghost use Rattle.mz_occurrence.specs.StepsWalk.{items_of};
-ghost use Rattle.mz_uses.specs.Sketches.{sketch, decl_sketch, function_sketch};
-ghost use Rattle.mz_dependency.specs.Answer.{IsAnswer};
-ghost use Rattle.mz_dependency.specs.Dependencies.{AreDeclarations};
-ghost use Rattle.mz_scoped.specs.Scoped.{scoped_decl, lent_function, scoped_tree, parts_tree, IsScoped, AreRanked};
+ghost use Rattle.mz_scope_names.specs.Given.{occurrences};
+ghost use Rattle.mz_scope_names.specs.StepsWalk.{items_of};
+ghost use Rattle.mz_scope_uses.specs.Sketches.{sketch, decl_sketch, function_sketch};
+ghost use Rattle.mz_scope_order.specs.Answer.{IsAnswer};
+ghost use Rattle.mz_scope_order.specs.Dependencies.{AreDeclarations};
+ghost use Rattle.mz_scope_order.specs.Scoped.{scoped_decl, lent_function, scoped_tree, parts_tree, IsScoped, AreRanked};
 ghost use Rattle.mz_scope.specs.Scope.{IsRefused};
 ghost use Rattle.mz_scope.specs.StepsScope.{IsArranged, HasCycle};
-ghost use Rattle.mz_spaces.specs.Tests.{AreNamed, refusal_of};
+ghost use Rattle.mz_scope_faults.specs.Tests.{AreNamed, refusal_of};
 
 use crate::testing::test_names;
 use mz_base::{Fault, Kind, Memory, Names, Span, Stop};
-use mz_dependency::{Sequence, sequence_of};
-use mz_scoped::{ModelParts, Scoped, ScopedDecl, arranged, model_parts};
-use mz_sketch::{sketch_of_decl, sketch_of_function};
+use mz_scope_order::{
+    ModelParts, Scoped, ScopedDecl, Sequence, arranged, model_parts, sequence_of,
+};
+use mz_scope_uses::{Sketch, sketch_of_decl, sketch_of_function};
 use mz_tree::{Data, Function, Sources};
-use mz_uses::Sketch;
 use std::alloc::Global;
 
 /// What each declaration uses.

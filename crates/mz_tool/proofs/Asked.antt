@@ -10,12 +10,12 @@ use Rattle.mz_meaning.specs.Runs.{Answer, Stopped, start}
 use Rattle.mz_meaning.specs.Cells.{Bare}
 use Rattle.mz_meaning.specs.Contexts.{Untested}
 use Rattle.mz_meaning.specs.Walk.{Limits}
-use Rattle.mz_frames.specs.Runs.{Meets}
+use Rattle.mz_eval_scopes.specs.Runs.{Meets}
 use Rattle.fz_program.specs.Names.{Name}
 use Rattle.fz_program.specs.declared.program.FzProgram.{FzProgram}
 use Rattle.fz_program.specs.Flat.{Program, program}
-use Rattle.mz_direct.specs.Emission.{writing_walk}
-use Rattle.mz_post.specs.Names.{no_values}
+use Rattle.mz_first_rows.specs.Emission.{writing_walk}
+use Rattle.mz_first_post.specs.Names.{no_values}
 use Rattle.mz_value.specs.Ranges.{greatest}
 use Rattle.mz_words.specs.declared.request.Options.{Options}
 use Rattle.mz_words.specs.Requests.{Settings, Asked, compile, check, settings, IsWithinLimits, AskedWithinLimits}

@@ -29,7 +29,7 @@ use Rattle.mz_data.proofs.Later.{sources_later, failure_later}
 use Rattle.mz_words.specs.Requests.{Settings, Asked, compile, check}
 use Rattle.fz_program.specs.Names.{Name}
 use Rattle.fz_program.specs.Flat.{Program, WellFormed}
-use Rattle.fz_spelling.specs.Spelling.{spelling}
+use Rattle.fz_text_spell.specs.Spelling.{spelling}
 use Rattle.mz_value.specs.Contents.{absent}
 use Rattle.mz_core.specs.Program.{PlainProgram}
 use Rattle.mz_meaning.specs.Runs.{State, Answer, Out, Stopped, start}
@@ -37,13 +37,13 @@ use Rattle.mz_meaning.specs.Cells.{Bare}
 use Rattle.mz_meaning.specs.Cells as cells
 use Rattle.mz_meaning.specs.Contexts.{Untested, Positive}
 use Rattle.mz_meaning.specs.Walk.{Limits, walk}
-use Rattle.mz_unbuilt.specs.Unbuilt.{first_unbuilt}
-use Rattle.mz_unbuilt.proofs.Laws.{nothing_unbuilt}
-use Rattle.mz_posting.specs.Ends.{is_walk_kind, EndAlike}
-use Rattle.mz_direct.specs.Emission.{writing_walk}
-use Rattle.mz_direct.specs.Headline.{AreNumberedAndNamed, KeepsSolutions}
-use Rattle.mz_direct.proofs.Laws.{headline, ends, kinds}
-use Rattle.mz_post.specs.Names.{no_values}
+use Rattle.mz_first_unbuilt.specs.Unbuilt.{first_unbuilt}
+use Rattle.mz_first_unbuilt.proofs.Laws.{nothing_unbuilt}
+use Rattle.mz_first_meaning.specs.Ends.{is_walk_kind, EndAlike}
+use Rattle.mz_first_rows.specs.Emission.{writing_walk}
+use Rattle.mz_first_rows.specs.Headline.{AreNumberedAndNamed, KeepsSolutions}
+use Rattle.mz_first_rows.proofs.Laws.{headline, ends, kinds}
+use Rattle.mz_first_post.specs.Names.{no_values}
 use Rattle.mz_analysis.specs.Analysis.{FailsTest, IsOfTests, IsRefused, IsTypedModel, IsRead, evaluated, file_name, files_read, items_read}
 use Rattle.mz_analysis.proofs.Single.{not_refused}
 use Rattle.mz_tool.specs.declared.compile.End.{End}

@@ -6,12 +6,12 @@ use Rattle.std.proofs.lemmas.Bool.{eq-eqb}
 use Rattle.mz_base.specs.Names as names
 use Rattle.mz_base.specs.Names.{text_of}
 use Rattle.mz_core.specs.Tree.{Decl}
-use Rattle.mz_occurrence.specs.Sets.{holds}
-use Rattle.mz_scoped.specs.Scoped as scoped
-use Rattle.mz_datum.specs.WithData.{AreNumbered}
+use Rattle.mz_scope_names.specs.Sets.{holds}
+use Rattle.mz_scope_order.specs.Scoped as scoped
+use Rattle.mz_check_data.specs.WithData.{AreNumbered}
 use Rattle.fz_program.specs.Names.{Name}
 use Rattle.fz_program.specs.Flat as flat
-use Rattle.mz_direct.specs.Headline.{AreNumberedAndNamed}
+use Rattle.mz_first_rows.specs.Headline.{AreNumberedAndNamed}
 use Rattle.mz_analysis.specs.Analysis.{names_of}
 
 held_at : (n : ℕ) (ns : List ℕ) (k : ℕ) → k < length ns → get_or ns k 0 ≡ n → holds n ns ≡ true

@@ -11,8 +11,8 @@ use Rattle.mz_core.specs.Program.{PlainProgram}
 use Rattle.mz_meaning.specs.Walk.{Limits}
 use Rattle.fz_program.specs.Names.{Name}
 use Rattle.fz_program.specs.Flat.{Program}
-use Rattle.fz_spelling.specs.Spelling.{Spells}
-use Rattle.mz_direct.specs.Headline.{KeepsSolutions}
+use Rattle.fz_text_spell.specs.Spelling.{Spells}
+use Rattle.mz_first_rows.specs.Headline.{KeepsSolutions}
 use Rattle.mz_analysis.specs.Analysis.{IsTypedModel}
 use Rattle.mz_tool.specs.Words.{settings_in}
 

@@ -24,8 +24,8 @@ use Rattle.mz_meaning.specs.Runs.{Answer, Out, Stopped, start}
 use Rattle.mz_meaning.specs.Cells.{Given}
 use Rattle.mz_meaning.specs.Contexts.{Positive}
 use Rattle.mz_meaning.specs.Walk.{Limits, Assignment, walk}
-use Rattle.mz_unbuilt.specs.Unbuilt.{first_unbuilt}
-use Rattle.mz_posting.specs.Ends.{is_walk_kind}
+use Rattle.mz_first_unbuilt.specs.Unbuilt.{first_unbuilt}
+use Rattle.mz_first_meaning.specs.Ends.{is_walk_kind}
 use Rattle.mz_analysis.specs.Analysis.{FailsTest, IsTypedModel, HasTypedModel, file_name}
 use Rattle.mz_tool.specs.Words.{settings_in}
 use Rattle.mz_tool.specs.Headline.{limits_of}

@@ -14,7 +14,7 @@ use Rattle.mz_data.specs.declared.gathering.SourcesWithData.{SourcesWithData}
 use Rattle.mz_words.specs.Requests.{Asked, compile, check}
 use Rattle.fz_program.specs.Names.{Name}
 use Rattle.fz_program.specs.Flat.{Program}
-use Rattle.fz_spelling.specs.Spelling.{spelling}
+use Rattle.fz_text_spell.specs.Spelling.{spelling}
 use Rattle.mz_core.specs.Program.{PlainProgram}
 use Rattle.mz_meaning.specs.Walk.{Limits}
 use Rattle.mz_analysis.specs.Analysis.{FailsTest, IsTypedModel, file_name}

@@ -2,7 +2,7 @@
 
 ghost use Rattle.std.specs.Prelude.{◌≡◌, ◌<◌, List, ℕ, Some, IsSomeAnd};
 ghost use Rattle.mz_io.specs.Counts.{Rose};
-ghost use Rattle.mz_command.specs.Found.{text_of};
+ghost use Rattle.mz_words_command.specs.Found.{text_of};
 ghost use Rattle.mz_words.specs.Requests.{AskedWithinLimits, asked, request_of};
 ghost use Rattle.mz_tool.specs.Words.{settings_in, IsUsage, OnCheck};
 ghost use Rattle.mz_tool.specs.Headline.{Writes, WritesPrefix};
@@ -76,7 +76,7 @@ fn answer<F: Files, S: Sink, E: Sink>(
 /// `SolveItems`, `UnknownName`, `DataForm` of an enum's data, `MissingData`, `Cyclic`; then the types: `UnknownName` and `DuplicateName`
 /// of local names, `DuplicateName` of functions with parameters, `DataForm` of all other data, `TypeMismatch`, `NoOverload`,
 /// `Ambiguous`, `LeftOut`. `NotBuilt` comes after all of these, at the first place in the text of what isn't built
-/// (`mz_unbuilt::first_unbuilt`). Where all is built, the model is evaluated: the declarations in their order, each with its sets and its
+/// (`mz_first_unbuilt::first_unbuilt`). Where all is built, the model is evaluated: the declarations in their order, each with its sets and its
 /// value, then the constraints in the order of the text. The first of these stops it: `ParUndefined` (a parameter's value is undefined or
 /// outside its set, or a declared set is undefined), `IndexMismatch`, `AssertFailed`, `NegativeArgument` with the exponent, `Bounds` with
 /// the end that leaves the limit, `Budget` with the budget and 1, `Depth` with 601. A place in a data file is that of a value there.

@@ -9,7 +9,7 @@ use crate::settle::{bad_line, settle};
 use crate::walk::walk_lines;
 use mz_base::Memory;
 use mz_value::Shape;
-use soln_items::{Table, table_of};
+use soln_reader_items::{Table, table_of};
 use std::alloc::Global;
 use std::marker::Model;
 

@@ -1,9 +1,9 @@
 // The lines of the bytes that are held, up to the first that gives an event or is bad.
 
 ghost use Rattle.std.specs.Prelude.{◌≡◌, ◌<◌, ◌≤◌, ◌+◌, ◌-◌, ◌^◌, [], length};
-ghost use Rattle.soln_items.specs.Forms.{forms, outputs_from};
+ghost use Rattle.soln_reader_items.specs.Forms.{forms, outputs_from};
 ghost use Rattle.soln_reader.specs.Stream.{line_len};
-ghost use Rattle.soln_items.specs.Tables.{Finds};
+ghost use Rattle.soln_reader_items.specs.Tables.{Finds};
 ghost use Rattle.soln_reader.specs.StepsUndo.{Restores};
 ghost use Rattle.soln_reader.specs.StepsWalk.{Walks, Untouched, is_short};
 ghost use Rattle.soln_reader.specs.Views.{block_of};
@@ -13,7 +13,7 @@ use crate::next::Mark;
 use crate::step::{Step, first_step};
 use crate::undo::{note, restore};
 use mz_value::{Assign, Shape};
-use soln_items::{Slot, Table};
+use soln_reader_items::{Slot, Table};
 use std::alloc::Global;
 
 /// Where a walk over lines ends.

@@ -10,10 +10,10 @@ use Rattle.mz_meaning.specs.Arrays.{Anything, access_cell}
 use Rattle.mz_meaning.specs.Forms.{done, parts}
 use Rattle.mz_meaning.specs.Calls.{argument_suits, call_of}
 use Rattle.mz_meaning.specs.Evaluation.{eval}
-use Rattle.mz_cells.specs.Views.{cell_of, cells_of, sure_of}
-use Rattle.mz_frames.specs.Runs.{at_work}
-use Rattle.mz_frames.specs.Views.{world_of, env_of}
-use Rattle.mz_chains.proofs.Runs.{meets_is, meets_err}
+use Rattle.mz_eval_cells.specs.Views.{cell_of, cells_of, sure_of}
+use Rattle.mz_eval_scopes.specs.Runs.{at_work}
+use Rattle.mz_eval_scopes.specs.Views.{world_of, env_of}
+use Rattle.mz_eval_chains.proofs.Runs.{meets_is, meets_err}
 use Rattle.mz_eval.proofs.OneLevel.{eval_end, eval_more, finish}
 use Rattle.mz_eval.proofs.Chains.{chain_is, no_innermost}
 use Rattle.mz_eval.specs.PlainCalls.{called_on}

@@ -11,14 +11,14 @@ use Rattle.mz_meaning.specs.Comprehensions.{where_, generators, added}
 use Rattle.mz_meaning.specs.Lets.{let_item, nothing_bound, index_wants, one_index}
 use Rattle.mz_meaning.specs.Calls.{parameter, arguments}
 use Rattle.mz_meaning.specs.Evaluation.{eval}
-use Rattle.mz_cells.specs.Views.{cell_of, cells_of}
-use Rattle.mz_arrays.specs.Gathered.{gathered, pairs_of, occurs_if, elements_of}
-use Rattle.mz_declared.specs.Wants.{wants_of}
-use Rattle.mz_frames.specs.Runs.{at_work}
-use Rattle.mz_frames.specs.Views.{world_of, env_of, env_cells}
-use Rattle.mz_steps.specs.Views.{names_of, made_of, turns_left}
-use Rattle.mz_chains.specs.Innermosts.{operator_of}
-use Rattle.mz_steps.specs.Operators.{appended_of, turn}
+use Rattle.mz_eval_cells.specs.Views.{cell_of, cells_of}
+use Rattle.mz_eval_arrays.specs.Gathered.{gathered, pairs_of, occurs_if, elements_of}
+use Rattle.mz_eval_domains.specs.Wants.{wants_of}
+use Rattle.mz_eval_scopes.specs.Runs.{at_work}
+use Rattle.mz_eval_scopes.specs.Views.{world_of, env_of, env_cells}
+use Rattle.mz_eval_nodes.specs.Views.{names_of, made_of, turns_left}
+use Rattle.mz_eval_chains.specs.Innermosts.{operator_of}
+use Rattle.mz_eval_nodes.specs.Operators.{appended_of, turn}
 use Rattle.mz_eval.proofs.+forms.Given as goal
 
 abbrev pub decreases-forms::eval_expression : goal.decreases-forms::eval_expression

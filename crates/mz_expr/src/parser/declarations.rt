@@ -3,17 +3,17 @@
 ghost use Rattle.std.specs.Option.{option_map};
 ghost use Rattle.mz_tree.specs.Tree as pure;
 ghost use Rattle.mz_tree.specs.Views.{tree, declaration, written};
-ghost use Rattle.mz_cursor.specs.Reads.{Passes, Reads};
+ghost use Rattle.mz_grammar_rules.specs.Reads.{Passes, Reads};
 ghost use Rattle.mz_grammar.specs.Parts as parts;
 ghost use Rattle.mz_grammar.specs.Reading.{reads};
 ghost use Rattle.mz_expr.specs.Descent.{MayRead};
 
 use crate::parser::descent::{Descent, Entry};
 use mz_base::Stop;
-use mz_cursor::{Cursor, is_sym};
+use mz_expr_operands::operand::Operand;
+use mz_expr_operands::step::ident;
+use mz_grammar_rules::{Cursor, is_sym};
 use mz_lexer::Symbol;
-use mz_operand::operand::Operand;
-use mz_operand::step::ident;
 use mz_tree::{Decl, Expr, TypeText, make_declaration};
 use std::alloc::Global;
 

@@ -1,16 +1,16 @@
 // The entry points of the descent.
 
 ghost use Rattle.mz_tree.specs.Views.{tree, declaration, written};
-ghost use Rattle.mz_cursor.specs.Reads.{Passes, Reads};
+ghost use Rattle.mz_grammar_rules.specs.Reads.{Passes, Reads};
 ghost use Rattle.mz_grammar.specs.Parts as parts;
 ghost use Rattle.mz_grammar.specs.Reading.{reads};
-ghost use Rattle.mz_operand.specs.Views.{operand};
+ghost use Rattle.mz_expr_operands.specs.Views.{operand};
 
 use crate::parser::descent::{Descent, Entry, descend};
 use mz_base::Stop;
-use mz_cursor::Cursor;
+use mz_expr_operands::operand::Operand;
 use mz_grammar::Level;
-use mz_operand::operand::Operand;
+use mz_grammar_rules::Cursor;
 use mz_tree::{Decl, Expr, TypeText};
 use std::alloc::Global;
 

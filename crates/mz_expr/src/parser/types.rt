@@ -2,7 +2,7 @@
 
 ghost use Rattle.std.specs.Prelude.{map};
 ghost use Rattle.mz_tree.specs.Views.{written, based};
-ghost use Rattle.mz_cursor.specs.Reads.{Reads};
+ghost use Rattle.mz_grammar_rules.specs.Reads.{Reads};
 ghost use Rattle.mz_grammar.specs.Parts as parts;
 ghost use Rattle.mz_grammar.specs.Reading.{reads};
 ghost use Rattle.mz_grammar.specs.Steps.{dimensions_at};
@@ -10,11 +10,11 @@ ghost use Rattle.mz_expr.specs.Descent.{MayRead};
 
 use crate::parser::descent::{Descent, Entry};
 use mz_base::{Span, Stop};
-use mz_cursor::{Cursor, is_sym, is_word};
+use mz_expr_operands::operand::Operand;
+use mz_expr_operands::step::{begins_base, separator};
 use mz_grammar::{Closing, Level};
+use mz_grammar_rules::{Cursor, is_sym, is_word};
 use mz_lexer::{Keyword, Symbol};
-use mz_operand::operand::Operand;
-use mz_operand::step::{begins_base, separator};
 use mz_tree::{TypeBase, TypeText, make_bool_base, make_int_base, make_scalar, make_set_base};
 use std::alloc::Global;
 
@@ -43,7 +43,7 @@ impl<F: Fn(Global, &mut Cursor<'_>, Entry) -> Result<Operand, Stop>> Descent<F> 
     }
 
     /// The index types of an array type in their brackets, and the `of`.
-    #[tactic(auto, using(mz_cursor::proofs::Steps::open_more, mz_cursor::proofs::Steps::open_none))]
+    #[tactic(auto, using(mz_grammar_rules::proofs::Steps::open_more, mz_grammar_rules::proofs::Steps::open_none))]
     fn dimensions(&self, cur: &mut Cursor<'_>) -> Result<Vec<TypeBase>, Stop>
         requires { MayRead self.now.room self.now.entry (F.pre self.now.reader) (F.post self.now.reader) cur.old }
         ensures { Reads (λ v. map based v.items) dimensions_at cur.old cur.new result }
@@ -63,7 +63,7 @@ impl<F: Fn(Global, &mut Cursor<'_>, Entry) -> Result<Operand, Stop>> Descent<F> 
     }
 
     /// At most six index types, and the closing bracket.
-    #[tactic(auto, using(mz_grammar::proofs::ItemEquations::index_types_more, mz_grammar::proofs::ItemEquations::index_types_none, mz_cursor::proofs::Steps::prefix_push, std::proofs::lemmas::List::map_push, mz_cursor::proofs::Steps::nothing_behind, mz_cursor::proofs::Steps::no_prefix))]
+    #[tactic(auto, using(mz_grammar::proofs::ItemEquations::index_types_more, mz_grammar::proofs::ItemEquations::index_types_none, mz_grammar_rules::proofs::Steps::prefix_push, std::proofs::lemmas::List::map_push, mz_grammar_rules::proofs::Steps::nothing_behind, mz_grammar_rules::proofs::Steps::no_prefix))]
     fn index_types(&self, cur: &mut Cursor<'_>) -> Result<Vec<TypeBase>, Stop>
         requires { MayRead self.now.room self.now.entry (F.pre self.now.reader) (F.post self.now.reader) cur.old }
         ensures { Reads (λ v. map based v.items) (reads (parts.index_types 6)) cur.old cur.new result }

@@ -1,5 +1,5 @@
 use Rattle.std.proofs.Common.{length}
-use Rattle.mz_scoped.specs.Scoped.{scoped_tree}
+use Rattle.mz_scope_order.specs.Scoped.{scoped_tree}
 use Rattle.mz_core.specs.Program.{plain_program}
 use Rattle.mz_analysis.specs.Analysis.{FailsTest, files_read, items_read, count_read}
 use Rattle.mz_analysis.proofs.Declared.{declared_within, typed_within}

@@ -1,8 +1,8 @@
 use Rattle.std.proofs.Common.{map}
 use Rattle.std.specs.Option.{option_map}
 use Rattle.mz_core.specs.TreeViews.{tree, decl, declared_type}
-use Rattle.mz_scoped.specs.Scoped.{scoped_decl}
-use Rattle.mz_context.specs.Known.{answers}
+use Rattle.mz_scope_order.specs.Scoped.{scoped_decl}
+use Rattle.mz_check_context.specs.Known.{answers}
 use Rattle.mz_check.specs.StepsTaking.{decl_by}
 use Rattle.mz_check.proofs.Taking.{none_lent, nothing_added}
 use Rattle.mz_check.proofs.assemble.add_decl_at.Goals as goal

@@ -1,9 +1,9 @@
 use Rattle.std.proofs.Common.{map}
 use Rattle.mz_core.specs.TreeViews.{tree}
 use Rattle.mz_core.specs.Program.{function}
-use Rattle.mz_scoped.specs.Scoped.{lent_function}
-use Rattle.mz_context.specs.Headings.{heading}
-use Rattle.mz_context.specs.Known.{answers}
+use Rattle.mz_scope_order.specs.Scoped.{lent_function}
+use Rattle.mz_check_context.specs.Headings.{heading}
+use Rattle.mz_check_context.specs.Known.{answers}
 use Rattle.mz_check.specs.StepsTaking.{function_by}
 use Rattle.mz_check.proofs.Taking.{none_lent, nothing_added}
 use Rattle.mz_check.proofs.assemble.add_function_at.Goals as goal

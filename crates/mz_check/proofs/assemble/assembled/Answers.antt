@@ -1,9 +1,9 @@
 use Rattle.std.proofs.Common.{map, ap}
 use Rattle.mz_core.specs.TreeViews.{decl, declared_type}
 use Rattle.mz_core.specs.Program.{function}
-use Rattle.mz_scoped.specs.Scoped.{scoped_decl, lent_function, scoped_tree}
-use Rattle.mz_context.specs.Headings.{heading}
-use Rattle.mz_context.specs.Known.{answers, known}
+use Rattle.mz_scope_order.specs.Scoped.{scoped_decl, lent_function, scoped_tree}
+use Rattle.mz_check_context.specs.Headings.{heading}
+use Rattle.mz_check_context.specs.Known.{answers, known}
 use Rattle.mz_check.specs.StepsParts.{parts}
 use Rattle.mz_check.proofs.Assembling.{assembled_is}
 use Rattle.mz_check.proofs.assemble.assembled.Goals as goal

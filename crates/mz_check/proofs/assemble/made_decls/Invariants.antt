@@ -2,8 +2,8 @@ use Rattle.std.proofs.Common.{map}
 use Rattle.std.specs.Option.{option_map}
 use Rattle.std.specs.Vec.Iter.{into_iter_items}
 use Rattle.mz_core.specs.TreeViews.{tree, decl, declared_type}
-use Rattle.mz_scoped.specs.Scoped.{scoped_decl}
-use Rattle.mz_context.specs.Known.{answers}
+use Rattle.mz_scope_order.specs.Scoped.{scoped_decl}
+use Rattle.mz_check_context.specs.Known.{answers}
 use Rattle.mz_check.specs.StepsTaking.{decl_by}
 use Rattle.mz_check.proofs.Taking.{AreMade}
 use Rattle.mz_check.proofs.assemble.made_decls.Given as goal

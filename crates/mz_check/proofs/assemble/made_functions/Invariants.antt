@@ -2,9 +2,9 @@ use Rattle.std.proofs.Common.{map}
 use Rattle.std.specs.Vec.Iter.{into_iter_items}
 use Rattle.mz_core.specs.TreeViews.{tree}
 use Rattle.mz_core.specs.Program.{function}
-use Rattle.mz_scoped.specs.Scoped.{lent_function}
-use Rattle.mz_context.specs.Headings.{heading}
-use Rattle.mz_context.specs.Known.{answers}
+use Rattle.mz_scope_order.specs.Scoped.{lent_function}
+use Rattle.mz_check_context.specs.Headings.{heading}
+use Rattle.mz_check_context.specs.Known.{answers}
 use Rattle.mz_check.specs.StepsTaking.{function_by}
 use Rattle.mz_check.proofs.Taking.{AreMade}
 use Rattle.mz_check.proofs.assemble.made_functions.Given as goal

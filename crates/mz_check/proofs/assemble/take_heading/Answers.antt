@@ -1,7 +1,7 @@
 use Rattle.std.proofs.Common.{◌∙◌, ap, sym}
 use Rattle.std.specs.Option.{option_map}
-use Rattle.mz_context.specs.Headings.{heading, tested}
-use Rattle.mz_context.proofs.Answering.{answer_found}
+use Rattle.mz_check_context.specs.Headings.{heading, tested}
+use Rattle.mz_check_context.proofs.Answering.{answer_found}
 use Rattle.mz_check.specs.StepsTaking.{taken}
 use Rattle.mz_check.proofs.assemble.take_heading.Goals as goal
 

@@ -1,8 +1,8 @@
 use Rattle.std.proofs.Common.{◌∙◌, ap, sym}
 use Rattle.std.specs.Option.{option_map}
 use Rattle.mz_core.specs.TreeViews.{declared_type}
-use Rattle.mz_context.specs.Headings.{tested}
-use Rattle.mz_context.proofs.Answering.{answer_found}
+use Rattle.mz_check_context.specs.Headings.{tested}
+use Rattle.mz_check_context.proofs.Answering.{answer_found}
 use Rattle.mz_check.specs.StepsTaking.{taken}
 use Rattle.mz_check.proofs.assemble.take_type.Goals as goal
 

@@ -1,6 +1,6 @@
 use Rattle.std.proofs.Common.{ap, sym}
 use Rattle.mz_tree.proofs.Looks.{tree_is}
-use Rattle.mz_checks.specs.Checks.{tree_place}
+use Rattle.mz_check_meaning.specs.Checks.{tree_place}
 use Rattle.mz_check.proofs.items.expr_place.Goals as goal
 
 pub returns : goal.returns

@@ -1,5 +1,5 @@
 use Rattle.std.proofs.Common.{length}
-use Rattle.mz_context.specs.Known.{known}
+use Rattle.mz_check_context.specs.Known.{known}
 use Rattle.mz_check.proofs.Values.{value_named}
 use Rattle.mz_check.proofs.items.value.Goals as goal
 

@@ -3,9 +3,9 @@ use Rattle.std.specs.Prelude.{◌<◌, All}
 use Rattle.mz_base.specs.declared.fault.Span.{Span}
 use Rattle.mz_base.specs.Names.{text_of}
 use Rattle.mz_value.specs.Contents.{text_bytes}
-use Rattle.mz_scoped.specs.Scoped.{enum_tree}
-use Rattle.mz_headings.specs.Naming.{HasNamedCases}
-use Rattle.mz_headings.proofs.Named.{named_item}
+use Rattle.mz_scope_order.specs.Scoped.{enum_tree}
+use Rattle.mz_check_exprs.specs.NamedModels.{HasNamedCases}
+use Rattle.mz_check_exprs.proofs.Named.{named_item}
 use Rattle.mz_check.specs.StepsProgram.{case_texts}
 use Rattle.mz_check.proofs.Programs.{one_listed}
 use Rattle.mz_check.proofs.program.all_cases.Goals as goal

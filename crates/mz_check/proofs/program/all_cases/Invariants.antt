@@ -1,6 +1,6 @@
 use Rattle.std.proofs.Common.{◌≡◌, ◌++◌, map, drop}
 use Rattle.mz_value.specs.Contents.{text_bytes}
-use Rattle.mz_scoped.specs.Scoped.{enum_tree}
+use Rattle.mz_scope_order.specs.Scoped.{enum_tree}
 use Rattle.mz_check.specs.StepsProgram.{case_texts}
 use Rattle.mz_check.proofs.program.all_cases.Given as goal
 

@@ -3,10 +3,10 @@ use Rattle.std.proofs.lemmas.List.Sorted.{IsPermutation-map}
 use Rattle.mz_core.specs.declared.tree.CoreDecl.{CoreDecl}
 use Rattle.mz_core.specs.TreeViews.{decl}
 use Rattle.mz_core.specs.Program.{goal as typed_goal, plain_program}
-use Rattle.mz_scoped.specs.declared.scoped.ScopedEnum.{ScopedEnum}
-use Rattle.mz_scoped.specs.Scoped.{scoped_tree, enum_tree}
-use Rattle.mz_checks.specs.Texts.{once}
-use Rattle.mz_checks.specs.Checks.{text_entry}
+use Rattle.mz_scope_order.specs.declared.scoped.ScopedEnum.{ScopedEnum}
+use Rattle.mz_scope_order.specs.Scoped.{scoped_tree, enum_tree}
+use Rattle.mz_check_meaning.specs.Texts.{once}
+use Rattle.mz_check_meaning.specs.Checks.{text_entry}
 use Rattle.mz_check.specs.StepsParts.{sections_of}
 use Rattle.mz_check.specs.StepsPlacing.{ArePlaces}
 use Rattle.mz_check.specs.StepsProgram.{case_texts, AreBelow}

@@ -4,11 +4,11 @@ use Rattle.mz_core.specs.TreeViews.{tree}
 use Rattle.mz_core.specs.Program.{goal as typed_goal}
 use Rattle.mz_tree.specs.declared.expr.Expr.{Expr}
 use Rattle.mz_tree.specs.declared.item.Function.{Function}
-use Rattle.mz_scoped.specs.declared.scoped.ScopedDecl.{ScopedDecl}
-use Rattle.mz_scoped.specs.Scoped.{scoped_decl, lent_function, lent_tree, scoped_tree}
-use Rattle.mz_checks.specs.Items.{constraint, output}
-use Rattle.mz_checks.specs.Checks.{numbered, tree_place}
-use Rattle.mz_context.specs.Known.{known}
+use Rattle.mz_scope_order.specs.declared.scoped.ScopedDecl.{ScopedDecl}
+use Rattle.mz_scope_order.specs.Scoped.{scoped_decl, lent_function, lent_tree, scoped_tree}
+use Rattle.mz_check_meaning.specs.Items.{constraint, output}
+use Rattle.mz_check_meaning.specs.Checks.{numbered, tree_place}
+use Rattle.mz_check_context.specs.Known.{known}
 use Rattle.mz_check.specs.StepsMeeting.{met_of, AreTested}
 use Rattle.mz_check.specs.StepsParts.{value_of_each, body_of_each, value_at, body_at}
 use Rattle.mz_check.proofs.Parting as parting

@@ -1,7 +1,7 @@
 use Rattle.std.proofs.Common.{refl}
 use Rattle.std.specs.Option.{option_map}
 use Rattle.mz_tree.specs.Items.{goal as goal_of}
-use Rattle.mz_context.specs.Known.{known}
+use Rattle.mz_check_context.specs.Known.{known}
 use Rattle.mz_check.specs.StepsMeeting.{met_of}
 use Rattle.mz_check.proofs.Keeping.{none_asked, one_asked}
 use Rattle.mz_check.proofs.sections.asked_goal.Goals as goal

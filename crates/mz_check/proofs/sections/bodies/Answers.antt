@@ -1,10 +1,10 @@
 use Rattle.std.proofs.Common.{length}
 use Rattle.std.specs.Option.{option_map}
 use Rattle.mz_core.specs.TreeViews.{tree}
-use Rattle.mz_scoped.specs.Scoped.{lent_function}
-use Rattle.mz_context.specs.Known.{known}
-use Rattle.mz_headings.specs.Naming.{IsNamedFunction}
-use Rattle.mz_headings.proofs.Named.{named_item}
+use Rattle.mz_scope_order.specs.Scoped.{lent_function}
+use Rattle.mz_check_context.specs.Known.{known}
+use Rattle.mz_check_exprs.specs.NamedModels.{IsNamedFunction}
+use Rattle.mz_check_exprs.proofs.Named.{named_item}
 use Rattle.mz_check.specs.StepsMeeting.{met_of}
 use Rattle.mz_check.specs.StepsParts.{body_of_each, body_at}
 use Rattle.mz_check.proofs.Keeping.{next_numbered, end_numbered}

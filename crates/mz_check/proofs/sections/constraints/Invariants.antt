@@ -1,10 +1,10 @@
 use Rattle.std.proofs.Common.{map, drop}
 use Rattle.std.specs.Option.{option_map}
 use Rattle.mz_core.specs.TreeViews.{tree}
-use Rattle.mz_scoped.specs.Scoped.{lent_tree}
-use Rattle.mz_checks.specs.Items.{constraint}
-use Rattle.mz_checks.specs.Checks.{tree_place}
-use Rattle.mz_context.specs.Known.{known}
+use Rattle.mz_scope_order.specs.Scoped.{lent_tree}
+use Rattle.mz_check_meaning.specs.Items.{constraint}
+use Rattle.mz_check_meaning.specs.Checks.{tree_place}
+use Rattle.mz_check_context.specs.Known.{known}
 use Rattle.mz_check.specs.StepsMeeting.{met_of}
 use Rattle.mz_check.proofs.Keeping.{AreTestedBut}
 use Rattle.mz_check.proofs.sections.constraints.Given as goal

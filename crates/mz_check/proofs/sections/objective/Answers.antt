@@ -1,9 +1,9 @@
 use Rattle.std.proofs.Common.{Bor, Option, ap, refl, sym}
 use Rattle.std.specs.Option.{option_map}
 use Rattle.mz_tree.specs.declared.item.Goal.{Goal}
-use Rattle.mz_scoped.specs.Scoped.{asked}
-use Rattle.mz_checks.specs.Checks.{goal_place}
-use Rattle.mz_context.specs.Known.{known}
+use Rattle.mz_scope_order.specs.Scoped.{asked}
+use Rattle.mz_check_meaning.specs.Checks.{goal_place}
+use Rattle.mz_check_context.specs.Known.{known}
 use Rattle.mz_check.specs.StepsMeeting.{met_of}
 use Rattle.mz_check.proofs.Keeping.{none_asked}
 use Rattle.mz_check.proofs.sections.objective.Goals as goal

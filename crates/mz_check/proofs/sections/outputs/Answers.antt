@@ -1,12 +1,12 @@
 use Rattle.std.proofs.Common.{length}
 use Rattle.std.specs.Option.{option_map}
 use Rattle.mz_core.specs.TreeViews.{tree}
-use Rattle.mz_scoped.specs.Scoped.{lent_tree}
-use Rattle.mz_checks.specs.Items.{output}
-use Rattle.mz_checks.specs.Checks.{tree_place}
-use Rattle.mz_context.specs.Known.{known}
-use Rattle.mz_typing.specs.Naming.{IsNamed}
-use Rattle.mz_headings.proofs.Named.{named_item}
+use Rattle.mz_scope_order.specs.Scoped.{lent_tree}
+use Rattle.mz_check_meaning.specs.Items.{output}
+use Rattle.mz_check_meaning.specs.Checks.{tree_place}
+use Rattle.mz_check_context.specs.Known.{known}
+use Rattle.mz_check_exprs.specs.Naming.{IsNamed}
+use Rattle.mz_check_exprs.proofs.Named.{named_item}
 use Rattle.mz_check.specs.StepsMeeting.{met_of}
 use Rattle.mz_check.proofs.Keeping.{next_tested, end_tested}
 use Rattle.mz_check.proofs.sections.outputs.Goals as goal

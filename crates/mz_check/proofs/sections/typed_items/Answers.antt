@@ -1,9 +1,9 @@
 use Rattle.std.proofs.Common.{◌∙◌, sym}
 use Rattle.std.specs.Option.{option_map}
-use Rattle.mz_scoped.specs.Scoped.{scoped_tree}
-use Rattle.mz_checks.specs.Checks.{none_met, items_met}
-use Rattle.mz_context.specs.Known.{known}
-use Rattle.mz_premises.proofs.Passing.{stops}
+use Rattle.mz_scope_order.specs.Scoped.{scoped_tree}
+use Rattle.mz_check_meaning.specs.Checks.{none_met, items_met}
+use Rattle.mz_check_context.specs.Known.{known}
+use Rattle.mz_check_forms.proofs.Passing.{stops}
 use Rattle.mz_check.specs.declared.parts.TypedItems.{TypedItems}
 use Rattle.mz_check.specs.StepsMeeting.{met_of, test_of}
 use Rattle.mz_check.specs.StepsParts.{parts}

@@ -2,9 +2,9 @@ use Rattle.std.proofs.Common.{map, drop}
 use Rattle.std.specs.List.{enumerate_from}
 use Rattle.std.specs.Option.{option_map}
 use Rattle.mz_core.specs.TreeViews.{tree}
-use Rattle.mz_scoped.specs.Scoped.{scoped_decl}
-use Rattle.mz_checks.specs.Checks.{numbered}
-use Rattle.mz_context.specs.Known.{known}
+use Rattle.mz_scope_order.specs.Scoped.{scoped_decl}
+use Rattle.mz_check_meaning.specs.Checks.{numbered}
+use Rattle.mz_check_context.specs.Known.{known}
 use Rattle.mz_check.specs.StepsMeeting.{met_of}
 use Rattle.mz_check.specs.StepsParts.{value_of_each, value_at}
 use Rattle.mz_check.proofs.Keeping.{AreTestedBut}

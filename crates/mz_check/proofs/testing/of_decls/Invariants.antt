@@ -1,6 +1,6 @@
 use Rattle.std.proofs.Common.{◌≡◌, map, drop}
 use Rattle.std.specs.Option.{option_map}
-use Rattle.mz_scoped.specs.Scoped.{scoped_tree}
+use Rattle.mz_scope_order.specs.Scoped.{scoped_tree}
 use Rattle.mz_check.specs.StepsMeeting.{met_of, after}
 use Rattle.mz_check.specs.StepsTesting.{decl_met_at}
 use Rattle.mz_check.proofs.testing.of_decls.Given as goal

@@ -1,8 +1,8 @@
 use Rattle.std.proofs.Common.{◌∙◌, subst}
 use Rattle.std.specs.Option.{option_map}
-use Rattle.mz_scoped.specs.Scoped.{scoped_tree}
-use Rattle.mz_checks.specs.Passes.{Passes}
-use Rattle.mz_context.specs.Known.{known}
+use Rattle.mz_scope_order.specs.Scoped.{scoped_tree}
+use Rattle.mz_check_meaning.specs.Passes.{Passes}
+use Rattle.mz_check_context.specs.Known.{known}
 use Rattle.mz_check.specs.StepsMeeting.{met_of}
 use Rattle.mz_check.proofs.Refused.{types_tested}
 use Rattle.mz_check.proofs.testing.test_types.Goals as goal

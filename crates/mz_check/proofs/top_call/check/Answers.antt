@@ -1,7 +1,7 @@
 use Rattle.std.proofs.Common.{List, map, sym, subst}
-use Rattle.mz_type_order.specs.declared.subject.Subject.{Subject}
-use Rattle.mz_type_order.specs.Subjects.{subject, IsOrderOf}
-use Rattle.mz_scoped.specs.Scoped.{scoped_tree}
+use Rattle.mz_check_exprs.specs.declared.subject.Subject.{Subject}
+use Rattle.mz_check_exprs.specs.Subjects.{subject, IsOrderOf}
+use Rattle.mz_scope_order.specs.Scoped.{scoped_tree}
 use Rattle.mz_check.specs.StepsParts.{sections_of}
 use Rattle.mz_check.proofs.Answered.{refused_by}
 use Rattle.mz_check.proofs.Contexts.{checked_numbered, checked_named}

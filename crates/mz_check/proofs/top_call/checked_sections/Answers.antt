@@ -1,5 +1,5 @@
-use Rattle.mz_scoped.specs.Scoped.{scoped_tree}
-use Rattle.mz_context.specs.Known.{known}
+use Rattle.mz_scope_order.specs.Scoped.{scoped_tree}
+use Rattle.mz_check_context.specs.Known.{known}
 use Rattle.mz_check.specs.StepsParts.{sections_of}
 use Rattle.mz_check.proofs.Assembling.{sections_numbered}
 use Rattle.mz_check.proofs.top_call.checked_sections.Goals as goal

@@ -1,10 +1,10 @@
 use Rattle.std.proofs.Common.{map, sym, subst}
 use Rattle.std.specs.List.{flat_map}
-use Rattle.mz_scoped.specs.Scoped.{scoped_tree}
-use Rattle.mz_type_order.specs.Subjects.{subject}
-use Rattle.mz_checks.specs.Checks.{numbered, with_parameters}
-use Rattle.mz_checks.specs.Passes.{Passes}
-use Rattle.mz_context.specs.Known.{known}
+use Rattle.mz_scope_order.specs.Scoped.{scoped_tree}
+use Rattle.mz_check_exprs.specs.Subjects.{subject}
+use Rattle.mz_check_meaning.specs.Checks.{numbered, with_parameters}
+use Rattle.mz_check_meaning.specs.Passes.{Passes}
+use Rattle.mz_check_context.specs.Known.{known}
 use Rattle.mz_check.specs.StepsParts.{sections_of}
 use Rattle.mz_check.proofs.Contexts.{typed_is, named_of, checked_is}
 use Rattle.mz_check.proofs.top_call.sections_in_order.Goals as goal

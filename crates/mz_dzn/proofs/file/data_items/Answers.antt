@@ -7,7 +7,7 @@ use Rattle.mz_tree.specs.declared.data.DataItem.{DataItem}
 use Rattle.mz_tree.specs.Data.{given}
 use Rattle.mz_grammar.specs.Data.{dimensions_of, file}
 use Rattle.mz_grammar.proofs.DataViable.{answers}
-use Rattle.mz_syntax.proofs.DataMeans.{data_items_derived}
+use Rattle.mz_grammar_ebnf.proofs.DataMeans.{data_items_derived}
 use Rattle.mz_dzn.proofs.Answer.{tells_syntax, no_data_file}
 use Rattle.mz_dzn.proofs.Naming.{whole_within, whole_placed}
 use Rattle.mz_dzn.proofs.file.data_items.Goals as goal

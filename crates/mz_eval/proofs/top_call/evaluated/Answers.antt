@@ -2,9 +2,9 @@ use Rattle.mz_core.specs.TreeViews.{tree}
 use Rattle.mz_meaning.proofs.Causes.{eval_well}
 use Rattle.mz_meaning.specs.Contexts.{Untested}
 use Rattle.mz_meaning.specs.Evaluation.{eval}
-use Rattle.mz_cells.specs.Views.{cell_of}
-use Rattle.mz_frames.specs.Runs.{at_work}
-use Rattle.mz_frames.specs.Views.{world_of, env_cells}
+use Rattle.mz_eval_cells.specs.Views.{cell_of}
+use Rattle.mz_eval_scopes.specs.Runs.{at_work}
+use Rattle.mz_eval_scopes.specs.Views.{world_of, env_cells}
 use Rattle.mz_eval.proofs.Ends.{meets_few, within_budget}
 use Rattle.mz_eval.proofs.top_call.evaluated.Goals as goal
 

@@ -1,6 +1,6 @@
 use Rattle.std.proofs.Common.{sym, ◌∙◌}
-use Rattle.mz_uses.specs.Sketches.{sketch, decl_sketch}
-use Rattle.mz_scoped.specs.Scoped.{scoped_decl}
+use Rattle.mz_scope_uses.specs.Sketches.{sketch, decl_sketch}
+use Rattle.mz_scope_order.specs.Scoped.{scoped_decl}
 use Rattle.mz_scope.proofs.Arranging.{one_sketched, all_sketched, mapped_twice}
 use Rattle.mz_scope.proofs.scoping.decl_sketches.Goals as goal
 

@@ -1,6 +1,6 @@
 use Rattle.std.proofs.Common.{◌≡◌, ◌++◌, drop, map}
-use Rattle.mz_uses.specs.Sketches.{sketch, decl_sketch}
-use Rattle.mz_scoped.specs.Scoped.{scoped_decl}
+use Rattle.mz_scope_uses.specs.Sketches.{sketch, decl_sketch}
+use Rattle.mz_scope_order.specs.Scoped.{scoped_decl}
 use Rattle.mz_scope.proofs.scoping.decl_sketches.Given as goal
 
 abbrev pub invariant-loop-d : goal.invariant-loop-d

@@ -1,6 +1,6 @@
 use Rattle.std.proofs.Common.{◌≡◌, ◌++◌, drop, map}
-use Rattle.mz_uses.specs.Sketches.{sketch, function_sketch}
-use Rattle.mz_scoped.specs.Scoped.{lent_function}
+use Rattle.mz_scope_uses.specs.Sketches.{sketch, function_sketch}
+use Rattle.mz_scope_order.specs.Scoped.{lent_function}
 use Rattle.mz_scope.proofs.scoping.function_sketches.Given as goal
 
 abbrev pub invariant-loop-f : goal.invariant-loop-f

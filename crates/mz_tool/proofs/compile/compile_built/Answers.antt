@@ -3,8 +3,8 @@ use Rattle.std.proofs.lemmas.Int.{to_z-of_z}
 use Rattle.mz_core.specs.Program.{plain_program}
 use Rattle.mz_words.specs.Requests.{request_of}
 use Rattle.fz_program.specs.Flat.{program}
-use Rattle.mz_frames.specs.Runs.{at_work}
-use Rattle.mz_unbuilt.proofs.Laws.{nothing_unbuilt}
+use Rattle.mz_eval_scopes.specs.Runs.{at_work}
+use Rattle.mz_first_unbuilt.proofs.Laws.{nothing_unbuilt}
 use Rattle.mz_analysis.specs.Analysis.{evaluated, files_read, items_read}
 use Rattle.mz_analysis.proofs.Declared.{typed_numbered, typed_distinct}
 use Rattle.mz_tool.specs.StepsCompiling.{data_names}

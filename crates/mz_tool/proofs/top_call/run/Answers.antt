@@ -1,5 +1,5 @@
 use Rattle.std.proofs.Common.{◌≡◌, Some, subst}
-use Rattle.mz_command.specs.Found.{text_of}
+use Rattle.mz_words_command.specs.Found.{text_of}
 use Rattle.mz_words.specs.Requests.{asked, request_of}
 use Rattle.mz_tool.proofs.Endings.{failed_fetch, failed_put}
 use Rattle.mz_tool.proofs.top_call.run.Goals as goal

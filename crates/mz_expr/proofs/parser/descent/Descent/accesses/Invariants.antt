@@ -1,7 +1,7 @@
 use Rattle.std.proofs.Common.{◌≡◌, ◌≤◌, length}
 use Rattle.mz_grammar.specs.Parts as parts
 use Rattle.mz_grammar.specs.Reading.{reads}
-use Rattle.mz_operand.specs.Views.{operand}
+use Rattle.mz_expr_operands.specs.Views.{operand}
 use Rattle.mz_expr.proofs.parser.descent.Descent.accesses.Given as goal
 
 abbrev pub invariant-loop-cur : goal.invariant-loop-cur

@@ -1,9 +1,9 @@
 use Rattle.std.proofs.Common.{◌≡◌, ◌≤◌, length, map}
-use Rattle.mz_cursor.specs.Reading.{with_prefix}
+use Rattle.mz_grammar_rules.specs.Reading.{with_prefix}
 use Rattle.mz_grammar.specs.declared.list.Generators.TheVariants as generators
 use Rattle.mz_grammar.specs.Parts as parts
 use Rattle.mz_grammar.specs.Reading.{reads}
-use Rattle.mz_operand.specs.Views.{argument}
+use Rattle.mz_expr_operands.specs.Views.{argument}
 use Rattle.mz_expr.proofs.parser.descent.Descent.arguments.Given as goal
 
 abbrev pub invariant-loop-generators : goal.invariant-loop-generators

@@ -1,7 +1,7 @@
 use Rattle.std.proofs.Common.{◌≡◌, ◌≤◌, length}
 use Rattle.mz_grammar.specs.Operators.{level_number}
 use Rattle.mz_expr.specs.StepsClimb.{levels, climbing}
-use Rattle.mz_operand.specs.Views.{operand}
+use Rattle.mz_expr_operands.specs.Views.{operand}
 use Rattle.mz_expr.proofs.parser.descent.Descent.level.Given as goal
 
 abbrev pub invariant-loop-k : goal.invariant-loop-k

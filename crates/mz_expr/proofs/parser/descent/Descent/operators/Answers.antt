@@ -2,7 +2,7 @@ use Rattle.std.proofs.Common.{◌≡◌, ◌++◌, ◌∷◌, [], map, sym, ap, 
 use Rattle.std.specs.Prelude.{Some}
 use Rattle.std.proofs.lemmas.List.{map_push}
 use Rattle.mz_tree.specs.Views.{tree, link}
-use Rattle.mz_cursor.specs.Tokens.{tok_at}
+use Rattle.mz_grammar_rules.specs.Tokens.{tok_at}
 use Rattle.mz_grammar.specs.Operators.{binary_of}
 use Rattle.mz_expr.proofs.Loops.{operators_more}
 use Rattle.mz_expr.proofs.parser.descent.Descent.operators.Goals as goal

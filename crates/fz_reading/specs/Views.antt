@@ -1,8 +1,0 @@
--- What the code's part after the variables shows.
-use Rattle.std.specs.Prelude.{map}
-use Rattle.fz_program.specs.Flat.{array_item, row}
-use Rattle.fz_reading.specs.declared.reader.Body.{Body as BodyOfCode}
-use Rattle.fz_reading.specs.Lines.{Body}
-
-abbrev pub body_of : BodyOfCode → Body
-body_of r = record { arrays = map array_item r.arrays.items; rows = map row r.rows.items; goal = r.goal }

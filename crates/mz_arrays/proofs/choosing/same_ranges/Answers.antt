@@ -1,6 +1,0 @@
-use Rattle.std.proofs.Common.{refl, ◌∙◌}
-use Rattle.mz_arguments.proofs.Sets.{same_lists}
-use Rattle.mz_arrays.proofs.choosing.same_ranges.Goals as goal
-
-pub returns : goal.returns
-returns c = c.eq.ensures ∙ same_lists _ (λ r s. refl) c.args.a.now c.args.b.now

@@ -1,5 +1,0 @@
-use Rattle.mz_arrays.proofs.Sequence.{each_value}
-use Rattle.mz_arrays.proofs.running.array_elements.Goals as goal
-
-pub returns : goal.returns
-returns c = each_value c.args.items.now

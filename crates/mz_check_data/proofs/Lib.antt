@@ -1,0 +1,10 @@
+pub mod Layers
+pub mod Texted
+pub mod Once
+pub mod Parted
+pub mod Reading
+pub mod Slots
+pub mod Data
+pub mod Models
+pub mod Textless
+pub mod WithoutData

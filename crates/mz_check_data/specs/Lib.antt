@@ -1,0 +1,17 @@
+pub mod StepsLayers
+pub mod StepsTables
+pub mod Datum
+pub mod WithData
+pub mod NoData
+pub mod Sections
+pub mod Views
+pub mod StepsArrays
+pub mod StepsFit
+pub mod StepsValued
+pub mod ExampleData
+pub mod ScalarExamples
+pub mod SetExamples
+pub mod ListExamples
+pub mod ShapeExamples
+pub mod TreeExamples
+pub mod WholeExamples

@@ -1,0 +1,14 @@
+pub mod Completing
+pub mod Declared
+pub mod Sorting
+pub mod Layers
+pub mod NamingLaws
+pub mod Scopes
+pub mod Turns
+pub mod Arms
+pub mod Generators
+pub mod Apart
+pub mod Named
+pub mod New
+pub mod Overloads
+pub mod Taken

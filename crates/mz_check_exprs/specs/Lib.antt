@@ -1,0 +1,10 @@
+pub mod Subjects
+pub mod StepsForms
+pub mod Naming
+pub mod Views
+pub mod Meanings
+pub mod NamedModels
+pub mod NewSubjects
+pub mod StepsDuplicates
+pub mod StepsHeadings
+pub mod StepsTypes

@@ -1,0 +1,10 @@
+use Rattle.std.proofs.Common.{◌≡◌, map, drop}
+use Rattle.mz_core.specs.Types.{plain_type}
+use Rattle.mz_core.specs.TreeViews.{tree}
+use Rattle.mz_check_meaning.specs.Tests.{loop}
+use Rattle.mz_check_meaning.specs.Coerced.{bottom_type}
+use Rattle.mz_check_meaning.specs.Arrays.{member_next}
+use Rattle.mz_check_forms.proofs.joins.members_join.Given as goal
+
+abbrev pub invariant-loop-e : goal.invariant-loop-e
+invariant-loop-e l = loop member_next bottom_type (map tree l.es) ≡ loop member_next (plain_type l.t) (map tree (drop l.e-index l.es))

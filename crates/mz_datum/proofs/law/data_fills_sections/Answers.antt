@@ -1,5 +1,0 @@
-use Rattle.mz_datum.proofs.Parted.{parted}
-use Rattle.mz_datum.proofs.law.data_fills_sections.Goals as goal
-
-pub returns : goal.returns
-returns c = λ s m all e. parted s m all e

@@ -1,5 +1,0 @@
-use Rattle.mz_datum.proofs.Textless.{none_texted}
-use Rattle.mz_datum.proofs.law.data_has_no_texts.Goals as goal
-
-pub returns : goal.returns
-returns c = λ m gs vs e. none_texted m gs vs e

@@ -1,8 +1,0 @@
-use Rattle.std.proofs.Common.{◌≡◌, ◌++◌, drop, map}
-use Rattle.mz_graph.specs.Graph.{graph_of}
-use Rattle.mz_uses.specs.Sketches.{sketch}
-use Rattle.mz_dependency.specs.StepsGraphs.{mention_rows}
-use Rattle.mz_dependency.proofs.listing.mention_rows.Given as goal
-
-abbrev pub invariant-loop-o : goal.invariant-loop-o
-invariant-loop-o l = mention_rows l.tables.decls (map sketch l.sketches) ≡ graph_of l.rows.items ++ mention_rows l.tables.decls (map sketch (drop l.o-index l.sketches))

@@ -1,7 +1,0 @@
-use Rattle.std.proofs.Common.{◌≡◌, drop, map, []}
-use Rattle.mz_uses.specs.Sketches.{sketch}
-use Rattle.mz_dependency.specs.StepsPlaces.{names_in}
-use Rattle.mz_dependency.proofs.places.names_in.Given as goal
-
-abbrev pub invariant-loop-o : goal.invariant-loop-o
-invariant-loop-o l = names_in l.applied [] (map sketch l.sketches) ≡ names_in l.applied l.places (map sketch (drop l.o-index l.sketches))

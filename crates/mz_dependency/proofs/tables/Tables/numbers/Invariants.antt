@@ -1,7 +1,0 @@
-use Rattle.std.proofs.Common.{◌≡◌, ◌++◌, drop, map}
-use Rattle.mz_uses.specs.Sketches.{sketch}
-use Rattle.mz_dependency.specs.StepsGraphs.{numbers_by}
-use Rattle.mz_dependency.proofs.tables.Tables.numbers.Given as goal
-
-abbrev pub invariant-loop-f : goal.invariant-loop-f
-invariant-loop-f l = numbers_by l.self.bare l.self.applied (map sketch l.functions) ≡ l.numbers.items ++ numbers_by l.self.bare l.self.applied (map sketch (drop l.f-index l.functions))

@@ -1,0 +1,138 @@
+// Cells of values and of bounds.
+
+ghost use Rattle.std.specs.Prelude.{◌≡◌, IfOk, None, map};
+ghost use Rattle.std.specs.Option.{option_map};
+ghost use Rattle.mz_value.specs.Contents as values;
+ghost use Rattle.mz_value.specs.Contents.{content, contents, text_bytes};
+ghost use Rattle.mz_meaning.specs.Cells as cells;
+ghost use Rattle.mz_meaning.specs.Cells.{Par, Var, par_value};
+ghost use Rattle.mz_eval_cells.specs.Views.{cell_of, item_content, known_bounds};
+
+use crate::types::{Bounds, Item, Known};
+use mz_builtin_arguments::{copied_items, copied_text};
+use mz_value::{ArrayValue, RangeSet, SetValue, TextValue, Value};
+use std::alloc::{AllocError, Global};
+use std::rc::Rc;
+
+/// An undefined par cell.
+pub fn undefined() -> Known
+    ensures { cell_of result ≡ cells.undefined }
+{
+    Known::Undefined
+}
+
+/// A par cell with this value.
+pub fn one(i: Item) -> Known
+    ensures { cell_of result ≡ par_value (item_content i) }
+{
+    Known::One(i)
+}
+
+/// A par array of these index ranges and elements, which aren't copied.
+pub fn array(alloc: Global, index: Vec<(i64, i64)>, items: Vec<Value>) -> Result<Known, AllocError>
+    ensures { IfOk result (λ k. cell_of k ≡ par_value (values.array index.items (contents (map content items.items)))) }
+{
+    let ranges = Rc::new(alloc, index)?;
+    let all = Rc::new(alloc, items)?;
+    Ok(Known::Array(ranges, all))
+}
+
+/// A par set of integers, or of cases of the enum with this number.
+pub fn set(alloc: Global, of: Option<u64>, ranges: RangeSet) -> Result<Known, AllocError>
+    ensures { IfOk result (λ k. cell_of k ≡ par_value (values.set of ranges)) }
+{
+    let held = Rc::new(alloc, SetValue { of, ranges })?;
+    Ok(Known::One(Item::Set(held)))
+}
+
+/// A par text.
+pub fn text(alloc: Global, t: TextValue) -> Result<Known, AllocError>
+    ensures { IfOk result (λ k. cell_of k ≡ par_value (values.text (text_bytes t))) }
+{
+    let held = Rc::new(alloc, t)?;
+    Ok(Known::One(Item::Text(held)))
+}
+
+/// A var cell with these bounds.
+pub fn var_cell(b: Bounds) -> Known
+    ensures { cell_of result ≡ Var (known_bounds b) None }
+{
+    match b {
+        Bounds::One(bound) => Known::Var(bound),
+        Bounds::Many(index, bounds) => Known::Row(index, bounds),
+    }
+}
+
+fn set_held(alloc: Global, s: SetValue) -> Result<Known, AllocError>
+    ensures { IfOk result (λ k. cell_of k ≡ par_value (values.set s.of s.ranges)) }
+{
+    let held = Rc::new(alloc, s)?;
+    Ok(Known::One(Item::Set(held)))
+}
+
+fn array_held(alloc: Global, a: ArrayValue) -> Result<Known, AllocError>
+    ensures { IfOk result (λ k. cell_of k ≡ par_value (content (Value.Array a))) }
+{
+    array(alloc, a.index, a.items)
+}
+
+fn held(alloc: Global, v: Value) -> Result<Known, AllocError>
+    ensures { IfOk result (λ k. cell_of k ≡ par_value (content v)) }
+{
+    match v {
+        Value::Bool(b) => Ok(Known::One(Item::Bool(b))),
+        Value::Int(n) => Ok(Known::One(Item::Int(n))),
+        Value::Enum(e, k) => Ok(Known::One(Item::Enum(e, k))),
+        Value::Set(s) => set_held(alloc, s),
+        Value::Absent => Ok(Known::One(Item::Absent)),
+        Value::Text(t) => text(alloc, t),
+        Value::Array(a) => array_held(alloc, a),
+    }
+}
+
+/// The par cell of a value, which isn't copied; `None` is undefined.
+pub fn known_of(alloc: Global, v: Option<Value>) -> Result<Known, AllocError>
+    ensures { IfOk result (λ k. cell_of k ≡ Par (option_map content v)) }
+{
+    match v {
+        None => Ok(Known::Undefined),
+        Some(x) => held(alloc, x),
+    }
+}
+
+fn set_seen(alloc: Global, s: &SetValue) -> Result<Known, AllocError>
+    ensures { IfOk result (λ k. cell_of k ≡ par_value (values.set s.now.of s.now.ranges)) }
+{
+    let ranges = s.ranges.copy(alloc)?;
+    set(alloc, s.of, ranges)
+}
+
+fn text_seen(alloc: Global, t: &TextValue) -> Result<Known, AllocError>
+    ensures { IfOk result (λ k. cell_of k ≡ par_value (values.text (text_bytes t.now))) }
+{
+    let copy = copied_text(alloc, t)?;
+    text(alloc, copy)
+}
+
+fn array_seen(alloc: Global, a: &ArrayValue) -> Result<Known, AllocError>
+    ensures { IfOk result (λ k. cell_of k ≡ par_value (content (Value.Array a.now))) }
+{
+    let index = Vec::from_slice(alloc, &a.index)?;
+    let items = copied_items(alloc, &a.items)?;
+    array(alloc, index, items)
+}
+
+/// The par cell of a value that an array holds: a set, a text and an inner array are copied.
+pub fn seen(alloc: Global, v: &Value) -> Result<Known, AllocError>
+    ensures { IfOk result (λ k. cell_of k ≡ par_value (content v.now)) }
+{
+    match v {
+        Value::Bool(b) => Ok(Known::One(Item::Bool(*b))),
+        Value::Int(n) => Ok(Known::One(Item::Int(*n))),
+        Value::Enum(e, k) => Ok(Known::One(Item::Enum(*e, *k))),
+        Value::Set(s) => set_seen(alloc, s),
+        Value::Absent => Ok(Known::One(Item::Absent)),
+        Value::Text(t) => text_seen(alloc, t),
+        Value::Array(a) => array_seen(alloc, a),
+    }
+}

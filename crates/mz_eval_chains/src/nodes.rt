@@ -1,0 +1,184 @@
+// The coercions round a node, and its cell under them.
+
+ghost use Rattle.std.specs.Prelude.{◌≡◌, ◌++◌, IfOk, Bool, [], true};
+ghost use Rattle.mz_core.specs.Types.{plain_type};
+ghost use Rattle.mz_core.specs.Paths.{path_links};
+ghost use Rattle.mz_core.specs.Tree.{inner_tree, place_of, root_coercions};
+ghost use Rattle.mz_core.specs.TreeViews.{tree, form_layer};
+ghost use Rattle.mz_core.specs.declared.tree.CoreForm.TheViews.{out-CoreForm};
+ghost use Rattle.mz_meaning.specs.Cells.{Bare, typed};
+ghost use Rattle.mz_meaning.specs.Forms.{coerced_once, coerced_by};
+ghost use Rattle.mz_meaning.specs.Evaluation.{is_name};
+ghost use Rattle.mz_eval_cells.specs.Views.{cell_of};
+ghost use Rattle.mz_eval_scopes.specs.Runs.{Meets, at_work};
+ghost use Rattle.mz_eval_scopes.specs.Views.{world_of};
+ghost use Rattle.mz_eval_chains.specs.Links.{links_round};
+
+use mz_base::{Span, Stop};
+use mz_core::{Coercion, Core, CoreForm, TypeInst};
+use mz_eval_cells::{Known, coerced_to, coercion_work, stays, typed};
+use mz_eval_scopes::{World, spend};
+use std::alloc::{AllocError, Global};
+
+/// The node below the coercions of an expression. Takes no memory.
+#[tactic(auto, using(mz_core::proofs::TreeLaws::inner_tree_is))]
+pub fn inner(e: &Core) -> &Core
+    ensures { inner_tree (tree e.now) ≡ tree result.now }
+{
+    match &e.form {
+        CoreForm::Coerce(_, part) => inner(part),
+        _ => e,
+    }
+}
+
+/// The place of an expression. Takes no memory.
+#[tactic(auto, using(mz_core::proofs::TreeLaws::place_of_tree))]
+pub fn place_of(e: &Core) -> Span
+    ensures { result ≡ place_of (tree e.now) }
+{
+    e.span
+}
+
+/// One coercion, with its work.
+fn coerce_once(
+    alloc: Global,
+    world: &World,
+    at: Span,
+    c: Coercion,
+    t: &TypeInst,
+    k: Known,
+    work: &mut u64,
+) -> Result<Known, Stop>
+    ensures { Meets cell_of result work.new (coerced_once (world_of world.now) at (cell_of k) (c, plain_type t.now) (at_work work.old)) }
+{
+    spend(world.budget, at, coercion_work(c, &k), work)?;
+    Ok(coerced_to(alloc, c, t, k)?)
+}
+
+/// Coercions in their order.
+fn coerce_all(
+    alloc: Global,
+    world: &World,
+    at: Span,
+    links: &[(Coercion, TypeInst)],
+    k: Known,
+    work: &mut u64,
+) -> Result<Known, Stop>
+    ensures { Meets cell_of result work.new (coerced_by (world_of world.now) at (path_links links.now) (cell_of k) (at_work work.old)) }
+{
+    let mut cell = k;
+    for link in links {
+        cell = coerce_once(alloc, world, at, link.0, &link.1, cell, work)?;
+    }
+    Ok(cell)
+}
+
+/// The coercions round an expression's node, from the innermost on.
+#[tactic(auto, using(mz_core::proofs::TreeLaws::root_coercions_is))]
+fn coerce_round(
+    alloc: Global,
+    world: &World,
+    at: Span,
+    e: &Core,
+    k: Known,
+    work: &mut u64,
+) -> Result<Known, Stop>
+    ensures { Meets cell_of result work.new (coerced_by (world_of world.now) at (root_coercions (tree e.now)) (cell_of k) (at_work work.old)) }
+{
+    match &e.form {
+        CoreForm::Coerce(c, part) => {
+            let cell = coerce_round(alloc, world, at, part, k, work)?;
+            coerce_once(alloc, world, at, *c, &e.ty, cell, work)
+        }
+        _ => Ok(k),
+    }
+}
+
+/// The coercions round an expression, if there is one, and then these.
+#[tactic(auto, using(crate::proofs::Runs::coerced_more))]
+pub fn coerce_both(
+    alloc: Global,
+    world: &World,
+    at: Span,
+    round: Option<&Core>,
+    links: &[(Coercion, TypeInst)],
+    k: Known,
+    work: &mut u64,
+) -> Result<Known, Stop>
+    ensures { Meets cell_of result work.new (coerced_by (world_of world.now) at (links_round round.entry ++ path_links links.now) (cell_of k) (at_work work.old)) }
+{
+    match round {
+        None => coerce_all(alloc, world, at, links, k, work),
+        Some(e) => {
+            let cell = coerce_round(alloc, world, at, e, k, work)?;
+            coerce_all(alloc, world, at, links, cell, work)
+        }
+    }
+}
+
+/// Whether no coercion stands round an expression, if there is one, and none follows. Takes no memory.
+pub fn is_uncoerced(round: Option<&Core>, links: &[(Coercion, TypeInst)]) -> bool
+    ensures { result ≡ true → links_round round.entry ++ path_links links.now ≡ [] }
+{
+    match round {
+        None => links.is_empty(),
+        Some(_) => false,
+    }
+}
+
+fn is_name(f: &CoreForm) -> bool
+    ensures { result ≡ is_name (form_layer (out-CoreForm f.now)) }
+{
+    match f {
+        CoreForm::Slot(_) => true,
+        _ => false,
+    }
+}
+
+/// The cell of a node with the node's type.
+fn typed_node(alloc: Global, b: &Core, k: Known) -> Result<Known, AllocError>
+    ensures { IfOk result (λ x. cell_of x ≡ typed Bare (is_name (form_layer (out-CoreForm b.now.form))) (plain_type b.now.ty) (cell_of k)) }
+{
+    if stays(&b.ty, &k) {
+        return Ok(k);
+    }
+    typed(alloc, is_name(&b.form), &b.ty, k)
+}
+
+#[tactic(auto, using(mz_core::proofs::TreeLaws::root_coercions_is))]
+fn is_bare(e: &Core) -> bool
+    ensures { result ≡ true → root_coercions (tree e.now) ≡ [] }
+{
+    match &e.form {
+        CoreForm::Coerce(_, _) => false,
+        _ => true,
+    }
+}
+
+// whether an expression surely has its node's cell as it is: no coercion stands round it, and the
+// node's type leaves the cell
+fn is_finished(e: &Core, b: &Core, k: &Known) -> bool
+    ensures bare { result ≡ true → root_coercions (tree e.now) ≡ [] }
+    ensures stays { result ≡ true → (n : Bool) → typed Bare n (plain_type b.now.ty) (cell_of k.now) ≡ cell_of k.now }
+{
+    if is_bare(e) { stays(&b.ty, k) } else { false }
+}
+
+/// The cell of an expression, whose node below its coercions is `b` and has the cell `k` so far: it
+/// takes the node's type, and then the coercions follow.
+pub fn finished(
+    alloc: Global,
+    world: &World,
+    e: &Core,
+    b: &Core,
+    k: Known,
+    work: &mut u64,
+) -> Result<Known, Stop>
+    ensures { Meets cell_of result work.new (coerced_by (world_of world.now) b.now.span (root_coercions (tree e.now)) (typed Bare (is_name (form_layer (out-CoreForm b.now.form))) (plain_type b.now.ty) (cell_of k)) (at_work work.old)) }
+{
+    if is_finished(e, b, &k) {
+        return Ok(k);
+    }
+    let cell = typed_node(alloc, b, k)?;
+    coerce_round(alloc, world, b.span, e, cell, work)
+}

@@ -1,0 +1,69 @@
+-- The steps of evaluations that definitions take within one line.
+use Rattle.std.specs.Prelude.{ℕ, Bool, List, [], ◌∷◌, map}
+use Rattle.mz_base.specs.declared.fault.Span.{Span}
+use Rattle.mz_core.specs.Tree.{Tree, Decl, place_of}
+use Rattle.mz_eval_cells.specs.Views.{cell_of}
+use Rattle.mz_eval_cells.specs.declared.types.Known.{Known}
+use Rattle.mz_meaning.specs.Runs.{Run, ◌>>=◌, ◌>>◌, give, spend}
+use Rattle.mz_meaning.specs.Cells.{Cell, Env, Sure, both_sure, bind}
+use Rattle.mz_meaning.specs.Arrays.{Want, fitted}
+use Rattle.mz_meaning.specs.Contexts.{Untested}
+use Rattle.mz_meaning.specs.Chains as chains
+use Rattle.mz_meaning.specs.Chains.{operand_base}
+use Rattle.mz_meaning.specs.Forms as forms
+use Rattle.mz_meaning.specs.Forms.{World, Eval, coerced_by, operated, operand_place}
+use Rattle.mz_meaning.specs.Lets.{index_wants, want, all_have_sets}
+use Rattle.mz_meaning.specs.Calls.{argument_suits}
+use Rattle.mz_meaning.specs.Comprehensions.{Rest, Made, Element, Presence, names, both_occur}
+use Rattle.mz_eval_chains.specs.declared.types.Operator.{Operator}
+use Rattle.mz_eval_chains.specs.Innermosts.{operator_of}
+use Rattle.mz_eval_nodes.specs.declared.types.Appended.{Appended}
+
+-- ---- one operator: its left operand's coercions, its right operand with its coercions, its node
+
+abbrev pub operated_on : World → Cell → chains.Operator → Cell → Run Cell
+operated_on w a o c = do
+  b ← coerced_by w (operand_place o.step) o.step.right c
+  operated w o.at o.step.ty o.step.row (operand_base o.step) (a ∷ b ∷ [])
+
+abbrev pub operator_step : World → Eval → Env → Span → Cell → chains.Operator → Run Cell
+operator_step w go env at left o = do
+  a ← coerced_by w at o.step.left left
+  c ← go Untested o.step.operand env
+  operated_on w a o c
+
+-- ---- `++`: operators with their left operands, the last one first
+
+abbrev pub reversed_onto : {A : Type 0} → List A → List A → List A
+reversed_onto acc [] = acc
+reversed_onto acc (x ∷ xs) = reversed_onto (x ∷ acc) xs
+
+-- a cell with the place of its node
+abbrev pub placed : Span → Known → Span × Cell
+placed at k = (at, cell_of k)
+
+abbrev pub left_of : Operator × Known → chains.Operator × Cell
+left_of p = (operator_of p.0, cell_of p.1)
+
+abbrev pub lefts_of : List (Operator × Known) → List (chains.Operator × Cell)
+lefts_of ps = reversed_onto [] (map left_of ps)
+
+abbrev pub appended_of : Appended → forms.Appended
+appended_of x = record { lefts = lefts_of x.lefts.items; place = x.place; last = cell_of x.last }
+
+-- ---- one value of a generator's name
+
+abbrev pub turn : World → Span → List Element → ℕ → List ℕ → Rest → Env → Presence → Made → Element → Run Made
+turn w at es s ss rest env occurs made x = spend w.budget at 1 >> names w at es ss rest (bind s x.0 env) (both_occur occurs x.1) made
+
+-- ---- an argument under its parameter
+
+abbrev pub suited : Bool → Decl → List Want → Want → Cell → Cell × Sure
+suited var d ixs x c = (c, both_sure (all_have_sets ixs) (argument_suits var d.ty.ty.var x c))
+
+abbrev pub argument : Eval → Bool → Env → Decl → Tree → Cell → Run (Cell × Sure)
+argument go var env d e k = do
+  ixs ← index_wants go Untested d.ty.index env
+  x ← want go Untested d.ty.set env
+  c ← fitted (place_of e) ixs k
+  give (suited var d ixs x c)

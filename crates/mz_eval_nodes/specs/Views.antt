@@ -1,0 +1,63 @@
+-- What it stands for that is made step by step.
+use Rattle.std.specs.Prelude.{ℕ, ℤ, pos, nat_abs, int_lt, ◌+ℤ◌, ◌-ℤ◌, Bool, List, map, drop, Option, Some, None, [], ◌++◌, ◌∷◌, if◌then◌else◌}
+use Rattle.mz_value.specs.declared.value.Value.{Value}
+use Rattle.mz_value.specs.Contents.{content}
+use Rattle.mz_value.specs.Ranges.{Range}
+use Rattle.mz_value.specs.Shown.{numbers_from, range_elements, elements}
+use Rattle.mz_operations.specs.Arrays.{element_of}
+use Rattle.mz_operations.specs.Bounds as bounds
+use Rattle.mz_eval_cells.specs.declared.types.Bound.{Bound}
+use Rattle.mz_eval_cells.specs.Views.{cell_of, cells_of, sure_of, known_bound}
+use Rattle.mz_eval_arrays.specs.declared.running.Elements.{Elements}
+use Rattle.mz_eval_arrays.specs.declared.running.Elements.TheVariants as source
+use Rattle.mz_eval_arrays.specs.Gathered.{gathered, occurs_if}
+use Rattle.mz_meaning.specs.Cells.{Var, par_value}
+use Rattle.mz_meaning.specs.Lets as lets
+use Rattle.mz_meaning.specs.Comprehensions as comps
+use Rattle.mz_eval_nodes.specs.declared.types.Names.{Names}
+use Rattle.mz_eval_nodes.specs.declared.types.Made.{Made}
+use Rattle.mz_eval_nodes.specs.declared.types.Turn.{Turn}
+use Rattle.mz_eval_nodes.specs.declared.types.Turns.{Turns}
+
+abbrev pub names_of : Names → lets.Names
+names_of b = record { slots = b.slots.items; cells = cells_of b.cells.items; holds = sure_of b.holds }
+
+abbrev pub made_of : Made → comps.Made
+made_of m = record { cells = gathered m.cells; whole = sure_of m.whole }
+
+-- ---- the elements of a generator that are left
+
+abbrev pub turn_of : Turn → comps.Element
+turn_of x = (cell_of x.cell, occurs_if x.surely)
+
+-- the integers above n, up to hi
+unfoldable pub above : ℤ → ℤ → List ℤ
+above n hi = if int_lt n hi then numbers_from (n +ℤ pos 1) (nat_abs (hi -ℤ n)) else []
+
+-- the numbers of a range that are left where this one was given last, all where none was
+abbrev pub range_left : Range → Option ℤ → List ℤ
+range_left r None = range_elements r
+range_left r (Some n) = above n r.1
+
+-- the numbers of ranges, of which the first one has these left
+abbrev pub numbers_left : List Range → Option ℤ → List ℤ
+numbers_left [] last = []
+numbers_left (r ∷ rs) last = range_left r last ++ elements rs
+
+abbrev pub number_element : Option ℕ → Bool → ℤ → comps.Element
+number_element of surely n = (par_value (element_of of n), occurs_if surely)
+
+abbrev pub value_element : Value → comps.Element
+value_element x = (par_value (content x), None)
+
+abbrev pub place_element : Bound → comps.Element
+place_element b = (Var (bounds.one (known_bound b)) None, None)
+
+abbrev pub elements_left : Elements → ℕ → Option ℤ → List comps.Element
+elements_left source.Nothing i last = []
+elements_left (source.Numbers of surely s) i last = map (number_element of surely) (numbers_left (drop i s.now) last)
+elements_left (source.Values xs) i last = map value_element (drop i xs.now)
+elements_left (source.Places bs) i last = map place_element (drop i bs.now)
+
+abbrev pub turns_left : Turns → List comps.Element
+turns_left t = elements_left t.elements.now t.place t.last

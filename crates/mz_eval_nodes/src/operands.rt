@@ -1,0 +1,164 @@
+// The operands of a chain's operators, and the nodes of `++`.
+
+ghost use Rattle.std.specs.Prelude.{◌≡◌, ◌∷◌, [], false, IfOk};
+ghost use Rattle.mz_core.specs.Types.{plain_type};
+ghost use Rattle.mz_meaning.specs.Runs.{loop, then_do, give};
+ghost use Rattle.mz_meaning.specs.Cells.{Bare, typed};
+ghost use Rattle.mz_meaning.specs.Chains.{operand_base};
+ghost use Rattle.mz_meaning.specs.Forms.{coerced_by, operated, append_node};
+ghost use Rattle.mz_eval_cells.specs.Views.{cell_of};
+ghost use Rattle.mz_eval_scopes.specs.Runs.{Meets, at_work};
+ghost use Rattle.mz_eval_scopes.specs.Views.{world_of};
+ghost use Rattle.mz_eval_chains.specs.Innermosts.{operator_of};
+ghost use Rattle.mz_eval_nodes.specs.Operators.{operated_on, placed, appended_of, left_of, lefts_of};
+
+use crate::rows::operated_two;
+use crate::types::Appended;
+use mz_base::{Span, Stop};
+use mz_core::TypeInst;
+use mz_eval_cells::{Known, stays, typed};
+use mz_eval_chains::{Operator, coerce_both, is_uncoerced, operand_base, place_of};
+use mz_eval_scopes::World;
+use std::alloc::{AllocError, Global};
+
+/// The left operand of an operator under its coercions, which have the place of the node before.
+pub fn prepared(
+    alloc: Global,
+    world: &World,
+    at: Span,
+    o: &Operator,
+    left: Known,
+    work: &mut u64,
+) -> Result<Known, Stop>
+    ensures { Meets cell_of result work.new (coerced_by (world_of world.now) at (operator_of o.now).step.left (cell_of left) (at_work work.old)) }
+{
+    if is_uncoerced(o.before, &o.step.left) {
+        return Ok(left);
+    }
+    coerce_both(alloc, world, at, o.before, &o.step.left, left, work)
+}
+
+fn typed_row(alloc: Global, t: &TypeInst, k: Known) -> Result<Known, AllocError>
+    ensures { IfOk result (λ x. cell_of x ≡ typed Bare false (plain_type t.now) (cell_of k)) }
+{
+    if stays(t, &k) {
+        return Ok(k);
+    }
+    typed(alloc, false, t, k)
+}
+
+// an operator's node over its operands
+fn node_of(
+    alloc: Global,
+    world: &World,
+    o: &Operator,
+    a: Known,
+    b: Known,
+    work: &mut u64,
+) -> Result<Known, Stop>
+    ensures { Meets cell_of result work.new (operated (world_of world.now) o.now.at (operator_of o.now).step.ty (operator_of o.now).step.row (operand_base (operator_of o.now).step) (cell_of a ∷ cell_of b ∷ []) (at_work work.old)) }
+{
+    let base = operand_base(o);
+    let c = operated_two(alloc, world, o.at, &o.step.ty, o.step.row, base, a, b, work)?;
+    Ok(typed_row(alloc, &o.step.ty, c)?)
+}
+
+/// An operator's node: its right operand's coercions, and the row.
+pub fn operated_on(
+    alloc: Global,
+    world: &World,
+    o: &Operator,
+    a: Known,
+    c: Known,
+    work: &mut u64,
+) -> Result<Known, Stop>
+    ensures { Meets cell_of result work.new (operated_on (world_of world.now) (cell_of a) (operator_of o.now) (cell_of c) (at_work work.old)) }
+{
+    if is_uncoerced(o.after, &o.step.right) {
+        return node_of(alloc, world, o, a, c, work);
+    }
+    let place = place_of(o.operand);
+    let b = coerce_both(alloc, world, place, o.after, &o.step.right, c, work)?;
+    node_of(alloc, world, o, a, b, work)
+}
+
+/// The first operand alone.
+pub fn nothing_appended<'a>(alloc: Global, place: Span, first: Known) -> Appended<'a>
+    ensures { appended_of result ≡ record { lefts = []; place = place; last = cell_of first } }
+{
+    Appended {
+        lefts: Vec::new(alloc),
+        place,
+        last: first,
+    }
+}
+
+/// One operator more with its left operand, and its right operand at this place.
+#[tactic(auto, using(crate::proofs::Lefts::lefts_push))]
+pub fn append_operand<'a>(
+    lefts: Vec<(Operator<'a>, Known)>,
+    o: Operator<'a>,
+    left: Known,
+    place: Span,
+    last: Known,
+) -> Result<Appended<'a>, AllocError>
+    ensures { IfOk result (λ x. appended_of x ≡ record { lefts = (operator_of o.entry, cell_of left) ∷ lefts_of lefts.entry.items; place = place; last = cell_of last }) }
+{
+    let mut lefts = lefts;
+    lefts.push((o, left))?;
+    Ok(Appended { lefts, place, last })
+}
+
+// the node of an operator whose right operand is the cell `last` of the place `place`
+fn node_before(
+    alloc: Global,
+    world: &World,
+    place: Span,
+    o: &Operator,
+    left: Known,
+    last: Known,
+    work: &mut u64,
+) -> Result<Known, Stop>
+    ensures { Meets (placed o.now.at) result work.new (append_node (world_of world.now) (place, cell_of last) (operator_of o.now, cell_of left) (at_work work.old)) }
+{
+    let b = coerce_both(alloc, world, place, o.after, &o.step.right, last, work)?;
+    let next = node_of(alloc, world, o, left, b, work)?;
+    Ok(next)
+}
+
+fn append_node(
+    alloc: Global,
+    world: &World,
+    place: Span,
+    p: (Operator, Known),
+    last: Known,
+    work: &mut u64,
+) -> Result<Known, Stop>
+    ensures { Meets (placed p.entry.0.at) result work.new (append_node (world_of world.now) (place, cell_of last) (left_of p.entry) (at_work work.old)) }
+{
+    let (o, left) = p;
+    node_before(alloc, world, place, &o, left, last, work)
+}
+
+/// The nodes of a chain of `++`, from the last operator on.
+#[tactic(auto, using(crate::proofs::Lefts::lefts_push))]
+pub fn appended_nodes(
+    alloc: Global,
+    world: &World,
+    x: Appended,
+    work: &mut u64,
+) -> Result<Known, Stop>
+    ensures { Meets cell_of result work.new (then_do (loop (append_node (world_of world.now)) (x.entry.place, cell_of x.entry.last) (lefts_of x.entry.lefts.items) (at_work work.old)) (λ r. give r.1)) }
+{
+    let Appended {
+        mut lefts,
+        mut place,
+        mut last,
+    } = x;
+    while let Some(p) = lefts.pop() {
+        let at = p.0.at;
+        last = append_node(alloc, world, place, p, last, work)?;
+        place = at;
+    }
+    Ok(last)
+}

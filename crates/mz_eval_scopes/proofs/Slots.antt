@@ -1,0 +1,57 @@
+-- Slots of a frame, the last first.
+use Rattle.std.proofs.Common.{◌≡◌, ℕ, zero, suc, ◌+◌, ◌<◌, Bor, List, [], ◌∷◌, ◌++◌, length, take, get_or, set, slice_get, nat_eq, min, Bool, true, false, Some, refl, sym, ap, subst, arith, if◌then◌else◌}
+use Rattle.std.proofs.lemmas.Bool.{eqb-true}
+use Rattle.std.proofs.lemmas.Bool.Decides.{nat_tests}
+use Rattle.mz_eval_cells.specs.declared.types.Known.{Known}
+use Rattle.mz_eval_cells.specs.Views.{cell_of, cells_of}
+use Rattle.mz_meaning.specs.Cells.{Env, bind, bind_all, undefined}
+use Rattle.mz_eval_scopes.specs.declared.types.World.{World}
+use Rattle.mz_eval_scopes.specs.declared.types.Scope.{Scope}
+use Rattle.mz_eval_scopes.specs.declared.types.Scope.TheViews.{Frame}
+use Rattle.mz_eval_scopes.specs.Views.{env_of, known_if}
+
+pub frame_env : (w : World) (slots : Bor (List ℕ)) (ks : Bor (List Known)) (rest : Bor Scope) → env_of w (Frame slots ks rest) ≡ bind_all slots.now (cells_of ks.now) (env_of w rest.now)
+frame_env w slots ks rest = refl
+
+-- the names up to one: this one, else those before
+pub up_to : (n : ℕ) (ss : List ℕ) (ks : List Known) (k : Known) (env : Env) (slot : ℕ) → n < length ss → n < length ks → bind_all (take (suc n) ss) (cells_of (take (suc n) ks)) env slot ≡ (if nat_eq slot (get_or ss n 0) then cell_of (get_or ks n k) else bind_all (take n ss) (cells_of (take n ks)) env slot)
+up_to n [] ks k env slot h g = absurd (omega arith)
+up_to n (s ∷ ss) [] k env slot h g = absurd (omega arith)
+up_to zero (s ∷ ss) (c ∷ ks) k env slot h g = refl
+up_to (suc n) (s ∷ ss) (c ∷ ks) k env slot h g = up_to n ss ks k (bind s (cell_of c) env) slot (omega arith) (omega arith)
+
+-- all names, up to as many as have cells
+pub all_of_them : (m : ℕ) (ss : List ℕ) (ks : List Known) (env : Env) (slot : ℕ) → m ≡ min (length ss) (length ks) → bind_all ss (cells_of ks) env slot ≡ bind_all (take m ss) (cells_of (take m ks)) env slot
+all_of_them zero [] ks env slot h = refl
+all_of_them zero (s ∷ ss) [] env slot h = refl
+all_of_them zero (s ∷ ss) (k ∷ ks) env slot h = absurd (omega arith)
+all_of_them (suc m) [] ks env slot h = absurd (omega arith)
+all_of_them (suc m) (s ∷ ss) [] env slot h = absurd (omega arith)
+all_of_them (suc m) (s ∷ ss) (k ∷ ks) env slot h = all_of_them m ss ks (bind s (cell_of k) env) slot (omega arith)
+
+-- one place more changes nothing
+pub pushed_undefined : (ks : List Known) (u : Known) (k : ℕ) → cell_of u ≡ undefined → known_if (slice_get (ks ++ u ∷ []) k) ≡ known_if (slice_get ks k)
+pushed_undefined [] u zero h = h
+pushed_undefined [] u (suc k) h = refl
+pushed_undefined (x ∷ ks) u zero h = refl
+pushed_undefined (x ∷ ks) u (suc k) h = pushed_undefined ks u k h
+
+put_same : (ks : List Known) (i : ℕ) (u : Known) → i < length ks → slice_get (set ks i u) i ≡ Some u
+put_same [] i u h = absurd (omega arith)
+put_same (x ∷ ks) zero u h = refl
+put_same (x ∷ ks) (suc i) u h = put_same ks i u (omega arith)
+
+put_other : (ks : List Known) (i k : ℕ) (u : Known) → (k ≡ i → ⊥) → slice_get (set ks i u) k ≡ slice_get ks k
+put_other [] i k u h = refl
+put_other (x ∷ ks) zero zero u h = absurd (h refl)
+put_other (x ∷ ks) zero (suc k) u h = refl
+put_other (x ∷ ks) (suc i) zero u h = refl
+put_other (x ∷ ks) (suc i) (suc k) u h = put_other ks i k u (λ e. h (ap suc e))
+
+-- what is put at a place is there, and all else is as it was
+pub put_at : (ks : List Known) (i : ℕ) (u : Known) (k : ℕ) → i < length ks → known_if (slice_get (set ks i u) k) ≡ (if nat_eq k i then cell_of u else known_if (slice_get ks k))
+put_at ks i u k h = by (nat_eq k i) refl
+  where
+    by : (t : Bool) → nat_eq k i ≡ t → known_if (slice_get (set ks i u) k) ≡ (if t then cell_of u else known_if (slice_get ks k))
+    by true p = ap known_if (subst (λ j. slice_get (set ks i u) j ≡ Some u) (sym (eqb-true k i p)) (put_same ks i u h))
+    by false p = ap known_if (put_other ks i k u (λ e. let q : nat_eq k i ≡ true = grind (arith, nat_tests) in cc))

@@ -1,0 +1,46 @@
+-- What worlds and scopes stand for.
+use Rattle.std.specs.Prelude.{ℕ, ℤ, List, map, Option, Some, None, slice_get}
+use Rattle.mz_value.specs.declared.value.TextValue.{TextValue}
+use Rattle.mz_value.specs.Contents.{case_names, text_bytes}
+use Rattle.mz_core.specs.Program.{PlainProgram, function}
+use Rattle.mz_eval_cells.specs.declared.types.Known.{Known}
+use Rattle.mz_eval_cells.specs.Views.{cell_of, cells_of}
+use Rattle.mz_meaning.specs.Cells as cells
+use Rattle.mz_meaning.specs.Cells.{Cell, Bare, undefined, bind, bind_all}
+use Rattle.mz_meaning.specs.Forms as forms
+use Rattle.mz_eval_scopes.specs.declared.types.Env.{Env}
+use Rattle.mz_eval_scopes.specs.declared.types.World.{World}
+use Rattle.mz_eval_scopes.specs.declared.types.Scope.{Scope}
+use Rattle.mz_eval_scopes.specs.declared.types.Scope.TheVariants.{Top, Bound', Frame'}
+
+abbrev pub known_if : Option Known → Cell
+known_if None = undefined
+known_if (Some k) = cell_of k
+
+-- the cell of each slot
+abbrev pub env_cells : Env → cells.Env
+env_cells e = λ k. known_if (slice_get e.cells.items k)
+
+-- the world of an evaluation without values: a program, its budget, the range of a free `int`, and the cells of top-level names
+abbrev pub world_for : PlainProgram → ℕ → ℤ → cells.Env → forms.World
+world_for p budget n top = record { functions = p.functions; cases = p.cases; texts = p.texts; budget = budget; int_range = n; top = top; mode = Bare }
+
+-- a text literal's name and its text
+abbrev pub text_entry : ℕ × TextValue → ℕ × List ℕ
+text_entry t = (t.0, text_bytes t.1)
+
+abbrev pub world_of : World → forms.World
+world_of w = record {
+  functions = map function w.program.now.functions.items;
+  cases = case_names w.program.now.cases;
+  texts = map text_entry w.program.now.texts.items;
+  budget = w.budget;
+  int_range = w.int_range;
+  top = env_cells w.env.now;
+  mode = Bare;
+}
+
+abbrev pub env_of : World → Scope → cells.Env
+env_of w Top = env_cells w.env.now
+env_of w (Bound' slot k p rest) = bind slot (cell_of k.now) (env_of w rest)
+env_of w (Frame' slots ks p rest) = bind_all slots.now (cells_of ks.now) (env_of w rest)

@@ -1,9 +1,0 @@
-use Rattle.std.proofs.Common.{◌≡◌, ℕ, suc, ◌-◌, length}
-use Rattle.mz_frames.specs.Views.{env_cells}
-use Rattle.mz_frames.proofs.types.Env.grow.Given as goal
-
-abbrev pub invariant-places : goal.invariant-places
-invariant-places l = (k : ℕ) → env_cells l.self k ≡ env_cells l.fn.self k
-
-abbrev pub decreases-places : goal.decreases-places
-decreases-places l = suc l.slot - length l.self.cells.items

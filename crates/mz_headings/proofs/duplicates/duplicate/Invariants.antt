@@ -1,7 +1,0 @@
-use Rattle.mz_scoped.specs.Scoped.{scoped_tree}
-use Rattle.mz_context.specs.Known.{known}
-use Rattle.mz_headings.proofs.Taken.{HavePassed}
-use Rattle.mz_headings.proofs.duplicates.duplicate.Given as goal
-
-abbrev pub invariant-loop-f : goal.invariant-loop-f
-invariant-loop-f l = HavePassed (scoped_tree l.scoped) (known l.context) l.functions l.f-index l.before

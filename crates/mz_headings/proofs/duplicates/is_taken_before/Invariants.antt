@@ -1,8 +1,0 @@
-use Rattle.std.proofs.Common.{◌≡◌, map, drop}
-use Rattle.mz_core.specs.TreeViews.{decl}
-use Rattle.mz_context.specs.Known.{known}
-use Rattle.mz_headings.specs.StepsDuplicates.{is_taken_before}
-use Rattle.mz_headings.proofs.duplicates.is_taken_before.Given as goal
-
-abbrev pub invariant-loop-k : goal.invariant-loop-k
-invariant-loop-k l = is_taken_before (known l.context) l.numbers (map (λ d. d.ty.ty) (map decl l.params)) ≡ is_taken_before (known l.context) (drop l.k-index l.numbers) (map (λ d. d.ty.ty) (map decl l.params))

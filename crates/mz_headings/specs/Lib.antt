@@ -1,6 +1,0 @@
-pub mod Meanings
-pub mod Naming
-pub mod Subjects
-pub mod StepsDuplicates
-pub mod StepsHeadings
-pub mod StepsTypes

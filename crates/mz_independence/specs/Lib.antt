@@ -1,4 +1,0 @@
-pub mod Outlines
-pub mod FreeLocals
-pub mod Ties
-pub mod Independence

@@ -1,0 +1,14 @@
+pub mod Joins
+pub mod Cells
+pub mod Allowed
+pub mod Rows
+pub mod Arrays
+pub mod Forms
+pub mod Comprehensions
+pub mod Lets
+pub mod Calls
+pub mod Evaluation
+pub mod Walks
+pub mod Consequences
+pub mod Values
+pub mod Budgets

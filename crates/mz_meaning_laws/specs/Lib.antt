@@ -1,0 +1,5 @@
+pub mod Outlines
+pub mod FreeLocals
+pub mod Ties
+pub mod Independence
+pub mod Spending

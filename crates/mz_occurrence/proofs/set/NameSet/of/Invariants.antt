@@ -1,6 +1,0 @@
-use Rattle.std.proofs.Common.{◌≡◌, ℕ, take}
-use Rattle.mz_occurrence.specs.Sets.{holds}
-use Rattle.mz_occurrence.proofs.set.NameSet.of.Given as goal
-
-abbrev pub invariant-loop-name : goal.invariant-loop-name
-invariant-loop-name l = (n : ℕ) → holds n l.set ≡ holds n (take l.name-index l.names)

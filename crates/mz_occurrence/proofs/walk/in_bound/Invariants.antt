@@ -1,6 +1,0 @@
-use Rattle.std.proofs.Common.{◌≡◌, ◌++◌, drop, map}
-use Rattle.mz_occurrence.specs.Occurrences.{bound}
-use Rattle.mz_occurrence.proofs.walk.in_bound.Given as goal
-
-abbrev pub invariant-loop-name : goal.invariant-loop-name
-invariant-loop-name l = l.fn.out.items ++ map bound l.names ≡ l.out.items ++ map bound (drop l.name-index l.names)

@@ -1,8 +1,0 @@
-// What holds of all occurrences.
-
-ghost use Rattle.mz_occurrence.specs.Named.{AreNamedAlike};
-
-/// The law that the names of an item's occurrences are names of the table that holds all names of the item.
-pub fn named_alike()
-    ensures { AreNamedAlike }
-{}

@@ -1,5 +1,0 @@
-pub mod Cycles
-pub mod Joining
-pub mod Layered
-pub mod Needed
-pub mod Reading

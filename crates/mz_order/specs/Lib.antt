@@ -1,4 +1,0 @@
-pub mod Depends
-pub mod Evaluation
-pub mod Members
-pub mod StepsLayers

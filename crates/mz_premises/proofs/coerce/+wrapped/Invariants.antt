@@ -1,5 +1,0 @@
-use Rattle.std.proofs.Common.{length}
-use Rattle.mz_premises.proofs.coerce.+wrapped.Given as goal
-
-abbrev pub decreases-wrapped : goal.decreases-wrapped
-decreases-wrapped l = length l.links.now

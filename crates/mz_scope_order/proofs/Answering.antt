@@ -1,0 +1,57 @@
+-- What the order and the cycles of the graphs say of the declarations and functions.
+use Rattle.std.proofs.Common.{◌≡◌, ℕ, ◌+◌, ◌<◌, List, length, subst, arith}
+use Rattle.mz_graph.specs.Graph.{Graph, number_of}
+use Rattle.mz_graph.specs.Order.{IsOrder, IsComplete, IsFirstLeft}
+use Rattle.mz_graph.specs.Depends.{DependsOn, IsWholeOrder, IsCyclicAt, NoneOnCycle, IsFirstOnCycle, HaveComponents}
+use Rattle.mz_scope_uses.specs.Sketches.{Sketch}
+use Rattle.mz_scope_order.specs.Dependencies.{Depends, LeadsBack, AreDeclarations, IsSequence, IsStuckAt, IsBackAt}
+use Rattle.mz_scope_order.specs.StepsGraphs.{node_of, base_of, AreGraphs}
+use Rattle.mz_scope_order.proofs.Following as following
+use Rattle.mz_scope_order.proofs.Building as building
+use Rattle.mz_scope_order.proofs.Closing as closing
+use Rattle.mz_scope_order.proofs.Ranking as ranking
+
+module _ (decls functions : List Sketch) (calls mentions decl_calls decl_mentions types : Graph) (d : AreDeclarations decls) (k : AreGraphs decls functions calls mentions decl_calls decl_mentions types) where
+  sized : length decl_mentions ≡ length decls
+  sized = closing.decl_mentions_sized decls functions calls mentions decl_calls decl_mentions types d k
+
+  ordered : (order : List ℕ) → IsOrder (DependsOn calls mentions decl_calls decl_mentions) (length decl_mentions) order → IsOrder (Depends decls functions) (length decls) order
+  ordered order o =
+      following.order_by_uses decls functions (node_of functions) calls mentions decl_calls decl_mentions (building.faithful decls functions calls mentions decl_calls decl_mentions types d k) order
+      (subst (λ z. IsOrder (DependsOn calls mentions decl_calls decl_mentions) z order) sized o)
+
+  pub in_sequence : (order : List ℕ) → IsWholeOrder (DependsOn calls mentions decl_calls decl_mentions) (length decl_mentions) order → NoneOnCycle types 0 (length functions) → HaveComponents types → IsSequence decls functions order
+  in_sequence order w none parts =
+      let whole = subst (λ z. IsComplete z order) sized w.complete in
+      let faithful = building.faithful_types decls functions calls mentions decl_calls decl_mentions types d k in
+      let acyclic : (f : ℕ) → f < length functions → LeadsBack decls functions f → ⊥ = λ f h l. none f (omega arith) h (following.uses_by_cycle decls functions (node_of functions) (base_of functions) types faithful f h l) in
+      record {
+        is = ordered order w.is;
+        complete = whole;
+        acyclic = acyclic;
+        ranked = record {
+          of_decl = λ e. number_of parts.number (base_of functions + e);
+          of_function = λ f. number_of parts.number f;
+          are = ranking.ranked decls functions (node_of functions) (base_of functions) types parts.count parts.number order faithful
+              (closing.types_closed decls functions calls mentions decl_calls decl_mentions types d k)
+              (building.types_sized decls functions calls mentions decl_calls decl_mentions types d k)
+              parts.are (ordered order w.is) whole acyclic;
+        };
+      }
+
+  pub stuck : (c : ℕ) → IsCyclicAt (DependsOn calls mentions decl_calls decl_mentions) (length decl_mentions) c → IsStuckAt decls functions c
+  stuck c s = record {
+    order = s.order;
+    is = ordered s.order s.is;
+    first = subst (λ z. IsFirstLeft z s.order c) sized s.first;
+  }
+
+  pub back : (order : List ℕ) (f : ℕ) → IsWholeOrder (DependsOn calls mentions decl_calls decl_mentions) (length decl_mentions) order → IsFirstOnCycle types 0 (length functions) f → IsBackAt decls functions f
+  back order f w c = record {
+    order = order;
+    is = ordered order w.is;
+    complete = subst (λ z. IsComplete z order) sized w.complete;
+    counted = c.within;
+    back = following.cycle_by_uses decls functions (node_of functions) (base_of functions) types (building.faithful_types decls functions calls mentions decl_calls decl_mentions types d k) f c.within c.cycle;
+    before = λ h l b. let t = c.within in c.before h (omega arith) l (following.uses_by_cycle decls functions (node_of functions) (base_of functions) types (building.faithful_types decls functions calls mentions decl_calls decl_mentions types d k) h (omega (arith, l, t)) b);
+  }

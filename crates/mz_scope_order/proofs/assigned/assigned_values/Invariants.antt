@@ -1,0 +1,9 @@
+use Rattle.std.proofs.Common.{◌≡◌, ◌++◌, drop, map}
+use Rattle.std.specs.List.{flat_map}
+use Rattle.mz_tree.specs.Views.{tree}
+use Rattle.mz_tree.specs.Items.{item}
+use Rattle.mz_scope_order.specs.StepsTables.{value_assigned}
+use Rattle.mz_scope_order.proofs.assigned.assigned_values.Given as goal
+
+abbrev pub invariant-loop-file : goal.invariant-loop-file
+invariant-loop-file l = map (λ e. tree e.now) l.out.items ++ flat_map (λ f. flat_map (λ i. value_assigned (item i)) f.items.items) (drop l.file-index l.files) ≡ flat_map (λ f. flat_map (λ i. value_assigned (item i)) f.items.items) l.files

@@ -1,0 +1,12 @@
+use Rattle.std.specs.List.{flat_map}
+use Rattle.mz_tree.specs.Items.{item}
+use Rattle.mz_scope_order.specs.Parts.{function_in}
+use Rattle.mz_scope_order.proofs.Tables.{all_done, one_done}
+use Rattle.mz_scope_order.proofs.items.functions_of.Goals as goal
+
+pub loop-file-preserved : goal.loop-file-preserved
+loop-file-preserved c =
+    one_done (λ i. function_in (item i)) c.args.files.now c.loop-file.file-index c.file-item.result c.as_slice.result.now _ _ _ c.loop-file-test.true c.file-item.is c.as_slice.ensures.value c.in_ok-add_functions.ensures c.loop-file.invariant
+
+pub returns : goal.returns
+returns c = all_done (λ x. flat_map (λ i. function_in (item i)) x.items.items) c.args.files.now c.loop-file.file-index _ c.loop-file.invariant c.loop-file-test.false

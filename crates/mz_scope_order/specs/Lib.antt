@@ -1,0 +1,10 @@
+pub mod Answer
+pub mod Dependencies
+pub mod Examples
+pub mod StepsFaithful
+pub mod StepsGraphs
+pub mod StepsPlaces
+pub mod Parts
+pub mod Scoped
+pub mod StepsParts
+pub mod StepsTables

@@ -1,0 +1,3 @@
+pub mod Sketches
+pub mod Uses
+pub mod Valued

@@ -1,9 +1,0 @@
-use Rattle.std.proofs.Common.{◌≡◌, ◌++◌, drop, map}
-use Rattle.std.specs.List.{flat_map}
-use Rattle.mz_tree.specs.Items.{item}
-use Rattle.mz_scoped.specs.Parts.{function_in}
-use Rattle.mz_scoped.specs.Scoped.{lent_function}
-use Rattle.mz_scoped.proofs.items.add_functions.Given as goal
-
-abbrev pub invariant-loop-item : goal.invariant-loop-item
-invariant-loop-item l = map lent_function l.fn.out.items ++ flat_map (λ i. function_in (item i)) l.items ≡ map lent_function l.out.items ++ flat_map (λ i. function_in (item i)) (drop l.item-index l.items)

@@ -1,7 +1,0 @@
-use Rattle.std.proofs.Common.{◌≡◌, drop, map}
-use Rattle.mz_tree.specs.Items.{item}
-use Rattle.mz_scoped.specs.StepsParts.{first_goal}
-use Rattle.mz_scoped.proofs.items.first_goal.Given as goal
-
-abbrev pub invariant-loop-item : goal.invariant-loop-item
-invariant-loop-item l = first_goal (map item (drop l.item-index l.items)) ≡ first_goal (map item l.items)

@@ -1,5 +1,0 @@
-use Rattle.std.proofs.Common.{◌≡◌, ◌++◌, drop, map}
-use Rattle.mz_scoped.proofs.listing.data_names.Given as goal
-
-abbrev pub invariant-loop-d : goal.invariant-loop-d
-invariant-loop-d l = l.out.items ++ map (λ d. d.name) (drop l.d-index l.items) ≡ map (λ d. d.name) l.items

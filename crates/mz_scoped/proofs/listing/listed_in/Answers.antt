@@ -1,5 +1,0 @@
-use Rattle.mz_scoped.proofs.Tables.{listed_is}
-use Rattle.mz_scoped.proofs.listing.listed_in.Goals as goal
-
-pub returns : goal.returns
-returns c = λ n. listed_is n c.args.items.now _ _ _ (c.in_ok-places.ensures n) c.as_slice.ensures.value c.in_ok-names.ensures

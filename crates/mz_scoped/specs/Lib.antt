@@ -1,4 +1,0 @@
-pub mod Parts
-pub mod Scoped
-pub mod StepsParts
-pub mod StepsTables

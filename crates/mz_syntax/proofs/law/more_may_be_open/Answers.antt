@@ -1,9 +1,0 @@
-use Rattle.mz_syntax.proofs.DataDeeper as data_file
-use Rattle.mz_syntax.proofs.ModelDeeper as model
-use Rattle.mz_syntax.proofs.law.more_may_be_open.Goals as goal
-
-pub returns-clause-data_files : goal.returns-clause-data_files
-returns-clause-data_files c = λ names k tokens items h. data_file.deeper h
-
-pub returns-clause-models : goal.returns-clause-models
-returns-clause-models c = λ k tokens items h. model.deeper h

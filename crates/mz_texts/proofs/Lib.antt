@@ -1,3 +1,0 @@
-pub mod Layers
-pub mod Texted
-pub mod Once

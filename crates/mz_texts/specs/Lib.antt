@@ -1,2 +1,0 @@
-pub mod StepsLayers
-pub mod StepsTables

@@ -1,3 +1,0 @@
-pub mod StepsForms
-pub mod Naming
-pub mod Views

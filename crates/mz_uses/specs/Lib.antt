@@ -1,2 +1,0 @@
-pub mod Sketches
-pub mod Uses
