@@ -4,7 +4,7 @@ use Rattle.mz_arena.specs.declared.node.Node.{Node}
 use Rattle.mz_arena.specs.Entries.{Entry, entry, is_free, is_local}
 use Rattle.mz_arena.specs.Charges.{charge_of, charges}
 use Rattle.mz_arena.specs.Numbering.{local_ids}
-use Rattle.mz_arena.specs.Arenas.{Grew, Extends, Made, MadeAnew, HasAtMost, IsChecked}
+use Rattle.mz_arena.specs.Arenas.{IsSetConst, Grew, Extends, Made, MadeAnew, HasAtMost, IsChecked}
 use Rattle.mz_arena.specs.declared.node.NodeKind.{NodeKind}
 use Rattle.mz_arena.specs.declared.node.NodeKind.TheVariants.{Local, SetLocal}
 use Rattle.mz_arena.specs.declared.table.Reach.{Reach}
@@ -125,6 +125,7 @@ module _ (old new : Table) (es : List Entry) (n : Node) (r : Reach) (v : view ol
     long = subst (λ (q : Option Reach). IsLongCons n.kind q) is l;
     const = λ h. let other = put_asked.other in cc;
     own = λ f. ap nat_abs (put_asked.free f).own ∙ ap length (sym same);
+    domain = λ f. subst (λ (fs : List Entry). IsSetConst fs n.a) (sym same) (put_asked.free f).domain;
     next = λ h. (put_asked.free (local_free n.kind h)).next h ∙ ap (λ (fs : List Entry). length (local_ids fs)) (sym same);
   }
 

@@ -4,8 +4,8 @@ ghost use Rattle.std.specs.Prelude.{◌≡◌, ◌+◌, ◌<◌, ◌≤◌, [], 
 ghost use Rattle.mz_interval.specs.Interval.{ends};
 
 use crate::asked::{is_free, is_id, is_local, is_set_const};
-use crate::node::{Id, Node};
-use crate::table::{Stored, Table};
+use crate::node::{Id, Node, Sort};
+use crate::table::{Stored, Table, sort_in};
 use mz_base::Memory;
 use mz_interval::Interval;
 use mz_value::RangeSet;
@@ -40,7 +40,7 @@ impl Model for Arena {
 
 impl Arena {
     ghost use Rattle.mz_arena.specs.Entries.{entry, is_free};
-    ghost use Rattle.mz_arena.specs.Extents.{extent, ends_in};
+    ghost use Rattle.mz_arena.specs.Extents.{extent, ends_in, sort_of};
     ghost use Rattle.mz_arena.specs.Charges.{charge_of, charges};
     ghost use Rattle.mz_arena.specs.Arenas.{IsArena, IsAsked, IsSetConst, Grew, Extends, Made, MadeAnew, HasAtMost, IsChecked, IsConst};
     ghost use Rattle.mz_arena.specs.StepsAsked.{is_own, is_next, is_free_node, may_stand, Puts};
@@ -178,6 +178,17 @@ impl Arena {
         ensures { option_map (λ e. e.node) (slice_get self.now id) ≡ Some result }
     {
         self.table.stored[id as usize].node
+    }
+
+    /// Whether the node with this id is an integer, a Boolean, a set or a list.
+    pub fn sort(&self, id: Id) -> Sort
+        requires { id < length self.now }
+        ensures { sort_of (extent self.now id) ≡ Some result }
+    {
+        match sort_in(self.table.reach(id)) {
+            Some(sort) => sort,
+            None => unreachable!(),
+        }
     }
 
     /// The bounds of an integer, or of a Boolean as 0 or 1.

@@ -16,4 +16,4 @@ mod truth;
 
 pub use arena::Arena;
 pub use law::growth_is_transitive;
-pub use node::{Id, Node, NodeKind, charge};
+pub use node::{Id, Node, NodeKind, Sort, charge};
