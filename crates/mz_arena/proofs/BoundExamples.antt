@@ -89,7 +89,7 @@ a_boolean_variable : of_mark Var 1 (within ((pos 0, pos 1) ∷ [])) ≡ bool (po
 unfolding variable_extent end_of
 a_boolean_variable = refl
 
-a_boolean_variable_of_one_value : of_mark Var 1 (within ((pos 1, pos 1) ∷ [])) ≡ bool (pos 1) (pos 1)
+a_boolean_variable_of_one_value : of_mark Var 1 (within ((pos 1, pos 1) ∷ [])) ≡ no_bounds
 unfolding variable_extent end_of
 a_boolean_variable_of_one_value = refl
 
@@ -105,7 +105,7 @@ a_choice : of_mark Local 0 (within ((neg_ℤ (pos 5), neg_ℤ (pos 5)) ∷ (pos 
 unfolding variable_extent end_of
 a_choice = refl
 
-a_choice_of_a_truth_value : of_mark Local 1 (within ((pos 0, pos 0) ∷ [])) ≡ bool (pos 0) (pos 0)
+a_choice_of_a_truth_value : of_mark Local 1 (within ((pos 0, pos 1) ∷ [])) ≡ bool (pos 0) (pos 1)
 unfolding variable_extent end_of
 a_choice_of_a_truth_value = refl
 

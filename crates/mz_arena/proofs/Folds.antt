@@ -24,6 +24,11 @@ get-past [] i h = refl
 get-past (x ∷ xs) zero h = absurd (omega arith)
 get-past (x ∷ xs) (suc i) h = get-past xs i (omega arith)
 
+pub get-length : {A : Type 0} (xs : List A) (i : ℕ) → slice_get xs i ≡ None → length xs ≤ i
+get-length [] i h = omega arith
+get-length (x ∷ xs) zero h = cc
+get-length (x ∷ xs) (suc i) h = let l = get-length xs i h in omega arith
+
 pub at-append : {A : Type 0} (xs ys : List (Option A)) (i : ℕ) → i < length xs → at (xs ++ ys) i ≡ at xs i
 at-append xs ys i h = ap option_flatten (get-append xs ys i h)
 

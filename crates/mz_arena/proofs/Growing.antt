@@ -1,13 +1,24 @@
 -- Arenas that go on from another, and the node that was made last.
-use Rattle.std.proofs.Common.{◌≡◌, ℕ, ◌+◌, ◌<◌, List, [], ◌∷◌, ◌++◌, length, map, Bool, true, false, cond, Option, Some, ◌⊎◌, inl, inr, IsSome, slice_get, refl, sym, ap, subst, ◌∙◌, arith, length-append, append-nil}
+use Rattle.std.proofs.Common.{◌≡◌, ℕ, ◌+◌, ◌<◌, List, [], ◌∷◌, ◌++◌, length, map, take, ◌&&◌, ℤ, pos, Bool, true, false, cond, Option, Some, None, ◌⊎◌, inl, inr, IsSome, slice_get, refl, sym, ap, subst, ◌∙◌, arith, length-append, append-nil}
 use Rattle.std.proofs.lemmas.Bool.{cases_lt}
-use Rattle.mz_arena.specs.Entries.{Entry, children, AllBelow, at, folded, is_free, is_local}
+use Rattle.std.specs.Ordering.{int_eq}
+use Rattle.std.proofs.lemmas.Int.{ints}
+use Rattle.mz_value.specs.Ranges.{Range, AreCanonical}
+use Rattle.mz_interval.specs.Ends.{Ends}
+use Rattle.mz_operations.specs.Sets.{end_of}
+use Rattle.mz_operations.specs.Bounds.{hull_of_set}
+use Rattle.mz_operations.specs.Laws.{IsSet}
+use Rattle.mz_operations.proofs.SetBounds.{hull_of_set-has}
+use Rattle.mz_arena.specs.declared.node.Node.{Node}
+use Rattle.mz_arena.specs.declared.node.NodeKind.{NodeKind}
+use Rattle.mz_arena.specs.declared.node.NodeKind.TheVariants.{Var, Local, SetConst}
+use Rattle.mz_arena.specs.Entries.{Entry, arity, children, AllBelow, at, folded, is_set_const, is_free, is_local}
 use Rattle.mz_arena.specs.Terms.{node_term, terms, own_id}
-use Rattle.mz_arena.specs.Extents.{node_extent, extents, extent}
+use Rattle.mz_arena.specs.Extents.{Extent, Known, truth, subset, both_truths, marked, variable_extent, kind_extent, node_extent, extents, extent}
 use Rattle.mz_arena.specs.Charges.{charge_of, charges}
 use Rattle.mz_arena.specs.Numbering.{local_ids_from, local_ids, IsChoice, Numbered}
-use Rattle.mz_arena.specs.Arenas.{Grew, Extends, Made, IsArena}
-use Rattle.mz_arena.proofs.Folds.{get-append, get-last, get-below, length-folded, folded-append, keep, unroll}
+use Rattle.mz_arena.specs.Arenas.{IsSetConst, has_mark, both_truth_values, HasDomain, Grew, Extends, Made, IsArena}
+use Rattle.mz_arena.proofs.Folds.{get-length, get-append, get-last, get-below, length-folded, folded-append, keep, unroll}
 
 pub grew_append : (es fs : List Entry) → Grew es (es ++ fs)
 unfolding terms extents
@@ -121,6 +132,9 @@ numbered_empty = record { there = λ k id h. cc; all = λ id e h l. cc }
 
 -- ---- what holds of each arena
 
+abbrev absent : (A : Type 0) → Option A
+absent A = None
+
 some_same : {A : Type 0} {p q : Option A} → p ≡ q → IsSome q → IsSome p
 some_same {A} e h = subst (λ (o : Option A). IsSome o) (sym e) h
 
@@ -134,8 +148,64 @@ extent_last es e below =
     let new = es ++ e ∷ [] in
     (made_last es e below).bounds new (grew_same new) ∙ ap (node_extent e) (extents_kept es new (children e.node) (grew_append es (e ∷ [])) below)
 
-pub arena_push : (es : List Entry) (e : Entry) → IsArena es → AllBelow (length es) (children e.node) → IsSome (node_extent e (map (extent es) (children e.node))) → (is_free e.node.kind ≡ true → own_id e.node ≡ length es) → (is_local e.node.kind ≡ true → e.node.b ≡ length (local_ids es)) → IsArena (es ++ e ∷ [])
-arena_push es e a below some free next =
+-- ---- domains
+
+abbrev const_later : (es : List Entry) (e : Entry) (id : ℕ) → IsSetConst es id → IsSetConst (es ++ e ∷ []) id
+const_later es e id c = record { there = c.there; stands = get-append es (e ∷ []) id (get-below es id c.there c.stands) ∙ c.stands; is = c.is }
+
+domain_later : (es : List Entry) (e : Entry) (n : Node) → HasDomain es n → HasDomain (es ++ e ∷ []) n
+domain_later es e n h = record { const = const_later es e n.a h.const; both = h.both }
+
+-- the bounds of a SetConst are its set
+const_kind : (e : Entry) (k : NodeKind) (xs : List Known) → is_set_const k ≡ true → kind_extent e k xs ≡ Some (subset e.set)
+const_kind e SetConst xs h = refl
+const_kind e _ xs h = cc
+
+pub const_extent : (es : List Entry) (id : ℕ) → IsArena es → (c : IsSetConst es id) → extent es id ≡ Some (subset c.there.set)
+unfolding extents
+const_extent es id a c = unroll node_extent es id c.there c.stands (a.ordered id c.there c.stands) ∙ const_kind c.there c.there.node.kind _ c.is
+
+variable_kind : (e : Entry) (f : ℕ → Known) (k : NodeKind) → has_mark k ≡ true → kind_extent e k (map f (take (arity k) (e.node.a ∷ e.node.b ∷ e.node.c ∷ []))) ≡ variable_extent e.node.c (f e.node.a)
+variable_kind e f Var h = refl
+variable_kind e f Local h = refl
+variable_kind e f _ h = cc
+
+some_both : (e : Ends) → IsSome (both_truths e) → (e.0 ≡ pos 0) × (e.1 ≡ pos 1)
+some_both e h = by (int_eq e.0 (pos 0)) (int_eq e.1 (pos 1)) refl refl h
+  where
+    by : (s t : Bool) → int_eq e.0 (pos 0) ≡ s → int_eq e.1 (pos 1) ≡ t → IsSome (cond (s && t) (Some (truth e)) (absent Extent)) → (e.0 ≡ pos 0) × (e.1 ≡ pos 1)
+    by true true p q k = (grind (arith, ints), grind (arith, ints))
+    by true false p q k = cc
+    by false t p q k = cc
+
+abbrev range : ℤ → ℤ → Range
+range a b = (a, b)
+
+-- the set from 0 to 1 is {0, 1}
+both_is : (u : List Range) → AreCanonical u → (hull_of_set u).0 ≡ pos 0 → (hull_of_set u).1 ≡ pos 1 → u ≡ both_truth_values
+unfolding end_of
+both_is [] c low high = cc
+both_is (r ∷ []) c low high = ap (λ a. range a r.1 ∷ []) low ∙ ap (λ b. range (pos 0) b ∷ []) high
+both_is (r ∷ s ∷ ss) c low high =
+    let inside = hull_of_set-has (r ∷ s ∷ ss) s.0 c (inr (inl (omega (arith, ints), c.2.0))) in
+    absurd (omega (arith, ints, inside.to, low, high, c.0, c.1))
+
+mark_one : (m : ℕ) (u : List Range) → m ≡ 1 → IsSome (variable_extent m (Some (subset u))) → IsSome (both_truths (hull_of_set u))
+unfolding variable_extent
+mark_one m u p h = subst (λ k. IsSome (marked k (hull_of_set u))) p h
+
+-- the domain of a node that has bounds
+pub has_domain : (es : List Entry) (e : Entry) → IsArena es → IsSome (node_extent e (map (extent es) (children e.node))) → IsSetConst es e.node.a → HasDomain es e.node
+has_domain es e a some c = record {
+  const = c;
+  both = λ m one.
+      let bounded = subst (λ (x : Known). IsSome x) (variable_kind e (extent es) e.node.kind m ∙ ap (variable_extent e.node.c) (const_extent es e.node.a a c)) some in
+      let ends = some_both (hull_of_set c.there.set) (mark_one e.node.c c.there.set one bounded) in
+      both_is c.there.set (a.canonical e.node.a c.there c.stands c.is).0 ends.0 ends.1;
+}
+
+pub arena_push : (es : List Entry) (e : Entry) → IsArena es → AllBelow (length es) (children e.node) → IsSome (node_extent e (map (extent es) (children e.node))) → (is_free e.node.kind ≡ true → own_id e.node ≡ length es) → (is_local e.node.kind ≡ true → e.node.b ≡ length (local_ids es)) → (is_free e.node.kind ≡ true → IsSetConst es e.node.a) → (is_set_const e.node.kind ≡ true → IsSet e.set) → IsArena (es ++ e ∷ [])
+arena_push es e a below some free next domain canonical =
     let new = es ++ e ∷ [] in
     let g = grew_append es (e ∷ []) in
     record {
@@ -152,10 +222,26 @@ arena_push es e a below some free next =
         | inr n ↦ ap (λ (z : Entry). own_id z.node) n.1 ∙ free (subst (λ (z : Entry). is_free z.node.kind ≡ true) n.1 f) ∙ sym n.0
       ];
       numbered = numbered_push es e a.numbered next;
+      domains = λ id d h f. elim (old_or_last es e d id h) [
+        | inl o ↦ domain_later es e d.node (a.domains id d o.1 f)
+        | inr n ↦ domain_later es e d.node (subst (λ (z : Entry). HasDomain es z.node) (sym n.1) (has_domain es e a some (domain (subst (λ (z : Entry). is_free z.node.kind ≡ true) n.1 f))))
+      ];
+      canonical = λ id d h c. elim (old_or_last es e d id h) [
+        | inl o ↦ a.canonical id d o.1 c
+        | inr n ↦ subst (λ (z : Entry). IsSet z.set) (sym n.1) (canonical (subst (λ (z : Entry). is_set_const z.node.kind ≡ true) n.1 c))
+      ];
     }
 
+-- an id of the arena has bounds
+pub extent_there : (es : List Entry) (id : ℕ) → IsArena es → id < length es → IsSome (extent es id)
+extent_there es id a l = by (slice_get es id) refl
+  where
+    by : (o : Option Entry) → slice_get es id ≡ o → IsSome (extent es id)
+    by None e = let past = get-length es id e in absurd (omega arith)
+    by (Some d) e = a.bounded id d e
+
 pub arena_empty : IsArena []
-arena_empty = record { ordered = λ id e h. cc; bounded = λ id e h. cc; own = λ id e h f. cc; numbered = numbered_empty }
+arena_empty = record { ordered = λ id e h. cc; bounded = λ id e h. cc; own = λ id e h f. cc; numbered = numbered_empty; domains = λ id e h f. cc; canonical = λ id e h c. cc }
 
 -- ---- counts
 

@@ -7,6 +7,7 @@ use Rattle.mz_operations.specs.declared.row.SetOp.{SetOp}
 use Rattle.mz_operations.specs.Bounds.{combined_upper, hull_of_set}
 use Rattle.mz_operations.specs.Sets.{union, intersection}
 use Rattle.mz_operations.proofs.SetMembers.{union_is, intersection_is}
+use Rattle.mz_operations.specs.Laws.{IsSet}
 use Rattle.mz_arena.specs.declared.table.Reach.{Reach}
 use Rattle.mz_arena.specs.declared.table.Reach.TheVariants.{Whole, Truth, Subset, Wholes, Truths, Subsets, Empty}
 use Rattle.mz_arena.specs.declared.table.Stored.{Stored}
@@ -14,11 +15,11 @@ use Rattle.mz_arena.specs.declared.table.Table.{Table}
 use Rattle.mz_arena.specs.Entries.{Entry, is_set_const}
 use Rattle.mz_arena.specs.Extents.{Known, subset, as_subset, marked, variable_extent, set_variable_extent, set_extent, extent}
 use Rattle.mz_arena.specs.Arenas.{IsArena}
-use Rattle.mz_arena.specs.Tables.{Sets, set_at, set_place, seen, entries, Tells, IsSubset, IsSetList, IsSound, IsSoundTable, IsKept, IsPut}
+use Rattle.mz_arena.specs.Tables.{Sets, set_at, set_place, seen, entries, Tells, IsSubset, IsSound, IsSoundTable, IsKept, IsPut}
 
 -- ---- sets by their members
 
-pub union_self : (a : List Range) → IsSetList a → union a a ≡ a
+pub union_self : (a : List Range) → IsSet a → union a a ≡ a
 union_self a p = sym (union_is a a a p p (λ x. (λ m. inl m, λ m. ⊎_elim (λ l. l) (λ l. l) m)) p.0)
 
 -- ---- a table with one more set
@@ -59,13 +60,13 @@ entries_kept sets s (st ∷ stored) c =
     let tail = entries_kept sets s stored (λ id t h. c (suc id) t h) in
     cc
 
-last_set : (sets : Sets) (s t : List Range) (k : ℕ) → ((k : ℕ) (u : List Range) → slice_get sets k ≡ Some u → IsSetList u) → IsSetList s → slice_get (sets ++ s ∷ []) k ≡ Some t → IsSetList t
-last_set [] s t zero all p h = let same : s ≡ t = cc in subst (λ (u : List Range). IsSetList u) same p
+last_set : (sets : Sets) (s t : List Range) (k : ℕ) → ((k : ℕ) (u : List Range) → slice_get sets k ≡ Some u → IsSet u) → IsSet s → slice_get (sets ++ s ∷ []) k ≡ Some t → IsSet t
+last_set [] s t zero all p h = let same : s ≡ t = cc in subst (λ (u : List Range). IsSet u) same p
 last_set [] s t (suc k) all p h = cc
 last_set (u ∷ sets) s t zero all p h = all 0 t h
 last_set (u ∷ sets) s t (suc k) all p h = last_set sets s t k (λ j v g. all (suc j) v g) p h
 
-pub sound_kept : (sets : Sets) (s : List Range) (stored : List Stored) → IsSound sets stored → IsSetList s → IsSound (sets ++ s ∷ []) stored
+pub sound_kept : (sets : Sets) (s : List Range) (stored : List Stored) → IsSound sets stored → IsSet s → IsSound (sets ++ s ∷ []) stored
 sound_kept sets s stored h p =
     let same = entries_kept sets s stored h.consts in
     record {
@@ -77,7 +78,7 @@ sound_kept sets s stored h p =
     }
 
 -- a set at a place
-pub set_there : (sets : Sets) (stored : List Stored) (k : ℕ) → IsSound sets stored → k < length sets → IsSetList (set_at sets k)
+pub set_there : (sets : Sets) (stored : List Stored) (k : ℕ) → IsSound sets stored → k < length sets → IsSet (set_at sets k)
 set_there sets stored k h l = h.canonical k (set_at sets k) (slice_get-get_or sets k [] l)
 
 pub set_read : (sets : Sets) (k : ℕ) (x : List Range) → k < length sets → x ≡ get_or sets k x → x ≡ set_at sets k
@@ -99,7 +100,7 @@ if_intersection (Ok s) sets stored k m a b h l n p q u c =
     let sb = set_read sets m b n q in
     intersection_is (set_at sets k) (set_at sets m) s (set_there sets stored k h l) (set_there sets stored m h n) (subst (λ y. IsIntersection (set_at sets k) y s) sb (subst (λ y. IsIntersection y b s) sa u)) c
 
-pub is_kept : (old new : Table) (s : List Range) → new.stored.items ≡ old.stored.items → new.sets.items ≡ old.sets.items ++ s ∷ [] → IsSoundTable old → IsSetList s → IsKept old new
+pub is_kept : (old new : Table) (s : List Range) → new.stored.items ≡ old.stored.items → new.sets.items ≡ old.sets.items ++ s ∷ [] → IsSoundTable old → IsSet s → IsKept old new
 is_kept old new s p q h l = record {
   stored = p;
   entries = ap (λ sets. entries sets new.stored.items) q ∙ ap (entries (old.sets.items ++ s ∷ [])) p ∙ entries_kept old.sets.items s old.stored.items h.consts;

@@ -2,8 +2,7 @@
 use Rattle.std.proofs.Common.{◌≡◌, ℕ, ◌+◌, ◌<◌, List, [], ◌∷◌, ◌++◌, length, Bool, true, false, cond, Option, Some, None, IsSome, option_map, ◌⊎◌, inl, inr, slice_get, get_or, refl, sym, ap, subst, ◌∙◌, arith, length-append}
 use Rattle.std.proofs.lemmas.Bool.{cases_lt}
 use Rattle.mz_value.specs.Ranges.{Range}
-use Rattle.mz_arena.specs.declared.node.NodeKind.{NodeKind}
-use Rattle.mz_arena.specs.declared.node.NodeKind.TheVariants.{SetConst}
+use Rattle.mz_operations.specs.Laws.{IsSet}
 use Rattle.mz_arena.specs.declared.table.Reach.{Reach}
 use Rattle.mz_arena.specs.declared.table.Reach.TheVariants.{Whole, Truth, Subset, Wholes, Truths, Subsets, Empty}
 use Rattle.mz_arena.specs.declared.table.Stored.{Stored}
@@ -12,12 +11,12 @@ use Rattle.mz_arena.specs.declared.node.Node.{Node}
 use Rattle.mz_arena.specs.Entries.{Entry, entry, children, AllBelow, is_free, is_set_const}
 use Rattle.mz_arena.specs.Charges.{charge_of, charges}
 use Rattle.mz_arena.specs.Arenas.{IsArena, IsSetConst, IsConst, Grew, Extends, Made}
-use Rattle.mz_arena.specs.Extents.{Known, subset, as_subset, kind_extent, node_extent, extents, extent}
+use Rattle.mz_arena.specs.Extents.{Known, as_subset, extent}
 use Rattle.mz_arena.specs.Tables.{Sets, set_at, set_place, is_long, seen, entries, Tells, IsSound, IsSoundTable, IsReady, IsPushed, IsPut, IsPushedConst, const_node}
-use Rattle.mz_arena.proofs.Folds.{get-append, get-last, get-below, unroll}
-use Rattle.mz_arena.proofs.Growing.{grew_append, extent_last, arena_push, arena_empty, extends_push, made_last, charges-push}
+use Rattle.mz_arena.proofs.Folds.{get-append, get-last, get-below}
+use Rattle.mz_arena.proofs.Growing.{const_extent, grew_append, extent_last, arena_push, arena_empty, extends_push, made_last, charges-push}
 use Rattle.mz_arena.proofs.Lists.{there}
-use Rattle.mz_arena.proofs.Kept.{set_read}
+use Rattle.mz_arena.proofs.Kept.{set_read, set_there}
 use Rattle.mz_arena.proofs.Telling.{length-entries, get-entries}
 
 pub entries-push : (sets : Sets) (stored : List Stored) (s : Stored) → entries sets (stored ++ s ∷ []) ≡ entries sets stored ++ seen sets s ∷ []
@@ -39,7 +38,7 @@ old_or_new stored s t id h =
     same : {p q : Option Stored} → p ≡ q → p ≡ Some t → q ≡ Some s → t ≡ s
     same r k l = cc
 
-told_some : (sets : Sets) (r : Reach) (x : Known) → Tells sets r x → IsSome x
+pub told_some : (sets : Sets) (r : Reach) (x : Known) → Tells sets r x → IsSome x
 told_some sets (Whole i) x h = subst (λ (y : Known). IsSome y) (sym h) refl
 told_some sets (Truth i) x h = subst (λ (y : Known). IsSome y) (sym h) refl
 told_some sets (Subset k) x h = subst (λ (y : Known). IsSome y) (sym h.is) refl
@@ -48,6 +47,11 @@ told_some sets Truths x h = subst (λ (y : Known). IsSome y) (sym h) refl
 told_some sets Subsets x h = subst (λ (y : Known). IsSome y) (sym h) refl
 told_some sets Empty x h = subst (λ (y : Known). IsSome y) (sym h) refl
 
+-- the set with which a SetConst is seen
+seen_set : (sets : Sets) (n : Node) (b : Bool) → is_set_const n.kind ≡ b → b ≡ true → IsSet (set_at sets (set_place n)) → IsSet (cond b (set_at sets (set_place n)) [])
+seen_set sets n true e c h = h
+seen_set sets n false e c h = absurd (cc)
+
 pub sound_push : (sets : Sets) (stored : List Stored) (s : Stored) → IsSound sets stored → IsReady sets stored s → IsSound sets (stored ++ s ∷ [])
 sound_push sets stored s h r =
     let es = entries sets stored in
@@ -55,7 +59,7 @@ sound_push sets stored s h r =
     let new = es ++ e ∷ [] in
     let same : entries sets (stored ++ s ∷ []) ≡ new = entries-push sets stored s in
     record {
-      arena = subst (λ (fs : List Entry). IsArena fs) (sym same) (arena_push es e h.arena r.below (told_some sets s.reach _ r.told) r.own r.next);
+      arena = subst (λ (fs : List Entry). IsArena fs) (sym same) (arena_push es e h.arena r.below (told_some sets s.reach _ r.told) r.own r.next r.domain (λ c. seen_set sets s.node (is_set_const s.node.kind) refl c (set_there sets stored (set_place s.node) h (r.const c))));
       tells = λ id t g. subst (λ (fs : List Entry). Tells sets t.reach (extent fs id)) (sym same) (elim (old_or_new stored s t id g) [
         | inl o ↦ subst (Tells sets t.reach) (sym ((grew_append es (e ∷ [])).extents id (omega (arith, o.0, length-entries sets stored)))) (h.tells id t o.1)
         | inr n ↦
@@ -142,16 +146,10 @@ node_read sets stored es id s v l h = ap (option_map (λ (e : Entry). e.node)) (
 pub length_seen : (sets : Sets) (stored : List Stored) (es : List Entry) → entries sets stored ≡ es → length es ≡ length stored
 length_seen sets stored es v = ap length (sym v) ∙ length-entries sets stored
 
--- the bounds of a SetConst are its set
-const_extent_of : (e : Entry) (k : NodeKind) (xs : List Known) → is_set_const k ≡ true → kind_extent e k xs ≡ Some (subset e.set)
-const_extent_of e SetConst xs h = refl
-const_extent_of e _ xs h = cc
-
 pub const_given : (sets : Sets) (stored : List Stored) (es : List Entry) (id : ℕ) → IsSound sets stored → entries sets stored ≡ es → (k : IsSetConst es id) → as_subset (extent (entries sets stored) id) ≡ Some k.there.set
-unfolding extents
 const_given sets stored es id sound v k =
-    let there_is : slice_get (entries sets stored) id ≡ Some k.there = ap (λ fs. slice_get fs id) v ∙ k.stands in
-    ap as_subset (unroll node_extent (entries sets stored) id k.there there_is (sound.arena.ordered id k.there there_is) ∙ const_extent_of k.there k.there.node.kind _ k.is)
+    let arena : IsArena es = subst (λ (fs : List Entry). IsArena fs) v sound.arena in
+    ap as_subset (ap (λ (fs : List Entry). extent fs id) v ∙ const_extent es id arena k)
 
 pub not_given : {A : Type 0} (o : Option A) (x : A) → o ≡ Some x → o ≡ None → ⊥
 not_given o x h k = cc

@@ -1,5 +1,5 @@
 -- What is kept of nodes tells their bounds.
-use Rattle.std.proofs.Common.{◌≡◌, ℕ, zero, suc, ◌≤◌, List, [], ◌∷◌, length, map, take, Bool, true, false, cond, Option, Some, None, option_map, slice_get, refl, sym, ap, subst, ◌∙◌, arith}
+use Rattle.std.proofs.Common.{◌≡◌, ℕ, zero, suc, ◌≤◌, List, [], ◌∷◌, length, map, take, Bool, true, false, cond, Option, Some, None, IsSome, option_map, slice_get, refl, sym, ap, subst, ◌∙◌, arith}
 use Rattle.std.specs.Option.{option_and_then}
 use Rattle.mz_value.specs.Ranges.{Range}
 use Rattle.mz_interval.specs.Ends.{Ends}
@@ -11,8 +11,8 @@ use Rattle.mz_arena.specs.declared.node.Node.{Node}
 use Rattle.mz_arena.specs.declared.node.NodeKind.{NodeKind}
 use Rattle.mz_arena.specs.declared.node.NodeKind.TheVariants.{Cons}
 use Rattle.mz_arena.specs.Entries.{Entry, arity, children, AllBelow}
-use Rattle.mz_arena.specs.Extents.{Known, whole, truth, subset, wholes, truths, subsets, empty, as_whole, as_truth, as_subset, as_wholes, is_truths, as_subsets, as_single, as_list, ends_in, cons_extent, kind_extent, node_extent, extents, extent}
-use Rattle.mz_arena.specs.Tables.{Sets, seen, entries, wholes_in, subsets_in, wholes_at, subsets_at, HasWholes, HasSubsets, has_wholes, has_subsets, is_long, IsSound, Tells, TellsAny, TellsSingle, TellsRow, single_in, row_in, interval_in, is_whole_list, is_truth_list, is_subset_list, whole_in, truth_in, subset_place, IsPlaced}
+use Rattle.mz_arena.specs.Extents.{Known, whole, truth, subset, wholes, truths, subsets, empty, as_whole, as_truth, as_subset, as_wholes, is_truths, as_subsets, as_single, as_list, ends_in, sort_of, cons_extent, kind_extent, node_extent, extents, extent}
+use Rattle.mz_arena.specs.Tables.{Sets, seen, entries, wholes_in, subsets_in, wholes_at, subsets_at, HasWholes, HasSubsets, has_wholes, has_subsets, is_long, IsSound, Tells, TellsAny, TellsSingle, TellsRow, single_in, row_in, interval_in, sort_in, is_whole_list, is_truth_list, is_subset_list, whole_in, truth_in, subset_place, IsPlaced}
 use Rattle.mz_arena.proofs.Folds.{at-past, unroll}
 
 pub length-entries : (sets : Sets) (stored : List Stored) → length (entries sets stored) ≡ length stored
@@ -278,3 +278,23 @@ interval_told t (Some Wholes) x h = sym (ap ends_in h)
 interval_told t (Some Truths) x h = sym (ap ends_in h)
 interval_told t (Some Subsets) x h = sym (ap ends_in h)
 interval_told t (Some Empty) x h = sym (ap ends_in h)
+
+pub sort_told : (sets : Sets) (r : Option Reach) (x : Known) → TellsAny sets r x → sort_in r ≡ sort_of x
+sort_told sets None x h = sym (ap sort_of h)
+sort_told sets (Some (Whole i)) x h = sym (ap sort_of h)
+sort_told sets (Some (Truth i)) x h = sym (ap sort_of h)
+sort_told sets (Some (Subset k)) x h = sym (ap sort_of h.is)
+sort_told sets (Some Wholes) x h = sym (ap sort_of h)
+sort_told sets (Some Truths) x h = sym (ap sort_of h)
+sort_told sets (Some Subsets) x h = sym (ap sort_of h)
+sort_told sets (Some Empty) x h = sym (ap sort_of h)
+
+pub has_sort : (x : Known) → IsSome x → sort_of x ≡ None → ⊥
+has_sort None h k = cc
+has_sort (Some (whole e)) h k = cc
+has_sort (Some (truth e)) h k = cc
+has_sort (Some (subset u)) h k = cc
+has_sort (Some (wholes es)) h k = cc
+has_sort (Some truths) h k = cc
+has_sort (Some (subsets us)) h k = cc
+has_sort (Some empty) h k = cc

@@ -1,7 +1,10 @@
 -- Arenas, what is asked of a node, and what there is after it was made.
-use Rattle.std.specs.Prelude.{◌≡◌, ℕ, ◌<◌, ◌≤◌, pos, List, [], ◌∷◌, ◌++◌, length, map, slice_get, true, false, Some, IsSome}
+use Rattle.std.specs.Prelude.{◌≡◌, ◌⊎◌, ℕ, ◌<◌, ◌≤◌, pos, List, [], ◌∷◌, ◌++◌, length, map, slice_get, Bool, true, false, Option, Some, None, IsSome}
 use Rattle.mz_value.specs.Ranges.{Range}
+use Rattle.mz_operations.specs.Laws.{IsSet}
 use Rattle.mz_arena.specs.declared.node.Node.{Node}
+use Rattle.mz_arena.specs.declared.node.NodeKind.{NodeKind}
+use Rattle.mz_arena.specs.declared.node.NodeKind.TheVariants.{Var, Local}
 use Rattle.mz_arena.specs.Entries.{Entry, entry, children, AllBelow, is_set_const, is_local, is_free}
 use Rattle.mz_arena.specs.Values.{Values}
 use Rattle.mz_arena.specs.Terms.{node_term, term, own_id}
@@ -13,6 +16,20 @@ pub record IsSetConst (es : List Entry) (id : ℕ) : Type 0 where
   pub there : Entry
   pub stands : slice_get es id ≡ Some there
   pub is : is_set_const there.node.kind ≡ true
+
+-- a variable or a choice of a number: its mark says whether it is Boolean
+abbrev pub has_mark : NodeKind → Bool
+has_mark Var = true
+has_mark Local = true
+has_mark _ = false
+
+abbrev pub both_truth_values : List Range
+both_truth_values = (pos 0, pos 1) ∷ []
+
+-- the domain of a variable or a choice is a SetConst, that of a Boolean {0, 1}
+pub record HasDomain (es : List Entry) (n : Node) : Type 0 where
+  pub const : IsSetConst es n.a
+  pub both : has_mark n.kind ≡ true → n.c ≡ 1 → const.there.set ≡ both_truth_values
 
 -- what a variable or a choice has besides: its own id as its number, a SetConst as its domain, and, where it is a choice, the next number of a choice
 pub record IsFreeNode (es : List Entry) (id : ℕ) (n : Node) : Type 0 where
@@ -52,6 +69,25 @@ pub record MadeAnew (old new : List Entry) (n : Node) (id : ℕ) : Type 0 where
   pub last : id ≡ length old
   pub items : new ≡ old ++ entry n ∷ []
 
+-- nothing was made, or this node, last
+abbrev pub HasAtMost : List Entry → List Entry → Entry → Type 0
+HasAtMost old new e = (new ≡ old) ⊎ (new ≡ old ++ e ∷ [])
+
+-- a node that may not be made, and wasn't
+pub record IsRefused (old new : List Entry) (n : Node) : Type 0 where
+  pub unasked : IsAsked old n → ⊥
+  pub same : new ≡ old
+
+-- a node that may be made, and its id
+pub record IsTaken (old new : List Entry) (n : Node) (id : ℕ) : Type 0 where
+  pub asked : IsAsked old n
+  pub made : Made new (entry n) id
+
+-- the id of a node, and none exactly where the node may not be made
+abbrev pub IsChecked : List Entry → List Entry → Node → Option ℕ → Type 0
+IsChecked old new n None = IsRefused old new n
+IsChecked old new n (Some id) = IsTaken old new n id
+
 -- an id that is a SetConst with this set
 pub record IsConst (new : List Entry) (s : List Range) (id : ℕ) : Type 0 where
   pub node : Node
@@ -64,6 +100,8 @@ pub record IsArena (es : List Entry) : Type 0 where
   pub bounded : (id : ℕ) (e : Entry) → slice_get es id ≡ Some e → IsSome (extent es id)
   pub own : (id : ℕ) (e : Entry) → slice_get es id ≡ Some e → is_free e.node.kind ≡ true → own_id e.node ≡ id
   pub numbered : Numbered es
+  pub domains : (id : ℕ) (e : Entry) → slice_get es id ≡ Some e → is_free e.node.kind ≡ true → HasDomain es e.node
+  pub canonical : (id : ℕ) (e : Entry) → slice_get es id ≡ Some e → is_set_const e.node.kind ≡ true → IsSet e.set
 
 -- ---- laws
 

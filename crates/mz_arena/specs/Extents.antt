@@ -1,6 +1,7 @@
 -- The bounds of nodes, and with them their sorts.
 use Rattle.std.specs.Prelude.{ℕ, zero, suc, ◌-◌, ℤ, pos, negsuc, int_le, List, [], ◌∷◌, drop, take, Bool, true, false, ◌&&◌, Option, Some, None, if◌then◌else◌}
 use Rattle.std.specs.Option.{option_map}
+use Rattle.std.specs.Ordering.{int_eq}
 use Rattle.mz_value.specs.Ranges.{Range}
 use Rattle.mz_interval.specs.Ends.{Ends, hull_of, if_in_limit}
 use Rattle.mz_operations.specs.declared.row.Arith.{Arith as ArithRow}
@@ -16,6 +17,8 @@ use Rattle.mz_operations.specs.Bounds as bounds
 use Rattle.mz_operations.specs.Bounds.{nothing, arith_ends, sign_ends, extreme_ends, card_ends, hull_of_all, union_of_all, hull_of_set, combined_upper}
 use Rattle.mz_arena.specs.declared.node.NodeKind.{NodeKind}
 use Rattle.mz_arena.specs.declared.node.NodeKind.TheVariants.{Int, Bool as BoolNode, Var, Local, Add, Mul, Div, Mod, Min, Max, Abs, ToInt, Eq, Ne, Le, Lt, And, Or, Not, Iff, If, Access, Guard, Nil, Cons, SetConst, SetVar, SetLocal, Member, Union, Intersect, Diff, Symdiff, Card, SetEq, Subset}
+use Rattle.mz_arena.specs.declared.node.Sort.{Sort}
+use Rattle.mz_arena.specs.declared.node.Sort.TheVariants as sort
 use Rattle.mz_arena.specs.Entries.{Entry, at, folded, of_one, of_two, of_three}
 
 -- a node's bounds: of an integer, of a Boolean as 0 or 1, the greatest set of a set; of a list of integers or of sets those of each element. Of a list of Booleans nothing is kept, as an access to it has the bounds 0..1
@@ -76,13 +79,13 @@ is_bit n = int_le (pos 0) n && int_le n (pos 1)
 unfoldable pub bool_extent : ℤ → Known
 bool_extent n = if is_bit n then Some (truth (n, n)) else None
 
-abbrev pub truth_within : Ends → Known
-truth_within e = if is_bit e.0 && is_bit e.1 then Some (truth e) else None
+abbrev pub both_truths : Ends → Known
+both_truths e = if int_eq e.0 (pos 0) && int_eq e.1 (pos 1) then Some (truth e) else None
 
--- an integer where the mark is 0, and a Boolean, whose domain has 0 and 1 alone, where it is 1
+-- an integer where the mark is 0, and a Boolean, whose domain is {0, 1}, where it is 1
 abbrev pub marked : ℕ → Ends → Known
 marked zero e = in_limit e
-marked (suc zero) e = truth_within e
+marked (suc zero) e = both_truths e
 marked (suc (suc n)) e = None
 
 unfoldable pub variable_extent : ℕ → Known → Known
@@ -296,3 +299,13 @@ abbrev pub ends_in : Known → Option Ends
 ends_in (Some (whole e)) = Some e
 ends_in (Some (truth e)) = Some e
 ends_in _ = None
+
+abbrev pub sort_of : Known → Option Sort
+sort_of (Some (whole e)) = Some sort.Integer
+sort_of (Some (truth e)) = Some sort.Boolean
+sort_of (Some (subset u)) = Some sort.Set
+sort_of (Some (wholes es)) = Some sort.List
+sort_of (Some truths) = Some sort.List
+sort_of (Some (subsets us)) = Some sort.List
+sort_of (Some empty) = Some sort.List
+sort_of None = None

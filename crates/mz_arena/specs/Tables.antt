@@ -1,6 +1,7 @@
 -- What the code keeps of the nodes. Private clauses only.
 use Rattle.std.specs.Prelude.{◌≡◌, ℕ, ◌<◌, ◌≤◌, List, [], ◌∷◌, ◌++◌, map, length, slice_get, slice_index_or, Bool, true, false, Option, Some, None, nat_abs, pos, if◌then◌else◌}
-use Rattle.mz_value.specs.Ranges.{Range, AreCanonical, AreInLimit}
+use Rattle.mz_value.specs.Ranges.{Range}
+use Rattle.mz_operations.specs.Laws.{IsSet}
 use Rattle.mz_interval.specs.Ends.{Ends}
 use Rattle.mz_interval.specs.Interval.{ends}
 use Rattle.mz_interval.specs.declared.interval.Interval.{Interval}
@@ -8,6 +9,8 @@ use Rattle.mz_operations.specs.declared.row.SetOp.{SetOp}
 use Rattle.mz_arena.specs.declared.node.Node.{Node}
 use Rattle.mz_arena.specs.declared.node.NodeKind.{NodeKind}
 use Rattle.mz_arena.specs.declared.node.NodeKind.TheVariants.{Cons, SetConst, If, Access, Union, Intersect, Symdiff}
+use Rattle.mz_arena.specs.declared.node.Sort.{Sort}
+use Rattle.mz_arena.specs.declared.node.Sort.TheVariants as sort
 use Rattle.mz_arena.specs.declared.table.Reach.{Reach}
 use Rattle.mz_arena.specs.declared.table.Reach.TheVariants.{Whole, Truth, Subset, Wholes, Truths, Subsets, Empty}
 use Rattle.mz_arena.specs.declared.table.Single.{Single}
@@ -20,7 +23,7 @@ use Rattle.mz_arena.specs.Entries.{Entry, entry, children, AllBelow, is_set_cons
 use Rattle.mz_arena.specs.Terms.{own_id}
 use Rattle.mz_arena.specs.Numbering.{local_ids}
 use Rattle.mz_arena.specs.Extents.{Known, whole, truth, subset, wholes, truths, subsets, empty, as_whole, as_subset, as_single, as_list, set_extent, node_extent, extent}
-use Rattle.mz_arena.specs.Arenas.{IsArena}
+use Rattle.mz_arena.specs.Arenas.{IsArena, IsSetConst}
 
 -- the arena's sets
 abbrev pub Sets : Type 0
@@ -76,16 +79,13 @@ is_long Wholes = true
 is_long Subsets = true
 is_long _ = false
 
-abbrev pub IsSetList : List Range → Type 0
-IsSetList s = AreCanonical s × AreInLimit s
-
 -- what holds of a table at all times
 pub record IsSound (sets : Sets) (stored : List Stored) : Type 0 where
   pub arena : IsArena (entries sets stored)
   pub tells : (id : ℕ) (s : Stored) → slice_get stored id ≡ Some s → Tells sets s.reach (extent (entries sets stored) id)
   pub long : (id : ℕ) (s : Stored) → slice_get stored id ≡ Some s → is_long s.reach ≡ true → s.node.kind ≡ Cons
   pub consts : (id : ℕ) (s : Stored) → slice_get stored id ≡ Some s → is_set_const s.node.kind ≡ true → set_place s.node < length sets
-  pub canonical : (k : ℕ) (s : List Range) → slice_get sets k ≡ Some s → IsSetList s
+  pub canonical : (k : ℕ) (s : List Range) → slice_get sets k ≡ Some s → IsSet s
 
 -- sets that were added
 pub record HasMore (old new : Sets) : Type 0 where
@@ -261,12 +261,20 @@ pub record IsReady (sets : Sets) (stored : List Stored) (s : Stored) : Type 0 wh
   pub long : is_long s.reach ≡ true → s.node.kind ≡ Cons
   pub const : is_set_const s.node.kind ≡ true → set_place s.node < length sets
   pub own : is_free s.node.kind ≡ true → own_id s.node ≡ length (entries sets stored)
+  pub domain : is_free s.node.kind ≡ true → IsSetConst (entries sets stored) s.node.a
   pub next : is_local s.node.kind ≡ true → s.node.b ≡ length (local_ids (entries sets stored))
 
 -- a node that was put into a table, last
 pub record IsPushed (old new : Table) (s : Stored) (id : ℕ) : Type 0 where
   pub place : id ≡ length (entries old.sets.items old.stored.items)
   pub entries : entries new.sets.items new.stored.items ≡ entries old.sets.items old.stored.items ++ seen old.sets.items s ∷ []
+
+abbrev pub sort_in : Option Reach → Option Sort
+sort_in (Some (Whole i)) = Some sort.Integer
+sort_in (Some (Truth i)) = Some sort.Boolean
+sort_in (Some (Subset k)) = Some sort.Set
+sort_in (Some _) = Some sort.List
+sort_in None = None
 
 abbrev pub interval_in : Option Reach → Option Ends
 interval_in (Some (Whole i)) = Some (ends i)

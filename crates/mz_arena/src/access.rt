@@ -3,8 +3,9 @@
 ghost use Rattle.std.specs.Prelude.{◌≡◌, Some, ◌-◌, [], IfOk, MatchOption, drop, take};
 ghost use Rattle.mz_interval.specs.Interval.{ends};
 ghost use Rattle.mz_operations.specs.Bounds.{hull_of_all, union_from, union_of_all};
+ghost use Rattle.mz_operations.specs.Laws.{IsSet};
 ghost use Rattle.mz_arena.specs.Extents.{subset, access_extent, not_negative, skipped, reached};
-ghost use Rattle.mz_arena.specs.Tables.{known, has_subsets, wholes_of, subsets_of, HasSubsets, SplitsSubsets, IsKept, IsSetList, IsSoundTable, IsShort, TellsIn};
+ghost use Rattle.mz_arena.specs.Tables.{known, has_subsets, wholes_of, subsets_of, HasSubsets, SplitsSubsets, IsKept, IsSoundTable, IsShort, TellsIn};
 
 use crate::node::{Id, Node};
 use crate::table::{Reach, Row, Table};
@@ -104,7 +105,7 @@ impl Table {
     fn union_of_first(&self, alloc: Global, list: Id, count: u64) -> Result<RangeSet, AllocError>
         requires { IsSoundTable self.now }
         ensures is { IfOk result (λ s. s ≡ union_from [] (take count (subsets_of self.now list))) }
-        ensures set { IfOk result IsSetList }
+        ensures set { IfOk result IsSet }
     {
         let mut acc = RangeSet::range(alloc, 1, 0)?;
         let mut at = list;

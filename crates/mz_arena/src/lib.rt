@@ -3,6 +3,7 @@
 
 mod access;
 mod arena;
+mod asked;
 mod choice;
 mod law;
 mod list;
@@ -15,4 +16,4 @@ mod truth;
 
 pub use arena::Arena;
 pub use law::growth_is_transitive;
-pub use node::{Id, Node, NodeKind, charge};
+pub use node::{Id, Node, NodeKind, Sort, charge};

@@ -86,6 +86,15 @@ pub enum NodeKind {
     Subset,
 }
 
+/// What a node stands for.
+#[derive(Clone, Copy)]
+pub enum Sort {
+    Integer,
+    Boolean,
+    Set,
+    List,
+}
+
 /// A node. A field that its kind doesn't speak of means nothing, and is 0 by custom.
 #[derive(Clone, Copy, PartialEq, Eq)]
 pub struct Node {

@@ -4,8 +4,9 @@ ghost use Rattle.std.specs.Prelude.{◌≡◌, ◌<◌, IfOk, OnErr, length, opt
 ghost use Rattle.mz_interval.specs.Interval.{ends};
 ghost use Rattle.mz_operations.specs.Sets.{union, intersection};
 ghost use Rattle.mz_operations.specs.declared.row.SetOp.TheVariants.{Union, Intersect, Diff, Symdiff};
-ghost use Rattle.mz_arena.specs.Extents.{as_subset, ends_in, card_bounds, marked, truth_within, set_extent, set_variable_extent, variable_extent};
-ghost use Rattle.mz_arena.specs.Tables.{Sets, set_at, entries, interval_in, IsPushedConst, known, TellsAny, IsPair, IsKept, IsPut, IsSetList, IsSoundTable, IsShort, TellsIn};
+ghost use Rattle.mz_operations.specs.Laws.{IsSet};
+ghost use Rattle.mz_arena.specs.Extents.{as_subset, ends_in, card_bounds, marked, both_truths, set_extent, set_variable_extent, variable_extent};
+ghost use Rattle.mz_arena.specs.Tables.{Sets, set_at, entries, interval_in, IsPushedConst, known, TellsAny, IsPair, IsKept, IsPut, IsSoundTable, IsShort, TellsIn};
 
 use crate::node::{Id, Node, NodeKind};
 use crate::number::{hull, size};
@@ -19,7 +20,7 @@ impl Table {
     /// Puts a set into the table, and gives its place.
     pub(crate) fn keep(&mut self, set: RangeSet) -> Result<u64, AllocError>
         requires sound { IsSoundTable self.old }
-        requires set { IsSetList set }
+        requires set { IsSet set }
         ensures kept { IsKept self.old self.new }
         ensures put { IfOk result (λ k. IsPut self.new k set) }
     {
@@ -34,7 +35,7 @@ impl Table {
         requires first { k < length self.now.sets.items }
         requires second { m < length self.now.sets.items }
         ensures is { IfOk result (λ s. s ≡ union (set_at self.now.sets.items k) (set_at self.now.sets.items m)) }
-        ensures set { IfOk result IsSetList }
+        ensures set { IfOk result IsSet }
     {
         self.sets[k as usize].union(alloc, &self.sets[m as usize])
     }
@@ -50,7 +51,7 @@ impl Table {
         requires first { k < length self.now.sets.items }
         requires second { m < length self.now.sets.items }
         ensures is { IfOk result (λ s. s ≡ intersection (set_at self.now.sets.items k) (set_at self.now.sets.items m)) }
-        ensures set { IfOk result IsSetList }
+        ensures set { IfOk result IsSet }
     {
         self.sets[k as usize].intersect(alloc, &self.sets[m as usize])
     }
@@ -233,17 +234,17 @@ fn marked(mark: u64, hull: Interval) -> Option<Reach>
     if mark == 0 {
         Some(Reach::Whole(hull))
     } else if mark == 1 {
-        truth_within(hull)
+        both_truths(hull)
     } else {
         None
     }
 }
 
-fn truth_within(hull: Interval) -> Option<Reach>
+fn both_truths(hull: Interval) -> Option<Reach>
     ensures short { IsShort result }
-    ensures told { (sets : Sets) → TellsAny sets result (truth_within (ends hull)) }
+    ensures told { (sets : Sets) → TellsAny sets result (both_truths (ends hull)) }
 {
-    if 0 <= hull.lo && hull.lo <= 1 && 0 <= hull.hi && hull.hi <= 1 {
+    if hull.lo == 0 && hull.hi == 1 {
         Some(Reach::Truth(hull))
     } else {
         None

@@ -3,9 +3,9 @@
 ghost use Rattle.std.specs.Prelude.{◌≡◌, IfOk, OnErr, option_map, if◌then◌else◌, Some, None};
 ghost use Rattle.mz_interval.specs.Interval.{ends};
 ghost use Rattle.mz_arena.specs.Extents.{as_whole, as_truth, as_subset, as_wholes, is_truths, as_subsets, extent};
-ghost use Rattle.mz_arena.specs.Tables.{entries, whole_in, truth_in, subset_place, single_in, row_in, is_whole_list, is_truth_list, is_subset_list, IsPlaced, IsSound, TellsAny, IsSoundTable, TellsSingle, TellsRow, known, wholes_of, subsets_of, IsReady, IsPushed};
+ghost use Rattle.mz_arena.specs.Tables.{entries, whole_in, truth_in, subset_place, single_in, row_in, sort_in, is_whole_list, is_truth_list, is_subset_list, IsPlaced, IsSound, TellsAny, IsSoundTable, TellsSingle, TellsRow, known, wholes_of, subsets_of, IsReady, IsPushed};
 
-use crate::node::{Id, Node};
+use crate::node::{Id, Node, Sort};
 use mz_interval::Interval;
 use mz_value::RangeSet;
 use std::alloc::AllocError;
@@ -150,6 +150,18 @@ impl Table {
         let id = self.stored.len() as u64;
         self.stored.push(*stored)?;
         Ok(id)
+    }
+}
+
+pub(crate) fn sort_in(reach: Option<Reach>) -> Option<Sort>
+    ensures { result ≡ sort_in reach }
+{
+    match reach {
+        Some(Reach::Whole(_)) => Some(Sort::Integer),
+        Some(Reach::Truth(_)) => Some(Sort::Boolean),
+        Some(Reach::Subset(_)) => Some(Sort::Set),
+        Some(_) => Some(Sort::List),
+        None => None,
     }
 }
 

@@ -1,0 +1,5 @@
+pub mod Sets
+pub mod Families
+pub mod Lists
+pub mod ByKind
+pub mod Terms
