@@ -7,3 +7,4 @@ pub mod Kept
 pub mod Pushed
 mod TermExamples
 mod BoundExamples
+pub mod FreeTerms

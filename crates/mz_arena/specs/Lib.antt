@@ -6,3 +6,5 @@ pub mod Charges
 pub mod Numbering
 pub mod Arenas
 pub mod Tables
+pub mod FreeNodes
+pub mod Instances
