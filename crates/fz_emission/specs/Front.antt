@@ -26,6 +26,10 @@ place_name k x = decimal k ++ codes "_" ++ x
 abbrev pub element_name : ℕ → Name → Name
 element_name k x = codes "X_ELT_" ++ place_name k x
 
+-- the k-th variable, from 0, that the compiler makes
+abbrev pub introduced_name : ℕ → Name
+introduced_name k = codes "X_INTRODUCED_" ++ decimal k ++ codes "_"
+
 -- of a scalar, or of a place of an array: an option's value, or another
 abbrev pub value_label : Bool → Bool → ℕ → Name → Name
 value_label true false k x = x
