@@ -1,1 +1,6 @@
 pub mod Solutions
+pub mod Front
+pub mod Reading
+pub mod Defined
+pub mod Goals
+pub mod Laws

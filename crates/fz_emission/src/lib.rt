@@ -3,4 +3,4 @@
 
 mod law;
 
-pub use law::read_off_by_names;
+pub use law::{names_are_found, read_off_by_names};

@@ -9,3 +9,4 @@ pub mod Tested
 pub mod Put
 mod TermExamples
 mod BoundExamples
+pub mod FreeTerms

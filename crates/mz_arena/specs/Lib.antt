@@ -8,3 +8,5 @@ pub mod Arenas
 pub mod Tables
 pub mod InBounds
 pub mod StepsAsked
+pub mod FreeNodes
+pub mod Instances

@@ -5,6 +5,7 @@ mod access;
 mod arena;
 mod asked;
 mod choice;
+mod instance;
 mod law;
 mod list;
 mod node;
@@ -15,5 +16,8 @@ mod table;
 mod truth;
 
 pub use arena::Arena;
+pub use instance::{
+    Instance, InstanceGoal, ModelVar, ParValue, VarCell, terms_are_told_by_free_nodes,
+};
 pub use law::growth_is_transitive;
 pub use node::{Id, Node, NodeKind, Sort, charge};

@@ -14,11 +14,12 @@ pub enum NodeKind {
     Int,
     /// The Boolean `number`, 0 or 1.
     Bool,
-    /// A decision variable. `a` is the SetConst of its domain, `b` the number of the variable's
-    /// cell in the model, `c` is 1 where it is Boolean, else 0, and `number` is the node's own id.
+    /// A decision variable. `a` is the SetConst of its domain, `b` the number of its part in the
+    /// model, of which an optional cell has two and any other one, `c` is 1 where it is Boolean, else
+    /// 0, and `number` is the node's own id.
     Var,
-    /// A choice. `a`, `c` and `number` as in a Var; `b` is the choice's number, from 0 in the order
-    /// of the choices, SetLocals among them.
+    /// A choice. `a`, `c` and `number` as in a Var; `b` is the number of its part, from 0 in the
+    /// order of the choices, SetLocals among them.
     Local,
     /// The sum of the integers `a` and `b`.
     Add,

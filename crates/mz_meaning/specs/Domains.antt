@@ -1,5 +1,7 @@
 -- Domains: which values a decision variable, or a free local, may have.
 use Rattle.std.specs.Prelude.{ℕ, ℤ, pos, neg_ℤ, Bool, true, false, not, ◌&&◌, List, [], ◌∷◌, map, Option, Some, None, nat_eq, int_le, int_lt, if◌then◌else◌, ◌+ℤ◌}
+use Rattle.std.specs.List.{list_all}
+use Rattle.mz_interval.specs.Ends.{is_number}
 use Rattle.mz_value.specs.Ranges.{Range}
 use Rattle.mz_value.specs.Contents.{Content}
 use Rattle.mz_value.specs.Contents as values
@@ -23,8 +25,13 @@ is_canonical [] = true
 is_canonical (r ∷ []) = int_le r.0 r.1
 is_canonical (r ∷ s ∷ rs) = int_le r.0 r.1 && (int_lt (r.1 +ℤ pos 1) s.0 && is_canonical (s ∷ rs))
 
+-- no number beyond the limit, of which `is_subset` says nothing
+abbrev pub is_limited : List Range → Bool
+is_limited rs = list_all (λ r. is_number r.0 && is_number r.1) rs
+
+-- the second set is a part of the first
 abbrev pub is_part : List Range → List Range → Bool
-is_part u rs = is_canonical rs && is_subset rs u
+is_part u rs = is_canonical rs && (is_limited rs && is_subset rs u)
 
 -- a value of each base, by the set
 abbrev pub holds_bool : Base → List Range → Bool → Bool

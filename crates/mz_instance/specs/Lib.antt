@@ -1,0 +1,5 @@
+pub mod Parts
+pub mod Contents
+pub mod Instance
+pub mod Solved
+pub mod Laws

@@ -1,0 +1,3 @@
+pub mod Decoded
+pub mod Modeled
+pub mod Refusals
