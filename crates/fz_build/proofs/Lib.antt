@@ -4,4 +4,5 @@ pub mod Wider
 pub mod Grown
 pub mod Values
 pub mod Sums
+pub mod Declared
 pub mod Defined
