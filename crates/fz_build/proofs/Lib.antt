@@ -6,3 +6,6 @@ pub mod Values
 pub mod Sums
 pub mod Declared
 pub mod Defined
+pub mod Histories
+pub mod Definable
+pub mod HistoryExamples
