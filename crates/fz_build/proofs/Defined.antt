@@ -2,7 +2,7 @@
 use Rattle.std.proofs.Common.{◌≡◌, ℕ, List, [], ◌∷◌, ◌++◌, length, map, take, slice_index_or, Bool, true, false, refl, sym, ap, ap₂, subst, ◌∙◌, arith, Some}
 use Rattle.std.specs.Prelude.{◌-ℤ◌, ◌||◌, pos, negsuc}
 use Rattle.std.specs.List.{AllByRecursion}
-use Rattle.std.proofs.lemmas.List.{take_at, map_push, length_push}
+use Rattle.std.proofs.lemmas.List.{map_push, length_push}
 use Rattle.fz_program.specs.declared.row_name.RowName.{RowName}
 use Rattle.fz_program.specs.declared.row_name.Kind.TheVariants.{Int, ConstInt, Ints, ConstInts}
 use Rattle.fz_program.specs.declared.program.Domain.{Domain}
@@ -10,15 +10,16 @@ use Rattle.fz_program.specs.Arguments.{Plain, int, var, Argument, one, array, pl
 use Rattle.fz_program.specs.Values as values
 use Rattle.fz_program.specs.Values.{Value, Values, ArgumentValue, number_in, linear}
 use Rattle.fz_program.specs.Table.{Line, line, Holds, result_of, sum_equals, sum_at}
-use Rattle.fz_program.specs.Flat.{Variable, Program, plain_value, argument_value, RowHolds, IsInDomain, FlatSolves, WellFormed, is_variable_of, same_kind, kind_of_domain, are_arguments, is_within, IsWellFormedRow}
+use Rattle.fz_program.specs.Flat.{Variable, Row, Program, plain_value, argument_value, RowHolds, IsInDomain, FlatSolves, is_variable_of, same_kind, kind_of_domain, are_arguments, is_within, IsWellFormedRow}
 use Rattle.fz_build_domains.specs.Inputs.{argument_at, elements_at, is_sum}
 use Rattle.fz_build_domains.specs.Results.{is_giving, has_result, result_by, result_given}
 use Rattle.fz_build_domains.proofs.InputValues.{value_is, values_are}
-use Rattle.fz_build.specs.Build.{sum_with, args_by, args_with, defining, defined_variable, with_defined}
+use Rattle.fz_build.specs.Build.{sum_with, args_by, args_with, defining, defined_variable, with_variable, with_defined}
 use Rattle.fz_build.specs.Results.{MayDefine}
-use Rattle.fz_build.specs.Growth.{GoesOn, HasResult, Defines}
-use Rattle.fz_build.proofs.Lists.{at_last, each_push, each_before, each_last}
-use Rattle.fz_build.proofs.Values.{all_given_over, rows_before, rows_after, domains_length, domains_push, split, gives_last, last_given}
+use Rattle.fz_build.specs.Growth.{GoesOn, HasResult, Declares, Posts, Defines}
+use Rattle.fz_build.proofs.Lists.{at_last}
+use Rattle.fz_build.proofs.Values.{all_given_over, domains_length, gives_last, last_given}
+use Rattle.fz_build.proofs.Declared.{IsWithLast, with_last, prefix_is, declared, posted}
 use Rattle.fz_build.proofs.Sums.{IsSum, sum_of_inputs, sum_line, number_of, sum_holds, holds_sum}
 
 -- a row that is no sum, over the values of all variables
@@ -112,87 +113,72 @@ module _ (p : Program) (name : RowName) (inputs : List Argument) (domain : Domai
   gives_by true is f h = holds_total name inputs n is Wide (sum_in name inputs n Wide is m.row) f h
   gives_by false none f h = holds_plain name inputs n none f m.result h
 
-  -- what the inputs give by the values of the first variables
-  result_is : (f : Values) (x : Value) → length f ≡ n → IsInDomain domain x → RowHolds (f ++ x ∷ []) (defining name inputs n) → result_given name (map (argument_value f) inputs) ≡ Some x
-  result_is f x l i h =
-      ap (result_given name) (sym (all_given_over f (x ∷ []) n l inputs m.over)) ∙ holds_by (is_sum name) refl f x l i h ∙ ap (λ v. Some v) (last_is n f x l)
-
   result_holds : (f : Values) (x : Value) → length f ≡ n → result_given name (map (argument_value f) inputs) ≡ Some x → RowHolds (f ++ x ∷ []) (defining name inputs n)
   result_holds f x l h =
       gives_by (is_sum name) refl (f ++ x ∷ []) (ap (result_given name) (all_given_over f (x ∷ []) n l inputs m.over) ∙ h ∙ ap (λ v. Some v) (sym (last_is n f x l)))
 
 -- ---- solutions
 
--- a solution is one of the old program, and the result
-record Parts (p : Program) (name : RowName) (inputs : List Argument) (f : Values) : Type 0 where
-  pub prefix : Values
-  pub last : Value
-  pub is : prefix ++ last ∷ [] ≡ f
-  pub as_many : length prefix ≡ length p.vars
-  pub solves : FlatSolves p prefix
-  pub result : result_given name (map (argument_value prefix) inputs) ≡ Some last
+module _ (p : Program) (name : RowName) (inputs : List Argument) (domain : Domain) (m : MayDefine p name inputs domain) (w : AllByRecursion (IsWellFormedRow p.vars) p.rows) where
+  abbrev New : Variable
+  New = defined_variable p domain
 
-module _ (p : Program) (name : RowName) (inputs : List Argument) (domain : Domain) (m : MayDefine p name inputs domain) (w : WellFormed p) where
+  abbrev Wider : Program
+  Wider = with_variable p New
+
+  abbrev Definition : Row
+  Definition = defining name inputs (length p.vars)
+
   abbrev Grown : Program
   Grown = with_defined p name inputs domain
 
-  parts : (f : Values) → FlatSolves Grown f → Parts p name inputs f
-  parts f s =
-      let t = split p.vars (defined_variable p domain) f s.domains in
-      let l : length t.prefix ≡ length p.vars = domains_length p.vars t.prefix t.domains in
-      let rows : AllByRecursion (RowHolds (t.prefix ++ t.last ∷ [])) (p.rows ++ defining name inputs (length p.vars) ∷ []) = subst (λ g. AllByRecursion (RowHolds g) (p.rows ++ defining name inputs (length p.vars) ∷ [])) (sym t.is) s.rows in
-      record {
-        prefix = t.prefix;
-        last = t.last;
-        is = t.is;
-        as_many = l;
-        solves = record { domains = t.domains; rows = rows_before p.vars t.prefix (t.last ∷ []) l p.rows w.parts.rows (each_before (RowHolds (t.prefix ++ t.last ∷ [])) p.rows (defining name inputs (length p.vars)) rows) };
-        result = result_is p name inputs domain m t.prefix t.last l t.inside (each_last (RowHolds (t.prefix ++ t.last ∷ [])) p.rows (defining name inputs (length p.vars)) rows);
-      }
+  abbrev variable_more : Declares p Wider domain (one (var (length p.vars)))
+  variable_more = declared p New w
 
-  first_part : (f : Values) (q : Parts p name inputs f) → take (length p.vars) f ≡ q.prefix
-  first_part f q = ap (take (length p.vars)) (sym q.is) ∙ take_at q.prefix (q.last ∷ []) (length p.vars) q.as_many
+  abbrev row_more : Posts Wider Grown Definition
+  row_more = posted Wider Definition
 
-  down : (f : Values) → FlatSolves Grown f → FlatSolves p (take (length p.vars) f)
-  down f s = let q = parts f s in subst (FlatSolves p) (sym (first_part f q)) q.solves
+  -- a solution begins with one of the old program
+  ends : (f : Values) → FlatSolves Grown f → IsWithLast p New f
+  ends f s = with_last p New w f (row_more.down f s)
+
+  value : (f : Values) → FlatSolves Grown f → result_given name (map (argument_value f) inputs) ≡ Some (plain_value f (var (length p.vars)))
+  value f s =
+      let q = ends f s in
+      let row : RowHolds (q.prefix ++ q.last ∷ []) Definition = subst (λ g. RowHolds g Definition) (sym q.is) (row_more.holds f s) in
+      subst (λ g. result_given name (map (argument_value g) inputs) ≡ Some (plain_value g (var (length p.vars)))) q.is (holds_by p name inputs domain m (is_sum name) refl q.prefix q.last q.as_many q.inside row)
 
   up : (f : Values) → FlatSolves p f → HasResult name inputs domain f → GoesOn Grown f
-  up f s h =
-      let l : length f ≡ length p.vars = domains_length p.vars f s.domains in
-      record {
-        rest = h.result ∷ [];
-        solves = record {
-          domains = domains_push p.vars (defined_variable p domain) f h.result s.domains h.inside;
-          rows = each_push (RowHolds (f ++ h.result ∷ [])) p.rows (defining name inputs (length p.vars)) (rows_after p.vars f (h.result ∷ []) l p.rows w.parts.rows s.rows) (result_holds p name inputs domain m f h.result l h.is);
-        };
-      }
+  up f s h = record {
+    rest = h.result ∷ [];
+    solves = row_more.up (f ++ h.result ∷ []) (variable_more.up f h.result s h.inside) (result_holds p name inputs domain m f h.result (domains_length p.vars f s.domains) h.is);
+  }
+
+  -- the inputs' values are those of the first variables
+  inputs_first : (f : Values) → FlatSolves Grown f → map (argument_value f) inputs ≡ map (argument_value (take (length p.vars) f)) inputs
+  inputs_first f s =
+      let q = ends f s in
+      let at : (g h : Values) → g ≡ h → map (argument_value g) inputs ≡ map (argument_value h) inputs = λ g h e. ap (λ g. map (argument_value g) inputs) e in
+      at f (q.prefix ++ q.last ∷ []) (sym q.is) ∙ all_given_over q.prefix (q.last ∷ []) (length p.vars) q.as_many inputs m.over ∙ at q.prefix (take (length p.vars) f) (sym (prefix_is p New w f q))
 
   same_some : (x y : Value) → Some x ≡ Some y → x ≡ y
   same_some x y e = cc
 
   only : (f g : Values) → FlatSolves Grown f → FlatSolves Grown g → take (length p.vars) f ≡ take (length p.vars) g → f ≡ g
   only f g s t e =
-      let q = parts f s in
-      let r = parts g t in
-      let same : q.prefix ≡ r.prefix = sym (first_part f q) ∙ e ∙ first_part g r in
-      let last : q.last ≡ r.last = same_some q.last r.last (sym q.result ∙ ap (λ h. result_given name (map (argument_value h) inputs)) same ∙ r.result) in
-      sym q.is ∙ ap₂ (λ h x. h ++ x ∷ []) same last ∙ r.is
-
-  value : (f : Values) → FlatSolves Grown f → result_given name (map (argument_value f) inputs) ≡ Some (plain_value f (var (length p.vars)))
-  value f s =
-      let q = parts f s in
-      let here : result_given name (map (argument_value (q.prefix ++ q.last ∷ [])) inputs) ≡ Some (plain_value (q.prefix ++ q.last ∷ []) (var (length p.vars))) =
-      ap (result_given name) (all_given_over q.prefix (q.last ∷ []) (length p.vars) q.as_many inputs m.over) ∙ q.result ∙ ap (λ v. Some v) (sym (last_is (length p.vars) q.prefix q.last q.as_many)) in
-      subst (λ h. result_given name (map (argument_value h) inputs) ≡ Some (plain_value h (var (length p.vars)))) q.is here
+      let inputs_same : map (argument_value f) inputs ≡ map (argument_value g) inputs = inputs_first f s ∙ ap (λ h. map (argument_value h) inputs) e ∙ sym (inputs_first g t) in
+      variable_more.one f g (row_more.down f s) (row_more.down g t) e (same_some _ _ (sym (value f s) ∙ ap (result_given name) inputs_same ∙ value g t))
 
   pub defined : Defines p Grown name inputs domain (one (var (length p.vars)))
   defined = record {
     grows = record {
-      longer = let l = length_push p.vars (defined_variable p domain) in omega (arith, l);
-      down = down;
+      longer = let l = length_push p.vars New in omega (arith, l);
+      kept = variable_more.kept;
+      down = λ f s. variable_more.down f (row_more.down f s);
       up = up;
       one = only;
     };
-    place = let l = length_push p.vars (defined_variable p domain) in omega (arith, l);
+    typed = variable_more.typed;
+    place = let l = length_push p.vars New in omega (arith, l);
     value = value;
   }

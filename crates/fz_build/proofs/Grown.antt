@@ -10,9 +10,9 @@ use Rattle.fz_program.specs.declared.program.Domain.{Domain}
 use Rattle.fz_program.specs.declared.row_name.RowName.{RowName}
 use Rattle.fz_program.specs.Names.{Name}
 use Rattle.fz_program.specs.Arguments.{Argument}
-use Rattle.fz_program.specs.Flat.{Variable, ArrayItem, Row, Program, WellFormed, IsWellFormedVariable, IsWellFormedArray, IsWellFormedRow, IsOfSet, variable, array_item, row, is_goal}
+use Rattle.fz_program.specs.Flat.{Variable, ArrayItem, Row, Program, WellFormed, IsWellFormedVariable, IsWellFormedArray, IsWellFormedRow, IsOfSet, IsSome, variable, array_item, row, is_goal}
 use Rattle.fz_build.specs.Naming.{IsNamed, introduced_name, number_after, next_number}
-use Rattle.fz_build.specs.Build.{items, with_variable, with_array, with_row, with_goal, with_defined, defined_variable, defining, args_with, IsBuilt, MayDeclare, MayAdd}
+use Rattle.fz_build.specs.Build.{items, with_variable, with_array, with_row, with_goal, with_defined, defined_variable, introduced_variable, defining, args_with, IsBuilt, MayDeclare, MayAdd}
 use Rattle.fz_build.specs.Results.{MayDefine}
 use Rattle.fz_build.proofs.Lists.{each_push}
 use Rattle.fz_build.proofs.FreshNames.{is_name, fresh, named_push, next_push, next_most, distinct_variable, distinct_array}
@@ -65,6 +65,14 @@ built_row p r b w = record {
   arrays = b.arrays;
 }
 
+-- a variable that is marked as introduced, with the next name
+pub may_introduce : (p : Program) (domain : Domain) → IsBuilt p → next_number p.vars < 2 ^ 64 → IsOfSet domain → IsSome domain → MayDeclare p (introduced_variable p domain)
+may_introduce p domain b h s some = record {
+  variable = record { label = is_name (next_number p.vars) h; marks = ((λ o. cc), (λ d. cc)); some = some; of_set = s };
+  new = fresh p b.variables b.arrays h;
+  named = refl;
+}
+
 pub may_declare : (p : Program) (name : RowName) (inputs : List Argument) (domain : Domain) → IsBuilt p → next_number p.vars < 2 ^ 64 → IsOfSet domain → MayDefine p name inputs domain → MayDeclare p (defined_variable p domain)
 may_declare p name inputs domain b h s m = record {
   variable = record { label = is_name (next_number p.vars) h; marks = ((λ o. cc), (λ d. refl)); some = m.some; of_set = s };
@@ -105,6 +113,9 @@ items_row vars arrays rows new r e = ap (λ rs. make (map variable vars) (map ar
 
 abbrev pub made : Name → Domain → Variable
 made x domain = record { label = x; domain = domain; introduced = true; defined = true; output = false }
+
+abbrev pub free : Name → Domain → Variable
+free x domain = record { label = x; domain = domain; introduced = true; defined = false; output = false }
 
 abbrev pub row_made : RowName → List Argument → ℕ → Row
 row_made name args k = record { name = name; args = args; defines = Some k }
@@ -152,6 +163,9 @@ stands_defined vars grown arrays rows more next v r old name inputs domain e h v
     )
 
 -- a variable that is made with the next name
+pub named_introduced : (p : Program) (x : Name) (domain : Domain) → x ≡ introduced_name (next_number p.vars) → free x domain ≡ introduced_variable p domain
+named_introduced p x domain e = ap (λ y. free y domain) e
+
 pub named_variable : (p : Program) (x : Name) (domain : Domain) → x ≡ introduced_name (next_number p.vars) → made x domain ≡ defined_variable p domain
 named_variable p x domain e = ap (λ y. made y domain) e
 

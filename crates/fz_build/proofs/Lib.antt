@@ -4,4 +4,8 @@ pub mod Wider
 pub mod Grown
 pub mod Values
 pub mod Sums
+pub mod Declared
 pub mod Defined
+pub mod Histories
+pub mod Definable
+pub mod HistoryExamples

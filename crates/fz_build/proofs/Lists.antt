@@ -1,6 +1,6 @@
 -- Lists with one element more.
-use Rattle.std.proofs.Common.{◌≡◌, ℕ, zero, suc, ◌<◌, List, [], ◌∷◌, ◌++◌, length, map, slice_get, slice_index_or, Bool, true, refl, ap, ◌∙◌, arith}
-use Rattle.std.specs.Prelude.{Result, Ok, Err, IfOk}
+use Rattle.std.proofs.Common.{◌≡◌, ℕ, zero, suc, ◌<◌, List, [], ◌∷◌, ◌++◌, length, map, slice_get, slice_index_or, Bool, true, refl, ap, ◌∙◌, arith, Some}
+use Rattle.std.specs.Prelude.{Result, Ok, Err, IfOk, OnOk}
 use Rattle.std.specs.List.{AllByRecursion, list_all}
 use Rattle.std.proofs.lemmas.Bool.{and_parts, and_from}
 
@@ -8,6 +8,15 @@ pub get_wider : {A : Type 0} (xs ys : List A) (k : ℕ) → k < length xs → sl
 get_wider [] ys k h = absurd (omega (arith, h))
 get_wider (x ∷ xs) ys zero h = refl
 get_wider (x ∷ xs) ys (suc k) h = get_wider xs ys k (omega (arith, h))
+
+pub get_last : {A : Type 0} (xs : List A) (x : A) → slice_get (xs ++ x ∷ []) (length xs) ≡ Some x
+get_last [] x = refl
+get_last (y ∷ xs) x = get_last xs x
+
+pub get_more : {A : Type 0} (xs ys : List A) (k : ℕ) (x : A) → slice_get xs k ≡ Some x → slice_get (xs ++ ys) k ≡ Some x
+get_more [] ys k x h = absurd (cc)
+get_more (y ∷ xs) ys zero x h = h
+get_more (y ∷ xs) ys (suc k) x h = get_more xs ys k x h
 
 pub at_wider : {A : Type 0} (xs ys : List A) (k : ℕ) (d : A) → k < length xs → slice_index_or (xs ++ ys) k d ≡ slice_index_or xs k d
 at_wider [] ys k d h = absurd (omega (arith, h))
@@ -54,3 +63,7 @@ map_same f g P (x ∷ xs) e a = ap (λ y. y ∷ map f xs) (e x a.0) ∙ ap (λ y
 pub if_ok_weaker : {X Y : Type 0} (r : Result X Y) (P Q : X → Type 0) → ((x : X) → P x → Q x) → IfOk r P → IfOk r Q
 if_ok_weaker (Ok x) P Q f h = f x h
 if_ok_weaker (Err e) P Q f h = tt
+
+pub on_ok_weaker : {X Y : Type 0} (r : Result X Y) (P Q : Type 0) → (P → Q) → OnOk r P → OnOk r Q
+on_ok_weaker (Ok x) P Q f h = f h
+on_ok_weaker (Err e) P Q f h = tt

@@ -23,7 +23,7 @@ variable_there [] kind k h = absurd (cc)
 variable_there (v ∷ vs) kind zero h = omega arith
 variable_there (v ∷ vs) kind (suc k) h = let b = variable_there vs kind k h in omega (arith, b)
 
-plain_wider : (vs ws : List Variable) (kind : Kind) (p : Plain) → is_plain vs kind p ≡ true → is_plain (vs ++ ws) kind p ≡ true
+pub plain_wider : (vs ws : List Variable) (kind : Kind) (p : Plain) → is_plain vs kind p ≡ true → is_plain (vs ++ ws) kind p ≡ true
 unfolding is_plain
 plain_wider vs ws kind (var k) h = variable_wider vs ws kind k h
 plain_wider vs ws kind (bool b) h = h
@@ -155,11 +155,11 @@ rows_wider vs ws rs a = each_from (IsWellFormedRow vs) (IsWellFormedRow (vs ++ w
 variables_wider : (vs ws : List Variable) (kind : Kind) (items : List ℕ) → are_variables_of vs kind items ≡ true → are_variables_of (vs ++ ws) kind items ≡ true
 variables_wider vs ws kind items h = all_from (is_variable_of vs kind) (is_variable_of (vs ++ ws) kind) items (variable_wider vs ws kind) h
 
-or_left : (a b : Bool) → a ≡ true → (a || b) ≡ true
+pub or_left : (a b : Bool) → a ≡ true → (a || b) ≡ true
 or_left true b h = refl
 or_left false b h = absurd (cc)
 
-or_right : (a b : Bool) → b ≡ true → (a || b) ≡ true
+pub or_right : (a b : Bool) → b ≡ true → (a || b) ≡ true
 or_right true b h = refl
 or_right false b h = h
 

@@ -52,7 +52,11 @@ pub record MayAdd (p : Program) (a : ArrayItem) : Type 0 where
 abbrev pub constraint : RowName → List Argument → Row
 constraint name args = record { name = name; args = args; defines = None }
 
--- ---- defined variables
+-- ---- introduced variables
+
+-- the variable that `introduce` adds: no row defines it
+abbrev pub introduced_variable : Program → Domain → Variable
+introduced_variable p domain = record { label = introduced_name (next_number p.vars); domain = domain; introduced = true; defined = false; output = false }
 
 -- the variable that `define` adds
 abbrev pub defined_variable : Program → Domain → Variable

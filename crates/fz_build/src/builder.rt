@@ -1,17 +1,17 @@
 // The builder: a program, to which items are added.
 
 ghost use Rattle.std.specs.Prelude.{◌≡◌, ◌∷◌, ◌++◌, [], IfOk, OnOk, OnErr, map, length, string_bytes, true, false, Some, IsSome as IsThere};
-ghost use Rattle.fz_program.specs.Arguments.{argument, one, var as variable_at};
+ghost use Rattle.fz_program.specs.Arguments.{argument, one, plain, var as variable_at};
 ghost use Rattle.fz_program.specs.Flat.{IsOfSet, IsSome, IsWellFormedRow, WellFormed, array_item, is_goal, program, row, variable};
-ghost use Rattle.fz_build_domains.specs.Bounds.{AreInputs, HoldsResults, result_domain};
-ghost use Rattle.fz_build.specs.Build.{MayAdd, MayDeclare, constraint, empty, with_array, with_goal, with_row, with_variable};
+ghost use Rattle.fz_build_domains.specs.Bounds.{AreInputs, HoldsResults, ends_of, result_domain};
+ghost use Rattle.fz_build.specs.Build.{MayAdd, MayDeclare, constraint, empty, introduced_variable, with_array, with_goal, with_row, with_variable};
 ghost use Rattle.fz_build.specs.Naming.{introduced_name, next_number};
 ghost use Rattle.fz_build.specs.Results.{MayDefine};
-ghost use Rattle.fz_build.specs.Growth.{Defines, IsAdded};
+ghost use Rattle.fz_build.specs.Growth.{Declares, Defines, IsAdded, Posts};
 
 use crate::naming::{introduced_name, number_after};
 use crate::result_row::args_with;
-use fz_build_domains::{copied_all, result_domain};
+use fz_build_domains::{copied_all, ends_of, result_domain};
 use fz_program::{Arg, Domain, FzArray, FzGoal, FzName, FzProgram, FzRow, FzVar, RowName};
 use mz_base::Memory;
 use std::alloc::Global;
@@ -75,6 +75,7 @@ impl Build {
         requires { MayDeclare self.old (variable var) }
         ensures added { OnOk result (self.new ≡ with_variable self.old (variable var)) }
         ensures place { IfOk result (λ out. argument out ≡ one (variable_at (length self.old.vars))) }
+        ensures declares { IfOk result (λ out. Declares self.old self.new (variable var).domain (argument out)) }
         ensures err { OnErr result (self.new ≡ self.old) }
     {
         let k = self.vars.len() as u64;
@@ -82,6 +83,19 @@ impl Build {
         self.vars.push(var)?;
         self.next = number_after(introduced, self.next);
         Ok(Arg::Var(k))
+    }
+
+    /// Adds an introduced variable with this domain that no row defines, and gives it as an argument.
+    /// The domain has a value.
+    pub fn introduce(&mut self, domain: Domain) -> Result<Arg, Memory>
+        requires { IsSome domain }
+        ensures added { OnOk result (self.new ≡ with_variable self.old (introduced_variable self.old domain)) }
+        ensures declares { IfOk result (λ out. Declares self.old self.new domain (argument out)) }
+        ensures err { OnErr result (self.new ≡ self.old) }
+    {
+        has_set(&domain);
+        let label = given!(introduced_name(self.alloc, self.next));
+        self.declare(introduced_variable(label, domain))
     }
 
     /// Adds an array of variables that are there. It is well formed and has a new name, which is no
@@ -99,6 +113,7 @@ impl Build {
     pub fn post(&mut self, name: RowName, args: &[Arg]) -> Result<(), Memory>
         requires { IsWellFormedRow self.old.vars (constraint name (map argument args.now)) }
         ensures added { OnOk result (self.new ≡ with_row self.old (constraint name (map argument args.now))) }
+        ensures posts { OnOk result (Posts self.old self.new (constraint name (map argument args.now))) }
         ensures err { OnErr result (self.new ≡ self.old) }
     {
         let args = copied_all(self.alloc, args)?;
@@ -158,6 +173,14 @@ impl Build {
         result_domain(self.alloc, name, &self.vars, inputs)
     }
 
+    /// The least and the greatest that an argument may be by its domain, of a truth value as 0 or 1; 0 and
+    /// 0 of a set and of an array.
+    pub fn ends(&self, a: &Arg) -> (i64, i64)
+        ensures { result ≡ ends_of self.now.vars (plain a.now) }
+    {
+        ends_of(&self.vars, a)
+    }
+
     /// The program with this solve item. It takes no memory.
     pub fn finish(self, goal: FzGoal) -> FzProgram
         requires { is_goal self.vars goal ≡ true }
@@ -185,6 +208,19 @@ fn has_set(domain: &Domain)
         Domain::SetOf(s) => {
             let _ranges = s.ranges();
         }
+    }
+}
+
+// An introduced variable that no row defines.
+fn introduced_variable(label: FzName, domain: Domain) -> FzVar
+    ensures { variable result ≡ record { label = string_bytes label.text; domain = domain; introduced = true; defined = false; output = false } }
+{
+    FzVar {
+        label,
+        domain,
+        introduced: true,
+        defined: false,
+        output: false,
     }
 }
 

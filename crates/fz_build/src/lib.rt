@@ -13,7 +13,11 @@ macro_rules! given {
 }
 
 mod builder;
+mod law;
 mod naming;
 mod result_row;
 
 pub use builder::Build;
+pub use law::{
+    free_values_determine_solutions, introduced_variables_are_defined_once, results_may_define,
+};

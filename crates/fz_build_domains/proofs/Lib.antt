@@ -4,3 +4,4 @@ pub mod Forms
 pub mod Enclosed
 pub mod Held
 pub mod Made
+pub mod ResultKinds

@@ -55,8 +55,9 @@ fn truth_ends(b: bool) -> (i64, i64)
     if b { (1, 1) } else { (0, 0) }
 }
 
-// The bounds of an integer or of a truth value as 0 or 1; 0..0 of anything else.
-pub(crate) fn ends_of(vars: &[FzVar], a: &Arg) -> (i64, i64)
+/// The least and the greatest that an integer may be by its domain, of a truth value as 0 or 1; 0 and 0
+/// of anything else.
+pub fn ends_of(vars: &[FzVar], a: &Arg) -> (i64, i64)
     ensures { result ≡ ends_of (map variable vars.now) (plain a.now) }
 {
     match a {

@@ -21,4 +21,4 @@ mod sets;
 
 pub use copy::{copied_all, copied_at, with_element, with_last};
 pub use domains::result_domain;
-pub use inputs::elements_at;
+pub use inputs::{elements_at, ends_of};

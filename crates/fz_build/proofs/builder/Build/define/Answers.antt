@@ -48,6 +48,6 @@ pub returns-clause-defines : goal.returns-clause-defines
 returns-clause-defines c =
     let inputs = map argument c.args.inputs.now in
     let built : IsBuilt c.args.self.now = subst IsBuilt c.self.view_is c.self.invariant.0 in
-    let new : Defines c.args.self.now (with_defined c.args.self.now c.args.name inputs c.args.domain) c.args.name inputs c.args.domain (one (var (length c.args.self.now.vars))) = defined c.args.self.now c.args.name inputs c.args.domain c.requires built.well_formed in
+    let new : Defines c.args.self.now (with_defined c.args.self.now c.args.name inputs c.args.domain) c.args.name inputs c.args.domain (one (var (length c.args.self.now.vars))) = defined c.args.self.now c.args.name inputs c.args.domain c.requires built.well_formed.parts.rows in
     let here : Defines c.args.self.now (with_defined c.args.self.now c.args.name inputs c.args.domain) c.args.name inputs c.args.domain (one (var c.len-k.result)) = subst (λ k. Defines c.args.self.now (with_defined c.args.self.now c.args.name inputs c.args.domain) c.args.name inputs c.args.domain (one (var k))) (sym (place c)) new in
     simp the_lemmas (subst (λ (q : Program). Defines c.args.self.now q c.args.name inputs c.args.domain (one (var c.len-k.result))) (sym (added c)) here)
