@@ -13,6 +13,6 @@ pub mod Turns
 pub mod Assigning
 pub mod GatheringItems
 pub mod Picking
-pub mod Tables
+pub mod NameTables
 pub mod Walked
 pub mod Whole

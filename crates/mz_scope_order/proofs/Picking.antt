@@ -12,7 +12,7 @@ use Rattle.mz_tree.specs.declared.expr.Expr.{Expr}
 use Rattle.mz_tree.specs.declared.item.Item.{Item}
 use Rattle.mz_tree.specs.declared.item.Item.TheVariants as items
 use Rattle.mz_tree.specs.declared.item.Function.{Function}
-use Rattle.mz_scope_order.proofs.Tables.{dropped, all_dropped}
+use Rattle.mz_scope_order.proofs.NameTables.{dropped, all_dropped}
 use Rattle.mz_scope_order.specs.Parts.{EnumTree, function_in, constraint_in, output_in}
 use Rattle.mz_scope_order.specs.StepsParts.{own_cases, cases_of_given, enum_by}
 use Rattle.mz_scope_order.specs.StepsTables.{name_assigned, value_assigned}

@@ -8,7 +8,7 @@ use Rattle.mz_scope_order.specs.Parts.{goal_of}
 use Rattle.mz_scope_order.specs.StepsParts.{goal_asked, first_goal}
 use Rattle.mz_scope_order.specs.StepsTables.{or_next}
 use Rattle.mz_scope_order.proofs.GatheringItems.{goal_both, goal_from}
-use Rattle.mz_scope_order.proofs.Tables.{dropped, all_dropped}
+use Rattle.mz_scope_order.proofs.NameTables.{dropped, all_dropped}
 
 -- an item that asks for a goal, and one that doesn't
 pub goal_here : (is : List Item) (i : ℕ) (it : Item) (whole : Option GoalTree) (g : GoalTree) → i < length is → it ≡ get_or is i it → Some g ≡ goal_asked (item it)

@@ -1,4 +1,4 @@
-use Rattle.mz_scope_order.proofs.Tables.{assigned_is}
+use Rattle.mz_scope_order.proofs.NameTables.{assigned_is}
 use Rattle.mz_scope_order.proofs.assigned.assigned_in.Goals as goal
 
 pub returns : goal.returns

@@ -1,4 +1,4 @@
-use Rattle.mz_scope_order.proofs.Tables.{listed_is}
+use Rattle.mz_scope_order.proofs.NameTables.{listed_is}
 use Rattle.mz_scope_order.proofs.data_items.listed_in.Goals as goal
 
 pub returns : goal.returns

@@ -6,7 +6,7 @@ use Rattle.mz_scope_names.proofs.Gathered.{files_flat}
 use Rattle.mz_scope_order.specs.StepsParts.{filled_in}
 use Rattle.mz_scope_order.specs.StepsTables.{value_found}
 use Rattle.mz_scope_order.proofs.Assigning.{fills}
-use Rattle.mz_scope_order.proofs.Tables.{all_done, one_done}
+use Rattle.mz_scope_order.proofs.NameTables.{all_done, one_done}
 use Rattle.mz_scope_order.proofs.decls.decls_of.Goals as goal
 
 pub loop-file-preserved : goal.loop-file-preserved

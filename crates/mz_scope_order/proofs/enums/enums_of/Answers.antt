@@ -7,7 +7,7 @@ use Rattle.mz_scope_names.proofs.Gathered.{files_flat}
 use Rattle.mz_scope_order.specs.StepsParts.{enum_by}
 use Rattle.mz_scope_order.specs.StepsTables.{item_found}
 use Rattle.mz_scope_order.proofs.GatheringItems.{enums_are}
-use Rattle.mz_scope_order.proofs.Tables.{all_done, one_done}
+use Rattle.mz_scope_order.proofs.NameTables.{all_done, one_done}
 use Rattle.mz_scope_order.proofs.enums.enums_of.Goals as goal
 
 pub loop-file-preserved : goal.loop-file-preserved

@@ -3,7 +3,7 @@ use Rattle.mz_tree.specs.Data.{given}
 use Rattle.mz_scope_names.specs.Sets.{holds}
 use Rattle.mz_scope_order.specs.Parts.{unless}
 use Rattle.mz_scope_order.specs.Scoped.{lent_given}
-use Rattle.mz_scope_order.proofs.Tables.{all_done}
+use Rattle.mz_scope_order.proofs.NameTables.{all_done}
 use Rattle.mz_scope_order.proofs.Picking.{one_picked, picked, passed}
 use Rattle.mz_scope_order.proofs.given.items_besides.Goals as goal
 use Rattle.mz_scope_order.proofs.given.items_besides.Goals.{then-not-has+in_ok-push, else-not-has}

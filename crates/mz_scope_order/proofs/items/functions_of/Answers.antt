@@ -1,7 +1,7 @@
 use Rattle.std.specs.List.{flat_map}
 use Rattle.mz_tree.specs.Items.{item}
 use Rattle.mz_scope_order.specs.Parts.{function_in}
-use Rattle.mz_scope_order.proofs.Tables.{all_done, one_done}
+use Rattle.mz_scope_order.proofs.NameTables.{all_done, one_done}
 use Rattle.mz_scope_order.proofs.items.functions_of.Goals as goal
 
 pub loop-file-preserved : goal.loop-file-preserved

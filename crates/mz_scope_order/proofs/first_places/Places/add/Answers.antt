@@ -1,5 +1,5 @@
 use Rattle.std.proofs.Common.{sym, ◌∙◌}
-use Rattle.mz_scope_order.proofs.Tables.{kept, added}
+use Rattle.mz_scope_order.proofs.NameTables.{kept, added}
 use Rattle.mz_scope_order.proofs.first_places.Places.add.Goals as goal
 
 pub returns-then-contains_key : goal.returns-then-contains_key

@@ -1,6 +1,6 @@
 use Rattle.std.proofs.Common.{ap, arith}
 use Rattle.mz_scope_order.specs.StepsTables.{or_next, place_from}
-use Rattle.mz_scope_order.proofs.Tables.{one_placed, all_placed}
+use Rattle.mz_scope_order.proofs.NameTables.{one_placed, all_placed}
 use Rattle.mz_scope_order.proofs.first_places.Places.of.Goals as goal
 
 pub loop-k-init : goal.loop-k-init
