@@ -8,10 +8,11 @@ use Rattle.mz_eval_cells.specs.declared.types.Known.{Known}
 use Rattle.mz_eval_cells.specs.Views.{cell_of, cells_of}
 use Rattle.mz_meaning.specs.Cells.{Cell}
 use Rattle.mz_meaning.specs.Calls.{arguments}
+use Rattle.mz_eval.specs.Calls.{arguments_of}
 
 -- those from a place on
 abbrev arguments_from : ℕ → List CoreDecl → List Core → List Known → List (Decl × Tree × Cell)
-arguments_from i ds es cs = arguments (map decl (drop i ds)) (map tree (drop i es)) (cells_of (drop i cs))
+arguments_from i ds es cs = arguments_of (drop i ds) (drop i es) (drop i cs)
 
 next_after : (i : ℕ) (ds : List CoreDecl) (es : List Core) (cs : List Known) (d : CoreDecl) (e : Core) (k : Known) → i < length ds → i < length es → i < length cs → arguments_from i ds es cs ≡ (decl (get_or ds i d), tree (get_or es i e), cell_of (get_or cs i k)) ∷ arguments_from (suc i) ds es cs
 next_after i [] es cs d e k h g m = absurd (omega arith)
@@ -20,7 +21,7 @@ next_after i (x ∷ ds) (y ∷ es) [] d e k h g m = absurd (omega arith)
 next_after zero (x ∷ ds) (y ∷ es) (z ∷ cs) d e k h g m = refl
 next_after (suc i) (x ∷ ds) (y ∷ es) (z ∷ cs) d e k h g m = next_after i ds es cs d e k (omega arith) (omega arith) (omega arith)
 
-pub arguments_next : (i : ℕ) (ds : List CoreDecl) (es : List Core) (cs : List Known) (d : CoreDecl) (e : Core) (k : Known) → i < length ds → i < length es → i < length cs → arguments (map decl (drop i ds)) (map tree (drop i es)) (cells_of (drop i cs)) ≡ (decl (get_or ds i d), tree (get_or es i e), cell_of (get_or cs i k)) ∷ arguments (map decl (drop (i + 1) ds)) (map tree (drop (i + 1) es)) (cells_of (drop (i + 1) cs))
+pub arguments_next : (i : ℕ) (ds : List CoreDecl) (es : List Core) (cs : List Known) (d : CoreDecl) (e : Core) (k : Known) → i < length ds → i < length es → i < length cs → arguments_of (drop i ds) (drop i es) (drop i cs) ≡ (decl (get_or ds i d), tree (get_or es i e), cell_of (get_or cs i k)) ∷ arguments_of (drop (i + 1) ds) (drop (i + 1) es) (drop (i + 1) cs)
 arguments_next i ds es cs d e k h g m =
     let more : suc i ≡ i + 1 = omega arith in
     next_after i ds es cs d e k h g m
@@ -35,7 +36,7 @@ no_cells [] es = refl
 no_cells (d ∷ ds) [] = refl
 no_cells (d ∷ ds) (e ∷ es) = refl
 
-pub arguments_end : (i : ℕ) (ds : List CoreDecl) (es : List Core) (cs : List Known) → min (min (length ds) (length es)) (length cs) ≤ i → arguments (map decl (drop i ds)) (map tree (drop i es)) (cells_of (drop i cs)) ≡ []
+pub arguments_end : (i : ℕ) (ds : List CoreDecl) (es : List Core) (cs : List Known) → min (min (length ds) (length es)) (length cs) ≤ i → arguments_of (drop i ds) (drop i es) (drop i cs) ≡ []
 arguments_end zero [] es cs h = refl
 arguments_end (suc i) [] es cs h = refl
 arguments_end zero (x ∷ ds) [] cs h = refl

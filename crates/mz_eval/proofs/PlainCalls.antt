@@ -9,7 +9,7 @@ use Rattle.mz_core.specs.TreeViews.{tree, decl}
 use Rattle.mz_eval_scopes.specs.declared.types.World.{World as FrameWorld}
 use Rattle.mz_eval_scopes.specs.Views.{world_of}
 use Rattle.mz_meaning.specs.Runs.{State, Answer, Out, Stopped, Run, ◌>>=◌, then_do, give, loop}
-use Rattle.mz_meaning.specs.Cells.{Cell, Env, Sure, sure, both_sure, bind, bind_all}
+use Rattle.mz_meaning.specs.Cells.{Cell, Env, Sure, both_sure, bind, bind_all}
 use Rattle.mz_meaning.specs.Arrays.{Anything, fitted}
 use Rattle.mz_meaning.specs.Contexts.{Untested}
 use Rattle.mz_meaning.specs.Forms.{World, Eval, part, parts}
@@ -17,7 +17,7 @@ use Rattle.mz_meaning.specs.Lets.{Names, nothing_bound, names_in, with_local, in
 use Rattle.mz_meaning.specs.Calls.{argument_suits, arguments, parameter, called, call_of, call}
 use Rattle.mz_eval_chains.proofs.Runs.{then_again, then_same}
 use Rattle.mz_eval.specs.Calls.{called_in}
-use Rattle.mz_eval.specs.PlainCalls.{IsPlain, ArePlain, IsPlainAt, all_suit, with_arguments, called_on}
+use Rattle.mz_eval.specs.PlainCalls.{IsPlain, ArePlain, IsPlainAt, all_suit, with_arguments, called_on, called_on_all}
 
 -- ---- parts, the first one apart
 
@@ -127,7 +127,7 @@ bound_all w go f at env (d ∷ ds) (e ∷ es) b s p h =
 abbrev call_by : World → Eval → Span → List Tree → Env → Option Function → Run Cell
 call_by w go at es env o = parts go Untested es env >>= λ cells. call_of w go Untested o es cells at
 
-pub plain_call : (x : FrameWorld) (go : Eval) (n : ℕ) (f : Function) (es : List Tree) (at : Span) (env : Env) (s : State) → IsPlainAt (world_of x).functions n f → call (world_of x) go Untested n es at env s ≡ called_on (world_of x) go f at f.params es sure env (world_of x).top s
+pub plain_call : (x : FrameWorld) (go : Eval) (n : ℕ) (f : Function) (es : List Tree) (at : Span) (env : Env) (s : State) → IsPlainAt (world_of x).functions n f → call (world_of x) go Untested n es at env s ≡ called_on_all (world_of x) go f at es env s
 plain_call x go n f es at env s p =
     ap (λ o. call_by (world_of x) go at es env o s) p.found
     ∙ bound_all (world_of x) go f at env f.params es nothing_bound s p.plain refl

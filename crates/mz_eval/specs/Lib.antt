@@ -1,4 +1,10 @@
+pub mod Levels
 pub mod Rows
+pub mod Chains
+pub mod Choices
+pub mod Locals
+pub mod Comprehensions
 pub mod Calls
 pub mod PlainCalls
+pub mod Values
 pub mod Answers

@@ -1,14 +1,19 @@
 -- Calls of functions whose parameters have no declared sets.
 use Rattle.std.specs.Prelude.{◌≡◌, ℕ, Bool, List, [], ◌∷◌, None, Some, slice_get}
 use Rattle.mz_base.specs.declared.fault.Span.{Span}
-use Rattle.mz_core.specs.Program.{Function}
+use Rattle.mz_core.specs.Program.{Function, function}
 use Rattle.mz_core.specs.Tree.{Tree, Decl}
 use Rattle.mz_meaning.specs.Runs.{Run, ◌>>=◌}
-use Rattle.mz_meaning.specs.Cells.{Cell, Env, Sure, both_sure, bind}
+use Rattle.mz_meaning.specs.Cells.{Cell, Env, Sure, sure, both_sure, bind}
 use Rattle.mz_meaning.specs.Arrays.{Anything}
 use Rattle.mz_meaning.specs.Contexts.{Untested}
 use Rattle.mz_meaning.specs.Forms.{World, Eval, parts}
 use Rattle.mz_meaning.specs.Calls.{argument_suits}
+use Rattle.mz_eval_cells.specs.Views.{sure_of}
+use Rattle.mz_eval.specs.declared.types.Level.{Level}
+use Rattle.mz_eval.specs.declared.types.Call.{Call}
+use Rattle.mz_eval.specs.declared.types.CallScope.{CallScope}
+use Rattle.mz_eval.specs.Levels.{world_in, go_of, scope_of}
 use Rattle.mz_eval.specs.Calls.{called_in}
 
 -- a parameter without declared sets
@@ -41,3 +46,11 @@ abbrev pub called_on : World → Eval → Function → Span → List Decl → Li
 called_on w go f at ds es holds env inner = do
   cs ← parts go Untested es env
   called_in w go f at (all_suit f.result.ty.var ds cs holds) (with_arguments ds cs inner)
+
+-- on all its arguments
+abbrev pub called_on_all : World → Eval → Function → Span → List Tree → Env → Run Cell
+called_on_all w go f at es env = called_on w go f at f.params es sure env w.top
+
+-- the same in the code's words
+abbrev pub call_goes_on : Level → Call → List Decl → List Tree → CallScope → Run Cell
+call_goes_on l c ds es b = called_on (world_in l) (go_of l) (function c.function.now) c.at ds es (sure_of b.holds) (scope_of l c.scope.now) (scope_of l b.scope.now)

@@ -1,146 +1,135 @@
 // The evaluation of expressions: one function for each definition.
 
 ghost use Rattle.std.specs.Prelude.{◌∷◌, [], map};
-ghost use Rattle.mz_core.specs.Types.{plain_type};
 ghost use Rattle.mz_core.specs.TreeViews.{tree, form_layer};
 ghost use Rattle.mz_core.specs.declared.tree.CoreForm.TheViews.{out-CoreForm};
 ghost use Rattle.mz_meaning.specs.Runs.{loop};
 ghost use Rattle.mz_meaning.specs.Cells.{par_value};
 ghost use Rattle.mz_meaning.specs.Contexts.{Untested};
-ghost use Rattle.mz_meaning.specs.Operations.{row_at};
 ghost use Rattle.mz_meaning.specs.Forms.{done, parts, text_at, text_cell, all_cases, builtin, array, row_of_parts, table, set, access};
-ghost use Rattle.mz_meaning.specs.Evaluation.{eval, node};
+ghost use Rattle.mz_meaning.specs.Evaluation as meaning;
 ghost use Rattle.mz_eval_cells.specs.Views.{cell_of, cells_of};
 ghost use Rattle.mz_eval_arrays.specs.Gathered.{gathered};
 ghost use Rattle.mz_eval_scopes.specs.Runs.{Meets, at_work};
-ghost use Rattle.mz_eval_scopes.specs.Views.{world_of, env_of};
-ghost use Rattle.mz_eval.specs.Rows.{with_row};
+ghost use Rattle.mz_eval.specs.Levels.{world_in, go_of, scope_of, in_scope, at_node};
+ghost use Rattle.mz_eval.specs.Rows.{with_row, row_trees, row_cells};
 
 use crate::calls::eval_call;
 use crate::choices::eval_if;
 use crate::comprehensions::eval_comprehension;
 use crate::locals::eval_let;
 use crate::operators::eval_chain;
+use crate::types::Level;
 use mz_base::{Fault, Kind, Name, Span, Stop};
-use mz_core::{Base, Core, CoreForm, TypeInst};
+use mz_core::{Core, CoreForm};
 use mz_eval_access::access_cell;
 use mz_eval_arrays::{Gathered, gathered_with, line_cell, nothing_gathered, set_cell, table_cell};
 use mz_eval_cells::{Item, Known, one, undefined};
 use mz_eval_chains::{finished, inner};
 use mz_eval_nodes::{arguments_base, operated_all, operated_one, operated_two};
-use mz_eval_scopes::{Scope, World, all_cases, at_slot, done, literal_text, spend};
-use std::alloc::Global;
+use mz_eval_rows::row_at;
+use mz_eval_scopes::{Scope, all_cases, at_slot, done, literal_text, spend};
+use mz_operations::Row;
 
-// An expression below which this many levels of nesting are left.
+// An expression.
 #[cycle(forms)]
 #[tactic(auto, using(crate::proofs::OneLevel::eval_end, crate::proofs::OneLevel::eval_more))]
 pub(crate) fn eval_expression(
-    alloc: Global,
-    world: &World,
+    level: &Level,
     e: &Core,
     scope: &Scope,
-    left: u64,
     work: &mut u64,
 ) -> Result<Known, Stop>
-    ensures { Meets cell_of result work.new (eval (world_of world.now) left Untested (tree e.now) (env_of world.now scope.now) (at_work work.old)) }
+    ensures { Meets cell_of result work.new (go_of level.now Untested (tree e.now) (scope_of level.now scope.now) (at_work work.old)) }
 {
-    let b = inner(e);
-    if left == 0 {
+    let node = inner(e);
+    if level.left == 0 {
         return Err(Stop::Refused(Fault {
             kind: Kind::Depth,
-            span: b.span,
+            span: node.span,
             number: 601,
         }));
     }
-    let cell = eval_form(alloc, world, &b.form, b.span, &b.ty, scope, left - 1, work)?;
-    finished(alloc, world, e, b, cell, work)
+    let below = Level {
+        alloc: level.alloc,
+        world: level.world,
+        left: level.left - 1,
+    };
+    let cell = eval_form(&below, node, scope, work)?;
+    finished(level.alloc, level.world, e, node, cell, work)
 }
 
-// A node, below which this many levels of nesting are left.
+// A node below its coercions, whose parts are one level deeper.
 #[cycle(forms)]
-fn eval_form(
-    alloc: Global,
-    world: &World,
-    form: &CoreForm,
-    at: Span,
-    ty: &TypeInst,
-    scope: &Scope,
-    left: u64,
-    work: &mut u64,
-) -> Result<Known, Stop>
-    ensures { Meets cell_of result work.new (node (world_of world.now) (eval (world_of world.now) left) Untested (form_layer (out-CoreForm form.now)) at (plain_type ty.now) (env_of world.now scope.now) (at_work work.old)) }
+fn eval_form(level: &Level, node: &Core, scope: &Scope, work: &mut u64) -> Result<Known, Stop>
+    ensures { Meets cell_of result work.new (at_node level.now scope.now node.now (λ w go at t env. meaning.node w go Untested (form_layer (out-CoreForm node.now.form)) at t env) (at_work work.old)) }
 {
-    match form {
-        CoreForm::Bool(b) => done(world, at, one(Item::Bool(*b)), work),
-        CoreForm::Int(n) => done(world, at, one(Item::Int(*n)), work),
-        CoreForm::Enum(e, k) => done(world, at, one(Item::Enum(*e, *k)), work),
-        CoreForm::Text(n) => eval_text(alloc, world, *n, at, work),
-        CoreForm::Absent => done(world, at, one(Item::Absent), work),
-        CoreForm::EnumSet(e) => eval_cases(alloc, world, *e, at, work),
-        CoreForm::Slot(s) => eval_slot(world, *s, at, scope, work),
-        CoreForm::Whole => done(world, at, undefined(), work),
-        CoreForm::Chain(first, all) => {
-            eval_chain(alloc, world, first, all, at, scope, left, work)
-        }
-        CoreForm::Builtin(n, all) => eval_builtin(alloc, world, *n, all, at, ty, scope, left, work),
-        CoreForm::Call(f, all) => eval_call(alloc, world, *f, all, at, scope, left, work),
-        CoreForm::Access(a, all) => eval_access(alloc, world, a, all, at, ty, scope, left, work),
-        CoreForm::Array(all) => eval_array(alloc, world, all, at, scope, left, work),
-        CoreForm::Rows(rows) => eval_table(alloc, world, rows, at, scope, left, work),
-        CoreForm::Set(all) => eval_set(alloc, world, all, at, ty, scope, left, work),
+    let at = node.span;
+    match &node.form {
+        CoreForm::Bool(b) => done(level.world, at, one(Item::Bool(*b)), work),
+        CoreForm::Int(n) => done(level.world, at, one(Item::Int(*n)), work),
+        CoreForm::Enum(e, k) => done(level.world, at, one(Item::Enum(*e, *k)), work),
+        CoreForm::Text(n) => eval_text(level, *n, at, work),
+        CoreForm::Absent => done(level.world, at, one(Item::Absent), work),
+        CoreForm::EnumSet(e) => eval_cases(level, *e, at, work),
+        CoreForm::Slot(s) => eval_slot(level, *s, at, scope, work),
+        CoreForm::Whole => done(level.world, at, undefined(), work),
+        CoreForm::Chain(first, all) => { eval_chain(level, first, all, at, scope, work) }
+        CoreForm::Builtin(n, all) => eval_builtin(level, node, *n, all, scope, work),
+        CoreForm::Call(f, all) => eval_call(level, *f, all, at, scope, work),
+        CoreForm::Access(a, all) => eval_access(level, node, a, all, scope, work),
+        CoreForm::Array(all) => eval_array(level, all, at, scope, work),
+        CoreForm::Rows(rows) => eval_table(level, rows, at, scope, work),
+        CoreForm::Set(all) => eval_set(level, node, all, scope, work),
         CoreForm::Comp(braces, head, gens) => {
-            eval_comprehension(alloc, world, *braces, head, gens, at, ty, scope, left, work)
+            eval_comprehension(level, node, *braces, head, gens, scope, work)
         }
-        CoreForm::If(all, last) => eval_if(alloc, world, all, last, at, ty, scope, left, work),
-        CoreForm::Let(items, body) => {
-            eval_let(alloc, world, items, body, at, ty, scope, left, work)
-        }
-        CoreForm::Coerce(_, _) => done(world, at, undefined(), work),
+        CoreForm::If(all, last) => eval_if(level, node, all, last, scope, work),
+        CoreForm::Let(items, body) => { eval_let(level, node, items, body, scope, work) }
+        CoreForm::Coerce(_, _) => done(level.world, at, undefined(), work),
     }
 }
 
 fn eval_slot(
-    world: &World,
+    level: &Level,
     slot: u64,
     at: Span,
     scope: &Scope,
     work: &mut u64,
 ) -> Result<Known, Stop>
-    ensures { Meets cell_of result work.new (done (world_of world.now) at ((env_of world.now scope.now) slot) (at_work work.old)) }
+    ensures { Meets cell_of result work.new (in_scope level.now scope.now (λ w go env. done w at (env slot)) (at_work work.old)) }
 {
-    let cell = at_slot(world, scope, slot)?;
-    done(world, at, cell, work)
+    let cell = at_slot(level.world, scope, slot)?;
+    done(level.world, at, cell, work)
 }
 
-fn eval_text(alloc: Global, world: &World, n: Name, at: Span, work: &mut u64) -> Result<Known, Stop>
-    ensures { Meets cell_of result work.new (done (world_of world.now) at (text_cell (text_at (world_of world.now).texts n)) (at_work work.old)) }
+fn eval_text(level: &Level, n: Name, at: Span, work: &mut u64) -> Result<Known, Stop>
+    ensures { Meets cell_of result work.new (done (world_in level.now) at (text_cell (text_at (world_in level.now).texts n)) (at_work work.old)) }
 {
-    let cell = literal_text(alloc, world, n)?;
-    done(world, at, cell, work)
+    let cell = literal_text(level.alloc, level.world, n)?;
+    done(level.world, at, cell, work)
 }
 
-fn eval_cases(alloc: Global, world: &World, e: u64, at: Span, work: &mut u64) -> Result<Known, Stop>
-    ensures { Meets cell_of result work.new (done (world_of world.now) at (par_value (all_cases (world_of world.now).cases e)) (at_work work.old)) }
+fn eval_cases(level: &Level, e: u64, at: Span, work: &mut u64) -> Result<Known, Stop>
+    ensures { Meets cell_of result work.new (done (world_in level.now) at (par_value (all_cases (world_in level.now).cases e)) (at_work work.old)) }
 {
-    let cell = all_cases(alloc, world, e)?;
-    done(world, at, cell, work)
+    let cell = all_cases(level.alloc, level.world, e)?;
+    done(level.world, at, cell, work)
 }
 
 // Several parts from left to right.
 #[cycle(forms)]
 pub(crate) fn eval_parts(
-    alloc: Global,
-    world: &World,
+    level: &Level,
     all: &[Core],
     scope: &Scope,
-    left: u64,
     work: &mut u64,
 ) -> Result<Vec<Known>, Stop>
-    ensures { Meets (λ v. cells_of v.items) result work.new (parts (eval (world_of world.now) left) Untested (map tree all.now) (env_of world.now scope.now) (at_work work.old)) }
+    ensures { Meets (λ v. cells_of v.items) result work.new (in_scope level.now scope.now (λ w go env. parts go Untested (map tree all.now) env) (at_work work.old)) }
 {
-    let mut cells = Vec::new(alloc);
+    let mut cells = Vec::new(level.alloc);
     for e in all {
-        let cell = eval_expression(alloc, world, e, scope, left, work)?;
+        let cell = eval_expression(level, e, scope, work)?;
         cells.push(cell)?;
     }
     Ok(cells)
@@ -149,19 +138,17 @@ pub(crate) fn eval_parts(
 // The same, gathered as the elements of an array.
 #[cycle(forms)]
 fn eval_gathered(
-    alloc: Global,
-    world: &World,
+    level: &Level,
     all: &[Core],
     scope: &Scope,
-    left: u64,
     work: &mut u64,
 ) -> Result<Gathered, Stop>
-    ensures { Meets gathered result work.new (parts (eval (world_of world.now) left) Untested (map tree all.now) (env_of world.now scope.now) (at_work work.old)) }
+    ensures { Meets gathered result work.new (in_scope level.now scope.now (λ w go env. parts go Untested (map tree all.now) env) (at_work work.old)) }
 {
-    let mut cells = nothing_gathered(alloc);
+    let mut cells = nothing_gathered(level.alloc);
     for e in all {
-        let cell = eval_expression(alloc, world, e, scope, left, work)?;
-        cells = gathered_with(alloc, cells, cell)?;
+        let cell = eval_expression(level, e, scope, work)?;
+        cells = gathered_with(level.alloc, cells, cell)?;
     }
     Ok(cells)
 }
@@ -170,141 +157,136 @@ fn eval_gathered(
 #[cycle(forms)]
 #[tactic(auto, using(crate::proofs::Parts::trees_one, crate::proofs::Parts::trees_two))]
 fn eval_builtin(
-    alloc: Global,
-    world: &World,
+    level: &Level,
+    node: &Core,
     n: u32,
     all: &[Core],
-    at: Span,
-    ty: &TypeInst,
     scope: &Scope,
-    left: u64,
     work: &mut u64,
 ) -> Result<Known, Stop>
-    ensures { Meets cell_of result work.new (builtin (world_of world.now) (eval (world_of world.now) left) Untested n (map tree all.now) at (plain_type ty.now) (env_of world.now scope.now) (at_work work.old)) }
+    ensures { Meets cell_of result work.new (at_node level.now scope.now node.now (λ w go at t env. builtin w go Untested n (map tree all.now) at t env) (at_work work.old)) }
 {
-    let base = arguments_base(all, ty);
+    let row = row_at(n, arguments_base(all, &node.ty));
     let count = all.len();
     if count == 1 {
-        return eval_one(alloc, world, n, base, &all[0], at, ty, scope, left, work);
+        return eval_one(level, node, row, &all[0], scope, work);
     }
     if count == 2 {
-        return eval_two(
-            alloc, world, n, base, &all[0], &all[1], at, ty, scope, left, work,
-        );
+        return eval_two(level, node, row, &all[0], &all[1], scope, work);
     }
-    let cells = eval_parts(alloc, world, all, scope, left, work)?;
-    operated_all(alloc, world, at, ty, n, base, cells, work)
+    let cells = eval_parts(level, all, scope, work)?;
+    operated_all(
+        level.alloc,
+        level.world,
+        node.span,
+        &node.ty,
+        row,
+        cells,
+        work,
+    )
 }
 
 #[cycle(forms)]
 fn eval_one(
-    alloc: Global,
-    world: &World,
-    n: u32,
-    base: Base,
+    level: &Level,
+    node: &Core,
+    row: Option<Row>,
     a: &Core,
-    at: Span,
-    ty: &TypeInst,
     scope: &Scope,
-    left: u64,
     work: &mut u64,
 ) -> Result<Known, Stop>
-    ensures { Meets cell_of result work.new (with_row (world_of world.now) at (plain_type ty.now) (row_at n base) (parts (eval (world_of world.now) left) Untested (tree a.now ∷ []) (env_of world.now scope.now)) (at_work work.old)) }
+    ensures { Meets cell_of result work.new (at_node level.now scope.now node.now (λ w go at t env. with_row w at t row (parts go Untested (tree a.now ∷ []) env)) (at_work work.old)) }
 {
-    let x = eval_expression(alloc, world, a, scope, left, work)?;
-    operated_one(alloc, world, at, ty, n, base, x, work)
+    let x = eval_expression(level, a, scope, work)?;
+    operated_one(level.alloc, level.world, node.span, &node.ty, row, x, work)
 }
 
 #[cycle(forms)]
 fn eval_two(
-    alloc: Global,
-    world: &World,
-    n: u32,
-    base: Base,
+    level: &Level,
+    node: &Core,
+    row: Option<Row>,
     a: &Core,
     b: &Core,
-    at: Span,
-    ty: &TypeInst,
     scope: &Scope,
-    left: u64,
     work: &mut u64,
 ) -> Result<Known, Stop>
-    ensures { Meets cell_of result work.new (with_row (world_of world.now) at (plain_type ty.now) (row_at n base) (parts (eval (world_of world.now) left) Untested (tree a.now ∷ tree b.now ∷ []) (env_of world.now scope.now)) (at_work work.old)) }
+    ensures { Meets cell_of result work.new (at_node level.now scope.now node.now (λ w go at t env. with_row w at t row (parts go Untested (tree a.now ∷ tree b.now ∷ []) env)) (at_work work.old)) }
 {
-    let x = eval_expression(alloc, world, a, scope, left, work)?;
-    let y = eval_expression(alloc, world, b, scope, left, work)?;
-    operated_two(alloc, world, at, ty, n, base, x, y, work)
+    let x = eval_expression(level, a, scope, work)?;
+    let y = eval_expression(level, b, scope, work)?;
+    operated_two(
+        level.alloc,
+        level.world,
+        node.span,
+        &node.ty,
+        row,
+        x,
+        y,
+        work,
+    )
 }
 
 // A list of elements.
 #[cycle(forms)]
 fn eval_array(
-    alloc: Global,
-    world: &World,
+    level: &Level,
     all: &[Core],
     at: Span,
     scope: &Scope,
-    left: u64,
     work: &mut u64,
 ) -> Result<Known, Stop>
-    ensures { Meets cell_of result work.new (array (world_of world.now) (eval (world_of world.now) left) Untested (map tree all.now) at (env_of world.now scope.now) (at_work work.old)) }
+    ensures { Meets cell_of result work.new (in_scope level.now scope.now (λ w go env. array w go Untested (map tree all.now) at env) (at_work work.old)) }
 {
-    let cells = eval_gathered(alloc, world, all, scope, left, work)?;
-    let cell = line_cell(alloc, cells)?;
-    done(world, at, cell, work)
+    let cells = eval_gathered(level, all, scope, work)?;
+    let cell = line_cell(level.alloc, cells)?;
+    done(level.world, at, cell, work)
 }
 
 // A set of elements.
 #[cycle(forms)]
 fn eval_set(
-    alloc: Global,
-    world: &World,
+    level: &Level,
+    node: &Core,
     all: &[Core],
-    at: Span,
-    ty: &TypeInst,
     scope: &Scope,
-    left: u64,
     work: &mut u64,
 ) -> Result<Known, Stop>
-    ensures { Meets cell_of result work.new (set (world_of world.now) (eval (world_of world.now) left) Untested (map tree all.now) at (plain_type ty.now) (env_of world.now scope.now) (at_work work.old)) }
+    ensures { Meets cell_of result work.new (at_node level.now scope.now node.now (λ w go at t env. set w go Untested (map tree all.now) at t env) (at_work work.old)) }
 {
-    let cells = eval_gathered(alloc, world, all, scope, left, work)?;
-    let cell = set_cell(alloc, ty, &cells)?;
-    done(world, at, cell, work)
+    let cells = eval_gathered(level, all, scope, work)?;
+    let cell = set_cell(level.alloc, &node.ty, &cells)?;
+    done(level.world, node.span, cell, work)
 }
 
 // Rows of elements.
 #[cycle(forms)]
 fn eval_table(
-    alloc: Global,
-    world: &World,
+    level: &Level,
     rows: &[Vec<Core>],
     at: Span,
     scope: &Scope,
-    left: u64,
     work: &mut u64,
 ) -> Result<Known, Stop>
-    ensures { Meets cell_of result work.new (table (world_of world.now) (eval (world_of world.now) left) Untested (map (λ r. map tree r.items) rows.now) at (env_of world.now scope.now) (at_work work.old)) }
+    ensures { Meets cell_of result work.new (in_scope level.now scope.now (λ w go env. table w go Untested (row_trees rows.now) at env) (at_work work.old)) }
 {
-    let cells = eval_rows(alloc, world, rows, scope, left, work)?;
-    spend(world.budget, at, 1, work)?;
-    table_cell(alloc, at, &cells)
+    let cells = eval_rows(level, rows, scope, work)?;
+    spend(level.world.budget, at, 1, work)?;
+    table_cell(level.alloc, at, &cells)
 }
 
 #[cycle(forms)]
 fn eval_rows(
-    alloc: Global,
-    world: &World,
+    level: &Level,
     rows: &[Vec<Core>],
     scope: &Scope,
-    left: u64,
     work: &mut u64,
 ) -> Result<Vec<Vec<Known>>, Stop>
-    ensures { Meets (λ v. map (λ r. cells_of r.items) v.items) result work.new (loop (row_of_parts (eval (world_of world.now) left) Untested (env_of world.now scope.now)) [] (map (λ r. map tree r.items) rows.now) (at_work work.old)) }
+    ensures { Meets (λ v. row_cells v.items) result work.new (in_scope level.now scope.now (λ w go env. loop (row_of_parts go Untested env) [] (row_trees rows.now)) (at_work work.old)) }
 {
-    let mut all = Vec::new(alloc);
+    let mut all = Vec::new(level.alloc);
     for row in rows {
-        let cells = eval_parts(alloc, world, row, scope, left, work)?;
+        let cells = eval_parts(level, row, scope, work)?;
         all.push(cells)?;
     }
     Ok(all)
@@ -314,45 +296,39 @@ fn eval_rows(
 #[cycle(forms)]
 #[tactic(auto, using(crate::proofs::Parts::trees_one))]
 fn eval_access(
-    alloc: Global,
-    world: &World,
+    level: &Level,
+    node: &Core,
     a: &Core,
     all: &[Core],
-    at: Span,
-    ty: &TypeInst,
     scope: &Scope,
-    left: u64,
     work: &mut u64,
 ) -> Result<Known, Stop>
-    ensures { Meets cell_of result work.new (access (world_of world.now) (eval (world_of world.now) left) Untested (tree a.now) (map tree all.now) at (plain_type ty.now) (env_of world.now scope.now) (at_work work.old)) }
+    ensures { Meets cell_of result work.new (at_node level.now scope.now node.now (λ w go at t env. access w go Untested (tree a.now) (map tree all.now) at t env) (at_work work.old)) }
 {
     let count = all.len();
     if count == 1 {
-        return eval_element(alloc, world, a, &all[0], at, ty, scope, left, work);
+        return eval_element(level, node, a, &all[0], scope, work);
     }
-    let cell = eval_expression(alloc, world, a, scope, left, work)?;
-    let cells = eval_parts(alloc, world, all, scope, left, work)?;
-    let element = access_cell(alloc, ty, &cell, &cells)?;
-    done(world, at, element, work)
+    let cell = eval_expression(level, a, scope, work)?;
+    let cells = eval_parts(level, all, scope, work)?;
+    let element = access_cell(level.alloc, &node.ty, &cell, &cells)?;
+    done(level.world, node.span, element, work)
 }
 
 #[cycle(forms)]
 fn eval_element(
-    alloc: Global,
-    world: &World,
+    level: &Level,
+    node: &Core,
     a: &Core,
     i: &Core,
-    at: Span,
-    ty: &TypeInst,
     scope: &Scope,
-    left: u64,
     work: &mut u64,
 ) -> Result<Known, Stop>
-    ensures { Meets cell_of result work.new (access (world_of world.now) (eval (world_of world.now) left) Untested (tree a.now) (tree i.now ∷ []) at (plain_type ty.now) (env_of world.now scope.now) (at_work work.old)) }
+    ensures { Meets cell_of result work.new (at_node level.now scope.now node.now (λ w go at t env. access w go Untested (tree a.now) (tree i.now ∷ []) at t env) (at_work work.old)) }
 {
-    let cell = eval_expression(alloc, world, a, scope, left, work)?;
-    let index = eval_expression(alloc, world, i, scope, left, work)?;
+    let cell = eval_expression(level, a, scope, work)?;
+    let index = eval_expression(level, i, scope, work)?;
     let indices = [index];
-    let element = access_cell(alloc, ty, &cell, &indices)?;
-    done(world, at, element, work)
+    let element = access_cell(level.alloc, &node.ty, &cell, &indices)?;
+    done(level.world, node.span, element, work)
 }

@@ -9,6 +9,7 @@ mod locals;
 mod operators;
 mod plain_calls;
 mod top_call;
+mod types;
 
 pub use mz_eval_scopes::Env;
 pub use top_call::{evaluated, value};

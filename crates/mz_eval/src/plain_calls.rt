@@ -4,22 +4,20 @@
 ghost use Rattle.std.specs.Prelude.{◌≡◌, ◌∷◌, [], map, true, IfSome};
 ghost use Rattle.mz_core.specs.Program.{function};
 ghost use Rattle.mz_core.specs.TreeViews.{tree, decl};
-ghost use Rattle.mz_meaning.specs.Cells.{sure};
 ghost use Rattle.mz_meaning.specs.Arrays.{Anything};
 ghost use Rattle.mz_meaning.specs.Calls.{argument_suits};
-ghost use Rattle.mz_meaning.specs.Evaluation.{eval};
 ghost use Rattle.mz_eval_cells.specs.Views.{cell_of, sure_of};
 ghost use Rattle.mz_eval_scopes.specs.Runs.{Meets, at_work};
-ghost use Rattle.mz_eval_scopes.specs.Views.{world_of, env_of};
-ghost use Rattle.mz_eval.specs.PlainCalls.{IsPlain, ArePlain, IsPlainAt, called_on};
+ghost use Rattle.mz_eval.specs.Levels.{in_scope};
+ghost use Rattle.mz_eval.specs.PlainCalls.{IsPlain, ArePlain, IsPlainAt, called_on_all, call_goes_on};
 
 use crate::calls::{eval_called, function_at};
 use crate::forms::{eval_expression, eval_parts};
+use crate::types::{Call, CallScope, Level};
 use mz_base::{Span, Stop};
 use mz_core::{Core, CoreDecl, CoreFunction, Program};
 use mz_eval_cells::{Known, Sure, both_sure, surely, there};
-use mz_eval_scopes::{Scope, World};
-use std::alloc::Global;
+use mz_eval_scopes::Scope;
 
 // whether an argument suits its parameter, which has no declared set
 fn plain_suits(var: bool, of_var: bool, k: &Known) -> Sure
@@ -63,72 +61,57 @@ pub(crate) fn plain_function(program: &Program, f: u64) -> Option<&CoreFunction>
 // A call of such a function.
 #[cycle(forms)]
 pub(crate) fn eval_plain_call(
-    alloc: Global,
-    world: &World,
+    level: &Level,
     f: &CoreFunction,
     all: &[Core],
     at: Span,
     scope: &Scope,
-    left: u64,
     work: &mut u64,
 ) -> Result<Known, Stop>
-    ensures { Meets cell_of result work.new (called_on (world_of world.now) (eval (world_of world.now) left) (function f.now) at (map decl f.now.params.items) (map tree all.now) sure (env_of world.now scope.now) (world_of world.now).top (at_work work.old)) }
+    ensures { Meets cell_of result work.new (in_scope level.now scope.now (λ w go env. called_on_all w go (function f.now) at (map tree all.now) env) (at_work work.old)) }
 {
-    let top = Scope::Top;
-    eval_bound(
-        alloc,
-        world,
-        f,
-        &f.params,
-        all,
+    let call = Call {
+        function: &*f,
         at,
-        surely(),
-        &top,
-        scope,
-        left,
-        work,
-    )
+        scope: &*scope,
+    };
+    let top = Scope::Top;
+    let bound = CallScope {
+        scope: &top,
+        holds: surely(),
+    };
+    eval_bound(level, &call, &f.params, all, &bound, work)
 }
 
-// The arguments that are left, in the scope of the call; `bound` has the parameters so far.
+// The arguments that are left; the parameters so far are bound.
 #[cycle(forms)]
 #[tactic(auto, using(crate::proofs::PlainCalls::called_last, crate::proofs::PlainCalls::no_decls, crate::proofs::PlainCalls::decls_apart, crate::proofs::PlainCalls::trees_apart))]
 fn eval_bound(
-    alloc: Global,
-    world: &World,
-    f: &CoreFunction,
+    level: &Level,
+    call: &Call,
     params: &[CoreDecl],
     all: &[Core],
-    at: Span,
-    holds: Sure,
-    bound: &Scope,
-    scope: &Scope,
-    left: u64,
+    bound: &CallScope,
     work: &mut u64,
 ) -> Result<Known, Stop>
-    ensures { Meets cell_of result work.new (called_on (world_of world.now) (eval (world_of world.now) left) (function f.now) at (map decl params.now) (map tree all.now) (sure_of holds) (env_of world.now scope.now) (env_of world.now bound.now) (at_work work.old)) }
+    ensures { Meets cell_of result work.new (call_goes_on level.now call.now (map decl params.now) (map tree all.now) bound.now (at_work work.old)) }
 {
     let count = all.len();
     if count == 0 {
-        return eval_called(alloc, world, f, at, holds, bound, left, work);
+        return eval_called(level, call.function, call.at, bound, work);
     }
     let declared = params.len();
     if declared == 0 {
-        return eval_unbound(alloc, world, f, all, at, holds, bound, scope, left, work);
+        return eval_unbound(level, call, all, bound, work);
     }
     eval_first(
-        alloc,
-        world,
-        f,
+        level,
+        call,
         &params[0],
         &params[1..],
         &all[0],
         &all[1..],
-        at,
-        holds,
         bound,
-        scope,
-        left,
         work,
     )
 }
@@ -136,47 +119,39 @@ fn eval_bound(
 // More arguments than parameters: no typed program has such a call.
 #[cycle(forms)]
 fn eval_unbound(
-    alloc: Global,
-    world: &World,
-    f: &CoreFunction,
+    level: &Level,
+    call: &Call,
     all: &[Core],
-    at: Span,
-    holds: Sure,
-    bound: &Scope,
-    scope: &Scope,
-    left: u64,
+    bound: &CallScope,
     work: &mut u64,
 ) -> Result<Known, Stop>
-    ensures { Meets cell_of result work.new (called_on (world_of world.now) (eval (world_of world.now) left) (function f.now) at [] (map tree all.now) (sure_of holds) (env_of world.now scope.now) (env_of world.now bound.now) (at_work work.old)) }
+    ensures { Meets cell_of result work.new (call_goes_on level.now call.now [] (map tree all.now) bound.now (at_work work.old)) }
 {
-    let _cells = eval_parts(alloc, world, all, scope, left, work)?;
-    eval_called(alloc, world, f, at, holds, bound, left, work)
+    let _cells = eval_parts(level, all, call.scope, work)?;
+    eval_called(level, call.function, call.at, bound, work)
 }
 
 // An argument, and then those after it.
 #[cycle(forms)]
 #[tactic(auto, using(crate::proofs::PlainCalls::called_next))]
 fn eval_first(
-    alloc: Global,
-    world: &World,
-    f: &CoreFunction,
+    level: &Level,
+    call: &Call,
     d: &CoreDecl,
     params: &[CoreDecl],
     e: &Core,
     all: &[Core],
-    at: Span,
-    holds: Sure,
-    bound: &Scope,
-    scope: &Scope,
-    left: u64,
+    bound: &CallScope,
     work: &mut u64,
 ) -> Result<Known, Stop>
-    ensures { Meets cell_of result work.new (called_on (world_of world.now) (eval (world_of world.now) left) (function f.now) at (decl d.now ∷ map decl params.now) (tree e.now ∷ map tree all.now) (sure_of holds) (env_of world.now scope.now) (env_of world.now bound.now) (at_work work.old)) }
+    ensures { Meets cell_of result work.new (call_goes_on level.now call.now (decl d.now ∷ map decl params.now) (tree e.now ∷ map tree all.now) bound.now (at_work work.old)) }
 {
-    let cell = eval_expression(alloc, world, e, scope, left, work)?;
-    let so_far = both_sure(holds, plain_suits(f.result.ty.var, d.ty.ty.var, &cell));
-    let inner = Scope::Bound(d.slot, &cell, &*bound);
-    eval_bound(
-        alloc, world, f, params, all, at, so_far, &inner, scope, left, work,
-    )
+    let cell = eval_expression(level, e, call.scope, work)?;
+    let suits = plain_suits(call.function.result.ty.var, d.ty.ty.var, &cell);
+    let more = Scope::Bound(d.slot, &cell, bound.scope);
+    let inner = CallScope {
+        scope: &more,
+        holds: both_sure(bound.holds, suits),
+    };
+    eval_bound(level, call, params, all, &inner, work)
 }

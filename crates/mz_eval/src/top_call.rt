@@ -6,16 +6,16 @@ ghost use Rattle.mz_value.specs.Contents.{content};
 ghost use Rattle.mz_value.specs.Ranges.{greatest};
 ghost use Rattle.mz_core.specs.Program.{plain_program};
 ghost use Rattle.mz_core.specs.TreeViews.{tree};
-ghost use Rattle.mz_meaning.specs.Runs.{give, then_do};
-ghost use Rattle.mz_meaning.specs.Cells.{value_of};
 ghost use Rattle.mz_meaning.specs.Contexts.{Untested};
 ghost use Rattle.mz_meaning.specs.Evaluation.{eval};
 ghost use Rattle.mz_eval_cells.specs.Views.{cell_of};
 ghost use Rattle.mz_eval_scopes.specs.Runs.{Meets, at_work};
-ghost use Rattle.mz_eval_scopes.specs.Views.{env_cells, world_for, world_of};
+ghost use Rattle.mz_eval_scopes.specs.Views.{env_cells, world_of};
+ghost use Rattle.mz_eval.specs.Values.{value_in};
 ghost use Rattle.mz_eval.specs.Answers.{StopsAtFewKinds};
 
 use crate::forms::eval_expression;
+use crate::types::Level;
 use mz_base::{Depth, Steps, Stop};
 use mz_core::{Core, Program};
 use mz_eval_cells::Known;
@@ -77,8 +77,13 @@ pub fn evaluated(
     ensures kinds { StopsAtFewKinds result }
     ensures within { IfOk result (λ _. work.new ≤ world.now.budget + 1) }
 {
+    let level = Level {
+        alloc,
+        world: &*world,
+        left,
+    };
     let top = Scope::Top;
-    eval_expression(alloc, world, e, &top, left, work)
+    eval_expression(&level, e, &top, work)
 }
 
 /// The value of a par expression, `None` exactly where it is undefined, with the work that the
@@ -108,7 +113,7 @@ pub fn value(
     requires few { depth.old.limit ≤ 600 }
     requires from_zero { pos 0 ≤ℤ int_range }
     requires in_limit { int_range ≤ℤ greatest }
-    ensures answer { Meets (λ v. option_map content v) result steps.new.used (then_do (eval (world_for (plain_program program.now) steps.old.budget int_range (env_cells env.now)) (depth.old.limit - depth.old.nesting) Untested (tree e.now) (env_cells env.now) (at_work steps.old.used)) (λ c. give (value_of c))) }
+    ensures answer { Meets (option_map content) result steps.new.used (value_in (plain_program program.now) int_range (env_cells env.now) steps.old depth.old (tree e.now)) }
     ensures kinds { StopsAtFewKinds result }
     ensures budget { steps.new.budget ≡ steps.old.budget }
     ensures kept { depth.new ≡ depth.old }

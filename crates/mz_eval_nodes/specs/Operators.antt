@@ -4,14 +4,14 @@ use Rattle.mz_base.specs.declared.fault.Span.{Span}
 use Rattle.mz_core.specs.Tree.{Tree, Decl, place_of}
 use Rattle.mz_eval_cells.specs.Views.{cell_of}
 use Rattle.mz_eval_cells.specs.declared.types.Known.{Known}
-use Rattle.mz_meaning.specs.Runs.{Run, ◌>>=◌, ◌>>◌, give, spend}
+use Rattle.mz_meaning.specs.Runs.{Run, ◌>>=◌, ◌>>◌, give, loop, spend}
 use Rattle.mz_meaning.specs.Cells.{Cell, Env, Sure, both_sure, bind}
 use Rattle.mz_meaning.specs.Arrays.{Want, fitted}
 use Rattle.mz_meaning.specs.Contexts.{Untested}
 use Rattle.mz_meaning.specs.Chains as chains
 use Rattle.mz_meaning.specs.Chains.{operand_base}
 use Rattle.mz_meaning.specs.Forms as forms
-use Rattle.mz_meaning.specs.Forms.{World, Eval, coerced_by, operated, operand_place}
+use Rattle.mz_meaning.specs.Forms.{World, Eval, coerced_by, operated, operand_place, append_node}
 use Rattle.mz_meaning.specs.Lets.{index_wants, want, all_have_sets}
 use Rattle.mz_meaning.specs.Calls.{argument_suits}
 use Rattle.mz_meaning.specs.Comprehensions.{Rest, Made, Element, Presence, names, both_occur}
@@ -21,10 +21,13 @@ use Rattle.mz_eval_nodes.specs.declared.types.Appended.{Appended}
 
 -- ---- one operator: its left operand's coercions, its right operand with its coercions, its node
 
+abbrev pub operator_node : World → chains.Operator → Cell → Cell → Run Cell
+operator_node w o a b = operated w o.at o.step.ty o.step.row (operand_base o.step) (a ∷ b ∷ [])
+
 abbrev pub operated_on : World → Cell → chains.Operator → Cell → Run Cell
 operated_on w a o c = do
   b ← coerced_by w (operand_place o.step) o.step.right c
-  operated w o.at o.step.ty o.step.row (operand_base o.step) (a ∷ b ∷ [])
+  operator_node w o a b
 
 abbrev pub operator_step : World → Eval → Env → Span → Cell → chains.Operator → Run Cell
 operator_step w go env at left o = do
@@ -48,8 +51,18 @@ left_of p = (operator_of p.0, cell_of p.1)
 abbrev pub lefts_of : List (Operator × Known) → List (chains.Operator × Cell)
 lefts_of ps = reversed_onto [] (map left_of ps)
 
+-- the first operand alone
+abbrev pub nothing_appended : Span → Cell → forms.Appended
+nothing_appended place first = record { lefts = []; place = place; last = first }
+
 abbrev pub appended_of : Appended → forms.Appended
 appended_of x = record { lefts = lefts_of x.lefts.items; place = x.place; last = cell_of x.last }
+
+-- the nodes of its operators, from the last one on
+abbrev pub appended_nodes : World → forms.Appended → Run Cell
+appended_nodes w x = do
+  r ← loop (append_node w) (x.place, x.last) x.lefts
+  give r.1
 
 -- ---- one value of a generator's name
 

@@ -1,5 +1,5 @@
 -- What it stands for that is made step by step.
-use Rattle.std.specs.Prelude.{ℕ, ℤ, pos, nat_abs, int_lt, ◌+ℤ◌, ◌-ℤ◌, Bool, List, map, drop, Option, Some, None, [], ◌++◌, ◌∷◌, if◌then◌else◌}
+use Rattle.std.specs.Prelude.{◌≡◌, MatchOption, ℕ, ℤ, pos, nat_abs, int_lt, ◌+ℤ◌, ◌-ℤ◌, Bool, List, map, drop, Option, Some, None, [], ◌++◌, ◌∷◌, if◌then◌else◌}
 use Rattle.mz_value.specs.declared.value.Value.{Value}
 use Rattle.mz_value.specs.Contents.{content}
 use Rattle.mz_value.specs.Ranges.{Range}
@@ -27,6 +27,10 @@ made_of m = record { cells = gathered m.cells; whole = sure_of m.whole }
 
 -- ---- the elements of a generator that are left
 
+-- the next of a list, and those after it; nothing where none is left
+abbrev pub GivesNext : {A B : Type 0} → (A → B) → Option A → List B → List B → Type 0
+GivesNext see r left after = MatchOption r (left ≡ []) (λ x. left ≡ see x ∷ after)
+
 abbrev pub turn_of : Turn → comps.Element
 turn_of x = (cell_of x.cell, occurs_if x.surely)
 
@@ -47,6 +51,10 @@ numbers_left (r ∷ rs) last = range_left r last ++ elements rs
 abbrev pub number_element : Option ℕ → Bool → ℤ → comps.Element
 number_element of surely n = (par_value (element_of of n), occurs_if surely)
 
+-- the elements of ranges from one on, of which it has these left
+abbrev pub members_left : Option ℕ → Bool → List Range → ℕ → Option ℤ → List comps.Element
+members_left of surely rs i last = map (number_element of surely) (numbers_left (drop i rs) last)
+
 abbrev pub value_element : Value → comps.Element
 value_element x = (par_value (content x), None)
 
@@ -55,7 +63,7 @@ place_element b = (Var (bounds.one (known_bound b)) None, None)
 
 abbrev pub elements_left : Elements → ℕ → Option ℤ → List comps.Element
 elements_left source.Nothing i last = []
-elements_left (source.Numbers of surely s) i last = map (number_element of surely) (numbers_left (drop i s.now) last)
+elements_left (source.Numbers of surely s) i last = members_left of surely s.now i last
 elements_left (source.Values xs) i last = map value_element (drop i xs.now)
 elements_left (source.Places bs) i last = map place_element (drop i bs.now)
 

@@ -1,16 +1,14 @@
 // The operands of a chain's operators, and the nodes of `++`.
 
-ghost use Rattle.std.specs.Prelude.{◌≡◌, ◌∷◌, [], false, IfOk};
+ghost use Rattle.std.specs.Prelude.{◌≡◌, ◌∷◌, false, IfOk};
 ghost use Rattle.mz_core.specs.Types.{plain_type};
-ghost use Rattle.mz_meaning.specs.Runs.{loop, then_do, give};
 ghost use Rattle.mz_meaning.specs.Cells.{Bare, typed};
-ghost use Rattle.mz_meaning.specs.Chains.{operand_base};
-ghost use Rattle.mz_meaning.specs.Forms.{coerced_by, operated, append_node};
+ghost use Rattle.mz_meaning.specs.Forms.{coerced_by, append_node};
 ghost use Rattle.mz_eval_cells.specs.Views.{cell_of};
 ghost use Rattle.mz_eval_scopes.specs.Runs.{Meets, at_work};
 ghost use Rattle.mz_eval_scopes.specs.Views.{world_of};
 ghost use Rattle.mz_eval_chains.specs.Innermosts.{operator_of};
-ghost use Rattle.mz_eval_nodes.specs.Operators.{operated_on, placed, appended_of, left_of, lefts_of};
+ghost use Rattle.mz_eval_nodes.specs.Operators.{operator_node, operated_on, placed, nothing_appended, appended_of, appended_nodes, left_of, lefts_of};
 
 use crate::rows::operated_two;
 use crate::types::Appended;
@@ -18,6 +16,7 @@ use mz_base::{Span, Stop};
 use mz_core::TypeInst;
 use mz_eval_cells::{Known, stays, typed};
 use mz_eval_chains::{Operator, coerce_both, is_uncoerced, operand_base, place_of};
+use mz_eval_rows::row_at;
 use mz_eval_scopes::World;
 use std::alloc::{AllocError, Global};
 
@@ -56,10 +55,10 @@ fn node_of(
     b: Known,
     work: &mut u64,
 ) -> Result<Known, Stop>
-    ensures { Meets cell_of result work.new (operated (world_of world.now) o.now.at (operator_of o.now).step.ty (operator_of o.now).step.row (operand_base (operator_of o.now).step) (cell_of a ∷ cell_of b ∷ []) (at_work work.old)) }
+    ensures { Meets cell_of result work.new (operator_node (world_of world.now) (operator_of o.now) (cell_of a) (cell_of b) (at_work work.old)) }
 {
-    let base = operand_base(o);
-    let c = operated_two(alloc, world, o.at, &o.step.ty, o.step.row, base, a, b, work)?;
+    let row = row_at(o.step.row, operand_base(o));
+    let c = operated_two(alloc, world, o.at, &o.step.ty, row, a, b, work)?;
     Ok(typed_row(alloc, &o.step.ty, c)?)
 }
 
@@ -84,7 +83,7 @@ pub fn operated_on(
 
 /// The first operand alone.
 pub fn nothing_appended<'a>(alloc: Global, place: Span, first: Known) -> Appended<'a>
-    ensures { appended_of result ≡ record { lefts = []; place = place; last = cell_of first } }
+    ensures { appended_of result ≡ nothing_appended place (cell_of first) }
 {
     Appended {
         lefts: Vec::new(alloc),
@@ -148,7 +147,7 @@ pub fn appended_nodes(
     x: Appended,
     work: &mut u64,
 ) -> Result<Known, Stop>
-    ensures { Meets cell_of result work.new (then_do (loop (append_node (world_of world.now)) (x.entry.place, cell_of x.entry.last) (lefts_of x.entry.lefts.items) (at_work work.old)) (λ r. give r.1)) }
+    ensures { Meets cell_of result work.new (appended_nodes (world_of world.now) (appended_of x.entry) (at_work work.old)) }
 {
     let Appended {
         mut lefts,

@@ -3,7 +3,6 @@
 ghost use Rattle.std.specs.Prelude.{◌≡◌, ◌∷◌, [], Some, map};
 ghost use Rattle.mz_core.specs.Types.{plain_type};
 ghost use Rattle.mz_core.specs.TreeViews.{tree};
-ghost use Rattle.mz_meaning.specs.Operations.{row_at};
 ghost use Rattle.mz_meaning.specs.Forms.{operated_by, arguments_base};
 ghost use Rattle.mz_operations.specs.declared.row.Row.{Row};
 ghost use Rattle.mz_eval_cells.specs.Views.{cell_of, cells_of};
@@ -14,9 +13,7 @@ use mz_base::{Span, Stop};
 use mz_core::{Base, Core, TypeInst};
 use mz_eval_cells::{Known, undefined};
 use mz_eval_chains::base_of;
-use mz_eval_rows::{
-    cost_of_all, cost_of_one, cost_of_two, row_at, row_of_all, row_of_one, row_of_two,
-};
+use mz_eval_rows::{cost_of_all, cost_of_one, cost_of_two, row_of_all, row_of_one, row_of_two};
 use mz_eval_scopes::{World, done, spend};
 use mz_operations::Row;
 use std::alloc::Global;
@@ -49,20 +46,19 @@ fn row_one(
     row_of_one(alloc, &world.program.cases, r, t, at, a)
 }
 
-/// The node of a row with one argument, before it takes its type.
+/// The node of a row with one argument, before it takes its type; undefined where there is no row.
 pub fn operated_one(
     alloc: Global,
     world: &World,
     at: Span,
     t: &TypeInst,
-    n: u32,
-    b: Base,
+    row: Option<Row>,
     a: Known,
     work: &mut u64,
 ) -> Result<Known, Stop>
-    ensures { Meets cell_of result work.new (operated_by (world_of world.now) at (plain_type t.now) (cell_of a ∷ []) (row_at n b) (at_work work.old)) }
+    ensures { Meets cell_of result work.new (operated_by (world_of world.now) at (plain_type t.now) (cell_of a ∷ []) row (at_work work.old)) }
 {
-    match row_at(n, b) {
+    match row {
         None => done(world, at, undefined(), work),
         Some(r) => row_one(alloc, world, at, t, r, a, work),
     }
@@ -86,21 +82,20 @@ fn row_two(
     row_of_two(alloc, &world.program.cases, r, t, at, a, b)
 }
 
-/// The node of a row with two arguments, before it takes its type.
+/// The node of a row with two arguments, before it takes its type; undefined where there is no row.
 pub fn operated_two(
     alloc: Global,
     world: &World,
     at: Span,
     t: &TypeInst,
-    n: u32,
-    base: Base,
+    row: Option<Row>,
     a: Known,
     b: Known,
     work: &mut u64,
 ) -> Result<Known, Stop>
-    ensures { Meets cell_of result work.new (operated_by (world_of world.now) at (plain_type t.now) (cell_of a ∷ cell_of b ∷ []) (row_at n base) (at_work work.old)) }
+    ensures { Meets cell_of result work.new (operated_by (world_of world.now) at (plain_type t.now) (cell_of a ∷ cell_of b ∷ []) row (at_work work.old)) }
 {
-    match row_at(n, base) {
+    match row {
         None => done(world, at, undefined(), work),
         Some(r) => row_two(alloc, world, at, t, r, a, b, work),
     }
@@ -123,20 +118,19 @@ fn row_all(
     row_of_all(alloc, &world.program.cases, r, t, at, all)
 }
 
-/// The node of a row, before it takes its type.
+/// The node of a row, before it takes its type; undefined where there is no row.
 pub fn operated_all(
     alloc: Global,
     world: &World,
     at: Span,
     t: &TypeInst,
-    n: u32,
-    b: Base,
+    row: Option<Row>,
     all: Vec<Known>,
     work: &mut u64,
 ) -> Result<Known, Stop>
-    ensures { Meets cell_of result work.new (operated_by (world_of world.now) at (plain_type t.now) (cells_of all.items) (row_at n b) (at_work work.old)) }
+    ensures { Meets cell_of result work.new (operated_by (world_of world.now) at (plain_type t.now) (cells_of all.items) row (at_work work.old)) }
 {
-    match row_at(n, b) {
+    match row {
         None => done(world, at, undefined(), work),
         Some(r) => row_all(alloc, world, at, t, r, all, work),
     }

@@ -4,7 +4,7 @@ ghost use Rattle.std.specs.Prelude.{◌≡◌, ◌≤ℤ◌, ◌∷◌, [], IfOk
 ghost use Rattle.mz_value.specs.Ranges.{AreCanonical};
 ghost use Rattle.mz_value.specs.Shown.{elements};
 ghost use Rattle.mz_eval_arrays.specs.Gathered.{elements_of};
-ghost use Rattle.mz_eval_nodes.specs.Views.{turn_of, turns_left, range_left, numbers_left, number_element, value_element, place_element};
+ghost use Rattle.mz_eval_nodes.specs.Views.{GivesNext, turn_of, turns_left, range_left, numbers_left, members_left, value_element, place_element};
 
 use crate::types::{Turn, Turns};
 use mz_eval_arrays::{Elements, element, place};
@@ -40,7 +40,7 @@ fn next_of(r: &(i64, i64), last: &Option<i64>) -> Option<i64>
 #[tactic(auto, using(crate::proofs::Elements::no_elements, crate::proofs::Elements::elements_at))]
 fn first_number(ranges: &[(i64, i64)], place: usize, last: &mut Option<i64>) -> Option<i64>
     requires { AreCanonical ranges.now }
-    ensures { MatchOption result (elements (drop place ranges.now) ≡ []) (λ n. elements (drop place ranges.now) ≡ n ∷ numbers_left (drop place ranges.now) last.new) }
+    ensures { GivesNext (λ n. n) result (elements (drop place ranges.now)) (numbers_left (drop place ranges.now) last.new) }
 {
     if place >= ranges.len() {
         return None;
@@ -54,7 +54,7 @@ fn first_number(ranges: &[(i64, i64)], place: usize, last: &mut Option<i64>) -> 
 #[tactic(auto, using(crate::proofs::Elements::no_numbers, crate::proofs::Elements::canonical_at, crate::proofs::Elements::numbers_on, crate::proofs::Elements::numbers_over))]
 fn next_number(ranges: &[(i64, i64)], place: &mut usize, last: &mut Option<i64>) -> Option<i64>
     requires { AreCanonical ranges.now }
-    ensures { MatchOption result (numbers_left (drop place.old ranges.now) last.old ≡ []) (λ n. numbers_left (drop place.old ranges.now) last.old ≡ n ∷ numbers_left (drop place.new ranges.now) last.new) }
+    ensures { GivesNext (λ n. n) result (numbers_left (drop place.old ranges.now) last.old) (numbers_left (drop place.new ranges.now) last.new) }
 {
     if *place >= ranges.len() {
         return None;
@@ -78,7 +78,7 @@ fn next_member(
     place: &mut usize,
     last: &mut Option<i64>,
 ) -> Option<Turn>
-    ensures { MatchOption result (map (number_element of surely) (numbers_left (drop place.old set.now) last.old) ≡ []) (λ x. map (number_element of surely) (numbers_left (drop place.old set.now) last.old) ≡ turn_of x ∷ map (number_element of surely) (numbers_left (drop place.new set.now) last.new)) }
+    ensures { GivesNext turn_of result (members_left of surely set.now place.old last.old) (members_left of surely set.now place.new last.new) }
 {
     let n = next_number(set.ranges(), place, last)?;
     Some(Turn {
@@ -88,7 +88,7 @@ fn next_member(
 }
 
 fn next_value(alloc: Global, all: &[Value], place: &mut usize) -> Result<Option<Turn>, AllocError>
-    ensures { IfOk result (λ o. MatchOption o (map value_element (drop place.old all.now) ≡ []) (λ x. map value_element (drop place.old all.now) ≡ turn_of x ∷ map value_element (drop place.new all.now))) }
+    ensures { IfOk result (λ o. GivesNext turn_of o (map value_element (drop place.old all.now)) (map value_element (drop place.new all.now))) }
 {
     if *place >= all.len() {
         return Ok(None);
@@ -99,7 +99,7 @@ fn next_value(alloc: Global, all: &[Value], place: &mut usize) -> Result<Option<
 }
 
 fn next_place(all: &[Bound], index: &mut usize) -> Result<Option<Turn>, AllocError>
-    ensures { IfOk result (λ o. MatchOption o (map place_element (drop index.old all.now) ≡ []) (λ x. map place_element (drop index.old all.now) ≡ turn_of x ∷ map place_element (drop index.new all.now))) }
+    ensures { IfOk result (λ o. GivesNext turn_of o (map place_element (drop index.old all.now)) (map place_element (drop index.new all.now))) }
 {
     if *index >= all.len() {
         return Ok(None);
@@ -111,7 +111,7 @@ fn next_place(all: &[Bound], index: &mut usize) -> Result<Option<Turn>, AllocErr
 
 /// The next element; `None` where none is left.
 pub fn next_turn(alloc: Global, t: &mut Turns) -> Result<Option<Turn>, AllocError>
-    ensures { IfOk result (λ o. MatchOption o (turns_left t.old ≡ []) (λ x. turns_left t.old ≡ turn_of x ∷ turns_left t.new)) }
+    ensures { IfOk result (λ o. GivesNext turn_of o (turns_left t.old) (turns_left t.new)) }
 {
     let elements = t.elements;
     match elements {

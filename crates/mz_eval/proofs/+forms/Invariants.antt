@@ -1,272 +1,271 @@
-use Rattle.std.proofs.Common.{◌^◌, length, ◌≡◌, [], ◌+◌, ◌-◌, ◌*◌, drop, map, None, false}
+use Rattle.std.proofs.Common.{◌^◌, length, ◌≡◌, [], ◌+◌, ◌-◌, ◌*◌, drop, map, false}
 use Rattle.std.specs.Option.{option_map}
 use Rattle.mz_core.specs.Types.{plain_type}
-use Rattle.mz_core.specs.TreeViews.{tree, gen, branch, step, item, decl}
+use Rattle.mz_core.specs.TreeViews.{tree, branch, step, item}
 use Rattle.mz_meaning.specs.Runs.{loop}
-use Rattle.mz_meaning.specs.Cells.{Bare}
 use Rattle.mz_meaning.specs.Contexts.{Untested}
-use Rattle.mz_meaning.specs.Chains.{with_innermost, operators_at}
+use Rattle.mz_meaning.specs.Chains.{operators_at}
 use Rattle.mz_meaning.specs.Forms.{part, parts, row_of_parts, chain_by, operators, append_operand, branches}
-use Rattle.mz_meaning.specs.Comprehensions.{where_, generators, added}
 use Rattle.mz_meaning.specs.Lets.{let_item, nothing_bound, index_wants, one_index}
-use Rattle.mz_meaning.specs.Calls.{parameter, arguments}
-use Rattle.mz_meaning.specs.Evaluation.{eval}
+use Rattle.mz_meaning.specs.Calls.{parameter}
 use Rattle.mz_eval_cells.specs.Views.{cell_of, cells_of}
 use Rattle.mz_eval_arrays.specs.Gathered.{gathered, pairs_of, occurs_if, elements_of}
 use Rattle.mz_eval_domains.specs.Wants.{wants_of}
 use Rattle.mz_eval_scopes.specs.Runs.{at_work}
-use Rattle.mz_eval_scopes.specs.Views.{world_of, env_of, env_cells}
 use Rattle.mz_eval_nodes.specs.Views.{names_of, made_of, turns_left}
 use Rattle.mz_eval_chains.specs.Innermosts.{operator_of}
 use Rattle.mz_eval_nodes.specs.Operators.{appended_of, turn}
+use Rattle.mz_eval.specs.Rows.{row_trees, row_cells}
+use Rattle.mz_eval.specs.Chains.{own_operators, operands}
+use Rattle.mz_eval.specs.Choices.{else_tree}
+use Rattle.mz_eval.specs.Calls.{arguments_of}
+use Rattle.mz_eval.specs.Levels.{world_in, go_of, scope_of}
+use Rattle.mz_eval.specs.Comprehensions.{from_own_condition}
 use Rattle.mz_eval.proofs.+forms.Given as goal
 
 abbrev pub decreases-forms::eval_expression : goal.decreases-forms::eval_expression
-decreases-forms::eval_expression l = 2 ^ 140 * l.left + 0
+decreases-forms::eval_expression l = 2 ^ 140 * l.level.now.left + 0
 
 abbrev pub decreases-forms::eval_parts : goal.decreases-forms::eval_parts
-decreases-forms::eval_parts l = 2 ^ 140 * l.left + 1
+decreases-forms::eval_parts l = 2 ^ 140 * l.level.now.left + 1
 
 abbrev pub decreases-forms::eval_gathered : goal.decreases-forms::eval_gathered
-decreases-forms::eval_gathered l = 2 ^ 140 * l.left + 1
+decreases-forms::eval_gathered l = 2 ^ 140 * l.level.now.left + 1
 
 abbrev pub decreases-forms::eval_one : goal.decreases-forms::eval_one
-decreases-forms::eval_one l = 2 ^ 140 * l.left + 1
+decreases-forms::eval_one l = 2 ^ 140 * l.level.now.left + 1
 
 abbrev pub decreases-forms::eval_two : goal.decreases-forms::eval_two
-decreases-forms::eval_two l = 2 ^ 140 * l.left + 1
+decreases-forms::eval_two l = 2 ^ 140 * l.level.now.left + 1
 
 abbrev pub decreases-forms::eval_builtin : goal.decreases-forms::eval_builtin
-decreases-forms::eval_builtin l = 2 ^ 140 * l.left + 2
+decreases-forms::eval_builtin l = 2 ^ 140 * l.level.now.left + 2
 
 abbrev pub decreases-forms::eval_array : goal.decreases-forms::eval_array
-decreases-forms::eval_array l = 2 ^ 140 * l.left + 2
+decreases-forms::eval_array l = 2 ^ 140 * l.level.now.left + 2
 
 abbrev pub decreases-forms::eval_set : goal.decreases-forms::eval_set
-decreases-forms::eval_set l = 2 ^ 140 * l.left + 2
+decreases-forms::eval_set l = 2 ^ 140 * l.level.now.left + 2
 
 abbrev pub decreases-forms::eval_rows : goal.decreases-forms::eval_rows
-decreases-forms::eval_rows l = 2 ^ 140 * l.left + 2
+decreases-forms::eval_rows l = 2 ^ 140 * l.level.now.left + 2
 
 abbrev pub decreases-forms::eval_table : goal.decreases-forms::eval_table
-decreases-forms::eval_table l = 2 ^ 140 * l.left + 3
+decreases-forms::eval_table l = 2 ^ 140 * l.level.now.left + 3
 
 abbrev pub decreases-forms::eval_element : goal.decreases-forms::eval_element
-decreases-forms::eval_element l = 2 ^ 140 * l.left + 1
+decreases-forms::eval_element l = 2 ^ 140 * l.level.now.left + 1
 
 abbrev pub decreases-forms::eval_access : goal.decreases-forms::eval_access
-decreases-forms::eval_access l = 2 ^ 140 * l.left + 2
+decreases-forms::eval_access l = 2 ^ 140 * l.level.now.left + 2
 
 abbrev pub decreases-operators::eval_operator : goal.decreases-operators::eval_operator
-decreases-operators::eval_operator l = 2 ^ 140 * l.left + 1
+decreases-operators::eval_operator l = 2 ^ 140 * l.level.now.left + 1
 
 abbrev pub decreases-operators::eval_step : goal.decreases-operators::eval_step
-decreases-operators::eval_step l = 2 ^ 140 * l.left + 2
+decreases-operators::eval_step l = 2 ^ 140 * l.level.now.left + 2
 
 abbrev pub decreases-operators::eval_plain : goal.decreases-operators::eval_plain
-decreases-operators::eval_plain l = 2 ^ 140 * l.left + 3
+decreases-operators::eval_plain l = 2 ^ 140 * l.level.now.left + 3
 
 abbrev pub decreases-operators::eval_operators : goal.decreases-operators::eval_operators
-decreases-operators::eval_operators l = 2 ^ 140 * l.left + 2
+decreases-operators::eval_operators l = 2 ^ 140 * l.level.now.left + 2
 
 abbrev pub decreases-operators::eval_innermost : goal.decreases-operators::eval_innermost
-decreases-operators::eval_innermost l = 2 ^ 140 * l.left + 3
+decreases-operators::eval_innermost l = 2 ^ 140 * l.level.now.left + 3
 
 abbrev pub decreases-operators::eval_with_innermost : goal.decreases-operators::eval_with_innermost
-decreases-operators::eval_with_innermost l = 2 ^ 140 * l.left + 4
+decreases-operators::eval_with_innermost l = 2 ^ 140 * l.level.now.left + 4
 
 abbrev pub decreases-operators::eval_operand : goal.decreases-operators::eval_operand
-decreases-operators::eval_operand l = 2 ^ 140 * l.left + 1
+decreases-operators::eval_operand l = 2 ^ 140 * l.level.now.left + 1
 
 abbrev pub decreases-operators::eval_operands : goal.decreases-operators::eval_operands
-decreases-operators::eval_operands l = 2 ^ 140 * l.left + 2
+decreases-operators::eval_operands l = 2 ^ 140 * l.level.now.left + 2
 
 abbrev pub decreases-operators::eval_back : goal.decreases-operators::eval_back
-decreases-operators::eval_back l = 2 ^ 140 * l.left + 3
+decreases-operators::eval_back l = 2 ^ 140 * l.level.now.left + 3
 
 abbrev pub decreases-operators::eval_appended : goal.decreases-operators::eval_appended
-decreases-operators::eval_appended l = 2 ^ 140 * l.left + 4
+decreases-operators::eval_appended l = 2 ^ 140 * l.level.now.left + 4
 
 abbrev pub decreases-operators::eval_chain : goal.decreases-operators::eval_chain
-decreases-operators::eval_chain l = 2 ^ 140 * l.left + 5
+decreases-operators::eval_chain l = 2 ^ 140 * l.level.now.left + 5
 
 abbrev pub decreases-choices::eval_last : goal.decreases-choices::eval_last
-decreases-choices::eval_last l = 2 ^ 140 * l.left + 1
+decreases-choices::eval_last l = 2 ^ 140 * l.level.now.left + 1
 
 abbrev pub decreases-choices::eval_otherwise : goal.decreases-choices::eval_otherwise
-decreases-choices::eval_otherwise l = 2 ^ 140 * l.left + 2
+decreases-choices::eval_otherwise l = 2 ^ 140 * l.level.now.left + 2
 
 abbrev pub decreases-choices::eval_branch : goal.decreases-choices::eval_branch
-decreases-choices::eval_branch l = 2 ^ 140 * l.left + 1
+decreases-choices::eval_branch l = 2 ^ 140 * l.level.now.left + 1
 
 abbrev pub decreases-choices::eval_open : goal.decreases-choices::eval_open
-decreases-choices::eval_open l = 2 ^ 140 * l.left + 2
+decreases-choices::eval_open l = 2 ^ 140 * l.level.now.left + 2
 
 abbrev pub decreases-choices::eval_if : goal.decreases-choices::eval_if
-decreases-choices::eval_if l = 2 ^ 140 * l.left + 3
+decreases-choices::eval_if l = 2 ^ 140 * l.level.now.left + 3
 
 abbrev pub decreases-comprehensions::eval_head : goal.decreases-comprehensions::eval_head
-decreases-comprehensions::eval_head l = 2 ^ 140 * l.left + 1
+decreases-comprehensions::eval_head l = 2 ^ 140 * l.level.now.left + 1
 
 abbrev pub decreases-locals::eval_under : goal.decreases-locals::eval_under
-decreases-locals::eval_under l = 2 ^ 140 * l.left + 1
+decreases-locals::eval_under l = 2 ^ 140 * l.level.now.left + 1
 
 abbrev pub decreases-locals::eval_constraint : goal.decreases-locals::eval_constraint
-decreases-locals::eval_constraint l = 2 ^ 140 * l.left + 2
+decreases-locals::eval_constraint l = 2 ^ 140 * l.level.now.left + 2
 
 abbrev pub decreases-locals::eval_want : goal.decreases-locals::eval_want
-decreases-locals::eval_want l = 2 ^ 140 * l.left + 1
+decreases-locals::eval_want l = 2 ^ 140 * l.level.now.left + 1
 
 abbrev pub decreases-locals::eval_index : goal.decreases-locals::eval_index
-decreases-locals::eval_index l = 2 ^ 140 * l.left + 1
+decreases-locals::eval_index l = 2 ^ 140 * l.level.now.left + 1
 
 abbrev pub decreases-locals::eval_indices : goal.decreases-locals::eval_indices
-decreases-locals::eval_indices l = 2 ^ 140 * l.left + 2
+decreases-locals::eval_indices l = 2 ^ 140 * l.level.now.left + 2
 
 abbrev pub decreases-locals::eval_given : goal.decreases-locals::eval_given
-decreases-locals::eval_given l = 2 ^ 140 * l.left + 1
+decreases-locals::eval_given l = 2 ^ 140 * l.level.now.left + 1
 
 abbrev pub decreases-locals::eval_declared : goal.decreases-locals::eval_declared
-decreases-locals::eval_declared l = 2 ^ 140 * l.left + 3
+decreases-locals::eval_declared l = 2 ^ 140 * l.level.now.left + 3
 
 abbrev pub decreases-locals::eval_framed : goal.decreases-locals::eval_framed
-decreases-locals::eval_framed l = 2 ^ 140 * l.left + 4
+decreases-locals::eval_framed l = 2 ^ 140 * l.level.now.left + 4
 
 abbrev pub decreases-locals::eval_local : goal.decreases-locals::eval_local
-decreases-locals::eval_local l = 2 ^ 140 * l.left + 5
+decreases-locals::eval_local l = 2 ^ 140 * l.level.now.left + 5
 
 abbrev pub decreases-locals::eval_item : goal.decreases-locals::eval_item
-decreases-locals::eval_item l = 2 ^ 140 * l.left + 6
+decreases-locals::eval_item l = 2 ^ 140 * l.level.now.left + 6
 
 abbrev pub decreases-locals::eval_items : goal.decreases-locals::eval_items
-decreases-locals::eval_items l = 2 ^ 140 * l.left + 7
+decreases-locals::eval_items l = 2 ^ 140 * l.level.now.left + 7
 
 abbrev pub decreases-locals::eval_let : goal.decreases-locals::eval_let
-decreases-locals::eval_let l = 2 ^ 140 * l.left + 8
+decreases-locals::eval_let l = 2 ^ 140 * l.level.now.left + 8
 
 abbrev pub decreases-calls::eval_argument : goal.decreases-calls::eval_argument
-decreases-calls::eval_argument l = 2 ^ 140 * l.left + 3
+decreases-calls::eval_argument l = 2 ^ 140 * l.level.now.left + 3
 
 abbrev pub decreases-calls::eval_suited : goal.decreases-calls::eval_suited
-decreases-calls::eval_suited l = 2 ^ 140 * l.left + 4
+decreases-calls::eval_suited l = 2 ^ 140 * l.level.now.left + 4
 
 abbrev pub decreases-calls::eval_parameter : goal.decreases-calls::eval_parameter
-decreases-calls::eval_parameter l = 2 ^ 140 * l.left + 5
+decreases-calls::eval_parameter l = 2 ^ 140 * l.level.now.left + 5
 
 abbrev pub decreases-calls::eval_parameters : goal.decreases-calls::eval_parameters
-decreases-calls::eval_parameters l = 2 ^ 140 * l.left + 6
+decreases-calls::eval_parameters l = 2 ^ 140 * l.level.now.left + 6
 
 abbrev pub decreases-calls::eval_called : goal.decreases-calls::eval_called
-decreases-calls::eval_called l = 2 ^ 140 * l.left + 3
+decreases-calls::eval_called l = 2 ^ 140 * l.level.now.left + 3
 
 abbrev pub decreases-calls::eval_function : goal.decreases-calls::eval_function
-decreases-calls::eval_function l = 2 ^ 140 * l.left + 7
+decreases-calls::eval_function l = 2 ^ 140 * l.level.now.left + 7
 
 abbrev pub decreases-calls::eval_call_of : goal.decreases-calls::eval_call_of
-decreases-calls::eval_call_of l = 2 ^ 140 * l.left + 8
+decreases-calls::eval_call_of l = 2 ^ 140 * l.level.now.left + 8
 
 abbrev pub decreases-calls::eval_declared_call : goal.decreases-calls::eval_declared_call
-decreases-calls::eval_declared_call l = 2 ^ 140 * l.left + 9
+decreases-calls::eval_declared_call l = 2 ^ 140 * l.level.now.left + 9
 
 abbrev pub decreases-plain_calls::eval_unbound : goal.decreases-plain_calls::eval_unbound
-decreases-plain_calls::eval_unbound l = 2 ^ 140 * l.left + 4
+decreases-plain_calls::eval_unbound l = 2 ^ 140 * l.level.now.left + 4
 
 abbrev pub decreases-plain_calls::eval_bound : goal.decreases-plain_calls::eval_bound
-decreases-plain_calls::eval_bound l = 2 ^ 140 * l.left + (2 * length l.all.now + 5)
+decreases-plain_calls::eval_bound l = 2 ^ 140 * l.level.now.left + (2 * length l.all.now + 5)
 
 abbrev pub decreases-plain_calls::eval_first : goal.decreases-plain_calls::eval_first
-decreases-plain_calls::eval_first l = 2 ^ 140 * l.left + (2 * length l.all.now + 6)
+decreases-plain_calls::eval_first l = 2 ^ 140 * l.level.now.left + (2 * length l.all.now + 6)
 
 abbrev pub decreases-plain_calls::eval_plain_call : goal.decreases-plain_calls::eval_plain_call
-decreases-plain_calls::eval_plain_call l = 2 ^ 140 * l.left + (2 * length l.all.now + 6)
+decreases-plain_calls::eval_plain_call l = 2 ^ 140 * l.level.now.left + (2 * length l.all.now + 6)
 
 abbrev pub decreases-calls::eval_call : goal.decreases-calls::eval_call
-decreases-calls::eval_call l = 2 ^ 140 * l.left + (2 * length l.all.now + 10)
+decreases-calls::eval_call l = 2 ^ 140 * l.level.now.left + (2 * length l.all.now + 10)
 
 abbrev pub decreases-forms::eval_form : goal.decreases-forms::eval_form
-decreases-forms::eval_form l = 2 ^ 140 * l.left + (2 ^ 140 - 1)
+decreases-forms::eval_form l = 2 ^ 140 * l.level.now.left + (2 ^ 140 - 1)
 
 abbrev pub decreases-comprehensions::eval_comprehension : goal.decreases-comprehensions::eval_comprehension
-decreases-comprehensions::eval_comprehension l = 2 ^ 140 * l.left + (2 ^ 140 - 2)
+decreases-comprehensions::eval_comprehension l = 2 ^ 140 * l.level.now.left + (2 ^ 140 - 2)
 
 abbrev pub decreases-comprehensions::eval_generators : goal.decreases-comprehensions::eval_generators
-decreases-comprehensions::eval_generators l = 2 ^ 140 * l.left + (2 ^ 70 * length l.all.now + 2)
+decreases-comprehensions::eval_generators l = 2 ^ 140 * l.level.now.left + (2 ^ 70 * length l.all.now + 2)
 
 abbrev pub decreases-comprehensions::eval_generator : goal.decreases-comprehensions::eval_generator
-decreases-comprehensions::eval_generator l = 2 ^ 140 * l.left + (2 ^ 70 * length l.rest.now + (2 ^ 70 + 1))
-
-abbrev pub decreases-comprehensions::eval_set_of : goal.decreases-comprehensions::eval_set_of
-decreases-comprehensions::eval_set_of l = 2 ^ 140 * l.left + (2 ^ 70 * length l.rest.now + 2 ^ 70)
+decreases-comprehensions::eval_generator l = 2 ^ 140 * l.level.now.left + (2 ^ 70 * length l.others.now + 2 ^ 70)
 
 abbrev pub decreases-comprehensions::eval_names : goal.decreases-comprehensions::eval_names
-decreases-comprehensions::eval_names l = 2 ^ 140 * l.left + (2 ^ 70 * length l.rest.now + (5 * length l.slots.now + 5))
+decreases-comprehensions::eval_names l = 2 ^ 140 * l.level.now.left + (2 ^ 70 * length l.g.now.others.now + (5 * length l.slots.now + 5))
 
 abbrev pub decreases-comprehensions::eval_name : goal.decreases-comprehensions::eval_name
-decreases-comprehensions::eval_name l = 2 ^ 140 * l.left + (2 ^ 70 * length l.rest.now + (5 * length l.slots.now + 9))
+decreases-comprehensions::eval_name l = 2 ^ 140 * l.level.now.left + (2 ^ 70 * length l.g.now.others.now + (5 * length l.slots.now.others.now + 9))
 
 abbrev pub decreases-comprehensions::eval_turn : goal.decreases-comprehensions::eval_turn
-decreases-comprehensions::eval_turn l = 2 ^ 140 * l.left + (2 ^ 70 * length l.rest.now + (5 * length l.slots.now + 7))
+decreases-comprehensions::eval_turn l = 2 ^ 140 * l.level.now.left + (2 ^ 70 * length l.g.now.others.now + (5 * length l.slots.now.others.now + 7))
 
 abbrev pub decreases-comprehensions::eval_where : goal.decreases-comprehensions::eval_where
-decreases-comprehensions::eval_where l = 2 ^ 140 * l.left + (2 ^ 70 * length l.rest.now + 4)
+decreases-comprehensions::eval_where l = 2 ^ 140 * l.level.now.left + (2 ^ 70 * length l.g.now.others.now + 4)
 
 abbrev pub decreases-comprehensions::eval_filtered : goal.decreases-comprehensions::eval_filtered
-decreases-comprehensions::eval_filtered l = 2 ^ 140 * l.left + (2 ^ 70 * length l.rest.now + 3)
+decreases-comprehensions::eval_filtered l = 2 ^ 140 * l.level.now.left + (2 ^ 70 * length l.g.now.others.now + 3)
 
 abbrev pub invariant-forms::eval_parts-loop-e : goal.invariant-forms::eval_parts-loop-e
 invariant-forms::eval_parts-loop-e l =
-    parts (eval (world_of l.world) l.left) Untested (map tree l.all) (env_of l.world l.scope) (at_work l.fn.work)
-    ≡ loop (part (eval (world_of l.world) l.left) Untested (env_of l.world l.scope)) (cells_of l.cells.items) (map tree (drop l.e-index l.all)) (at_work l.work)
+    parts (go_of l.level) Untested (map tree l.all) (scope_of l.level l.scope) (at_work l.fn.work)
+    ≡ loop (part (go_of l.level) Untested (scope_of l.level l.scope)) (cells_of l.cells.items) (map tree (drop l.e-index l.all)) (at_work l.work)
 
 abbrev pub invariant-forms::eval_gathered-loop-e : goal.invariant-forms::eval_gathered-loop-e
 invariant-forms::eval_gathered-loop-e l =
-    parts (eval (world_of l.world) l.left) Untested (map tree l.all) (env_of l.world l.scope) (at_work l.fn.work)
-    ≡ loop (part (eval (world_of l.world) l.left) Untested (env_of l.world l.scope)) (gathered l.cells) (map tree (drop l.e-index l.all)) (at_work l.work)
+    parts (go_of l.level) Untested (map tree l.all) (scope_of l.level l.scope) (at_work l.fn.work)
+    ≡ loop (part (go_of l.level) Untested (scope_of l.level l.scope)) (gathered l.cells) (map tree (drop l.e-index l.all)) (at_work l.work)
 
 abbrev pub invariant-forms::eval_rows-loop-row : goal.invariant-forms::eval_rows-loop-row
 invariant-forms::eval_rows-loop-row l =
-    loop (row_of_parts (eval (world_of l.world) l.left) Untested (env_of l.world l.scope)) [] (map (λ r. map tree r.items) l.rows) (at_work l.fn.work)
-    ≡ loop (row_of_parts (eval (world_of l.world) l.left) Untested (env_of l.world l.scope)) (map (λ r. cells_of r.items) l.all.items) (map (λ r. map tree r.items) (drop l.row-index l.rows)) (at_work l.work)
+    loop (row_of_parts (go_of l.level) Untested (scope_of l.level l.scope)) [] (row_trees l.rows) (at_work l.fn.work)
+    ≡ loop (row_of_parts (go_of l.level) Untested (scope_of l.level l.scope)) (row_cells l.all.items) (row_trees (drop l.row-index l.rows)) (at_work l.work)
 
 abbrev pub invariant-operators::eval_plain-loop-s : goal.invariant-operators::eval_plain-loop-s
 invariant-operators::eval_plain-loop-s l =
-    chain_by (world_of l.world) (eval (world_of l.world) l.left) Untested (env_of l.world l.scope) false (with_innermost l.at (map step l.all) (tree l.first) None) (at_work l.fn.work)
-    ≡ operators (world_of l.world) (eval (world_of l.world) l.left) Untested (env_of l.world l.scope) l.place (cell_of l.cell) (operators_at l.at (map step (drop l.s-index l.all))) (at_work l.work)
+    chain_by (world_in l.level) (go_of l.level) Untested (scope_of l.level l.scope) false (own_operators l.at l.first l.all) (at_work l.fn.work)
+    ≡ operators (world_in l.level) (go_of l.level) Untested (scope_of l.level l.scope) l.place (cell_of l.cell) (operators_at l.at (map step (drop l.s-index l.all))) (at_work l.work)
 
 abbrev pub invariant-operators::eval_operators-loop-o : goal.invariant-operators::eval_operators-loop-o
 invariant-operators::eval_operators-loop-o l =
-    operators (world_of l.world) (eval (world_of l.world) l.left) Untested (env_of l.world l.scope) l.fn.first (cell_of l.fn.left_cell) (map operator_of l.all) (at_work l.fn.work)
-    ≡ operators (world_of l.world) (eval (world_of l.world) l.left) Untested (env_of l.world l.scope) l.place (cell_of l.cell) (map operator_of (drop l.o-index l.all)) (at_work l.work)
+    operators (world_in l.level) (go_of l.level) Untested (scope_of l.level l.scope) l.fn.first (cell_of l.fn.left_cell) (map operator_of l.all) (at_work l.fn.work)
+    ≡ operators (world_in l.level) (go_of l.level) Untested (scope_of l.level l.scope) l.place (cell_of l.cell) (map operator_of (drop l.o-index l.all)) (at_work l.work)
 
 abbrev pub invariant-operators::eval_operands-loop-o : goal.invariant-operators::eval_operands-loop-o
 invariant-operators::eval_operands-loop-o l =
-    loop (append_operand (world_of l.world) (eval (world_of l.world) l.left) Untested (env_of l.world l.scope)) (record { lefts = []; place = l.fn.first; last = cell_of l.fn.cell }) (map operator_of l.all) (at_work l.fn.work)
-    ≡ loop (append_operand (world_of l.world) (eval (world_of l.world) l.left) Untested (env_of l.world l.scope)) (appended_of l.x) (map operator_of (drop l.o-index l.all)) (at_work l.work)
+    operands (world_in l.level) (go_of l.level) (scope_of l.level l.scope) l.fn.first (cell_of l.fn.cell) (map operator_of l.all) (at_work l.fn.work)
+    ≡ loop (append_operand (world_in l.level) (go_of l.level) Untested (scope_of l.level l.scope)) (appended_of l.x) (map operator_of (drop l.o-index l.all)) (at_work l.work)
 
 abbrev pub invariant-choices::eval_if-loop-b : goal.invariant-choices::eval_if-loop-b
 invariant-choices::eval_if-loop-b l =
-    branches (world_of l.world) (eval (world_of l.world) l.left) Untested (map branch l.all) (option_map (λ x. tree x.value) l.last) l.at (plain_type l.ty) (env_of l.world l.scope) [] (at_work l.fn.work)
-    ≡ branches (world_of l.world) (eval (world_of l.world) l.left) Untested (map branch (drop l.b-index l.all)) (option_map (λ x. tree x.value) l.last) l.at (plain_type l.ty) (env_of l.world l.scope) (pairs_of l.others.items) (at_work l.work)
+    branches (world_in l.level) (go_of l.level) Untested (map branch l.all) (else_tree l.last) l.node.span (plain_type l.node.ty) (scope_of l.level l.scope) [] (at_work l.fn.work)
+    ≡ branches (world_in l.level) (go_of l.level) Untested (map branch (drop l.b-index l.all)) (else_tree l.last) l.node.span (plain_type l.node.ty) (scope_of l.level l.scope) (pairs_of l.others.items) (at_work l.work)
 
 abbrev pub invariant-comprehensions::eval_name-loop-made : goal.invariant-comprehensions::eval_name-loop-made
 invariant-comprehensions::eval_name-loop-made l =
-    loop (turn (world_of l.world) l.at (elements_of l.elements) l.slot l.slots (where_ Bare (eval (world_of l.world) l.left) Untested (option_map tree l.cond) (generators (world_of l.world) (eval (world_of l.world) l.left) Untested l.at (map gen l.rest) (added Bare (eval (world_of l.world) l.left) Untested (tree l.head)))) (env_of l.world l.scope) (occurs_if l.surely)) (made_of l.fn.made) (elements_of l.elements) (at_work l.fn.work)
-    ≡ loop (turn (world_of l.world) l.at (elements_of l.elements) l.slot l.slots (where_ Bare (eval (world_of l.world) l.left) Untested (option_map tree l.cond) (generators (world_of l.world) (eval (world_of l.world) l.left) Untested l.at (map gen l.rest) (added Bare (eval (world_of l.world) l.left) Untested (tree l.head)))) (env_of l.world l.scope) (occurs_if l.surely)) (made_of l.made) (turns_left l.left_turns) (at_work l.work)
+    loop (turn (world_in l.level) l.g.whole.now.at (elements_of l.g.elements.now) l.slots.first l.slots.others.now (from_own_condition l.level l.g) (scope_of l.level l.scope) (occurs_if l.surely)) (made_of l.fn.made) (elements_of l.g.elements.now) (at_work l.fn.work)
+    ≡ loop (turn (world_in l.level) l.g.whole.now.at (elements_of l.g.elements.now) l.slots.first l.slots.others.now (from_own_condition l.level l.g) (scope_of l.level l.scope) (occurs_if l.surely)) (made_of l.made) (turns_left l.left_turns) (at_work l.work)
 
 abbrev pub decreases-comprehensions::eval_name-loop-made : goal.decreases-comprehensions::eval_name-loop-made
 decreases-comprehensions::eval_name-loop-made l = length (turns_left l.left_turns)
 
 abbrev pub invariant-locals::eval_items-loop-i : goal.invariant-locals::eval_items-loop-i
 invariant-locals::eval_items-loop-i l =
-    loop (let_item (world_of l.world) (eval (world_of l.world) l.left) Untested (env_of l.world l.scope)) nothing_bound (map item l.items) (at_work l.fn.work)
-    ≡ loop (let_item (world_of l.world) (eval (world_of l.world) l.left) Untested (env_of l.world l.scope)) (names_of l.b) (map item (drop l.i-index l.items)) (at_work l.work)
+    loop (let_item (world_in l.level) (go_of l.level) Untested (scope_of l.level l.scope)) nothing_bound (map item l.items) (at_work l.fn.work)
+    ≡ loop (let_item (world_in l.level) (go_of l.level) Untested (scope_of l.level l.scope)) (names_of l.b) (map item (drop l.i-index l.items)) (at_work l.work)
 
 abbrev pub invariant-locals::eval_indices-loop-e : goal.invariant-locals::eval_indices-loop-e
 invariant-locals::eval_indices-loop-e l =
-    index_wants (eval (world_of l.world) l.left) Untested (map (option_map tree) l.all) (env_of l.world l.scope) (at_work l.fn.work)
-    ≡ loop (one_index (eval (world_of l.world) l.left) Untested (env_of l.world l.scope)) (wants_of l.wants.items) (map (option_map tree) (drop l.e-index l.all)) (at_work l.work)
+    index_wants (go_of l.level) Untested (map (option_map tree) l.all) (scope_of l.level l.scope) (at_work l.fn.work)
+    ≡ loop (one_index (go_of l.level) Untested (scope_of l.level l.scope)) (wants_of l.wants.items) (map (option_map tree) (drop l.e-index l.all)) (at_work l.work)
 
 abbrev pub invariant-calls::eval_parameters-loop-i : goal.invariant-calls::eval_parameters-loop-i
 invariant-calls::eval_parameters-loop-i l =
-    loop (parameter (eval (world_of l.world) l.left) Untested l.var (env_cells l.world.env.now)) nothing_bound (arguments (map decl l.params) (map tree l.all) (cells_of l.cells)) (at_work l.fn.work)
-    ≡ loop (parameter (eval (world_of l.world) l.left) Untested l.var (env_cells l.world.env.now)) (names_of l.b) (arguments (map decl (drop l.i l.params)) (map tree (drop l.i l.all)) (cells_of (drop l.i l.cells))) (at_work l.work)
+    loop (parameter (go_of l.level) Untested l.var (world_in l.level).top) nothing_bound (arguments_of l.params l.all l.cells) (at_work l.fn.work)
+    ≡ loop (parameter (go_of l.level) Untested l.var (world_in l.level).top) (names_of l.b) (arguments_of (drop l.i l.params) (drop l.i l.all) (drop l.i l.cells)) (at_work l.work)

@@ -1,0 +1,20 @@
+-- Chains of operators.
+use Rattle.std.specs.Prelude.{List, None, map}
+use Rattle.mz_base.specs.declared.fault.Span.{Span}
+use Rattle.mz_core.specs.declared.tree.Core.{Core}
+use Rattle.mz_core.specs.declared.tree.CoreStep.{CoreStep}
+use Rattle.mz_core.specs.TreeViews.{tree, step}
+use Rattle.mz_meaning.specs.Runs.{Run, loop}
+use Rattle.mz_meaning.specs.Cells.{Cell, Env}
+use Rattle.mz_meaning.specs.Contexts.{Untested}
+use Rattle.mz_meaning.specs.Chains.{Operator, Innermost, with_innermost}
+use Rattle.mz_meaning.specs.Forms.{World, Eval, Appended, append_operand}
+use Rattle.mz_eval_nodes.specs.Operators.{nothing_appended}
+
+-- where no operator of the first operand belongs to the chain
+abbrev pub own_operators : Span → Core → List CoreStep → Innermost
+own_operators at first ss = with_innermost at (map step ss) (tree first) None
+
+-- the operands of `++` after the first one
+abbrev pub operands : World → Eval → Env → Span → Cell → List Operator → Run Appended
+operands w go env place first os = loop (append_operand w go Untested env) (nothing_appended place first) os

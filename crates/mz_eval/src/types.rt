@@ -1,0 +1,55 @@
+// What goes through evaluations, and through those of calls and comprehensions.
+
+use mz_base::Span;
+use mz_core::{Core, CoreFunction, CoreGen};
+use mz_eval_arrays::Elements;
+use mz_eval_cells::Sure;
+use mz_eval_scopes::{Scope, World};
+use std::alloc::Global;
+
+/// An evaluation at one level of nesting: its memory, its world, and how many levels are left below.
+#[derive(Clone, Copy)]
+pub struct Level<'a> {
+    pub alloc: Global,
+    pub world: &'a World<'a>,
+    pub left: u64,
+}
+
+/// A call of a function: its place, and the scope in which its arguments are evaluated.
+#[derive(Clone, Copy)]
+pub struct Call<'a> {
+    pub function: &'a CoreFunction,
+    pub at: Span,
+    pub scope: &'a Scope<'a>,
+}
+
+/// The scope of a call so far, and whether the arguments in it suit their parameters.
+#[derive(Clone, Copy)]
+pub struct CallScope<'a> {
+    pub scope: &'a Scope<'a>,
+    pub holds: Sure,
+}
+
+/// A comprehension's head and place.
+#[derive(Clone, Copy)]
+pub struct Comprehension<'a> {
+    pub head: &'a Core,
+    pub at: Span,
+}
+
+/// A generator whose set is evaluated: what its names run over, and what follows for each of their
+/// values, which is its condition, the generators after it and the comprehension's head.
+#[derive(Clone, Copy)]
+pub struct Generator<'a> {
+    pub elements: &'a Elements<'a>,
+    pub cond: &'a Option<Core>,
+    pub others: &'a [CoreGen],
+    pub whole: &'a Comprehension<'a>,
+}
+
+/// A name of a generator, and the names after it.
+#[derive(Clone, Copy)]
+pub struct Slots<'a> {
+    pub first: u64,
+    pub others: &'a [u64],
+}
