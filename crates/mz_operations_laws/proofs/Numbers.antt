@@ -23,17 +23,17 @@ pub within_same : (e : Ends) → IsWithin e e
 within_same e = record { from = omega (arith, ints); to = omega (arith, ints) }
 
 -- the ends of a range with a number lie in each range that it is within
-low_end : (e g : Ends) → IsOrdered e → IsWithin e g → Encloses g e.0
+pub low_end : (e g : Ends) → IsOrdered e → IsWithin e g → Encloses g e.0
 low_end e g o w = record { from = w.from; to = omega (arith, ints, w.to) }
 
-high_end : (e g : Ends) → IsOrdered e → IsWithin e g → Encloses g e.1
+pub high_end : (e g : Ends) → IsOrdered e → IsWithin e g → Encloses g e.1
 high_end e g o w = record { from = omega (arith, ints, w.from); to = w.to }
 
 -- a range within which both ends lie
 pub ends_within : (e g : Ends) → Encloses g e.0 → Encloses g e.1 → IsWithin e g
 ends_within e g p q = record { from = p.from; to = q.to }
 
-hull_within : (e f g : Ends) → IsWithin e g → IsWithin f g → IsWithin (hull_of e f) g
+pub hull_within : (e f g : Ends) → IsWithin e g → IsWithin f g → IsWithin (hull_of e f) g
 hull_within e f g p q = record { from = omega (arith, ints, clamps, p.from, q.from); to = omega (arith, ints, clamps, p.to, q.to) }
 
 between_within : (u v : ℤ) (g : Ends) → Encloses g u → Encloses g v → IsWithin (between u v) g
