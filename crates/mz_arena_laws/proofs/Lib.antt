@@ -3,3 +3,4 @@ pub mod Families
 pub mod Lists
 pub mod ByKind
 pub mod Terms
+pub mod Accesses
