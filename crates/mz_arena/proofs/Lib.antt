@@ -5,5 +5,7 @@ pub mod Lists
 pub mod Telling
 pub mod Kept
 pub mod Pushed
+pub mod Tested
+pub mod Put
 mod TermExamples
 mod BoundExamples

@@ -39,7 +39,7 @@ old_or_new stored s t id h =
     same : {p q : Option Stored} → p ≡ q → p ≡ Some t → q ≡ Some s → t ≡ s
     same r k l = cc
 
-told_some : (sets : Sets) (r : Reach) (x : Known) → Tells sets r x → IsSome x
+pub told_some : (sets : Sets) (r : Reach) (x : Known) → Tells sets r x → IsSome x
 told_some sets (Whole i) x h = subst (λ (y : Known). IsSome y) (sym h) refl
 told_some sets (Truth i) x h = subst (λ (y : Known). IsSome y) (sym h) refl
 told_some sets (Subset k) x h = subst (λ (y : Known). IsSome y) (sym h.is) refl

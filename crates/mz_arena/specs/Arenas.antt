@@ -1,5 +1,5 @@
 -- Arenas, what is asked of a node, and what there is after it was made.
-use Rattle.std.specs.Prelude.{◌≡◌, ℕ, ◌<◌, ◌≤◌, pos, List, [], ◌∷◌, ◌++◌, length, map, slice_get, true, false, Some, IsSome}
+use Rattle.std.specs.Prelude.{◌≡◌, ◌⊎◌, ℕ, ◌<◌, ◌≤◌, pos, List, [], ◌∷◌, ◌++◌, length, map, slice_get, true, false, Option, Some, None, IsSome}
 use Rattle.mz_value.specs.Ranges.{Range}
 use Rattle.mz_arena.specs.declared.node.Node.{Node}
 use Rattle.mz_arena.specs.Entries.{Entry, entry, children, AllBelow, is_set_const, is_local, is_free}
@@ -51,6 +51,25 @@ pub record Made (new : List Entry) (e : Entry) (id : ℕ) : Type 0 where
 pub record MadeAnew (old new : List Entry) (n : Node) (id : ℕ) : Type 0 where
   pub last : id ≡ length old
   pub items : new ≡ old ++ entry n ∷ []
+
+-- nothing was made, or this node, last
+abbrev pub HasAtMost : List Entry → List Entry → Entry → Type 0
+HasAtMost old new e = (new ≡ old) ⊎ (new ≡ old ++ e ∷ [])
+
+-- a node that may not be made, and wasn't
+pub record IsRefused (old new : List Entry) (n : Node) : Type 0 where
+  pub unasked : IsAsked old n → ⊥
+  pub same : new ≡ old
+
+-- a node that may be made, and its id
+pub record IsTaken (old new : List Entry) (n : Node) (id : ℕ) : Type 0 where
+  pub asked : IsAsked old n
+  pub made : Made new (entry n) id
+
+-- the id of a node, and none exactly where the node may not be made
+abbrev pub IsChecked : List Entry → List Entry → Node → Option ℕ → Type 0
+IsChecked old new n None = IsRefused old new n
+IsChecked old new n (Some id) = IsTaken old new n id
 
 -- an id that is a SetConst with this set
 pub record IsConst (new : List Entry) (s : List Range) (id : ℕ) : Type 0 where

@@ -6,3 +6,4 @@ pub mod Charges
 pub mod Numbering
 pub mod Arenas
 pub mod Tables
+pub mod StepsAsked

@@ -1,8 +1,9 @@
 // The arena: nodes by their ids.
 
-ghost use Rattle.std.specs.Prelude.{◌≡◌, ◌+◌, ◌<◌, ◌≤◌, [], IfOk, IsSome, OnErr, Some, false, length, option_map, slice_get, true};
+ghost use Rattle.std.specs.Prelude.{◌≡◌, ◌+◌, ◌<◌, ◌≤◌, [], IfOk, IfSome, IsSome, OnErr, Some, false, length, option_map, slice_get, true};
 ghost use Rattle.mz_interval.specs.Interval.{ends};
 
+use crate::asked::{is_free, is_id, is_local, is_set_const};
 use crate::node::{Id, Node};
 use crate::table::{Stored, Table};
 use mz_base::Memory;
@@ -19,26 +20,31 @@ use std::marker::Model;
 #[derive(Drop)]
 pub struct Arena {
     table: Table,
+    /// How many choices there are.
+    choices: u64,
     alloc: Global,
 }
 
 impl Model for Arena {
     ghost use Rattle.std.specs.Prelude.{List};
     ghost use Rattle.mz_arena.specs.Entries.{Entry};
-    ghost use Rattle.mz_arena.specs.Tables.{entries, IsSoundTable};
+    ghost use Rattle.mz_arena.specs.Tables.{entries};
+    ghost use Rattle.mz_arena.specs.StepsAsked.{IsSoundArena};
 
     ghost Value = { List Entry };
 
     ghost view = { λ s. entries s.table.sets.items s.table.stored.items };
 
-    ghost invariant = { λ s. IsSoundTable s.table };
+    ghost invariant = { λ s. IsSoundArena s.table s.choices };
 }
 
 impl Arena {
     ghost use Rattle.mz_arena.specs.Entries.{entry, is_free};
     ghost use Rattle.mz_arena.specs.Extents.{extent, ends_in};
     ghost use Rattle.mz_arena.specs.Charges.{charge_of, charges};
-    ghost use Rattle.mz_arena.specs.Arenas.{IsArena, IsAsked, IsSetConst, Grew, Extends, Made, MadeAnew, IsConst};
+    ghost use Rattle.mz_arena.specs.Arenas.{IsArena, IsAsked, IsSetConst, Grew, Extends, Made, MadeAnew, HasAtMost, IsChecked, IsConst};
+    ghost use Rattle.mz_arena.specs.StepsAsked.{is_own, is_next, is_free_node, may_stand, Puts};
+    ghost use Rattle.mz_arena.specs.Numbering.{local_ids};
 
     /// An arena with no node.
     pub fn new(alloc: Global) -> Arena
@@ -49,6 +55,7 @@ impl Arena {
                 stored: Vec::new(alloc),
                 sets: Vec::new(alloc),
             },
+            choices: 0,
             alloc,
         }
     }
@@ -70,28 +77,87 @@ impl Arena {
         requires { IsAsked self.old n }
         ensures grew { Grew self.old self.new }
         ensures made { IfOk result (Made self.new (entry n)) }
+        ensures pushed { HasAtMost self.old self.new (entry n) }
         ensures frees { is_free n.kind ≡ false → Extends self.old self.new }
         ensures anew { is_free n.kind ≡ true → IfOk result (MadeAnew self.old self.new n) }
+        ensures charged { charges self.new ≤ charges self.old + charge_of n.kind }
+        ensures err { OnErr result (self.new ≡ self.old) }
+    {
+        match self.put(&n) {
+            Ok(Some(id)) => Ok(id),
+            Ok(None) => unreachable!(),
+            Err(memory) => Err(memory),
+        }
+    }
+
+    /// The id of a node, as `intern` gives it, and `None` exactly where the node isn't one that
+    /// `intern` asks for. After `None` and after `Memory` the arena is unchanged.
+    pub fn checked(&mut self, n: Node) -> Result<Option<Id>, Memory>
+        ensures grew { Grew self.old self.new }
+        ensures checked { IfOk result (IsChecked self.old self.new n) }
+        ensures pushed { HasAtMost self.old self.new (entry n) }
+        ensures frees { is_free n.kind ≡ false → Extends self.old self.new }
+        ensures anew { is_free n.kind ≡ true → IfOk result (λ r. IfSome r (MadeAnew self.old self.new n)) }
         ensures charged { charges self.new ≤ charges self.old + charge_of n.kind }
         ensures err { OnErr result (self.new ≡ self.old) }
     {
         self.put(&n)
     }
 
-    fn put(&mut self, n: &Node) -> Result<Id, Memory>
-        requires { IsAsked self.old n.now }
-        ensures grew { Grew self.old self.new }
-        ensures made { IfOk result (Made self.new (entry n.now)) }
-        ensures frees { is_free n.now.kind ≡ false → Extends self.old self.new }
-        ensures anew { is_free n.now.kind ≡ true → IfOk result (MadeAnew self.old self.new n.now) }
-        ensures charged { charges self.new ≤ charges self.old + charge_of n.now.kind }
-        ensures err { OnErr result (self.new ≡ self.old) }
+    /// Puts a node into the arena, last, where it may be made.
+    fn put(&mut self, n: &Node) -> Result<Option<Id>, Memory>
+        ensures { Puts self.old self.new n.now result }
     {
+        if !self.may_stand(n) {
+            return Ok(None);
+        }
         let Some(reach) = self.table.reach_of(self.alloc, n)? else {
-            unreachable!()
+            return Ok(None);
         };
         let id = self.table.push(&Stored { node: *n, reach })?;
-        Ok(id)
+        if is_local(n.kind) {
+            self.choices += 1;
+        }
+        Ok(Some(id))
+    }
+
+    /// What is asked of a node, beside its bounds.
+    fn may_stand(&self, n: &Node) -> bool
+        ensures { result ≡ may_stand self.now n.now }
+    {
+        if is_set_const(n.kind) {
+            return false;
+        }
+        if is_free(n.kind) {
+            self.is_free_node(n)
+        } else {
+            true
+        }
+    }
+
+    /// What is asked of a variable or a choice, beside its bounds.
+    fn is_free_node(&self, n: &Node) -> bool
+        ensures { result ≡ is_free_node self.now n.now }
+    {
+        self.is_own(n) && (self.table.is_const(n.a) && self.is_next(n))
+    }
+
+    /// Whether the node's number is the next id.
+    fn is_own(&self, n: &Node) -> bool
+        ensures { result ≡ is_own (length self.now) n.now }
+    {
+        is_id(&n.number, self.table.stored.len() as u64)
+    }
+
+    /// Whether a choice has the next number of a choice.
+    fn is_next(&self, n: &Node) -> bool
+        ensures { result ≡ is_next (length (local_ids self.now)) n.now }
+    {
+        if is_local(n.kind) {
+            n.b == self.choices
+        } else {
+            true
+        }
     }
 
     /// The id of a SetConst with this set. After `Memory` the arena is unchanged.

@@ -3,6 +3,7 @@
 
 mod access;
 mod arena;
+mod asked;
 mod choice;
 mod law;
 mod list;

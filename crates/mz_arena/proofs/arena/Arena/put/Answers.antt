@@ -1,21 +1,27 @@
-use Rattle.std.proofs.Common.{◌≡◌, ◌++◌, ◌∷◌, [], length, ap, ◌∙◌, arith}
-use Rattle.mz_arena.specs.Entries.{entry}
-use Rattle.mz_arena.specs.Tables.{entries}
-use Rattle.mz_arena.proofs.Pushed.{put_is, pushed_grew, pushed_extends, pushed_made, pushed_charges}
+use Rattle.std.proofs.Common.{arith, sym, ◌∙◌}
+use Rattle.mz_arena.proofs.Put.{put_ready, put_last, count_fits, count_next, count_same}
+use Rattle.mz_arena.proofs.Telling.{length-entries}
 use Rattle.mz_arena.proofs.arena.Arena.put.Goals as goal
 
-new_is : (c : goal.In_ok-id) → entries c.push.new.self.sets.items c.push.new.self.stored.items ≡ c.args.self.now ++ entry c.args.n.now ∷ []
-new_is c = put_is c.reach_of.new.self c.push.new.self c.args.self.now (record { node = c.args.n.now; reach = c.in-Some.reach }) c.in_ok-id.ensures.pushed.entries (c.in_ok-reach.ensures.kept.entries ∙ c.self.view_is) c.requires.other
+pub push-requires-clause-ready : goal.push-requires-clause-ready
+push-requires-clause-ready c =
+    put_ready c.self.inside.table c.reach_of.new.self c.args.self.now c.args.n.now c.in-Some.reach c.self.view_is c.in_ok-reach.ensures.kept c.in_ok-reach.field-0 c.in-Some.is c.in_ok-reach.ensures.told (sym c.may_stand.ensures ∙ c.if-not-may_stand.false) c.in_ok-reach.ensures.long
 
-pub returns-clause-grew : goal.returns-clause-grew
-returns-clause-grew c = pushed_grew c.args.self.now _ (entry c.args.n.now) (new_is c)
+pub overflow_add-self : goal.overflow_add-self
+overflow_add-self c =
+    let below = count_fits c.self.inside.table c.reach_of.new.self c.args.self.now c.args.n.now c.in-Some.reach c.self.view_is c.in_ok-reach.ensures.kept c.in_ok-reach.field-0 c.in-Some.is c.in_ok-reach.ensures.told (sym c.may_stand.ensures ∙ c.if-not-may_stand.false) c.push.new.self c.in_ok-id.id c.self.inside.choices c.in_ok-id.ensures.pushed c.self.invariant in
+    omega (arith, below, length-entries c.push.new.self.sets.items c.push.new.self.stored.items, c.push.new.self.stored.ok.0)
 
-pub returns-clause-made : goal.returns-clause-made
-returns-clause-made c =
-    pushed_made c.args.self.now _ (entry c.args.n.now) c.in_ok-id.id (new_is c) (c.in_ok-id.ensures.pushed.place ∙ ap length (c.in_ok-reach.ensures.kept.entries ∙ c.self.view_is)) c.requires.below
+pub invariant_of-self-then-is_local : goal.invariant_of-self-then-is_local
+invariant_of-self-then-is_local c =
+    count_next c.self.inside.table c.reach_of.new.self c.args.self.now c.args.n.now c.in-Some.reach c.self.view_is c.in_ok-reach.ensures.kept c.in_ok-reach.field-0 c.in-Some.is c.in_ok-reach.ensures.told (sym c.may_stand.ensures ∙ c.if-not-may_stand.false) c.push.new.self c.in_ok-id.id c.self.inside.choices c.in_ok-id.ensures.pushed c.self.invariant c.in_ok-id.ensures.sound (sym c.is_local.ensures ∙ c.if-is_local.true)
 
-pub returns-clause-frees : goal.returns-clause-frees
-returns-clause-frees c = λ f. pushed_extends c.args.self.now _ (entry c.args.n.now) (new_is c) f
+pub invariant_of-self-else-is_local : goal.invariant_of-self-else-is_local
+invariant_of-self-else-is_local c =
+    count_same c.self.inside.table c.reach_of.new.self c.args.self.now c.args.n.now c.in-Some.reach c.self.view_is c.in_ok-reach.ensures.kept c.in_ok-reach.field-0 c.in-Some.is c.in_ok-reach.ensures.told (sym c.may_stand.ensures ∙ c.if-not-may_stand.false) c.push.new.self c.in_ok-id.id c.self.inside.choices c.in_ok-id.ensures.pushed c.self.invariant c.in_ok-id.ensures.sound (sym c.is_local.ensures ∙ c.if-is_local.false)
 
-pub returns-clause-charged : goal.returns-clause-charged
-returns-clause-charged c = let h = pushed_charges c.args.self.now _ (entry c.args.n.now) (new_is c) in omega (arith, h)
+pub returns-then-is_local : goal.returns-then-is_local
+returns-then-is_local c = put_last c.self.inside.table c.reach_of.new.self c.args.self.now c.args.n.now c.in-Some.reach c.self.view_is c.in_ok-reach.ensures.kept c.in_ok-reach.field-0 c.in-Some.is c.in_ok-reach.ensures.told (sym c.may_stand.ensures ∙ c.if-not-may_stand.false) c.push.new.self c.in_ok-id.id c.in_ok-id.ensures.pushed
+
+pub returns-else-is_local : goal.returns-else-is_local
+returns-else-is_local c = put_last c.self.inside.table c.reach_of.new.self c.args.self.now c.args.n.now c.in-Some.reach c.self.view_is c.in_ok-reach.ensures.kept c.in_ok-reach.field-0 c.in-Some.is c.in_ok-reach.ensures.told (sym c.may_stand.ensures ∙ c.if-not-may_stand.false) c.push.new.self c.in_ok-id.id c.in_ok-id.ensures.pushed

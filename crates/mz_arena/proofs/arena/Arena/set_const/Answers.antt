@@ -1,6 +1,8 @@
-use Rattle.std.proofs.Common.{◌≡◌, ◌++◌, ◌∷◌, [], length, refl, ap, ◌∙◌}
+use Rattle.std.proofs.Common.{◌≡◌, ◌++◌, ◌∷◌, [], length, refl, sym, ap, ◌∙◌}
 use Rattle.mz_arena.specs.Tables.{entries, const_node}
 use Rattle.mz_arena.proofs.Pushed.{with_set, const_is, const_made, same_charges, pushed_extends}
+use Rattle.mz_arena.specs.Numbering.{local_ids}
+use Rattle.mz_arena.proofs.Put.{choices_same}
 use Rattle.mz_arena.proofs.arena.Arena.set_const.Goals as goal
 
 new_is : (c : goal.In_ok-id) → entries c.push_const.new.self.sets.items c.push_const.new.self.stored.items ≡ c.args.self.now ++ with_set (const_node c.in_ok-place.place) c.args.s ∷ []
@@ -14,3 +16,9 @@ returns-clause-made c = const_made c.args.self.now _ c.in_ok-place.place c.in_ok
 
 pub returns-clause-charged : goal.returns-clause-charged
 returns-clause-charged c = same_charges c.args.self.now _ c.in_ok-place.place c.args.s (new_is c)
+
+pub invariant_of-self-2 : goal.invariant_of-self-2
+invariant_of-self-2 c = record {
+  table = c.in_ok-id.ensures.sound;
+  count = c.self.invariant.count ∙ ap (λ es. length (local_ids es)) c.self.view_is ∙ sym (choices_same c.args.self.now _ (with_set (const_node c.in_ok-place.place) c.args.s) (new_is c) refl);
+}
