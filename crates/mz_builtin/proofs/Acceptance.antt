@@ -181,23 +181,23 @@ accepting_is c m var (a ∷ args) (p ∷ ps) =
 
 mark_is : (c : Choices) (args : List PlainType) (e : PlainEntry) (m : Meaning) (var : Bool) → filter (accepts_all args) (with_mark (all_params c) e m var) ≡ with_mark (accepting_params c args) e m var
 unfolding with_mark numbered all_params accepting_params
-mark_is c args e m var = filter_map_is (accepts_all args) (numbered e m var) (all_params c m var e.params) ∙ ap (map (numbered e m var)) (accepting_is c m var args e.params)
+mark_is c args e m var = filter_map_is (accepts_all args) (numbered e m var) (all_params c m var e.line.params) ∙ ap (map (numbered e m var)) (accepting_is c m var args e.line.params)
 
 meaning_is : (c : Choices) (args : List PlainType) (e : PlainEntry) (m : Meaning) → filter (accepts_all args) (with_meaning (all_params c) e m) ≡ with_meaning (accepting_params c args) e m
 unfolding with_meaning
 meaning_is c args e m =
-    filter_flat_map (accepts_all args) (with_mark (all_params c) e m) (readings_of e.mark)
-    ∙ flat_map_agree (λ v. filter (accepts_all args) (with_mark (all_params c) e m v)) (with_mark (accepting_params c args) e m) (mark_is c args e m) (readings_of e.mark)
+    filter_flat_map (accepts_all args) (with_mark (all_params c) e m) (readings_of e.line.mark)
+    ∙ flat_map_agree (λ v. filter (accepts_all args) (with_mark (all_params c) e m v)) (with_mark (accepting_params c args) e m) (mark_is c args e m) (readings_of e.line.mark)
 
 entry_is : (c : Choices) (args : List PlainType) (enums : List ℕ) (e : PlainEntry) → filter (accepts_all args) (of_entry (all_params c) enums e) ≡ of_entry (accepting_params c args) enums e
 unfolding of_entry
 entry_is c args enums e =
-    filter_flat_map (accepts_all args) (with_meaning (all_params c) e) (meanings enums e.letter)
-    ∙ flat_map_agree (λ m. filter (accepts_all args) (with_meaning (all_params c) e m)) (with_meaning (accepting_params c args) e) (meaning_is c args e) (meanings enums e.letter)
+    filter_flat_map (accepts_all args) (with_meaning (all_params c) e) (meanings enums e.line.letter)
+    ∙ flat_map_agree (λ m. filter (accepts_all args) (with_meaning (all_params c) e m)) (with_meaning (accepting_params c args) e) (meaning_is c args e) (meanings enums e.line.letter)
 
 named_is : (c : Choices) (args : List PlainType) (enums name : List ℕ) (e : PlainEntry) → filter (accepts_all args) (of_named (all_params c) enums name e) ≡ of_named (accepting_params c args) enums name e
 unfolding of_named
-named_is c args enums name e = elim (bool_case (has_name name e)) [
+named_is c args enums name e = elim (bool_case (has_name name e.line)) [
   | inl h ↦ rw h (entry_is c args enums e)
   | inr h ↦ rw h refl
 ]

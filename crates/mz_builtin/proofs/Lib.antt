@@ -1,5 +1,4 @@
 pub mod IndexLists
-pub mod Places
 pub mod Filters
 pub mod Acceptance
 pub mod Calls

@@ -209,7 +209,7 @@ abbrev pub Numbered : Type 0
 Numbered = ℕ × PlainSignature
 
 unfoldable pub numbered : PlainEntry → Meaning → Bool → List PlainType → Numbered
-numbered e m var params = (e.number, record { params = params; result = result_type m (result_var e.mark var) e.result params })
+numbered e m var params = (e.number, record { params = params; result = result_type m (result_var e.line.mark var) e.line.result params })
 
 -- what gives the lists of types that an entry's parameters take
 abbrev pub Maker : Type 0
@@ -219,10 +219,10 @@ unfoldable pub all_params : Choices → Maker
 all_params c m var ps = products (map (param_types c m var) ps)
 
 unfoldable pub with_mark : Maker → PlainEntry → Meaning → Bool → List Numbered
-with_mark make e m var = map (numbered e m var) (make m var e.params)
+with_mark make e m var = map (numbered e m var) (make m var e.line.params)
 
 unfoldable pub with_meaning : Maker → PlainEntry → Meaning → List Numbered
-with_meaning make e m = flat_map (with_mark make e m) (readings_of e.mark)
+with_meaning make e m = flat_map (with_mark make e m) (readings_of e.line.mark)
 
 unfoldable pub of_entry : Maker → List ℕ → PlainEntry → List Numbered
-of_entry make enums e = flat_map (with_meaning make e) (meanings enums e.letter)
+of_entry make enums e = flat_map (with_meaning make e) (meanings enums e.line.letter)

@@ -1,19 +1,21 @@
 // The signatures of a name.
 
-ghost use Rattle.std.specs.Prelude.{◌≡◌, ◌++◌, map, IfOk};
+ghost use Rattle.std.specs.Prelude.{◌≡◌, ◌≤◌, ◌+◌, ◌++◌, length, map, IfOk};
+ghost use Rattle.std.specs.List.{flat_map};
 ghost use Rattle.mz_core.specs.Types.{plain_type};
-ghost use Rattle.mz_builtin.specs.Entries.{plain_entry};
+ghost use Rattle.mz_builtin.specs.Entries.{plain_entry, plain_line};
+ghost use Rattle.mz_builtin.specs.Table.{placed_from};
 ghost use Rattle.mz_builtin.specs.Readings.{numbered, with_mark, with_meaning, of_entry};
 ghost use Rattle.mz_builtin.specs.Signatures.{of_named, made, signatures, fitting};
 ghost use Rattle.mz_builtin.specs.Views.{plain_choices, type_lists_of, plain_numbered, maker_of};
 
 use crate::choices::{Choices, choices_of};
-use crate::entry::{Entry, Param};
+use crate::entry::{Entry, Line, Param};
 use crate::fits::accepting;
 use crate::names::has_name;
 use crate::params::all_params;
 use crate::readings::{Meaning, meanings, readings_of, result_var};
-use crate::table::entries;
+use crate::table::{built_ins, first_global, globals};
 use crate::types::result_type;
 use mz_base::Memory;
 use mz_core::{Signature, TypeInst};
@@ -37,7 +39,13 @@ fn numbered(
 ) -> Result<(u32, Signature), Memory>
     ensures { IfOk result (λ s. plain_numbered s ≡ numbered (plain_entry e.now) m var (map plain_type params.items)) }
 {
-    let result = result_type(alloc, m, result_var(e.mark, var), e.result, &params)?;
+    let result = result_type(
+        alloc,
+        m,
+        result_var(e.line.mark, var),
+        e.line.result,
+        &params,
+    )?;
     Ok((e.number, Signature { params, result }))
 }
 
@@ -89,7 +97,7 @@ fn add_with_mark(
 ) -> Result<(), Memory>
     ensures { IfOk result (λ _. map plain_numbered all.new.items ≡ map plain_numbered all.old.items ++ with_mark (maker_of (plain_choices c.now) (map plain_type args.now) wanted) (plain_entry e.now) m var) }
 {
-    let lists = params_of(alloc, c, args, wanted, m, var, e.params)?;
+    let lists = params_of(alloc, c, args, wanted, m, var, e.line.params)?;
     add_numbered(alloc, all, e, m, var, lists)
 }
 
@@ -105,7 +113,7 @@ fn add_with_meaning(
 ) -> Result<(), Memory>
     ensures { IfOk result (λ _. map plain_numbered all.new.items ≡ map plain_numbered all.old.items ++ with_meaning (maker_of (plain_choices c.now) (map plain_type args.now) wanted) (plain_entry e.now) m) }
 {
-    for var in readings_of(e.mark) {
+    for var in readings_of(e.line.mark) {
         add_with_mark(alloc, all, c, args, wanted, e, m, *var)?;
     }
     Ok(())
@@ -122,7 +130,7 @@ fn add_of_entry(
 ) -> Result<(), Memory>
     ensures { IfOk result (λ _. map plain_numbered all.new.items ≡ map plain_numbered all.old.items ++ of_entry (maker_of (plain_choices c.now) (map plain_type args.now) wanted) c.now.enums.items (plain_entry e.now)) }
 {
-    let meanings = meanings(alloc, &c.enums, e.letter)?;
+    let meanings = meanings(alloc, &c.enums, e.line.letter)?;
     for m in &meanings {
         add_with_meaning(alloc, all, c, args, wanted, e, *m)?;
     }
@@ -141,14 +149,37 @@ fn add_of_named(
 ) -> Result<(), Memory>
     ensures { IfOk result (λ _. map plain_numbered all.new.items ≡ map plain_numbered all.old.items ++ of_named (maker_of (plain_choices c.now) (map plain_type args.now) wanted) c.now.enums.items name.now (plain_entry e.now)) }
 {
-    if has_name(name, e) {
+    if has_name(name, e.line) {
         add_of_entry(alloc, all, c, args, wanted, e)
     } else {
         Ok(())
     }
 }
 
-#[tactic(auto, unfolding(crate::specs::Signatures::made))]
+// The loop over lines, of which the first has this number.
+#[tactic(auto, unfolding(crate::specs::Table::placed_from))]
+fn add_from(
+    alloc: Global,
+    all: &mut Vec<(u32, Signature)>,
+    c: &Choices,
+    args: &[TypeInst],
+    wanted: Wanted,
+    name: &str,
+    first: u32,
+    lines: &'static [Line],
+) -> Result<(), Memory>
+    requires { first + length lines.now ≤ 20000 }
+    ensures { IfOk result (λ _. map plain_numbered all.new.items ≡ map plain_numbered all.old.items ++ flat_map (of_named (maker_of (plain_choices c.now) (map plain_type args.now) wanted) c.now.enums.items name.now) (placed_from first (map plain_line lines.entry.now))) }
+{
+    let mut number = first;
+    for line in lines {
+        add_of_named(alloc, all, c, args, wanted, name, &Entry { number, line })?;
+        number += 1;
+    }
+    Ok(())
+}
+
+#[tactic(auto, unfolding(crate::specs::Signatures::made, crate::specs::Table::table))]
 fn made(
     alloc: Global,
     c: &Choices,
@@ -159,9 +190,17 @@ fn made(
     ensures { IfOk result (λ v. map plain_numbered v.items ≡ made (maker_of (plain_choices c.now) (map plain_type args.now) wanted) c.now.enums.items name.now) }
 {
     let mut all = Vec::new(alloc);
-    for e in entries() {
-        add_of_named(alloc, &mut all, c, args, wanted, name, e)?;
-    }
+    add_from(alloc, &mut all, c, args, wanted, name, 0, built_ins())?;
+    add_from(
+        alloc,
+        &mut all,
+        c,
+        args,
+        wanted,
+        name,
+        first_global(),
+        globals(),
+    )?;
     Ok(all)
 }
 

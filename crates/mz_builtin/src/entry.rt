@@ -77,14 +77,19 @@ pub enum Outcome {
     IndexSet(u64),
 }
 
-/// An operator, built-in or global in one of its forms.
+/// A line of the table: an operator, built-in or global in one of its forms.
 #[derive(Clone, Copy)]
-pub struct Entry {
-    /// Its place in the table, from 0.
-    pub number: u32,
+pub struct Line {
     pub name: &'static str,
     pub letter: Letter,
     pub mark: Mark,
     pub params: &'static [Param],
     pub result: Outcome,
+}
+
+/// A line with its number, which is its place in the table, from 0.
+#[derive(Clone, Copy)]
+pub struct Entry {
+    pub number: u32,
+    pub line: &'static Line,
 }

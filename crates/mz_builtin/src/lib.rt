@@ -13,6 +13,6 @@ mod table;
 mod types;
 
 pub use candidates::{fitting, signatures};
-pub use entry::{Entry, Letter, Mark, Of, Outcome, Param};
-pub use names::{global, known};
-pub use table::entries;
+pub use entry::{Letter, Line, Mark, Of, Outcome, Param};
+pub use names::{global, known, number_of};
+pub use table::{built_ins, globals};

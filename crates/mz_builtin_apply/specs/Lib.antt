@@ -1,4 +1,3 @@
-pub mod Lines
+pub mod Tables
 pub mod Applied
 pub mod StepsLimits
-pub mod Numbers

@@ -5,12 +5,10 @@ ghost use Rattle.mz_value.specs.Shown.{Names};
 ghost use Rattle.mz_operations.specs.Arguments.{arguments};
 ghost use Rattle.mz_operations.specs.Answers.{answer, limited};
 ghost use Rattle.mz_operations.specs.Values.{value};
-ghost use Rattle.mz_builtin_apply.specs.Applied.{Answers, IsApplied, AnswersCall, IsCall, is_applied};
-ghost use Rattle.mz_builtin_apply.specs.Lines as lines;
+ghost use Rattle.mz_builtin_apply.specs.Applied.{Answers, IsApplied, is_applied};
 
 use crate::faults::{is_mismatched, negative};
 use crate::limits::{limited_scalar, limited_value};
-use crate::rows::{read_as, row_of};
 use mz_base::{Fault, Kind, Span, Stop};
 use mz_builtin_arrays::{bounding, made};
 use mz_builtin_scalars::scalar;
@@ -84,22 +82,5 @@ pub fn apply_row(
             number: k as i128,
         })),
         None => given(alloc, row, args, at),
-    }
-}
-
-/// What the row of the table's line with this number gives, as `apply_row` says. `=` and `!=` are
-/// those of sets where the first argument is a set.
-pub fn apply(
-    alloc: Global,
-    number: u32,
-    args: &[Option<Value>],
-    at: Span,
-) -> Result<Option<Value>, Stop>
-    requires { IsCall (lines.row_of number) (arguments args.now) }
-    ensures { AnswersCall result at (lines.row_of number) (arguments args.now) }
-{
-    match row_of(number) {
-        Some(row) => apply_row(alloc, read_as(row, args), args, at),
-        None => unreachable!(),
     }
 }

@@ -1,10 +1,8 @@
 // What rows cost.
 
-ghost use Rattle.std.specs.Prelude.{◌≡◌, ◌+◌, ◌<◌, ◌^◌, IfSome, IsSome, drop, min, sum};
-ghost use Rattle.mz_builtin_apply.specs.Lines.{row_of};
+ghost use Rattle.std.specs.Prelude.{◌≡◌, ◌+◌, ◌<◌, ◌^◌, drop, min, sum};
 ghost use Rattle.mz_operations.specs.Costs as costs;
 
-use crate::rows::row_of;
 use mz_operations::{BoundingRow, MadeRow, Row, ScalarRow};
 
 /// The greatest cost, 2^62.
@@ -113,16 +111,5 @@ pub fn cost_of(row: Row, sizes: &[u64]) -> u64
             let elements = total(sizes_from(k, sizes));
             limited(elements + 1)
         }
-    }
-}
-
-/// What the row of the table's line with this number costs. Takes no memory.
-pub fn cost(number: u32, sizes: &[u64]) -> u64
-    requires { IsSome (row_of number) }
-    ensures { IfSome (row_of number) (λ row. result ≡ costs.cost row sizes.now) }
-{
-    match row_of(number) {
-        Some(row) => cost_of(row, sizes),
-        None => unreachable!(),
     }
 }

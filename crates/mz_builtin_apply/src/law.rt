@@ -1,14 +1,8 @@
-// What holds of the numbers of rows.
+// What holds of the tables of the library.
 
-ghost use Rattle.mz_builtin_apply.specs.Lines.{AreTheTables};
-ghost use Rattle.mz_builtin_apply.specs.Numbers.{LeadBack};
+ghost use Rattle.mz_builtin_apply.specs.Tables.{AreInStep};
 
-/// A row of the table leads to a number that leads to it.
-pub fn rows_lead_back()
-    ensures { LeadBack }
-{}
-
-/// The lines have the names of the table of operators and built-ins, in its order.
-pub fn lines_are_the_tables()
-    ensures { AreTheTables }
+/// What a line means and its signature stand at one place: both tables have one list of names.
+pub fn tables_are_in_step()
+    ensures { AreInStep }
 {}

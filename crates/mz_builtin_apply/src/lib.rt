@@ -1,4 +1,4 @@
-// What operators and built-ins cost and give, by the number of their line in the table.
+// What rows of the table of operators and built-ins cost and give of values, and a law of both tables.
 #![tactic(auto)]
 
 mod applied;
@@ -6,12 +6,10 @@ mod costs;
 mod faults;
 mod law;
 mod limits;
-mod numbers;
-mod rows;
+mod readings;
 
-pub use applied::{apply, apply_row};
-pub use costs::{cost, cost_of, counts_from};
+pub use applied::apply_row;
+pub use costs::{cost_of, counts_from};
 pub use faults::{is_applied, is_failed};
-pub use law::{lines_are_the_tables, rows_lead_back};
-pub use numbers::number_of;
-pub use rows::{read_as, row_of};
+pub use law::tables_are_in_step;
+pub use readings::read_as;

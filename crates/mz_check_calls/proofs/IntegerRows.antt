@@ -5,17 +5,17 @@ use Rattle.mz_core.specs.Types.{PlainType}
 use Rattle.mz_core.specs.declared.types.Base.{Base}
 use Rattle.mz_core.specs.Order.{below, same_type, same_dims, dims_below}
 use Rattle.mz_overload.specs.Best.{all_below, is_least, resolution}
-use Rattle.mz_builtin.specs.Table.{built_ins, globals, table}
+use Rattle.mz_builtin.specs.Table.{built_ins, globals, placed_from, table}
 use Rattle.mz_builtin.specs.Readings.{with_number, with_base, with_indices, enums_from, index_enums_from, with_rank, ranks_from, choices, cases, sets_of_cases, scalars, sets, meanings, readings_of, result_var, opt_of, base_of, type_of, types_with, types_of_rank, array_types, joined, products, index_lists, index_sets, param_types, given_indices, array_indices, result_type, numbered, all_params, with_mark, with_meaning, of_entry}
-use Rattle.mz_builtin.specs.Signatures.{has_name, of_named, made, signatures, fitting}
+use Rattle.mz_builtin.specs.Signatures.{has_name, first_named, of_named, made, signatures, fitting}
 use Rattle.mz_tree.specs.declared.expr.BinOp.{BinOp}
 use Rattle.mz_tree.specs.declared.expr.BinOp.TheVariants as op
 use Rattle.mz_check_meaning.specs.Calls.{best, row_of}
 use Rattle.mz_check_meaning.specs.Chains.{operator_name}
-use Rattle.mz_check_calls.specs.StepsIntegers.{integer, integer_row, IsRowOf}
+use Rattle.mz_check_calls.specs.StepsIntegers.{integer, integer_base, integer_row, IsRowOf}
 
 takes : (v w : Bool) (o : BinOp) → IsRowOf o (integer v) (integer w) (v || w) (integer_row (v || w) o)
-unfolding below same_type same_dims dims_below all_below is_least resolution built_ins globals table with_number with_base with_indices enums_from index_enums_from with_rank ranks_from choices cases sets_of_cases scalars sets meanings readings_of result_var opt_of base_of type_of types_with types_of_rank array_types joined products index_lists index_sets param_types given_indices array_indices result_type numbered all_params with_mark with_meaning of_entry has_name of_named made signatures fitting best row_of operator_name
+unfolding below same_type same_dims dims_below all_below is_least resolution built_ins globals placed_from table first_named integer_base with_number with_base with_indices enums_from index_enums_from with_rank ranks_from choices cases sets_of_cases scalars sets meanings readings_of result_var opt_of base_of type_of types_with types_of_rank array_types joined products index_lists index_sets param_types given_indices array_indices result_type numbered all_params with_mark with_meaning of_entry has_name of_named made signatures fitting best row_of operator_name
 takes false false op.Eq = λ at. refl
 takes false false op.Ne = λ at. refl
 takes false false op.Lt = λ at. refl

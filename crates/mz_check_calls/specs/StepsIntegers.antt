@@ -1,9 +1,11 @@
 -- Mirror of src/integers.rt; private clauses only. Operators between two integers: the row of each, which needs no search among the rows.
 use Rattle.std.specs.Prelude.{◌≡◌, ℕ, Bool, true, false, Option, Some, None, [], ◌∷◌, Ok, IfSome}
+use Rattle.std.specs.Option.{option_and_then, option_map}
 use Rattle.mz_base.specs.declared.fault.Span.{Span}
 use Rattle.mz_core.specs.declared.types.Base.{Base}
 use Rattle.mz_core.specs.declared.types.Base.TheVariants as base
 use Rattle.mz_core.specs.Types.{PlainType}
+use Rattle.mz_builtin.specs.Signatures.{number_of}
 use Rattle.mz_tree.specs.declared.expr.BinOp.{BinOp}
 use Rattle.mz_tree.specs.declared.expr.BinOp.TheVariants as op
 use Rattle.mz_check_meaning.specs.declared.callee.Callee.TheVariants as callee
@@ -17,22 +19,26 @@ scalar_of v b = record { var = v; opt = false; base = b; dims = [] }
 abbrev pub integer : Bool → PlainType
 integer v = scalar_of v base.Int
 
--- the row of an operator between integers, of which one is var or none is, and the base of what it makes; a range has par ends
+-- the base of what an operator between integers makes, of which one is var or none is; a range has par ends
+unfoldable pub integer_base : Bool → BinOp → Option Base
+integer_base v op.Eq = Some base.Bool
+integer_base v op.Ne = Some base.Bool
+integer_base v op.Lt = Some base.Bool
+integer_base v op.Le = Some base.Bool
+integer_base v op.Gt = Some base.Bool
+integer_base v op.Ge = Some base.Bool
+integer_base true op.Range = None
+integer_base false op.Range = Some base.SetInt
+integer_base v op.Add = Some base.Int
+integer_base v op.Sub = Some base.Int
+integer_base v op.Mul = Some base.Int
+integer_base v op.Div = Some base.Int
+integer_base v op.Mod = Some base.Int
+integer_base v o = None
+
+-- that base with the operator's row, which is the first one of its name
 abbrev pub integer_row : Bool → BinOp → Option (ℕ × Base)
-integer_row v op.Eq = Some (7, base.Bool)
-integer_row v op.Ne = Some (8, base.Bool)
-integer_row v op.Lt = Some (9, base.Bool)
-integer_row v op.Le = Some (10, base.Bool)
-integer_row v op.Gt = Some (11, base.Bool)
-integer_row v op.Ge = Some (12, base.Bool)
-integer_row true op.Range = None
-integer_row false op.Range = Some (20, base.SetInt)
-integer_row v op.Add = Some (25, base.Int)
-integer_row v op.Sub = Some (26, base.Int)
-integer_row v op.Mul = Some (27, base.Int)
-integer_row v op.Div = Some (30, base.Int)
-integer_row v op.Mod = Some (31, base.Int)
-integer_row v o = None
+integer_row v o = option_and_then (λ b. option_map (λ n. (n, b)) (number_of (operator_name o))) (integer_base v o)
 
 abbrev pub integer_candidate : Bool → ℕ × Base → Candidate
 integer_candidate v r = record {

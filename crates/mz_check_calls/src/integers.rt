@@ -2,11 +2,13 @@
 
 ghost use Rattle.std.specs.Prelude.{◌≡◌, ◌||◌, IfOk, IsTrue};
 ghost use Rattle.mz_core.specs.Types.{plain_type};
-ghost use Rattle.mz_check_calls.specs.StepsIntegers.{scalar_of, integer, integer_row, integer_candidate, IsRowOf};
+ghost use Rattle.mz_check_calls.specs.StepsIntegers.{scalar_of, integer, integer_base, integer_row, integer_candidate, IsRowOf};
 ghost use Rattle.mz_check_calls.specs.Views.{candidate};
 
+use crate::operators::operator_name;
 use crate::pairs::Candidate;
 use mz_base::Memory;
+use mz_builtin::number_of;
 use mz_check_meaning::Callee;
 use mz_core::{Base, Signature, TypeInst};
 use mz_tree::BinOp;
@@ -20,25 +22,35 @@ fn is_integer(t: &TypeInst) -> bool
     !t.opt && matches!(t.base, Base::Int) && t.dims.is_empty()
 }
 
-/// The row of an operator between integers, of which one is var or none is, and the base of what it makes.
+/// The base of what an operator between integers makes, of which one is var or none is.
+#[tactic(auto, unfolding(crate::specs::StepsIntegers::integer_base))]
+fn integer_base(var: bool, op: BinOp) -> Option<Base>
+    ensures { result ≡ integer_base var op }
+{
+    match op {
+        BinOp::Eq => Some(Base::Bool),
+        BinOp::Ne => Some(Base::Bool),
+        BinOp::Lt => Some(Base::Bool),
+        BinOp::Le => Some(Base::Bool),
+        BinOp::Gt => Some(Base::Bool),
+        BinOp::Ge => Some(Base::Bool),
+        BinOp::Range => { if var { None } else { Some(Base::SetInt) } }
+        BinOp::Add => Some(Base::Int),
+        BinOp::Sub => Some(Base::Int),
+        BinOp::Mul => Some(Base::Int),
+        BinOp::Div => Some(Base::Int),
+        BinOp::Mod => Some(Base::Int),
+        _ => None,
+    }
+}
+
+/// The row of an operator between integers, and the base of what it makes.
 fn integer_row(var: bool, op: BinOp) -> Option<(u32, Base)>
     ensures { result ≡ integer_row var op }
 {
-    match op {
-        BinOp::Eq => Some((7, Base::Bool)),
-        BinOp::Ne => Some((8, Base::Bool)),
-        BinOp::Lt => Some((9, Base::Bool)),
-        BinOp::Le => Some((10, Base::Bool)),
-        BinOp::Gt => Some((11, Base::Bool)),
-        BinOp::Ge => Some((12, Base::Bool)),
-        BinOp::Range => { if var { None } else { Some((20, Base::SetInt)) } }
-        BinOp::Add => Some((25, Base::Int)),
-        BinOp::Sub => Some((26, Base::Int)),
-        BinOp::Mul => Some((27, Base::Int)),
-        BinOp::Div => Some((30, Base::Int)),
-        BinOp::Mod => Some((31, Base::Int)),
-        _ => None,
-    }
+    let base = integer_base(var, op)?;
+    let number = number_of(operator_name(op))?;
+    Some((number, base))
 }
 
 /// Whether one of two types is var.

@@ -1,1 +1,2 @@
 pub mod Par
+pub mod Levels

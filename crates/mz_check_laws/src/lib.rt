@@ -3,4 +3,4 @@
 
 mod law;
 
-pub use law::typed_programs_respect_par;
+pub use law::{levels_are_the_grammars, typed_programs_respect_par};

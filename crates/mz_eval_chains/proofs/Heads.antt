@@ -4,7 +4,8 @@ use Rattle.mz_base.specs.declared.fault.Span.{Span}
 use Rattle.mz_core.specs.declared.tree.CoreStep.{CoreStep}
 use Rattle.mz_core.specs.Coercions.{PathLink}
 use Rattle.mz_core.specs.TreeViews.{step}
-use Rattle.mz_meaning.specs.Chains.{Operator, level_of, chain_level, same_level, operators_at, with_left}
+use Rattle.mz_operations.specs.Lines.{level_of}
+use Rattle.mz_meaning.specs.Chains.{Operator, chain_level, same_level, operators_at, with_left}
 use Rattle.mz_eval_chains.specs.Innermosts.{left_of_step}
 
 pub no_level : (l : ℕ) (ss : List CoreStep) → length ss < 1 → false ≡ same_level l (map step ss)

@@ -1,4 +1,3 @@
-pub mod Numbered
 pub mod Knowing
 pub mod Limited
 pub mod Shown

@@ -1,12 +1,11 @@
 // The rows by their numbers.
 
-ghost use Rattle.std.specs.Prelude.{◌≡◌, slice_get};
+ghost use Rattle.std.specs.Prelude.{◌≡◌};
 ghost use Rattle.mz_core.specs.Types as types;
 ghost use Rattle.mz_meaning.specs.Operations as operations;
 
-use mz_builtin_apply::row_of;
 use mz_core::Base;
-use mz_operations::{Row, ScalarRow};
+use mz_operations::{Row, ScalarRow, row_of};
 
 fn is_set(b: Base) -> bool
     ensures { result ≡ types.is_set b }
@@ -30,18 +29,12 @@ fn of_sets(row: Row) -> Row
     }
 }
 
-fn row_in_table(number: u32) -> Option<Row>
-    ensures { result ≡ slice_get operations.row_table number }
-{
-    row_of(number)
-}
-
 /// The row of the table's line with this number, whose arguments have this base; `None` of a number
 /// that no operator or built-in has. Takes no memory.
 pub fn row_at(number: u32, base: Base) -> Option<Row>
     ensures { result ≡ operations.row_at number base }
 {
-    let row = row_in_table(number)?;
+    let row = row_of(number)?;
     if is_set(base) {
         Some(of_sets(row))
     } else {

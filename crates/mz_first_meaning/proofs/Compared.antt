@@ -1,5 +1,5 @@
 -- What a constraint is posted as has the constraint's cell, in any mode and context.
-use Rattle.std.proofs.Common.{◌≡◌, ℕ, zero, suc, ◌+◌, ◌-◌, ◌≤◌, Bool, true, false, ◌&&◌, ◌||◌, List, [], ◌∷◌, Option, Some, None, refl, ap, ◌∙◌, subst, arith, nat_eq, nat_le, leb-true, is_none, if◌then◌else◌}
+use Rattle.std.proofs.Common.{◌≡◌, ℕ, suc, Bool, true, false, ◌&&◌, ◌||◌, List, [], ◌∷◌, Option, Some, None, refl, eqb-true, sym, ap, ◌∙◌, nat_eq, is_none, if◌then◌else◌}
 use Rattle.mz_base.specs.declared.fault.Span.{Span}
 use Rattle.mz_core.specs.Types.{PlainType}
 use Rattle.mz_core.specs.Coercions.{PathLink}
@@ -8,7 +8,8 @@ use Rattle.mz_core.specs.Tree as tree
 use Rattle.mz_meaning.specs.Runs.{Run, State, Answer, Out, Stopped, then_do, give}
 use Rattle.mz_meaning.specs.Cells.{Cell, Env, typed}
 use Rattle.mz_meaning.specs.Contexts.{Context, Untested, Positive, Other}
-use Rattle.mz_meaning.specs.Chains.{Operator, level_table, level_of, chain_level, same_level, innermost_of, with_innermost, backed, before, right_in, operand_base, a_step_of}
+use Rattle.mz_operations.specs.Lines.{level_of}
+use Rattle.mz_meaning.specs.Chains.{Operator, chain_level, same_level, innermost_of, with_innermost, backed, before, right_in, operand_base, a_step_of}
 use Rattle.mz_meaning.specs.Forms.{World, Eval, coerced_by, operated, operators, operand_place, chain, chain_by}
 use Rattle.mz_meaning.specs.Evaluation.{eval}
 use Rattle.mz_meaning.specs.Walk.{levels}
@@ -36,23 +37,8 @@ none_is (Some x) h = absurd (cc)
 
 -- ---- a comparison is no `++`
 
-six_levels : (j : ℕ) → j ≤ 5 → nat_eq 12 (level_of (j + 7)) ≡ false
-unfolding level_table
-six_levels zero h = refl
-six_levels (suc zero) h = refl
-six_levels (suc (suc zero)) h = refl
-six_levels (suc (suc (suc zero))) h = refl
-six_levels (suc (suc (suc (suc zero)))) h = refl
-six_levels (suc (suc (suc (suc (suc zero))))) h = refl
-six_levels (suc (suc (suc (suc (suc (suc j)))))) h = absurd (omega arith)
-
 comparison_level : (r : ℕ) → is_comparison r ≡ true → nat_eq 12 (level_of r) ≡ false
-comparison_level r h =
-    let low : 7 ≤ r = leb-true 7 r (and_first (nat_le 7 r) (nat_le r 12) h) in
-    let high : r ≤ 12 = leb-true r 12 (and_second (nat_le 7 r) (nat_le r 12) h) in
-    let near : r - 7 ≤ 5 = omega arith in
-    let whole : (r - 7) + 7 ≡ r = omega arith in
-    subst (λ n. nat_eq 12 (level_of n) ≡ false) whole (six_levels (r - 7) near)
+comparison_level r h = ap (λ l. nat_eq 12 l) (sym (eqb-true 5 (level_of r) h))
 
 -- ---- a chain of one operator
 

@@ -1,5 +1,5 @@
 -- The run that keeps an expression's roots gives the expression's cell, in any mode and context.
-use Rattle.std.proofs.Common.{◌≡◌, ℕ, zero, suc, Bool, true, false, List, [], ◌∷◌, ◌++◌, Some, None, refl, ap, ◌∙◌, nat_eq, eqb-true, if◌then◌else◌}
+use Rattle.std.proofs.Common.{◌≡◌, ℕ, zero, suc, Bool, true, false, List, [], ◌∷◌, ◌++◌, Option, Some, None, not, unwrap_or, option_map, refl, ap, ◌∙◌, nat_eq, if◌then◌else◌}
 use Rattle.std.proofs.lemmas.Bool.{and_parts}
 use Rattle.mz_base.specs.declared.fault.Span.{Span}
 use Rattle.mz_core.specs.Types.{PlainType}
@@ -8,17 +8,36 @@ use Rattle.mz_core.specs.Tree as tree
 use Rattle.mz_meaning.specs.Runs.{Run, State, Answer, Out, Stopped, then_do, give}
 use Rattle.mz_meaning.specs.Cells.{Cell, Env, typed}
 use Rattle.mz_meaning.specs.Contexts.{Context}
-use Rattle.mz_meaning.specs.Chains.{Operator, Innermost, level_table, level_of, same_level, chained, before, right_in, operand_base}
+use Rattle.mz_operations.specs.Lines.{PlainLine, lines, line_at, row_of, level_of}
+use Rattle.mz_meaning.specs.Chains.{Operator, Innermost, same_level, chained, before, right_in, operand_base}
 use Rattle.mz_meaning.specs.Forms.{World, Eval, coerced_by, operated, operators, operand_place, chain, chain_by}
 use Rattle.mz_meaning.specs.Evaluation.{eval}
-use Rattle.mz_first_meaning.specs.Roots.{Rooted, Roots, one_root, begins_and, are_ands, is_conjunction, root_operators, root_chain, rooted, roots}
+use Rattle.mz_first_unbuilt.proofs.Lines.{HoldsOf, each_line}
+use Rattle.mz_first_meaning.specs.Roots.{Rooted, Roots, one_root, is_and_row, begins_and, are_ands, is_conjunction, root_operators, root_chain, rooted, roots}
 use Rattle.mz_first_meaning.proofs.Inner.{within_none}
 
 -- a conjunction is no `++`
+
+-- a line of `/\` has another level
+abbrev is_apart : PlainLine → Bool
+is_apart l = if is_and_row (Some l.row) then not (nat_eq 12 l.level) else true
+
+apart : (a b : Bool) → a ≡ true → (if a then not b else true) ≡ true → b ≡ false
+apart true true h p = absurd (cc)
+apart true false h p = refl
+apart false b h p = absurd (cc)
+
+no_append_row : (n : ℕ) → is_and_row (row_of n) ≡ true → nat_eq 12 (level_of n) ≡ false
+unfolding lines
+no_append_row n h = go (line_at n) (each_line is_apart refl n) h
+  where
+    go : (o : Option PlainLine) → HoldsOf is_apart o → is_and_row (option_map (λ l. l.row) o) ≡ true → nat_eq 12 (unwrap_or (option_map (λ l. l.level) o) 0) ≡ false
+    go None p e = absurd (cc)
+    go (Some l) p e = apart (is_and_row (Some l.row)) (nat_eq 12 l.level) e p
+
 no_append : (ss : List Step) → begins_and ss ≡ true → same_level 12 ss ≡ false
-unfolding level_table
 no_append [] h = refl
-no_append (s ∷ ss) h = ap (λ r. nat_eq 12 (level_of r)) (eqb-true s.row 5 h)
+no_append (s ∷ ss) h = no_append_row s.row h
 
 -- a run of cells is a run with roots, of which the cells are kept
 abbrev IsCellOf : Run Cell → Run Rooted → State → Type 0

@@ -17,9 +17,9 @@ use Rattle.mz_operations.specs.Bounds.{bound_of, bounds_of, is_settled}
 use Rattle.mz_operations.specs.RowBounds.{bounds_at, ends_at, scalar_bounds}
 use Rattle.mz_meaning.specs.Runs.{Answer, Out, then_do, give, start}
 use Rattle.mz_meaning.specs.Cells.{Cell, Mode, Bare, Given, undefined, par_value}
-use Rattle.mz_meaning.specs.Operations.{row_table}
+use Rattle.mz_operations.specs.Lines.{lines, line_at, place_in}
 use Rattle.mz_meaning.specs.Contexts.{Positive}
-use Rattle.mz_meaning.specs.Chains.{level_table, innermost_in}
+use Rattle.mz_meaning.specs.Chains.{innermost_in}
 use Rattle.mz_meaning.specs.Evaluation.{eval}
 use Rattle.mz_meaning.specs.Unbounded.{unbounded_in, in_form, in_maybe, in_trees, in_maybes, in_steps, in_items, first_unbounded}
 use Rattle.mz_meaning.specs.Walk.{Limits}
@@ -90,9 +90,9 @@ record PostsRoots : Type 0 where
   coerced : bare (to_opt (bin 25 bool (lit 25 false) op.both (lit 34 false)) ∷ []) ≡ by_work 8 0 (Whole (no ∷ []) no ∷ [])
 
 posts_are : Posts
-unfolding eval roots row_table level_table innermost_in scalar_value made_value bounding_value equality is_bounded is_fixable as_int as_set as_ordinal as_element as_pair at int_at ordinal_at element_at enum_at pair ordered computed end_of up_to is_mismatched negative is_failed limited scalar_counts made_counts counts_from cost bound_of bounds_of is_settled bounds_at ends_at scalar_bounds first_unbounded unbounded_in in_form in_maybe in_trees in_maybes in_steps in_items
+unfolding eval roots lines line_at place_in innermost_in scalar_value made_value bounding_value equality is_bounded is_fixable as_int as_set as_ordinal as_element as_pair at int_at ordinal_at element_at enum_at pair ordered computed end_of up_to is_mismatched negative is_failed limited scalar_counts made_counts counts_from cost bound_of bounds_of is_settled bounds_at ends_at scalar_bounds first_unbounded unbounded_in in_form in_maybe in_trees in_maybes in_steps in_items
 posts_are = record { without_values = refl; with_values = refl; undefined_operand = refl; several = refl }
 
 roots_are : PostsRoots
-unfolding eval roots row_table level_table innermost_in scalar_value bool_at as_bool connected bounding_value is_bounded is_fixable as_int as_set as_ordinal as_element as_pair at int_at ordinal_at element_at enum_at pair ordered computed end_of up_to is_mismatched negative is_failed limited scalar_counts made_counts counts_from cost bound_of bounds_of is_settled bounds_at ends_at scalar_bounds made_value equality first_unbounded unbounded_in in_form in_maybe in_trees in_maybes in_steps in_items
+unfolding eval roots lines line_at place_in innermost_in scalar_value bool_at as_bool connected bounding_value is_bounded is_fixable as_int as_set as_ordinal as_element as_pair at int_at ordinal_at element_at enum_at pair ordered computed end_of up_to is_mismatched negative is_failed limited scalar_counts made_counts counts_from cost bound_of bounds_of is_settled bounds_at ends_at scalar_bounds made_value equality first_unbounded unbounded_in in_form in_maybe in_trees in_maybes in_steps in_items
 roots_are = record { two = refl; true_ones = refl; nested = refl; in_a_row = refl; other_operator = refl; in_a_choice = refl; without_a_type = refl; coerced = refl }

@@ -1,5 +1,5 @@
 -- ROOTS: each operand of a written conjunction is a root of its own, and so are the operands of an operand that is one. Any other expression has one root, itself.
-use Rattle.std.specs.Prelude.{ℕ, zero, suc, Bool, true, false, not, ◌&&◌, List, [], ◌∷◌, ◌++◌, nat_eq, Option, Some, None, if◌then◌else◌}
+use Rattle.std.specs.Prelude.{ℕ, zero, suc, Bool, true, false, not, ◌&&◌, List, [], ◌∷◌, ◌++◌, Option, Some, None, if◌then◌else◌}
 use Rattle.std.specs.List.{list_all}
 use Rattle.mz_base.specs.declared.fault.Span.{Span}
 use Rattle.mz_core.specs.declared.types.Coercion.{Coercion}
@@ -7,6 +7,11 @@ use Rattle.mz_core.specs.declared.types.Coercion.TheVariants as coercion
 use Rattle.mz_core.specs.Coercions.{PathLink}
 use Rattle.mz_core.specs.Types.{PlainType}
 use Rattle.mz_core.specs.Tree.{Tree, Step, node, chain, all_steps, type_of, place_of, inner_tree, root_coercions}
+use Rattle.mz_operations.specs.declared.row.Row.{Row}
+use Rattle.mz_operations.specs.declared.row.Row.TheVariants.{Scalar}
+use Rattle.mz_operations.specs.declared.row.ScalarRow.TheVariants.{Logic}
+use Rattle.mz_operations.specs.declared.row.Connective.TheVariants.{And}
+use Rattle.mz_operations.specs.Lines.{row_of}
 use Rattle.mz_meaning.specs.Runs.{Run, ◌>>=◌, give}
 use Rattle.mz_meaning.specs.Cells.{Cell, Env, is_truth, typed}
 use Rattle.mz_meaning.specs.Contexts.{Context}
@@ -35,9 +40,14 @@ are_from_bottom ls = list_all (λ l. is_from_bottom l.0) ls
 abbrev pub is_operand : Tree → Bool
 is_operand e = not (type_of (inner_tree e)).var && no_links (root_coercions e)
 
--- `/\` of par operands that are Booleans or have no type of their own; its row is 5
+-- the row of `/\`
+abbrev pub is_and_row : Option Row → Bool
+is_and_row (Some (Scalar (Logic And))) = true
+is_and_row o = false
+
+-- `/\` of par operands that are Booleans or have no type of their own
 abbrev pub is_and : Step → Bool
-is_and s = (nat_eq s.row 5 && is_par_truth s.ty) && ((are_from_bottom s.left && are_from_bottom s.right) && is_operand s.operand)
+is_and s = (is_and_row (row_of s.row) && is_par_truth s.ty) && ((are_from_bottom s.left && are_from_bottom s.right) && is_operand s.operand)
 
 abbrev pub are_ands : PlainType → Innermost → Bool
 are_ands t f = (is_par_truth t && is_operand f.first) && list_all (λ o. is_and o.step) f.operators
@@ -45,7 +55,7 @@ are_ands t f = (is_par_truth t && is_operand f.first) && list_all (λ o. is_and 
 -- the first operator of a node
 abbrev pub begins_and : List Step → Bool
 begins_and [] = false
-begins_and (s ∷ ss) = nat_eq s.row 5
+begins_and (s ∷ ss) = is_and_row (row_of s.row)
 
 abbrev pub is_conjunction : PlainType → List Step → Innermost → Bool
 is_conjunction t ss f = begins_and ss && are_ands t f

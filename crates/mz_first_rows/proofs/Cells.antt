@@ -25,7 +25,7 @@ use Rattle.mz_meaning.specs.Contexts.{Context, within_links}
 use Rattle.mz_meaning.specs.Evaluation.{eval}
 use Rattle.mz_meaning.specs.Forms.{World, coerced_by, operated, operated_by}
 use Rattle.mz_meaning.specs.Operations as rows
-use Rattle.mz_meaning.specs.Operations.{row_table, row_at, row_cost, row_cell, reads_bounds}
+use Rattle.mz_meaning.specs.Operations.{row_at, row_cost, row_cell, reads_bounds}
 use Rattle.mz_meaning.specs.Walk.{Assignment}
 use Rattle.mz_meaning.proofs.Typing.{cells_have_their_mark}
 use Rattle.mz_first_unbuilt.specs.Variables.{Named, is_int, is_integer, is_built_variable}
@@ -34,7 +34,9 @@ use Rattle.mz_first_meaning.specs.Posted.{Pair, operand, compare}
 use Rattle.mz_first_meaning.proofs.Inner.{inner_twice, no_coercions}
 use Rattle.mz_first_rows.proofs.Runs.{Gives, after, from, given, weaker}
 use Rattle.mz_first_rows.proofs.Names.{IsVarCell, int_is}
-use Rattle.mz_first_rows.proofs.Sides.{by_comparison, value_by, tells}
+use Rattle.mz_first_rows.specs.declared.relation.Relation.{Relation}
+use Rattle.mz_first_rows.specs.Relations.{relation_at}
+use Rattle.mz_first_rows.proofs.Sides.{row_for, operation_is, by_relation, value_by, tells}
 
 held_given : (m : Mode) (g : ℕ → Content) (v : Option Content) → m ≡ Given g → held m v ≡ v
 held_given m g v h = ap (λ m. held m v) h
@@ -161,11 +163,14 @@ row_gives w g at t r cs m h k =
     var_gives : Gives (λ c. value_of c ≡ option_map (recast t.base) (value w.cases (Scalar r) (map value_of cs))) (rows.var_row w.mode w.cases (Scalar r) t at cs)
     var_gives = after (rows.tested (Scalar r) at (map rows.known cs)) (λ u. after (rows.limited at (unwrap_or (row_bounds (Scalar r) (rows.argument_bounds (Scalar r) cs)) (no_bounds t))) (λ b. given (held_given w.mode g (option_map (recast t.base) (value w.cases (Scalar r) (map value_of cs))) m)))
 
+relation_gives : (w : World) (g : ℕ → Content) (at : Span) (t : PlainType) (k : Relation) (l r : Cell) → w.mode ≡ Given g → all_par (l ∷ r ∷ []) ≡ false → Gives (λ c. value_of c ≡ option_map (recast t.base) (value w.cases (row_for k) (value_of l ∷ value_of r ∷ []))) (operated_by w at t (l ∷ r ∷ []) (Some (row_for k)))
+relation_gives w g at t k l r m h =
+    by_relation (λ k. Gives (λ c. value_of c ≡ option_map (recast t.base) (value w.cases (row_for k) (value_of l ∷ value_of r ∷ []))) (operated_by w at t (l ∷ r ∷ []) (Some (row_for k))))
+    (row_gives w g at t _ (l ∷ r ∷ []) m refl h) (row_gives w g at t _ (l ∷ r ∷ []) m refl h) (row_gives w g at t _ (l ∷ r ∷ []) m refl h) (row_gives w g at t _ (l ∷ r ∷ []) m refl h) (row_gives w g at t _ (l ∷ r ∷ []) m refl h) (row_gives w g at t _ (l ∷ r ∷ []) m refl h) k
+
 comparison_gives : (w : World) (g : ℕ → Content) (at : Span) (t : PlainType) (n : ℕ) (l r : Cell) → w.mode ≡ Given g → all_par (l ∷ r ∷ []) ≡ false → is_comparison n ≡ true → Gives (λ c. value_of c ≡ option_map (recast t.base) (value_by w.cases (row_at n base.Int) (value_of l) (value_of r))) (operated_by w at t (l ∷ r ∷ []) (row_at n base.Int))
-unfolding row_table
 comparison_gives w g at t n l r m k h =
-    by_comparison (λ n. Gives (λ c. value_of c ≡ option_map (recast t.base) (value_by w.cases (row_at n base.Int) (value_of l) (value_of r))) (operated_by w at t (l ∷ r ∷ []) (row_at n base.Int)))
-    (row_gives w g at t _ (l ∷ r ∷ []) m refl k) (row_gives w g at t _ (l ∷ r ∷ []) m refl k) (row_gives w g at t _ (l ∷ r ∷ []) m refl k) (row_gives w g at t _ (l ∷ r ∷ []) m refl k) (row_gives w g at t _ (l ∷ r ∷ []) m refl k) (row_gives w g at t _ (l ∷ r ∷ []) m refl k) n h
+    subst (λ q. Gives (λ c. value_of c ≡ option_map (recast t.base) (value_by w.cases q (value_of l) (value_of r))) (operated_by w at t (l ∷ r ∷ []) q)) (sym (operation_is n h)) (relation_gives w g at t (relation_at n) l r m k)
 
 -- the type of a var Boolean changes nothing of what is true
 undefined_true : (t : PlainType) (b : Bool) (k : ℕ) → is_true (value_of (if b then Var (no_bounds t) None else Unshaped k)) ≡ false

@@ -34,6 +34,7 @@ use Rattle.mz_first_unbuilt.specs.Variables.{Named, is_integer, is_built_variabl
 use Rattle.mz_first_unbuilt.specs.Comparisons.{stays_par, is_par_constraint, is_par_integer, is_name_of, is_name, is_operand, all_keep, is_compared, is_constraint_built}
 use Rattle.mz_first_meaning.specs.Posted.{Posted, Whole, Pair, posted_cell, post_comparison, post_by, post_next}
 use Rattle.mz_first_meaning.specs.Ends.{outline_posted}
+use Rattle.mz_first_rows.specs.Relations.{relation_at}
 use Rattle.mz_first_rows.specs.Emission.{has_variable, place_in, number_side, name_side, side, side_rows, root_rows, rows_of, all_rows}
 use Rattle.mz_first_rows.proofs.Runs.{Gives, from, given, weaker}
 use Rattle.mz_first_rows.proofs.Names.{is_slot}
@@ -176,7 +177,7 @@ pair_same : (names : ℕ → Named) (xs : List Declared) (a : Assignment) (f : V
 pair_same names xs a f g cases z (Pair x y c) (tree.node at t (tree.chain d (tree.a_step r u l k e tree.no_steps))) h p =
     let o = compared_is names t d (a_step_of r u l k e) h in
     let place = ⊎_elim (λ n. or_left (is_place (side xs d (outline x))) (is_place (side xs e (outline y))) (name_place names xs d (outline x) n)) (λ n. or_right (is_place (side xs d (outline x))) (is_place (side xs e (outline y))) (name_place names xs e (outline y) n)) (or_cases (is_name names d) (is_name names e) o.name) in
-    subst (AreSame f (side_rows r (side xs d (outline x)) (side xs e (outline y)))) (sym p.told)
+    subst (AreSame f (side_rows (relation_at r) (side xs d (outline x)) (side xs e (outline y)))) (sym p.told)
     (sides_same f z.limit cases r (side xs d (outline x)) (side xs e (outline y)) (value_of x) (value_of y) o.row place (side_shows names xs a f g z d x o.first p.first) (side_shows names xs a f g z e y o.second p.second))
 pair_same names xs a f g cases z q e h p = absurd p
 

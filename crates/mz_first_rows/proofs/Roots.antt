@@ -1,5 +1,5 @@
 -- What the roots of a par constraint are: their cells are par, and the constraint is true exactly where all of them are.
-use Rattle.std.proofs.Common.{◌≡◌, ℕ, zero, suc, ◌+◌, Bool, true, false, not, ◌&&◌, List, [], ◌∷◌, ◌++◌, Option, Some, None, option_map, refl, sym, ap, ◌∙◌, subst, nat_eq, eqb-true, if◌then◌else◌}
+use Rattle.std.proofs.Common.{◌≡◌, ℕ, zero, suc, ◌+◌, Bool, true, false, not, ◌&&◌, List, [], ◌∷◌, ◌++◌, Option, Some, None, option_map, refl, sym, ap, ◌∙◌, subst, if◌then◌else◌}
 use Rattle.std.specs.List.{list_all}
 use Rattle.std.proofs.lemmas.Bool.{and_parts, not-true}
 use Rattle.mz_base.specs.declared.fault.Span.{Span}
@@ -20,6 +20,7 @@ use Rattle.mz_operations.specs.Numbers.{connected}
 use Rattle.mz_operations.specs.Values.{scalar_value}
 use Rattle.mz_operations.specs.Views.{as_bool}
 use Rattle.mz_operations.specs.declared.row.Connective.TheVariants.{And}
+use Rattle.mz_operations.specs.declared.row.Row.{Row as Operation}
 use Rattle.mz_operations.specs.declared.row.Row.TheVariants.{Scalar}
 use Rattle.mz_operations.specs.declared.row.ScalarRow.TheVariants.{Logic}
 use Rattle.mz_meaning.specs.Runs.{Run, then_do, give, spend}
@@ -29,13 +30,14 @@ use Rattle.mz_meaning.specs.Coerced.{recast}
 use Rattle.mz_meaning.specs.Contexts.{Context}
 use Rattle.mz_meaning.specs.Evaluation.{eval}
 use Rattle.mz_meaning.specs.Forms.{World, coerced_once, coerced_by, operated, operated_by, operand_place}
-use Rattle.mz_meaning.specs.Operations.{row_table, row_at, row_cost, row_cell}
+use Rattle.mz_operations.specs.Lines.{row_of}
+use Rattle.mz_meaning.specs.Operations.{of_sets, row_at, row_cost, row_cell}
 use Rattle.mz_meaning.specs.Solutions.{Each}
 use Rattle.mz_meaning.proofs.Typing.{cells_have_their_mark}
 use Rattle.fz_program.specs.Values.{Values}
 use Rattle.fz_program.specs.Flat.{Row, RowHolds}
 use Rattle.mz_meaning_laws.specs.Outlines.{outlines}
-use Rattle.mz_first_meaning.specs.Roots.{Rooted, Roots, one_root, is_par_truth, no_links, is_from_bottom, are_from_bottom, is_operand, is_and, are_ands, begins_and, is_conjunction, conjunction, root_operators, root_chain, rooted, roots}
+use Rattle.mz_first_meaning.specs.Roots.{Rooted, Roots, one_root, is_par_truth, no_links, is_from_bottom, are_from_bottom, is_operand, is_and_row, is_and, are_ands, begins_and, is_conjunction, conjunction, root_operators, root_chain, rooted, roots}
 use Rattle.mz_first_rows.specs.Emission.{truth_rows, root_rows}
 use Rattle.mz_first_rows.proofs.Runs.{Gives, after, from, given}
 use Rattle.mz_first_rows.proofs.Domains.{all_left, all_right, all_both}
@@ -46,13 +48,16 @@ use Rattle.mz_first_rows.proofs.Sides.{AreSame, truth_same}
 abbrev holds : Cell → Bool
 holds c = is_true (value_of c)
 
-row_and : (b : Base) → row_at 5 b ≡ Some (Scalar (Logic And))
-unfolding row_table
-row_and b = go (is_set b)
-  where
-    go : (s : Bool) → Some (if s then Scalar (Logic And) else Scalar (Logic And)) ≡ Some (Scalar (Logic And))
-    go true = refl
-    go false = refl
+and_alone : (s : Bool) → Some (if s then Scalar (Logic And) else Scalar (Logic And)) ≡ Some (Scalar (Logic And))
+and_alone true = refl
+and_alone false = refl
+
+and_by : (o : Option Operation) (s : Bool) → is_and_row o ≡ true → option_map (λ r. if s then of_sets r else r) o ≡ Some (Scalar (Logic And))
+and_by (Some (Scalar (Logic And))) s h = and_alone s
+and_by o s h = absurd (cc)
+
+row_and : (n : ℕ) (b : Base) → is_and_row (row_of n) ≡ true → row_at n b ≡ Some (Scalar (Logic And))
+row_and n b h = and_by (row_of n) (is_set b) h
 
 -- a par cell with the truth value of two others
 record IsBoth (l r c : Cell) : Type 0 where
@@ -120,12 +125,11 @@ par_truth t h =
     record { var = not-true t.var o.0; base = bool_is t.base (and_parts (is_bool t.base) (no_dims t.dims) i.1).0 }
 
 -- an operator's node
-node_gives : (w : World) (place : Span) (t : PlainType) (n : ℕ) (b : Base) (l r : Cell) → nat_eq n 5 ≡ true → is_par_truth t ≡ true → is_par l ≡ true → is_par r ≡ true → Gives (IsBoth l r) (operated w place t n b (l ∷ r ∷ []))
+node_gives : (w : World) (place : Span) (t : PlainType) (n : ℕ) (b : Base) (l r : Cell) → is_and_row (row_of n) ≡ true → is_par_truth t ≡ true → is_par l ≡ true → is_par r ≡ true → Gives (IsBoth l r) (operated w place t n b (l ∷ r ∷ []))
 node_gives w place t n b l r e p h k =
     let o = par_truth t p in
-    subst (λ n. Gives (IsBoth l r) (operated w place t n b (l ∷ r ∷ []))) (sym (eqb-true n 5 e))
-    (from {P = IsBoth l r} (subst (λ q. Gives (IsBoth l r) (operated_by w place t (l ∷ r ∷ []) q)) (sym (row_and b)) (after (spend w.budget place (1 + row_cost (Scalar (Logic And)) (l ∷ r ∷ []))) (λ u. cells_gives w t place l r h k o.base)))
-    (λ c i. given (record { par = typed_par w.mode t c o.var i.par; told = typed_holds w.mode t c o.var i.par ∙ i.told })))
+    from {P = IsBoth l r} (subst (λ q. Gives (IsBoth l r) (operated_by w place t (l ∷ r ∷ []) q)) (sym (row_and n b e)) (after (spend w.budget place (1 + row_cost (Scalar (Logic And)) (l ∷ r ∷ []))) (λ u. cells_gives w t place l r h k o.base)))
+    (λ c i. given (record { par = typed_par w.mode t c o.var i.par; told = typed_holds w.mode t c o.var i.par ∙ i.told }))
 
 -- ---- roots
 
@@ -183,8 +187,8 @@ record GivesRoots (w : World) (go : Roots) : Type 0 where
 
 step_gives : (w : World) (go : Roots) → GivesRoots w go → (ctx : Context) (env : Env) (place : Span) (left : Rooted) (o : Operator) (os : List Operator) → is_and o.step ≡ true → IsRooted left → ((next : Rooted) → IsRooted next → Gives IsRooted (root_operators w go ctx env o.at next os)) → Gives IsRooted (root_operators w go ctx env place left (o ∷ os))
 step_gives w go g ctx env place left o os h i rest =
-    let p = and_parts (nat_eq o.step.row 5 && is_par_truth o.step.ty) ((are_from_bottom o.step.left && are_from_bottom o.step.right) && is_operand o.step.operand) h in
-    let q = and_parts (nat_eq o.step.row 5) (is_par_truth o.step.ty) p.0 in
+    let p = and_parts (is_and_row (row_of o.step.row) && is_par_truth o.step.ty) ((are_from_bottom o.step.left && are_from_bottom o.step.right) && is_operand o.step.operand) h in
+    let q = and_parts (is_and_row (row_of o.step.row)) (is_par_truth o.step.ty) p.0 in
     let k = and_parts (are_from_bottom o.step.left && are_from_bottom o.step.right) (is_operand o.step.operand) p.1 in
     let links = and_parts (are_from_bottom o.step.left) (are_from_bottom o.step.right) k.0 in
     from {P = λ a. a ≡ left.cell} (stays w place o.step.left left.cell links.0) (λ a s.

@@ -1,7 +1,6 @@
 -- THE PROGRAM THAT IS WRITTEN: the variables in the order of evaluation; a false row for each empty domain; and then the rows of the constraints in source order.
-use Rattle.std.specs.Prelude.{ℕ, suc, ℤ, pos, Bool, true, false, not, List, [], ◌∷◌, ◌++◌, Option, Some, None, nat_eq, int_lt, int_le, if◌then◌else◌}
+use Rattle.std.specs.Prelude.{ℕ, suc, ℤ, pos, Bool, true, false, List, [], ◌∷◌, ◌++◌, Option, Some, None, nat_eq, if◌then◌else◌}
 use Rattle.std.specs.List.{flat_map}
-use Rattle.std.specs.Ordering.{int_eq}
 use Rattle.mz_base.specs.Names.{text_of}
 use Rattle.mz_value.specs.Ranges.{Range}
 use Rattle.mz_value.specs.Contents.{Content}
@@ -25,6 +24,9 @@ use Rattle.fz_program.specs.declared.row_name.RowName.TheVariants.{IntEq, IntNe,
 use Rattle.fz_program.specs.Flat.{Variable, Row, Program, is_literal}
 use Rattle.mz_first_unbuilt.specs.Comparisons.{is_par_integer}
 use Rattle.mz_first_meaning.specs.Posted.{Posted, Whole, Pair, Posting, post}
+use Rattle.mz_first_rows.specs.declared.relation.Relation.{Relation}
+use Rattle.mz_first_rows.specs.declared.relation.Relation.TheVariants as relation
+use Rattle.mz_first_rows.specs.Relations.{relation_at, is_unequal, holds}
 
 -- ---- variables
 
@@ -98,41 +100,31 @@ side xs e c = if is_par_integer e then number_side (value_of c) else name_side x
 abbrev pub two : RowName → Plain → Plain → Row
 two r a b = record { name = r; args = one a ∷ one b ∷ []; defines = None }
 
--- a comparison by the number of its row: `>` and `>=` are turned round
-abbrev pub int_row : ℕ → Plain → Plain → Row
-int_row r a b =
-    if nat_eq r 7 then two IntEq a b
-    else (if nat_eq r 8 then two IntNe a b
-    else (if nat_eq r 9 then two IntLt a b
-    else (if nat_eq r 10 then two IntLe a b
-    else (if nat_eq r 11 then two IntLt b a
-    else two IntLe b a))))
-
-abbrev pub holds : ℕ → ℤ → ℤ → Bool
-holds r m n =
-    if nat_eq r 7 then int_eq m n
-    else (if nat_eq r 8 then not (int_eq m n)
-    else (if nat_eq r 9 then int_lt m n
-    else (if nat_eq r 10 then int_le m n
-    else (if nat_eq r 11 then int_lt n m
-    else int_le n m))))
+-- a comparison: `>` and `>=` are turned round
+abbrev pub int_row : Relation → Plain → Plain → Row
+int_row relation.Equal a b = two IntEq a b
+int_row relation.Unequal a b = two IntNe a b
+int_row relation.Less a b = two IntLt a b
+int_row relation.AtMost a b = two IntLe a b
+int_row relation.Greater a b = two IntLt b a
+int_row relation.AtLeast a b = two IntLe b a
 
 -- An undefined operand makes the comparison false, and an absent one every other than `!=`. A number that no program may write, which evaluation doesn't give, lies on one side of all values of a variable, 0 among them.
-abbrev pub side_rows : ℕ → Side → Side → List Row
+abbrev pub side_rows : Relation → Side → Side → List Row
 side_rows r Nothing b = never ∷ []
-side_rows r Absent (Place k) = truth_rows (nat_eq r 8)
+side_rows r Absent (Place k) = truth_rows (is_unequal r)
 side_rows r Absent b = never ∷ []
 side_rows r (Number m) Nothing = never ∷ []
 side_rows r (Number m) Absent = never ∷ []
 side_rows r (Place j) Nothing = never ∷ []
-side_rows r (Place j) Absent = truth_rows (nat_eq r 8)
+side_rows r (Place j) Absent = truth_rows (is_unequal r)
 side_rows r (Number m) (Number n) = truth_rows (holds r m n)
 side_rows r (Number m) (Place k) = if is_literal m then int_row r (int m) (var k) ∷ [] else truth_rows (holds r m (pos 0))
 side_rows r (Place j) (Number n) = if is_literal n then int_row r (var j) (int n) ∷ [] else truth_rows (holds r (pos 0) n)
 side_rows r (Place j) (Place k) = int_row r (var j) (var k) ∷ []
 
 abbrev pub pair_rows : List Declared → Tree → Cell → Cell → List Row
-pair_rows xs (node at t (chain a (a_step r u l m b no_steps))) x y = side_rows r (side xs a x) (side xs b y)
+pair_rows xs (node at t (chain a (a_step r u l m b no_steps))) x y = side_rows (relation_at r) (side xs a x) (side xs b y)
 pair_rows xs e x y = never ∷ []
 
 -- a false row for each root that isn't true

@@ -1,3 +1,4 @@
+pub mod Relations
 pub mod Emission
 pub mod Headline
 mod Examples

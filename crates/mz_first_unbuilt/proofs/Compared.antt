@@ -18,7 +18,8 @@ use Rattle.mz_core.specs.TreeViews.{tree, step, form_layer, inner_in}
 use Rattle.mz_core.specs.Paths.{path_links}
 use Rattle.mz_core.proofs.TreeLaws.{layer_tree, type_of_tree, inner_tree_is}
 use Rattle.mz_meaning.specs.Coerced.{coerced_type}
-use Rattle.mz_meaning.specs.Chains.{innermost_of, level_of, operand_base, a_step_of}
+use Rattle.mz_operations.specs.Lines.{level_of}
+use Rattle.mz_meaning.specs.Chains.{innermost_of, operand_base, a_step_of}
 use Rattle.mz_first_unbuilt.specs.Variables.{Named, is_int}
 use Rattle.mz_first_unbuilt.specs.Comparisons.{keeps, all_keep, stays_par, is_par_constraint, is_par_integer, is_name, is_name_of, is_operand, is_comparison, is_var_truth, is_step, are_operands, is_compared}
 use Rattle.mz_first_unbuilt.specs.StepsComparisons as steps

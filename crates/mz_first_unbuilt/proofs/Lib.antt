@@ -4,6 +4,6 @@ pub mod Items
 pub mod Laws
 pub mod Layers
 pub mod Levels
-pub mod Rows
+pub mod Lines
 pub mod Tables
 pub mod Walking

@@ -1,11 +1,12 @@
 -- WHICH CONSTRAINTS ARE BUILT: par ones, and comparisons whose operands, coercions aside, are par integers or names of variables.
-use Rattle.std.specs.Prelude.{ℕ, Bool, true, false, not, ◌&&◌, ◌||◌, List, [], ◌∷◌, is_none, nat_le}
+use Rattle.std.specs.Prelude.{ℕ, Bool, true, false, not, ◌&&◌, ◌||◌, List, [], ◌∷◌, is_none, nat_eq}
 use Rattle.std.specs.List.{list_all}
 use Rattle.mz_core.specs.declared.types.Coercion.{Coercion}
 use Rattle.mz_core.specs.declared.types.Coercion.TheVariants as coercion
 use Rattle.mz_core.specs.Coercions.{PathLink}
 use Rattle.mz_core.specs.Types.{PlainType}
 use Rattle.mz_core.specs.Tree.{Tree, Shape, Step, node, chain, a_step, no_steps, slot, type_of, shape_of, inner_tree, root_coercions}
+use Rattle.mz_operations.specs.Lines.{level_of}
 use Rattle.mz_meaning.specs.Cells.{is_truth}
 use Rattle.mz_meaning.specs.Chains.{innermost_of, chain_level, operand_base, a_step_of}
 use Rattle.mz_first_unbuilt.specs.Variables.{Named, is_int, is_integer, is_built_variable}
@@ -42,9 +43,9 @@ is_name names e = is_name_of names (type_of (inner_tree e)) (shape_of (inner_tre
 abbrev pub is_operand : (ℕ → Named) → Tree → Bool
 is_operand names e = all_keep (root_coercions e) && (is_par_integer e || is_name names e)
 
--- ---- the rows `=`, `!=`, `<`, `<=`, `>` and `>=`, by their numbers
+-- ---- the rows `=`, `!=`, `<`, `<=`, `>` and `>=`: the operators of their level
 abbrev pub is_comparison : ℕ → Bool
-is_comparison n = nat_le 7 n && nat_le n 12
+is_comparison n = nat_eq 5 (level_of n)
 
 abbrev pub is_var_truth : PlainType → Bool
 is_var_truth t = t.var && is_truth t

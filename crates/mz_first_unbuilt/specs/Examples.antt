@@ -1,5 +1,5 @@
 -- Worked examples: the first place of what isn't built. A place is a column of the one line of the example's text, a name is its slot, and the names of the slots are x, y, n.
-use Rattle.std.specs.Prelude.{◌≡◌, refl, ℕ, pos, true, false, List, [], ◌∷◌, Option, Some, None, codes}
+use Rattle.std.specs.Prelude.{◌≡◌, refl, ℕ, pos, true, false, List, [], ◌∷◌, length, Option, Some, None, codes}
 use Rattle.mz_base.specs.declared.fault.Span.{Span}
 use Rattle.mz_base.specs.Words.{is_keyword}
 use Rattle.mz_core.specs.declared.types.Base.TheVariants as base
@@ -8,8 +8,8 @@ use Rattle.mz_core.specs.Types.{PlainType}
 use Rattle.mz_core.specs.Program.{Function, PlainProgram, Goal, satisfy, minimize}
 use Rattle.mz_core.specs.Tree.{Tree, Decl, declares}
 use Rattle.mz_core.specs.Tree as tree
-use Rattle.mz_meaning.specs.Operations.{row_table}
-use Rattle.mz_meaning.specs.Chains.{level_table, innermost_of}
+use Rattle.mz_operations.specs.Lines.{lines, line_at, place_in}
+use Rattle.mz_meaning.specs.Chains.{innermost_of}
 use Rattle.mz_meaning.specs.RowNumbers as op
 use Rattle.mz_meaning.specs.Written.{col, scalar, int, var_int, bool, var_bool, opt_int, var_opt_int, ints, var_ints, list_of, num, lit, slot, fun, call, chain, bin, choose, let_in, range, plain, within, decl, function, by_zero}
 use Rattle.mz_first_unbuilt.specs.Places.{first_place}
@@ -76,7 +76,7 @@ pub record Constraints : Type 0 where
   pub earlier_one : first_of (with_x (bin 25 var_bool (above 25) op.both (above 34) ∷ lit 50 true ∷ bin 60 var_bool (above 60) op.both (above 70) ∷ [])) ≡ at 25
 
 pub constraints : Constraints
-unfolding first_place places_in named_in unbuilt_in is_keyword row_table level_table innermost_of
+unfolding first_place places_in named_in unbuilt_in is_keyword lines line_at place_in innermost_of
 constraints = record { above_three = refl; unlike_itself = refl; undefined = refl; par = refl; conjunction = refl; coerced_bool = refl; optional = refl; with_case = refl; chosen = refl; predicate = refl; test = refl; bound = refl; earlier_one = refl }
 
 abbrev declared : Decl → PlainProgram
@@ -99,7 +99,7 @@ pub record Declarations : Type 0 where
   pub named : first_of (whole [] (x ∷ decl 20 2 (plain int) (Some (fun 24 int 71 (x_at 27 ∷ []))) ∷ []) (0 ∷ 1 ∷ []) [] satisfy []) ≡ at 27
 
 pub declarations : Declarations
-unfolding first_place places_in named_in unbuilt_in is_keyword row_table level_table innermost_of
+unfolding first_place places_in named_in unbuilt_in is_keyword lines line_at place_in innermost_of
 declarations = record { any_int = refl; of_none = refl; constant = refl; with_value = refl; of_enum = refl; option = refl; array = refl; set = refl; named = refl }
 
 -- functions that nothing calls, objectives and output items
@@ -113,6 +113,10 @@ with_output e = whole [] (x ∷ []) (0 ∷ []) [] satisfy (e ∷ [])
 abbrev local : Tree
 local = let_in 40 var_int (declares (decl 57 5 (within var_int (range 50 (pos 1) (pos 2))) None) ∷ []) (slot 64 var_int 5)
 
+-- the number of the first global, which no line has
+abbrev first_global : ℕ
+first_global = length lines
+
 pub record Others : Type 0 where
   -- solve minimize 3; solve minimize x
   pub minimized : first_of (whole [] (x ∷ []) (0 ∷ []) [] (minimize (num 30 (pos 3))) []) ≡ at 30
@@ -120,12 +124,12 @@ pub record Others : Type 0 where
   -- a function's body that names x, has a var local, or calls a global constraint
   pub body_name : first_of (with_function (x_at 41)) ≡ at 41
   pub body_local : first_of (with_function local) ≡ at 57
-  pub body_global : first_of (with_function (fun 43 var_bool 92 [])) ≡ at 43
+  pub body_global : first_of (with_function (fun 43 var_bool first_global [])) ≡ at 43
   -- in an output item the name may stand, and the others may not
   pub output_name : first_of (with_output (x_at 41)) ≡ None
   pub output_local : first_of (with_output local) ≡ at 57
-  pub output_global : first_of (with_output (fun 43 var_bool 92 [])) ≡ at 43
+  pub output_global : first_of (with_output (fun 43 var_bool first_global [])) ≡ at 43
 
 pub others : Others
-unfolding first_place places_in named_in unbuilt_in is_keyword row_table level_table innermost_of
+unfolding first_place places_in named_in unbuilt_in is_keyword lines line_at place_in innermost_of
 others = record { minimized = refl; minimized_name = refl; body_name = refl; body_local = refl; body_global = refl; output_name = refl; output_local = refl; output_global = refl }

@@ -1,5 +1,5 @@
 -- WHAT ISN'T BUILT YET IN A TYPED PROGRAM, by places: a declaration at its name; a constraint, and an objective, at its expression; a local variable at its name; a call of a global constraint at the call; and, outside output items, a name of a top-level variable that is no operand of a comparison.
-use Rattle.std.specs.Prelude.{ℕ, Bool, true, false, not, List, [], ◌∷◌, ◌++◌, Option, Some, None, is_none, slice_get, if◌then◌else◌}
+use Rattle.std.specs.Prelude.{ℕ, Bool, true, false, not, List, [], ◌∷◌, ◌++◌, Option, Some, None, is_none, if◌then◌else◌}
 use Rattle.std.specs.List.{flat_map}
 use Rattle.mz_base.specs.declared.fault.Span.{Span}
 use Rattle.mz_core.specs.Types.{PlainType}
@@ -7,7 +7,7 @@ use Rattle.mz_core.specs.Program.{Function, Goal, PlainProgram}
 use Rattle.mz_core.specs.Program as program
 use Rattle.mz_core.specs.Tree.{Tree, Shape, Trees, Maybe, Maybes, Rows, Branches, Steps, Gens, Items, Decl, DeclaredType, place_of}
 use Rattle.mz_core.specs.Tree as tree
-use Rattle.mz_meaning.specs.Operations.{row_table}
+use Rattle.mz_operations.specs.Lines.{row_of}
 use Rattle.mz_first_unbuilt.specs.Places.{first_place}
 use Rattle.mz_first_unbuilt.specs.Variables.{Named, is_any_variable, is_declaration_built, named_at}
 use Rattle.mz_first_unbuilt.specs.Comparisons.{is_par_constraint, is_compared, is_name}
@@ -18,7 +18,7 @@ at_if false at = []
 
 -- a row that is no built-in is a global constraint
 abbrev pub is_global : ℕ → Bool
-is_global n = is_none (slice_get row_table n)
+is_global n = is_none (row_of n)
 
 -- a local variable; and a par declaration of a let without a value, which typing refuses
 abbrev pub is_unbuilt_local : PlainType → Maybe → Bool

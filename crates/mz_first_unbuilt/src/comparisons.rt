@@ -16,11 +16,10 @@ ghost use Rattle.mz_first_unbuilt.specs.StepsComparisons.{inner_type, inner_laye
 use crate::slots::is_built;
 use crate::variables::{Naming, is_int, is_integer, is_var, is_var_integer};
 use mz_core::{Base, Coercion, Core, CoreForm, CoreStep, TypeInst};
+use mz_operations::level_of;
 
-// the comparisons are the rows of the table from `=` to `>=`
-const EQUAL: u32 = 7;
-
-const AT_LEAST: u32 = 12;
+/// The level of the comparisons, which has no other operators.
+const COMPARISONS: u64 = 5;
 
 fn keeps(c: Coercion) -> bool
     ensures { result ≡ keeps c }
@@ -154,7 +153,7 @@ fn is_operand(slots: &[Option<Naming>], e: &Core) -> bool
 fn is_comparison(row: u32) -> bool
     ensures { result ≡ is_comparison row }
 {
-    EQUAL <= row && row <= AT_LEAST
+    COMPARISONS == level_of(row)
 }
 
 fn is_bool(b: Base) -> bool

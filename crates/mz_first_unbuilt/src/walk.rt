@@ -17,16 +17,13 @@ use crate::slots::is_marked;
 use crate::variables::{Naming, is_var};
 use mz_base::Span;
 use mz_core::{Core, CoreDecl, CoreForm, CoreGen, CoreItem, CoreStep, CoreType, TypeInst};
-
-/// How many rows the table of operators and built-ins has; the global constraints follow.
-const BUILT_INS: u32 = 92;
+use mz_operations::row_of;
 
 // whether a row is a global constraint
-#[tactic(auto, using(crate::proofs::Rows::global_from))]
 fn is_global(row: u32) -> bool
     ensures { result ≡ is_global row }
 {
-    row >= BUILT_INS
+    row_of(row).is_none()
 }
 
 // whether a local declaration isn't built

@@ -15,8 +15,8 @@ use Rattle.mz_operations.specs.Bounds.{bound_of, bounds_of, is_settled, toward_e
 use Rattle.mz_operations.specs.RowBounds.{bounds_at, each, ends_at, upper_at, elements_at, all_ends_at, all_uppers_at, uppers_before, scalar_bounds, made_bounds, lower_of, upper_of, value_by_bounds}
 use Rattle.mz_meaning.specs.Runs.{Answer, Out}
 use Rattle.mz_meaning.specs.Cells.{Cell, Par, Unshaped, Bare, Env, bind, no_names}
-use Rattle.mz_meaning.specs.Operations.{row_table}
-use Rattle.mz_meaning.specs.Chains.{level_table, innermost_of, innermost_in, back_of, back_in, backed}
+use Rattle.mz_operations.specs.Lines.{lines, line_at, place_in}
+use Rattle.mz_meaning.specs.Chains.{innermost_of, innermost_in, back_of, back_in, backed}
 use Rattle.mz_meaning.specs.Evaluation.{eval}
 use Rattle.mz_meaning.specs.Written.{col, int, var_int, var_bool, ints, list_of, table_of, num, lit, slot, fun, call, bin, to_var, list, access, choose, let_in, range, plain, indexed, decl, param, function, i, b, set, fromto, row, between, var_number, var_row, run, result, gives, is, is_undefined, stops, given, by_zero}
 use Rattle.mz_base.specs.declared.kind.Kind.TheVariants as kind
@@ -73,7 +73,7 @@ record IndexSets : Type 0 where
   result_not_as_long : value (call 1 (list_of int) 1 (list 3 int (num 4 (pos 1) ∷ []) ∷ [])) ≡ stops kind.IndexMismatch 60 (pos 0)
 
 index_sets : IndexSets
-unfolding eval row_table level_table innermost_of innermost_in back_of back_in backed scalar_value made_value bounding_value equality is_bounded is_fixable as_bool as_int as_case as_set as_text as_items as_index as_row as_ordinal as_element as_pair as_option is_single enum_of at bool_at int_at case_at ordinal_at element_at option_at set_at enum_at text_at items_at row_at index_at pair connected ordered computed signed folded raised toward nearer quantified contains end_of up_to same_set fold_from summand instance place_count with_index shape_from is_mismatched negative is_failed limited scalar_counts made_counts bounding_counts counts_from cost bound_of bounds_of is_settled toward_ends arith_ends sign_ends extreme_from fold_ends folded_ends raised_ends index_tuples is_reached reached branch_bound branch_bounds if_bounds combined_upper bounds_at each ends_at upper_at elements_at all_ends_at all_uppers_at uppers_before scalar_bounds made_bounds lower_of upper_of value_by_bounds range_elements
+unfolding eval lines line_at place_in innermost_of innermost_in back_of back_in backed scalar_value made_value bounding_value equality is_bounded is_fixable as_bool as_int as_case as_set as_text as_items as_index as_row as_ordinal as_element as_pair as_option is_single enum_of at bool_at int_at case_at ordinal_at element_at option_at set_at enum_at text_at items_at row_at index_at pair connected ordered computed signed folded raised toward nearer quantified contains end_of up_to same_set fold_from summand instance place_count with_index shape_from is_mismatched negative is_failed limited scalar_counts made_counts bounding_counts counts_from cost bound_of bounds_of is_settled toward_ends arith_ends sign_ends extreme_from fold_ends folded_ends raised_ends index_tuples is_reached reached branch_bound branch_bounds if_bounds combined_upper bounds_at each ends_at upper_at elements_at all_ends_at all_uppers_at uppers_before scalar_bounds made_bounds lower_of upper_of value_by_bounds range_elements
 index_sets = record { taken = refl; own = refl; not_as_many = refl; undefined_array = refl; other_rows = refl; own_of_two = refl; argument = refl; argument_not_as_long = refl; result_moved = refl; result_not_as_long = refl }
 
 -- Rows, `array2d` and `if`
@@ -96,7 +96,7 @@ record Shapes : Type 0 where
   asked_for : result (fun 1 ints op.index_set (fun 11 (list_of int) op.array1d (range 19 (pos 0) (pos 1) ∷ list 25 int (num 26 (pos 1) ∷ num 29 (pos 2) ∷ []) ∷ []) ∷ [])) ≡ is (set (fromto (pos 0) (pos 1))) 15
 
 shapes : Shapes
-unfolding eval row_table level_table innermost_of innermost_in back_of back_in backed scalar_value made_value bounding_value equality is_bounded is_fixable as_bool as_int as_case as_set as_text as_items as_index as_row as_ordinal as_element as_pair as_option is_single enum_of at bool_at int_at case_at ordinal_at element_at option_at set_at enum_at text_at items_at row_at index_at pair connected ordered computed signed folded raised toward nearer quantified contains end_of up_to same_set fold_from summand instance place_count with_index shape_from is_mismatched negative is_failed limited scalar_counts made_counts bounding_counts counts_from cost bound_of bounds_of is_settled toward_ends arith_ends sign_ends extreme_from fold_ends folded_ends raised_ends index_tuples is_reached reached branch_bound branch_bounds if_bounds combined_upper bounds_at each ends_at upper_at elements_at all_ends_at all_uppers_at uppers_before scalar_bounds made_bounds lower_of upper_of value_by_bounds range_elements
+unfolding eval lines line_at place_in innermost_of innermost_in back_of back_in backed scalar_value made_value bounding_value equality is_bounded is_fixable as_bool as_int as_case as_set as_text as_items as_index as_row as_ordinal as_element as_pair as_option is_single enum_of at bool_at int_at case_at ordinal_at element_at option_at set_at enum_at text_at items_at row_at index_at pair connected ordered computed signed folded raised toward nearer quantified contains end_of up_to same_set fold_from summand instance place_count with_index shape_from is_mismatched negative is_failed limited scalar_counts made_counts bounding_counts counts_from cost bound_of bounds_of is_settled toward_ends arith_ends sign_ends extreme_from fold_ends folded_ends raised_ends index_tuples is_reached reached branch_bound branch_bounds if_bounds combined_upper bounds_at each ends_at upper_at elements_at all_ends_at all_uppers_at uppers_before scalar_bounds made_bounds lower_of upper_of value_by_bounds range_elements
 shapes = record { rows_of_two_lengths = refl; undefined_row = refl; access_to_a_table = refl; shape_that_does_not_fit = refl; undefined_in_a_shape = refl; undefined_index_set = refl; given_index_set = refl; asked_for = refl }
 
 -- q is a var bool; a par array of two, and an undefined one
@@ -129,5 +129,5 @@ record ArrayBranches : Type 0 where
   two_lengths : chosen one_two (list 50 int (num 51 (pos 5) ∷ [])) ≡ stops kind.IndexMismatch 1 (pos 0)
 
 array_branches : ArrayBranches
-unfolding eval row_table level_table innermost_of innermost_in back_of back_in backed scalar_value made_value bounding_value equality is_bounded is_fixable as_bool as_int as_case as_set as_text as_items as_index as_row as_ordinal as_element as_pair as_option is_single enum_of at bool_at int_at case_at ordinal_at element_at option_at set_at enum_at text_at items_at row_at index_at pair connected ordered computed signed folded raised toward nearer quantified contains end_of up_to same_set fold_from summand instance place_count with_index shape_from is_mismatched negative is_failed limited scalar_counts made_counts bounding_counts counts_from cost bound_of bounds_of is_settled toward_ends arith_ends sign_ends extreme_from fold_ends folded_ends raised_ends index_tuples is_reached reached branch_bound branch_bounds if_bounds combined_upper bounds_at each ends_at upper_at elements_at all_ends_at all_uppers_at uppers_before scalar_bounds made_bounds lower_of upper_of value_by_bounds range_elements
+unfolding eval lines line_at place_in innermost_of innermost_in back_of back_in backed scalar_value made_value bounding_value equality is_bounded is_fixable as_bool as_int as_case as_set as_text as_items as_index as_row as_ordinal as_element as_pair as_option is_single enum_of at bool_at int_at case_at ordinal_at element_at option_at set_at enum_at text_at items_at row_at index_at pair connected ordered computed signed folded raised toward nearer quantified contains end_of up_to same_set fold_from summand instance place_count with_index shape_from is_mismatched negative is_failed limited scalar_counts made_counts bounding_counts counts_from cost bound_of bounds_of is_settled toward_ends arith_ends sign_ends extreme_from fold_ends folded_ends raised_ends index_tuples is_reached reached branch_bound branch_bounds if_bounds combined_upper bounds_at each ends_at upper_at elements_at all_ends_at all_uppers_at uppers_before scalar_bounds made_bounds lower_of upper_of value_by_bounds range_elements
 array_branches = record { two_arrays = refl; undefined_branch = refl; chosen_undefined = refl; both_undefined = refl; then_a_par_condition = refl; weight_of_an_argument = refl; weight_of_a_result = refl; two_lengths = refl }

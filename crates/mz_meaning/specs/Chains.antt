@@ -1,5 +1,5 @@
 -- Chains of binary operators of one level. A chain of k operators is k nodes with one nesting, whose operands have one more; parentheses and coercions don't end it. So the operators of a chain that stands as the first operand belong to it: here they come first. For `++` it is the last operand that decides.
-use Rattle.std.specs.Prelude.{ℕ, Bool, true, false, ◌||◌, List, [], ◌∷◌, ◌++◌, map, nat_eq, Option, Some, None, slice_get, if◌then◌else◌}
+use Rattle.std.specs.Prelude.{ℕ, Bool, false, ◌||◌, List, [], ◌∷◌, ◌++◌, map, nat_eq, Option, Some, None, if◌then◌else◌}
 use Rattle.std.specs.Option.{option_map}
 use Rattle.mz_base.specs.declared.fault.Span.{Span}
 use Rattle.mz_core.specs.declared.types.Base.{Base}
@@ -7,31 +7,10 @@ use Rattle.mz_core.specs.Types.{PlainType}
 use Rattle.mz_core.specs.Coercions.{PathLink}
 use Rattle.mz_core.specs.Tree.{Tree, Shape, Step, Steps, all_steps, steps, node, chain, coerce, no_steps, a_step, type_of}
 use Rattle.mz_meaning.specs.Coerced.{coerced_type}
+use Rattle.mz_operations.specs.Lines.{level_of}
 use Rattle.mz_meaning.specs.Operations.{row_at}
 use Rattle.mz_operations.specs.declared.row.Row.{Row}
 use Rattle.mz_meaning.specs.Contexts.{Context, Untested, Positive, Other, closes_left, closes_right, elsewhere_if, links_close}
-
--- the level of an operator by its number in the table, 0 where it is none
-unfoldable pub level_table : List ℕ
-level_table =
-    -- `<->`, `->`, `<-`, `\/`, `xor`, `/\`, and `not`, which is no binary operator
-    1 ∷ 2 ∷ 2 ∷ 3 ∷ 3 ∷ 4 ∷ 0
-    -- from 7 on: comparisons; `in`, `subset`, `superset`; `union`, `intersect`, `diff`, `symdiff`; `..`
-    ∷ 5 ∷ 5 ∷ 5 ∷ 5 ∷ 5 ∷ 5 ∷ 6 ∷ 6 ∷ 6 ∷ 7 ∷ 10 ∷ 7 ∷ 7 ∷ 8
-    -- from 21 on: four functions; `+`, `-`, `*`, two signs; `div`, `mod`, `^`
-    ∷ 0 ∷ 0 ∷ 0 ∷ 0 ∷ 9 ∷ 9 ∷ 10 ∷ 0 ∷ 0 ∷ 10 ∷ 10 ∷ 11
-    ∷ []
-
--- `++` of arrays and of texts
-abbrev pub is_append : ℕ → Bool
-is_append n = if nat_eq n 54 then true else nat_eq n 91
-
-abbrev pub level_or : Option ℕ → ℕ
-level_or None = 0
-level_or (Some n) = n
-
-abbrev pub level_of : ℕ → ℕ
-level_of n = if is_append n then 12 else level_or (slice_get level_table n)
 
 abbrev pub chain_level : List Step → ℕ
 chain_level [] = 0

@@ -15,8 +15,8 @@ use Rattle.mz_operations.specs.Costs.{scalar_counts, made_counts, bounding_count
 use Rattle.mz_operations.specs.Bounds.{Bound, bound_of, bounds_of, is_settled, toward_ends, arith_ends, sign_ends, extreme_from, fold_ends, folded_ends, raised_ends, index_tuples, is_reached, reached, branch_bound, branch_bounds, if_bounds, combined_upper}
 use Rattle.mz_operations.specs.RowBounds.{bounds_at, each, ends_at, upper_at, elements_at, all_ends_at, all_uppers_at, uppers_before, scalar_bounds, made_bounds, lower_of, upper_of, value_by_bounds}
 use Rattle.mz_meaning.specs.Cells.{Bare, Env, bind, no_names}
-use Rattle.mz_meaning.specs.Operations.{row_table}
-use Rattle.mz_meaning.specs.Chains.{level_table, innermost_of, innermost_in, back_of, back_in, backed}
+use Rattle.mz_operations.specs.Lines.{lines, line_at, place_in}
+use Rattle.mz_meaning.specs.Chains.{innermost_of, innermost_in, back_of, back_in, backed}
 use Rattle.mz_meaning.specs.Evaluation.{eval}
 use Rattle.mz_meaning.specs.Written.{int, var_int, bool, var_bool, opt_int, var_opt_int, ints, var_ints, list_of, num, lit, slot, fun, bin, to_var, to_opt, list, comp, gen, let_in, range, within, decl, i, b, set, fromto, row, between, var_number, var_set, var_row, run, result, gives, is, is_undefined, given, absent, by_zero}
 use Rattle.mz_value.specs.Contents as values
@@ -59,7 +59,7 @@ record AbsentValues : Type 0 where
   absent_in_something : result (let_in 1 int (declares (decl 17 1 (within opt_int (range 11 (pos 1) (pos 1))) (Some (absent_int 21))) ∷ []) (num 29 (pos 7))) ≡ is (i (pos 7)) 7
 
 absent_values : AbsentValues
-unfolding eval row_table level_table innermost_of innermost_in back_of back_in backed scalar_value made_value bounding_value equality is_bounded is_fixable as_bool as_int as_case as_set as_text as_items as_index as_row as_ordinal as_element as_pair as_option is_single enum_of at bool_at int_at case_at ordinal_at element_at option_at set_at enum_at text_at items_at row_at index_at pair connected ordered computed signed folded raised toward nearer quantified contains end_of up_to same_set fold_from summand instance place_count with_index shape_from is_mismatched negative is_failed limited scalar_counts made_counts bounding_counts counts_from cost bound_of bounds_of is_settled toward_ends arith_ends sign_ends extreme_from fold_ends folded_ends raised_ends index_tuples is_reached reached branch_bound branch_bounds if_bounds combined_upper bounds_at each ends_at upper_at elements_at all_ends_at all_uppers_at uppers_before scalar_bounds made_bounds lower_of upper_of value_by_bounds range_elements
+unfolding eval lines line_at place_in innermost_of innermost_in back_of back_in backed scalar_value made_value bounding_value equality is_bounded is_fixable as_bool as_int as_case as_set as_text as_items as_index as_row as_ordinal as_element as_pair as_option is_single enum_of at bool_at int_at case_at ordinal_at element_at option_at set_at enum_at text_at items_at row_at index_at pair connected ordered computed signed folded raised toward nearer quantified contains end_of up_to same_set fold_from summand instance place_count with_index shape_from is_mismatched negative is_failed limited scalar_counts made_counts bounding_counts counts_from cost bound_of bounds_of is_settled toward_ends arith_ends sign_ends extreme_from fold_ends folded_ends raised_ends index_tuples is_reached reached branch_bound branch_bounds if_bounds combined_upper bounds_at each ends_at upper_at elements_at all_ends_at all_uppers_at uppers_before scalar_bounds made_bounds lower_of upper_of value_by_bounds range_elements
 absent_values = record { summand_of_nothing = refl; absent_in_forall = refl; absent_in_exists = refl; absent_in_count = refl; both_absent = refl; one_absent = refl; one_absent_differs = refl; value_of_nothing = refl; occurs_not = refl; absent_in_nothing = refl; absent_in_something = refl }
 
 -- Each value that is given to a name counts 1; the first name varies slowest
@@ -82,7 +82,7 @@ record Generators : Type 0 where
   an_undefined_element : result (comp 1 int (bin 2 int (num 2 (pos 1)) op.quotient (slot 8 int 1)) (gen (1 ∷ []) (range 15 (pos 0) (pos 1)) None ∷ [])) ≡ is_undefined 15
 
 generators : Generators
-unfolding eval row_table level_table innermost_of innermost_in back_of back_in backed scalar_value made_value bounding_value equality is_bounded is_fixable as_bool as_int as_case as_set as_text as_items as_index as_row as_ordinal as_element as_pair as_option is_single enum_of at bool_at int_at case_at ordinal_at element_at option_at set_at enum_at text_at items_at row_at index_at pair connected ordered computed signed folded raised toward nearer quantified contains end_of up_to same_set fold_from summand instance place_count with_index shape_from is_mismatched negative is_failed limited scalar_counts made_counts bounding_counts counts_from cost bound_of bounds_of is_settled toward_ends arith_ends sign_ends extreme_from fold_ends folded_ends raised_ends index_tuples is_reached reached branch_bound branch_bounds if_bounds combined_upper bounds_at each ends_at upper_at elements_at all_ends_at all_uppers_at uppers_before scalar_bounds made_bounds lower_of upper_of value_by_bounds range_elements
+unfolding eval lines line_at place_in innermost_of innermost_in back_of back_in backed scalar_value made_value bounding_value equality is_bounded is_fixable as_bool as_int as_case as_set as_text as_items as_index as_row as_ordinal as_element as_pair as_option is_single enum_of at bool_at int_at case_at ordinal_at element_at option_at set_at enum_at text_at items_at row_at index_at pair connected ordered computed signed folded raised toward nearer quantified contains end_of up_to same_set fold_from summand instance place_count with_index shape_from is_mismatched negative is_failed limited scalar_counts made_counts bounding_counts counts_from cost bound_of bounds_of is_settled toward_ends arith_ends sign_ends extreme_from fold_ends folded_ends raised_ends index_tuples is_reached reached branch_bound branch_bounds if_bounds combined_upper bounds_at each ends_at upper_at elements_at all_ends_at all_uppers_at uppers_before scalar_bounds made_bounds lower_of upper_of value_by_bounds range_elements
 generators = record { one_name = refl; two_names = refl; nested = refl; filtered = refl; over_an_array = refl; undefined_set = refl; inner_set_not_reached = refl; an_undefined_element = refl }
 
 -- x is a var int in 0..3, s a var set of 1..3, and a an array of two of x's kind
@@ -139,5 +139,5 @@ record OptionalElements : Type 0 where
   over_a_var_array : run [] given (scope (pos 2) (set [])) (comp 1 var_int (bin 2 var_int (slot 2 var_int 1) op.plus (to_var (num 6 (pos 1)))) (gen (1 ∷ []) (slot 15 (list_of var_int) 7) None ∷ [])) ≡ gives (var_row (pos 1) (pos 2) (between (pos 1) (pos 4) ∷ between (pos 1) (pos 4) ∷ []) (Some (row (pos 1) (pos 2) (i (pos 3) ∷ i (pos 4) ∷ [])))) 12
 
 optional_elements : OptionalElements
-unfolding eval row_table level_table innermost_of innermost_in back_of back_in backed scalar_value made_value bounding_value equality is_bounded is_fixable as_bool as_int as_case as_set as_text as_items as_index as_row as_ordinal as_element as_pair as_option is_single enum_of at bool_at int_at case_at ordinal_at element_at option_at set_at enum_at text_at items_at row_at index_at pair connected ordered computed signed folded raised toward nearer quantified contains end_of up_to same_set fold_from summand instance place_count with_index shape_from is_mismatched negative is_failed limited scalar_counts made_counts bounding_counts counts_from cost bound_of bounds_of is_settled toward_ends arith_ends sign_ends extreme_from fold_ends folded_ends raised_ends index_tuples is_reached reached branch_bound branch_bounds if_bounds combined_upper bounds_at each ends_at upper_at elements_at all_ends_at all_uppers_at uppers_before scalar_bounds made_bounds lower_of upper_of value_by_bounds range_elements
+unfolding eval lines line_at place_in innermost_of innermost_in back_of back_in backed scalar_value made_value bounding_value equality is_bounded is_fixable as_bool as_int as_case as_set as_text as_items as_index as_row as_ordinal as_element as_pair as_option is_single enum_of at bool_at int_at case_at ordinal_at element_at option_at set_at enum_at text_at items_at row_at index_at pair connected ordered computed signed folded raised toward nearer quantified contains end_of up_to same_set fold_from summand instance place_count with_index shape_from is_mismatched negative is_failed limited scalar_counts made_counts bounding_counts counts_from cost bound_of bounds_of is_settled toward_ends arith_ends sign_ends extreme_from fold_ends folded_ends raised_ends index_tuples is_reached reached branch_bound branch_bounds if_bounds combined_upper bounds_at each ends_at upper_at elements_at all_ends_at all_uppers_at uppers_before scalar_bounds made_bounds lower_of upper_of value_by_bounds range_elements
 optional_elements = record { var_where = refl; var_where_blank = refl; over_a_var_set = refl; absent_and_undefined = refl; there_and_undefined = refl; inner_set_of_an_absent_element = refl; inner_set_that_counts = refl; sum_of_options = refl; over_a_var_array = refl }

@@ -11,19 +11,11 @@ use Rattle.mz_value.specs.Shown.{Names, names_of}
 use Rattle.mz_interval.specs.Ends.{is_number}
 use Rattle.mz_core.specs.declared.types.Base.{Base}
 use Rattle.mz_core.specs.Types.{PlainType, is_set}
-use Rattle.mz_operations.specs.declared.row.Connective.TheVariants.{Iff, Implies, IsImplied, Or, Xor, And}
-use Rattle.mz_operations.specs.declared.row.Comparison.TheVariants.{Less, AtMost, Greater, AtLeast}
-use Rattle.mz_operations.specs.declared.row.Arith.TheVariants.{Add, Sub, Mul, Div, Mod, Min, Max}
-use Rattle.mz_operations.specs.declared.row.Sign.TheVariants.{Plus, Minus, Abs}
-use Rattle.mz_operations.specs.declared.row.Fold.TheVariants.{Sum, SumOfOptions, Product}
-use Rattle.mz_operations.specs.declared.row.Quantifier.TheVariants.{Forall, Exists, Xorall}
-use Rattle.mz_operations.specs.declared.row.SetOp.TheVariants.{Union, Intersect, Diff, Symdiff}
-use Rattle.mz_operations.specs.declared.row.Side.TheVariants.{Least, Greatest}
-use Rattle.mz_operations.specs.declared.row.ScalarRow.TheVariants.{Logic, Not, Order, Equal, Unequal, SetEqual, SetUnequal, In, Arith, Sign, Power, Fold, Extreme, SetExtreme, Quantified, Count, Clause, Ordinal, Card, Length, Occurs, Absent, Beside, Assert}
-use Rattle.mz_operations.specs.declared.row.MadeRow.TheVariants.{SetOf, Subset, Superset, UpTo, IndexSet, Line, Shaped, Concat, AppendTexts, SetToArray, ArrayUnion, ArrayIntersect, Deopt, AssertValue, AssertArray, ShowInt, Join, ConcatTexts}
-use Rattle.mz_operations.specs.declared.row.BoundingRow.TheVariants.{Lb, Ub, Dom, LbArray, UbArray, IsFixed, Fix}
+use Rattle.mz_operations.specs.declared.row.ScalarRow.TheVariants.{Equal, Unequal, SetEqual, SetUnequal, Length}
+use Rattle.mz_operations.specs.declared.row.MadeRow.TheVariants.{IndexSet, Shaped, AssertArray}
 use Rattle.mz_operations.specs.declared.row.Row.{Row}
 use Rattle.mz_operations.specs.declared.row.Row.TheVariants.{Scalar, Made, Bounding, Show, ShowArray}
+use Rattle.mz_operations.specs.Lines.{row_of}
 use Rattle.mz_operations.specs.Values.{value}
 use Rattle.mz_operations.specs.Answers.{Answer, Gives, Stops, is_mismatched, negative, is_failed, answer}
 use Rattle.mz_operations.specs.Costs.{cost}
@@ -34,42 +26,7 @@ use Rattle.mz_meaning.specs.Runs.{Run, give, stop, ◌>>=◌, ◌>>◌}
 use Rattle.mz_meaning.specs.Cells.{Cell, Par, Var, Unshaped, Mode, held, all_par, value_of, bounds_in, no_bounds, length_of}
 use Rattle.mz_meaning.specs.Coerced.{recast}
 
--- ---- the rows by the numbers that the typed tree has for them: their places in the table of operators and built-ins
-
-unfoldable pub row_table : List Row
-row_table =
-    Scalar (Logic Iff) ∷ Scalar (Logic Implies) ∷ Scalar (Logic IsImplied) ∷ Scalar (Logic Or) ∷ Scalar (Logic Xor) ∷ Scalar (Logic And) ∷ Scalar Not
-    -- from 7 on; of sets `=` and `!=` are rows of their own
-    ∷ Scalar Equal ∷ Scalar Unequal ∷ Scalar (Order Less) ∷ Scalar (Order AtMost) ∷ Scalar (Order Greater) ∷ Scalar (Order AtLeast)
-    -- from 13 on
-    ∷ Scalar In ∷ Made Subset ∷ Made Superset ∷ Made (SetOf Union) ∷ Made (SetOf Intersect) ∷ Made (SetOf Diff) ∷ Made (SetOf Symdiff)
-    -- from 20 on
-    ∷ Made UpTo ∷ Scalar Card ∷ Made SetToArray ∷ Made ArrayUnion ∷ Made ArrayIntersect
-    -- from 25 on
-    ∷ Scalar (Arith Add) ∷ Scalar (Arith Sub) ∷ Scalar (Arith Mul) ∷ Scalar (Sign Plus) ∷ Scalar (Sign Minus) ∷ Scalar (Arith Div) ∷ Scalar (Arith Mod)
-    -- from 32 on: `^` and `pow`
-    ∷ Scalar Power ∷ Scalar Power ∷ Scalar (Sign Abs)
-    -- from 35 on: of two integers, of a set, of an array
-    ∷ Scalar (Arith Min) ∷ Scalar (SetExtreme Least) ∷ Scalar (Extreme Least) ∷ Scalar (Arith Max) ∷ Scalar (SetExtreme Greatest) ∷ Scalar (Extreme Greatest)
-    -- from 41 on
-    ∷ Scalar (Fold Sum) ∷ Scalar (Fold SumOfOptions) ∷ Scalar (Fold Product)
-    -- from 44 on: each of Booleans, and of options of them
-    ∷ Scalar (Quantified Forall) ∷ Scalar (Quantified Forall) ∷ Scalar (Quantified Exists) ∷ Scalar (Quantified Exists)
-    -- from 48 on
-    ∷ Scalar (Quantified Xorall) ∷ Scalar Clause ∷ Scalar Count ∷ Scalar Count
-    -- from 52 on: of a Boolean, and of a case
-    ∷ Scalar Ordinal ∷ Scalar Ordinal ∷ Made Concat ∷ Scalar Length
-    -- from 56 on
-    ∷ Made (IndexSet 0 1) ∷ Made (IndexSet 0 2) ∷ Made (IndexSet 1 2) ∷ Made (IndexSet 0 3) ∷ Made (IndexSet 1 3) ∷ Made (IndexSet 2 3)
-    -- from 62 on
-    ∷ Made Line ∷ Made (Shaped 1) ∷ Made (Shaped 2) ∷ Made (Shaped 3) ∷ Made (Shaped 4) ∷ Made (Shaped 5) ∷ Made (Shaped 6)
-    -- from 69 on: `lb` and `ub` each of an integer, and of a set
-    ∷ Bounding Lb ∷ Bounding Lb ∷ Bounding Ub ∷ Bounding Ub ∷ Bounding Dom ∷ Bounding LbArray ∷ Bounding UbArray ∷ Bounding IsFixed ∷ Bounding Fix
-    -- from 78 on
-    ∷ Scalar Occurs ∷ Scalar Absent ∷ Made Deopt ∷ Scalar (Beside Greatest) ∷ Scalar (Beside Least)
-    -- from 83 on
-    ∷ Scalar Assert ∷ Made AssertValue ∷ Made AssertArray ∷ Show ∷ ShowArray ∷ Made ShowInt ∷ Made Join ∷ Made ConcatTexts ∷ Made AppendTexts
-    ∷ []
+-- ---- the rows by the numbers that the typed tree has for them: their places in the table
 
 abbrev pub of_sets : Row → Row
 of_sets (Scalar Equal) = Scalar SetEqual
@@ -78,7 +35,7 @@ of_sets r = r
 
 -- the row of a number whose arguments are of this base; a global is none of them, and isn't defined yet
 abbrev pub row_at : ℕ → Base → Option Row
-row_at n b = option_map (λ r. if is_set b then of_sets r else r) (slice_get row_table n)
+row_at n b = option_map (λ r. if is_set b then of_sets r else r) (row_of n)
 
 -- ---- what a row costs
 

@@ -1,174 +1,175 @@
--- The rows' numbers as the worked examples write them: their places in the table of operators and built-ins.
-use Rattle.std.specs.Prelude.{ℕ}
+-- The rows' numbers under the names that the worked examples have for them, each by the name of its line and which of the lines with that name it is.
+use Rattle.std.specs.Prelude.{ℕ, codes}
+use Rattle.mz_operations.specs.Lines.{number_of}
 
 abbrev pub iff : ℕ
-iff = 0
+iff = number_of (codes "<->") 0
 
 abbrev pub implies : ℕ
-implies = 1
+implies = number_of (codes "->") 0
 
 -- `<-`
 abbrev pub implied_by : ℕ
-implied_by = 2
+implied_by = number_of (codes "<-") 0
 
 -- `\/`
 abbrev pub either : ℕ
-either = 3
+either = number_of (codes "\\/") 0
 
 abbrev pub xor : ℕ
-xor = 4
+xor = number_of (codes "xor") 0
 
 -- `/\`
 abbrev pub both : ℕ
-both = 5
+both = number_of (codes "/\\") 0
 
 -- `not`
 abbrev pub negation : ℕ
-negation = 6
+negation = number_of (codes "not") 0
 
 abbrev pub equal : ℕ
-equal = 7
+equal = number_of (codes "=") 0
 
 abbrev pub unequal : ℕ
-unequal = 8
+unequal = number_of (codes "!=") 0
 
 abbrev pub less : ℕ
-less = 9
+less = number_of (codes "<") 0
 
 abbrev pub at_most : ℕ
-at_most = 10
+at_most = number_of (codes "<=") 0
 
 abbrev pub greater : ℕ
-greater = 11
+greater = number_of (codes ">") 0
 
 abbrev pub at_least : ℕ
-at_least = 12
+at_least = number_of (codes ">=") 0
 
 -- `in`
 abbrev pub member : ℕ
-member = 13
+member = number_of (codes "in") 0
 
 abbrev pub union : ℕ
-union = 16
+union = number_of (codes "union") 0
 
 -- `..`
 abbrev pub up_to : ℕ
-up_to = 20
+up_to = number_of (codes "..") 0
 
 abbrev pub card : ℕ
-card = 21
+card = number_of (codes "card") 0
 
 abbrev pub plus : ℕ
-plus = 25
+plus = number_of (codes "+") 0
 
 abbrev pub minus : ℕ
-minus = 26
+minus = number_of (codes "-") 0
 
 abbrev pub times : ℕ
-times = 27
+times = number_of (codes "*") 0
 
 abbrev pub quotient : ℕ
-quotient = 30
+quotient = number_of (codes "div") 0
 
 abbrev pub modulo : ℕ
-modulo = 31
+modulo = number_of (codes "mod") 0
 
 abbrev pub power : ℕ
-power = 32
+power = number_of (codes "^") 0
 
 abbrev pub abs : ℕ
-abs = 34
+abs = number_of (codes "abs") 0
 
 abbrev pub least_of_set : ℕ
-least_of_set = 36
+least_of_set = number_of (codes "min") 1
 
 abbrev pub least_of_array : ℕ
-least_of_array = 37
+least_of_array = number_of (codes "min") 2
 
 abbrev pub greatest_of_set : ℕ
-greatest_of_set = 39
+greatest_of_set = number_of (codes "max") 1
 
 abbrev pub sum : ℕ
-sum = 41
+sum = number_of (codes "sum") 0
 
 abbrev pub sum_of_options : ℕ
-sum_of_options = 42
+sum_of_options = number_of (codes "sum") 1
 
 abbrev pub product : ℕ
-product = 43
+product = number_of (codes "product") 0
 
 abbrev pub forall : ℕ
-forall = 44
+forall = number_of (codes "forall") 0
 
 abbrev pub forall_options : ℕ
-forall_options = 45
+forall_options = number_of (codes "forall") 1
 
 abbrev pub exists : ℕ
-exists = 46
+exists = number_of (codes "exists") 0
 
 abbrev pub exists_options : ℕ
-exists_options = 47
+exists_options = number_of (codes "exists") 1
 
 abbrev pub xorall : ℕ
-xorall = 48
+xorall = number_of (codes "xorall") 0
 
 abbrev pub clause : ℕ
-clause = 49
+clause = number_of (codes "clause") 0
 
 abbrev pub count : ℕ
-count = 50
+count = number_of (codes "count") 0
 
 abbrev pub count_options : ℕ
-count_options = 51
+count_options = number_of (codes "count") 1
 
 abbrev pub bool2int : ℕ
-bool2int = 52
+bool2int = number_of (codes "bool2int") 0
 
 -- `++` of arrays
 abbrev pub append : ℕ
-append = 54
+append = number_of (codes "++") 0
 
 abbrev pub length : ℕ
-length = 55
+length = number_of (codes "length") 0
 
 abbrev pub index_set : ℕ
-index_set = 56
+index_set = number_of (codes "index_set") 0
 
 abbrev pub array1d : ℕ
-array1d = 63
+array1d = number_of (codes "array1d") 1
 
 abbrev pub array2d : ℕ
-array2d = 64
+array2d = number_of (codes "array2d") 0
 
 abbrev pub lb : ℕ
-lb = 69
+lb = number_of (codes "lb") 0
 
 abbrev pub lb_set : ℕ
-lb_set = 70
+lb_set = number_of (codes "lb") 1
 
 abbrev pub ub : ℕ
-ub = 71
+ub = number_of (codes "ub") 0
 
 abbrev pub ub_set : ℕ
-ub_set = 72
+ub_set = number_of (codes "ub") 1
 
 abbrev pub is_fixed : ℕ
-is_fixed = 76
+is_fixed = number_of (codes "is_fixed") 0
 
 abbrev pub fix : ℕ
-fix = 77
+fix = number_of (codes "fix") 0
 
 abbrev pub occurs : ℕ
-occurs = 78
+occurs = number_of (codes "occurs") 0
 
 abbrev pub deopt : ℕ
-deopt = 80
+deopt = number_of (codes "deopt") 0
 
 abbrev pub enum_next : ℕ
-enum_next = 81
+enum_next = number_of (codes "enum_next") 0
 
 abbrev pub assert : ℕ
-assert = 83
+assert = number_of (codes "assert") 0
 
 abbrev pub assert_value : ℕ
-assert_value = 84
+assert_value = number_of (codes "assert") 1

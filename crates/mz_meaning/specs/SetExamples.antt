@@ -16,9 +16,9 @@ use Rattle.mz_operations.specs.Bounds.{bound_of, bounds_of, is_settled, toward_e
 use Rattle.mz_operations.specs.RowBounds.{bounds_at, each, ends_at, upper_at, elements_at, all_ends_at, all_uppers_at, uppers_before, scalar_bounds, made_bounds, lower_of, upper_of, value_by_bounds}
 use Rattle.mz_meaning.specs.Runs.{Answer, start}
 use Rattle.mz_meaning.specs.Cells.{Cell, Par, Bare, Env, bind, no_names}
-use Rattle.mz_meaning.specs.Operations.{row_table}
+use Rattle.mz_operations.specs.Lines.{lines, line_at, place_in}
 use Rattle.mz_meaning.specs.Contexts.{Positive}
-use Rattle.mz_meaning.specs.Chains.{level_table, innermost_of, innermost_in, back_of, back_in, backed}
+use Rattle.mz_meaning.specs.Chains.{innermost_of, innermost_in, back_of, back_in, backed}
 use Rattle.mz_meaning.specs.Evaluation.{eval}
 use Rattle.mz_meaning.specs.Written.{col, scalar, int, var_int, bool, var_bool, ints, var_ints, text, num, lit, slot, fun, call, bin, to_var, comp, gen, choose, range, plain, param, function, i, b, set, fromto, row, var_number, var_set, run, result, gives, is, is_undefined, stops, given, by_zero}
 use Rattle.mz_base.specs.declared.kind.Kind.TheVariants as kind
@@ -84,7 +84,7 @@ record Sets : Type 0 where
   set_of_if : run [] given scope (choose 1 var_ints (lit 4 true) (to_var (range 9 (pos 1) (pos 2))) (Some (s 20))) ≡ gives (var_set [] (fromto (pos 1) (pos 2)) (Some (set (fromto (pos 1) (pos 2))))) 6
 
 sets : Sets
-unfolding eval row_table level_table innermost_of innermost_in back_of back_in backed scalar_value made_value bounding_value equality is_bounded is_fixable as_bool as_int as_case as_set as_text as_items as_index as_row as_ordinal as_element as_pair as_option is_single enum_of at bool_at int_at case_at ordinal_at element_at option_at set_at enum_at text_at items_at row_at index_at pair connected ordered computed signed folded raised toward nearer quantified contains end_of up_to same_set fold_from summand instance place_count with_index shape_from is_mismatched negative is_failed limited scalar_counts made_counts bounding_counts counts_from cost bound_of bounds_of is_settled toward_ends arith_ends sign_ends extreme_from fold_ends folded_ends raised_ends index_tuples is_reached reached branch_bound branch_bounds if_bounds combined_upper bounds_at each ends_at upper_at elements_at all_ends_at all_uppers_at uppers_before scalar_bounds made_bounds lower_of upper_of value_by_bounds range_elements union intersection difference combined union_from complement missing_from
+unfolding eval lines line_at place_in innermost_of innermost_in back_of back_in backed scalar_value made_value bounding_value equality is_bounded is_fixable as_bool as_int as_case as_set as_text as_items as_index as_row as_ordinal as_element as_pair as_option is_single enum_of at bool_at int_at case_at ordinal_at element_at option_at set_at enum_at text_at items_at row_at index_at pair connected ordered computed signed folded raised toward nearer quantified contains end_of up_to same_set fold_from summand instance place_count with_index shape_from is_mismatched negative is_failed limited scalar_counts made_counts bounding_counts counts_from cost bound_of bounds_of is_settled toward_ends arith_ends sign_ends extreme_from fold_ends folded_ends raised_ends index_tuples is_reached reached branch_bound branch_bounds if_bounds combined_upper bounds_at each ends_at upper_at elements_at all_ends_at all_uppers_at uppers_before scalar_bounds made_bounds lower_of upper_of value_by_bounds range_elements union intersection difference combined union_from complement missing_from
 sets = record { set_literal = refl; set_of_truths = refl; undefined_literal = refl; set_of_heads = refl; union_bounds = refl; least_of_a_union = refl; cardinality_bounds = refl; membership = refl; greatest = refl; least = refl; set_of_if = refl }
 
 -- Cases are numbered from 1
@@ -111,5 +111,5 @@ record Enums : Type 0 where
   assert_with_value : with_cases (fun 1 int op.assert_value (lit 8 true ∷ message 14 ∷ num 19 (pos 7) ∷ [])) ≡ is (i (pos 7)) 5
 
 enums : Enums
-unfolding eval row_table level_table innermost_of innermost_in back_of back_in backed scalar_value made_value bounding_value equality is_bounded is_fixable as_bool as_int as_case as_set as_text as_items as_index as_row as_ordinal as_element as_pair as_option is_single enum_of at bool_at int_at case_at ordinal_at element_at option_at set_at enum_at text_at items_at row_at index_at pair connected ordered computed signed folded raised toward nearer quantified contains end_of up_to same_set fold_from summand instance place_count with_index shape_from is_mismatched negative is_failed limited scalar_counts made_counts bounding_counts counts_from cost bound_of bounds_of is_settled toward_ends arith_ends sign_ends extreme_from fold_ends folded_ends raised_ends index_tuples is_reached reached branch_bound branch_bounds if_bounds combined_upper bounds_at each ends_at upper_at elements_at all_ends_at all_uppers_at uppers_before scalar_bounds made_bounds lower_of upper_of value_by_bounds range_elements union intersection difference combined union_from complement missing_from
+unfolding eval lines line_at place_in innermost_of innermost_in back_of back_in backed scalar_value made_value bounding_value equality is_bounded is_fixable as_bool as_int as_case as_set as_text as_items as_index as_row as_ordinal as_element as_pair as_option is_single enum_of at bool_at int_at case_at ordinal_at element_at option_at set_at enum_at text_at items_at row_at index_at pair connected ordered computed signed folded raised toward nearer quantified contains end_of up_to same_set fold_from summand instance place_count with_index shape_from is_mismatched negative is_failed limited scalar_counts made_counts bounding_counts counts_from cost bound_of bounds_of is_settled toward_ends arith_ends sign_ends extreme_from fold_ends folded_ends raised_ends index_tuples is_reached reached branch_bound branch_bounds if_bounds combined_upper bounds_at each ends_at upper_at elements_at all_ends_at all_uppers_at uppers_before scalar_bounds made_bounds lower_of upper_of value_by_bounds range_elements union intersection difference combined union_from complement missing_from
 enums = record { whole_enum = refl; next_case = refl; no_next_case = refl; order_of_cases = refl; greatest_case = refl; cases_as_elements = refl; holding_assert = refl; failed_assert = refl; undefined_assert = refl; assert_with_value = refl }

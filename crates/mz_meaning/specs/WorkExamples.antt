@@ -15,9 +15,9 @@ use Rattle.mz_operations.specs.Bounds.{bound_of, bounds_of, is_settled, toward_e
 use Rattle.mz_operations.specs.RowBounds.{bounds_at, each, ends_at, upper_at, elements_at, all_ends_at, all_uppers_at, uppers_before, scalar_bounds, made_bounds, lower_of, upper_of, value_by_bounds}
 use Rattle.mz_meaning.specs.Runs.{Answer, start}
 use Rattle.mz_meaning.specs.Cells.{Cell, Bare, no_names}
-use Rattle.mz_meaning.specs.Operations.{row_table}
+use Rattle.mz_operations.specs.Lines.{lines, line_at, place_in}
 use Rattle.mz_meaning.specs.Contexts.{Positive}
-use Rattle.mz_meaning.specs.Chains.{level_table, innermost_of, innermost_in, back_of, back_in, backed}
+use Rattle.mz_meaning.specs.Chains.{innermost_of, innermost_in, back_of, back_in, backed}
 use Rattle.mz_meaning.specs.Evaluation.{eval}
 use Rattle.mz_meaning.specs.Written.{col, int, bool, ints, list_of, num, lit, slot, fun, call, step, chain, bin, to_int, list, comp, gen, choose, let_in, range, plain, indexed, decl, param, function, i, set, fromto, row, world, result, is, stops}
 use Rattle.mz_base.specs.declared.kind.Kind.TheVariants as kind
@@ -79,7 +79,7 @@ record Work : Type 0 where
   declared_array : with_budget 50 (let_in 1 int (declares (decl 28 1 (indexed (list_of int) (Some (range 13 (pos 1) (pos 100)) ∷ []) None) (Some (list 32 int (num 33 (pos 1) ∷ [])))) ∷ []) (num 40 (pos 2))) ≡ stops kind.Budget 28 (pos 51)
 
 work : Work
-unfolding eval row_table level_table innermost_of innermost_in back_of back_in backed scalar_value made_value bounding_value equality is_bounded is_fixable as_bool as_int as_case as_set as_text as_items as_index as_row as_ordinal as_element as_pair as_option is_single enum_of at bool_at int_at case_at ordinal_at element_at option_at set_at enum_at text_at items_at row_at index_at pair connected ordered computed signed folded raised toward nearer quantified contains end_of up_to same_set fold_from summand instance place_count with_index shape_from is_mismatched negative is_failed limited scalar_counts made_counts bounding_counts counts_from cost bound_of bounds_of is_settled toward_ends arith_ends sign_ends extreme_from fold_ends folded_ends raised_ends index_tuples is_reached reached branch_bound branch_bounds if_bounds combined_upper bounds_at each ends_at upper_at elements_at all_ends_at all_uppers_at uppers_before scalar_bounds made_bounds lower_of upper_of value_by_bounds range_elements
+unfolding eval lines line_at place_in innermost_of innermost_in back_of back_in backed scalar_value made_value bounding_value equality is_bounded is_fixable as_bool as_int as_case as_set as_text as_items as_index as_row as_ordinal as_element as_pair as_option is_single enum_of at bool_at int_at case_at ordinal_at element_at option_at set_at enum_at text_at items_at row_at index_at pair connected ordered computed signed folded raised toward nearer quantified contains end_of up_to same_set fold_from summand instance place_count with_index shape_from is_mismatched negative is_failed limited scalar_counts made_counts bounding_counts counts_from cost bound_of bounds_of is_settled toward_ends arith_ends sign_ends extreme_from fold_ends folded_ends raised_ends index_tuples is_reached reached branch_bound branch_bounds if_bounds combined_upper bounds_at each ends_at upper_at elements_at all_ends_at all_uppers_at uppers_before scalar_bounds made_bounds lower_of upper_of value_by_bounds range_elements
 work = record { whole_sum = refl; at_the_sum = refl; at_the_array = refl; at_an_element = refl; chain_of_two = refl; coercion = refl; set_to_array = refl; budget_at_the_set = refl; at_a_generator = refl; declared_array = refl }
 
 -- At most 600 levels of nesting: a call's body has one more than the call, and a chain's operators all have one
@@ -96,7 +96,7 @@ record Nesting : Type 0 where
   chain_too_deep : with_budget 100000 (call 1 int 2 (num 3 (pos 199) ∷ [])) ≡ stops kind.Depth 30 (pos 601)
 
 nesting : Nesting
-unfolding eval row_table level_table innermost_of innermost_in back_of back_in backed scalar_value made_value bounding_value equality is_bounded is_fixable as_bool as_int as_case as_set as_text as_items as_index as_row as_ordinal as_element as_pair as_option is_single enum_of at bool_at int_at case_at ordinal_at element_at option_at set_at enum_at text_at items_at row_at index_at pair connected ordered computed signed folded raised toward nearer quantified contains end_of up_to same_set fold_from summand instance place_count with_index shape_from is_mismatched negative is_failed limited scalar_counts made_counts bounding_counts counts_from cost bound_of bounds_of is_settled toward_ends arith_ends sign_ends extreme_from fold_ends folded_ends raised_ends index_tuples is_reached reached branch_bound branch_bounds if_bounds combined_upper bounds_at each ends_at upper_at elements_at all_ends_at all_uppers_at uppers_before scalar_bounds made_bounds lower_of upper_of value_by_bounds range_elements
+unfolding eval lines line_at place_in innermost_of innermost_in back_of back_in backed scalar_value made_value bounding_value equality is_bounded is_fixable as_bool as_int as_case as_set as_text as_items as_index as_row as_ordinal as_element as_pair as_option is_single enum_of at bool_at int_at case_at ordinal_at element_at option_at set_at enum_at text_at items_at row_at index_at pair connected ordered computed signed folded raised toward nearer quantified contains end_of up_to same_set fold_from summand instance place_count with_index shape_from is_mismatched negative is_failed limited scalar_counts made_counts bounding_counts counts_from cost bound_of bounds_of is_settled toward_ends arith_ends sign_ends extreme_from fold_ends folded_ends raised_ends index_tuples is_reached reached branch_bound branch_bounds if_bounds combined_upper bounds_at each ends_at upper_at elements_at all_ends_at all_uppers_at uppers_before scalar_bounds made_bounds lower_of upper_of value_by_bounds range_elements
 nesting = record { without_end = refl; deep_enough = refl; too_deep = refl; chain_deep_enough = refl; chain_too_deep = refl }
 
 -- `++` is read from the last operand: all operands come first, and then the nodes from the last on
@@ -107,5 +107,5 @@ record Appending : Type 0 where
   nested_lists : result (bin 1 (list_of int) (list 1 int (num 2 (pos 1) ∷ [])) op.append (bin 9 (list_of int) (list 9 int (num 10 (pos 2) ∷ [])) op.append (list 16 int (num 17 (pos 3) ∷ [])))) ≡ is (row (pos 1) (pos 3) (i (pos 1) ∷ i (pos 2) ∷ i (pos 3) ∷ [])) 15
 
 appending : Appending
-unfolding eval row_table level_table innermost_of innermost_in back_of back_in backed scalar_value made_value bounding_value equality is_bounded is_fixable as_bool as_int as_case as_set as_text as_items as_index as_row as_ordinal as_element as_pair as_option is_single enum_of at bool_at int_at case_at ordinal_at element_at option_at set_at enum_at text_at items_at row_at index_at pair connected ordered computed signed folded raised toward nearer quantified contains end_of up_to same_set fold_from summand instance place_count with_index shape_from is_mismatched negative is_failed limited scalar_counts made_counts bounding_counts counts_from cost bound_of bounds_of is_settled toward_ends arith_ends sign_ends extreme_from fold_ends folded_ends raised_ends index_tuples is_reached reached branch_bound branch_bounds if_bounds combined_upper bounds_at each ends_at upper_at elements_at all_ends_at all_uppers_at uppers_before scalar_bounds made_bounds lower_of upper_of value_by_bounds range_elements
+unfolding eval lines line_at place_in innermost_of innermost_in back_of back_in backed scalar_value made_value bounding_value equality is_bounded is_fixable as_bool as_int as_case as_set as_text as_items as_index as_row as_ordinal as_element as_pair as_option is_single enum_of at bool_at int_at case_at ordinal_at element_at option_at set_at enum_at text_at items_at row_at index_at pair connected ordered computed signed folded raised toward nearer quantified contains end_of up_to same_set fold_from summand instance place_count with_index shape_from is_mismatched negative is_failed limited scalar_counts made_counts bounding_counts counts_from cost bound_of bounds_of is_settled toward_ends arith_ends sign_ends extreme_from fold_ends folded_ends raised_ends index_tuples is_reached reached branch_bound branch_bounds if_bounds combined_upper bounds_at each ends_at upper_at elements_at all_ends_at all_uppers_at uppers_before scalar_bounds made_bounds lower_of upper_of value_by_bounds range_elements
 appending = record { three_lists = refl; nested_lists = refl }

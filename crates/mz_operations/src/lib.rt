@@ -2,9 +2,11 @@
 #![tactic(auto)]
 
 mod law;
+mod lines;
 mod row;
 
 pub use law::{one_limit, values_lie_in_bounds};
+pub use lines::{TableLine, level_of, row_of};
 pub use row::{
     Arith, BoundingRow, Comparison, Connective, Fold, MadeRow, Quantifier, Row, ScalarRow, SetOp,
     Side, Sign,

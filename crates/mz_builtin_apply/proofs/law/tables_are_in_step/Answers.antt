@@ -1,7 +1,7 @@
 use Rattle.std.proofs.Common.{refl}
 use Rattle.mz_builtin.specs.Table.{built_ins}
-use Rattle.mz_builtin_apply.specs.Lines.{lines}
-use Rattle.mz_builtin_apply.proofs.law.lines_are_the_tables.Goals as goal
+use Rattle.mz_operations.specs.Lines.{lines}
+use Rattle.mz_builtin_apply.proofs.law.tables_are_in_step.Goals as goal
 
 pub returns : goal.returns
 unfolding lines built_ins
