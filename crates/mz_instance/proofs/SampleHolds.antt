@@ -1,0 +1,105 @@
+-- The worked example is an instance, and its choice has its node.
+use Rattle.std.proofs.Common.{◌≡◌, ◌≢◌, refl, ℕ, zero, suc, ℤ, pos, true, false, List, [], ◌∷◌, Option, Some, None, slice_get, IsSome, sym, subst, inl, inr, arith}
+use Rattle.std.proofs.lemmas.Int.{ints}
+use Rattle.mz_value.specs.Ranges.{AreCanonical, AreInLimit}
+use Rattle.mz_operations.specs.Arrays.{place_count}
+use Rattle.mz_operations.specs.Sets.{end_of, union, complement, missing_from}
+use Rattle.mz_arena.specs.Entries.{Entry, children, AllBelow, is_free, is_local, folded}
+use Rattle.mz_arena.specs.Terms.{own_id}
+use Rattle.mz_arena.specs.Extents.{Known, extents, extent, bool_extent, variable_extent, set_variable_extent, comparison_extent, node_extent}
+use Rattle.mz_arena.specs.Numbering.{local_ids_from, local_ids, IsChoice, Numbered}
+use Rattle.mz_arena.specs.Arenas.{IsArena}
+use Rattle.mz_instance.specs.Parts.{Truth, truths, IsNode, AreNodes, ids, parts}
+use Rattle.mz_instance.specs.Instance.{IsInstance, IsModelVar, AreModelVars, IsPart, AreParts, AreTruths, CanTake}
+use Rattle.mz_instance.specs.Sample.{one_or_two, arena, o, s, b, sample, choice}
+use Rattle.mz_instance.proofs.Items.{each_at}
+
+-- ---- the arena
+
+not_free : {A : Type 0} → false ≡ true → A
+not_free e = absurd (cc)
+
+is_own : (id : ℕ) (e : Entry) → slice_get arena id ≡ Some e → is_free e.node.kind ≡ true → own_id e.node ≡ id
+is_own = each_at (λ id e. is_free e.node.kind ≡ true → own_id e.node ≡ id) arena
+    (λ f. not_free f, (λ f. refl, (λ f. not_free f, (λ f. refl, (λ f. refl, (λ f. refl, (λ f. refl, (λ f. refl, (λ f. not_free f, (λ f. not_free f, tt))))))))))
+
+is_ordered : (id : ℕ) (e : Entry) → slice_get arena id ≡ Some e → AllBelow id (children e.node)
+is_ordered = each_at (λ id e. AllBelow id (children e.node)) arena
+    (tt, ((omega arith, tt), (tt, ((omega arith, tt), ((omega arith, tt), ((omega arith, tt), ((omega arith, tt), ((omega arith, tt), (tt, ((omega arith, (omega arith, tt)), tt))))))))))
+
+is_bounded : (id : ℕ) (e : Entry) → slice_get arena id ≡ Some e → IsSome (extent arena id)
+unfolding extents folded bool_extent variable_extent set_variable_extent comparison_extent end_of
+is_bounded = each_at (λ id e. IsSome (extent arena id)) arena (refl, (refl, (refl, (refl, (refl, (refl, (refl, (refl, (refl, (refl, tt))))))))))
+
+choice_there : (k id : ℕ) → slice_get (local_ids arena) k ≡ Some id → IsChoice arena k id
+unfolding local_ids local_ids_from
+choice_there zero id at =
+    let same : 7 ≡ id = cc in
+    subst (IsChoice arena 0) same (record { there = _; stands = refl; local = refl; number = refl })
+choice_there (suc k) id at = absurd (cc)
+
+all_choices : (id : ℕ) (e : Entry) → slice_get arena id ≡ Some e → is_local e.node.kind ≡ true → slice_get (local_ids arena) e.node.b ≡ Some id
+unfolding local_ids local_ids_from
+all_choices = each_at (λ id e. is_local e.node.kind ≡ true → slice_get (local_ids arena) e.node.b ≡ Some id) arena
+    (λ f. not_free f, (λ f. not_free f, (λ f. not_free f, (λ f. not_free f, (λ f. not_free f, (λ f. not_free f, (λ f. not_free f, (λ f. refl, (λ f. not_free f, (λ f. not_free f, tt))))))))))
+
+is_arena : IsArena arena
+is_arena = record { ordered = is_ordered; bounded = is_bounded; own = is_own; numbered = record { there = choice_there; all = all_choices } }
+
+-- ---- the parts and their nodes
+
+pub nodes : AreNodes arena false 0 (ids sample.vars) (parts sample.vars)
+nodes = (
+  record { there = _; stands = refl; free = refl; local = refl; sort = refl; mark = λ n. refl; own = refl; number = refl; over = _; domain = refl; set = refl },
+  (
+    record { there = _; stands = refl; free = refl; local = refl; sort = refl; mark = λ n. refl; own = refl; number = refl; over = _; domain = refl; set = refl },
+    (
+      record { there = _; stands = refl; free = refl; local = refl; sort = refl; mark = λ n. absurd (n refl); own = refl; number = refl; over = _; domain = refl; set = refl },
+      (
+        record { there = _; stands = refl; free = refl; local = refl; sort = refl; mark = λ n. refl; own = refl; number = refl; over = _; domain = refl; set = refl },
+        (record { there = _; stands = refl; free = refl; local = refl; sort = refl; mark = λ n. refl; own = refl; number = refl; over = _; domain = refl; set = refl }, tt),
+      ),
+    ),
+  ),
+)
+
+pub locals : AreNodes arena true 0 (local_ids arena) (choice ∷ [])
+unfolding local_ids local_ids_from
+locals = (record { there = _; stands = refl; free = refl; local = refl; sort = refl; mark = λ n. refl; own = refl; number = refl; over = _; domain = refl; set = refl }, tt)
+
+no_more : (id : ℕ) (e : Entry) → slice_get arena id ≡ Some e → is_free e.node.kind ≡ true → is_local e.node.kind ≡ false → slice_get (ids sample.vars) e.node.b ≡ Some id
+no_more = each_at (λ id e. is_free e.node.kind ≡ true → is_local e.node.kind ≡ false → slice_get (ids sample.vars) e.node.b ≡ Some id) arena
+    (λ f l. not_free f, (λ f l. refl, (λ f l. not_free f, (λ f l. refl, (λ f l. refl, (λ f l. refl, (λ f l. refl, (λ f l. absurd (cc), (λ f l. not_free f, (λ f l. not_free f, tt))))))))))
+
+can_take : (id : ℕ) (e : Entry) → slice_get arena id ≡ Some e → is_local e.node.kind ≡ true → CanTake arena e
+can_take = each_at (λ id e. is_local e.node.kind ≡ true → CanTake arena e) arena
+    (λ f. not_free f, (λ f. not_free f, (λ f. not_free f, (λ f. not_free f, (λ f. not_free f, (λ f. not_free f, (λ f. not_free f, (λ f. record { over = _; domain = refl; some = λ n e. cc }, (λ f. not_free f, (λ f. not_free f, tt))))))))))
+
+over_one_or_two : AreCanonical one_or_two × AreInLimit one_or_two
+over_one_or_two = ((omega (arith, ints), tt, tt), ((omega (arith, ints), omega (arith, ints)), (omega (arith, ints), omega (arith, ints)), tt))
+
+over_truths : AreCanonical truths × AreInLimit truths
+over_truths = ((omega (arith, ints), tt, tt), ((omega (arith, ints), omega (arith, ints)), (omega (arith, ints), omega (arith, ints)), tt))
+
+is_truth : IsPart (record { sort = Truth; set = truths })
+is_truth = record { truth = refl; canonical = over_truths.0; limited = over_truths.1 }
+
+suited : AreParts (parts sample.vars)
+suited = (is_truth, (record { truth = tt; canonical = over_one_or_two.0; limited = over_one_or_two.1 }, (record { truth = tt; canonical = over_one_or_two.0; limited = over_one_or_two.1 }, (is_truth, (is_truth, tt)))))
+
+vars : AreModelVars sample.vars
+unfolding place_count
+vars = (
+  record { allowed = λ h. refl; index = tt; count = refl; cells = (refl, tt) },
+  (
+    record { allowed = λ h. absurd (cc); index = tt; count = refl; cells = (refl, tt) },
+    (record { allowed = λ h. refl; index = (λ e. cc, (record { ordered = inr (omega (arith, ints)); least = (omega (arith, ints), omega (arith, ints)); greatest = (omega (arith, ints), omega (arith, ints)) }, tt)); count = refl; cells = (refl, (refl, tt)) }, tt),
+  ),
+)
+
+roots : AreTruths arena sample.roots
+unfolding extents folded bool_extent variable_extent set_variable_extent comparison_extent end_of
+roots = (refl, tt)
+
+pub is_instance : IsInstance sample
+is_instance = record { arena = is_arena; vars = vars; suited = suited; nodes = nodes; no_more = no_more; chosen = can_take; roots = roots; goal = tt }
