@@ -1,14 +1,14 @@
 -- The worked example is an instance, and its choice has its node.
 use Rattle.std.proofs.Common.{◌≡◌, ◌≢◌, refl, ℕ, zero, suc, ℤ, pos, true, false, List, [], ◌∷◌, Option, Some, None, slice_get, IsSome, sym, subst, inl, inr, arith}
 use Rattle.std.proofs.lemmas.Int.{ints}
-use Rattle.mz_value.specs.Ranges.{AreCanonical, AreInLimit}
 use Rattle.mz_operations.specs.Arrays.{place_count}
+use Rattle.mz_operations.specs.Laws.{IsSet}
 use Rattle.mz_operations.specs.Sets.{end_of, union, complement, missing_from}
-use Rattle.mz_arena.specs.Entries.{Entry, children, AllBelow, is_free, is_local, folded}
+use Rattle.mz_arena.specs.Entries.{Entry, children, AllBelow, is_free, is_local, is_set_const, folded}
 use Rattle.mz_arena.specs.Terms.{own_id}
 use Rattle.mz_arena.specs.Extents.{Known, extents, extent, bool_extent, variable_extent, set_variable_extent, comparison_extent, node_extent}
 use Rattle.mz_arena.specs.Numbering.{local_ids_from, local_ids, IsChoice, Numbered}
-use Rattle.mz_arena.specs.Arenas.{IsArena}
+use Rattle.mz_arena.specs.Arenas.{HasDomain, IsArena}
 use Rattle.mz_instance.specs.Parts.{Truth, truths, IsNode, AreNodes, ids, parts}
 use Rattle.mz_instance.specs.Instance.{IsInstance, IsModelVar, AreModelVars, IsPart, AreParts, AreTruths, CanTake}
 use Rattle.mz_instance.specs.Sample.{one_or_two, arena, o, s, b, sample, choice}
@@ -43,8 +43,25 @@ unfolding local_ids local_ids_from
 all_choices = each_at (λ id e. is_local e.node.kind ≡ true → slice_get (local_ids arena) e.node.b ≡ Some id) arena
     (λ f. not_free f, (λ f. not_free f, (λ f. not_free f, (λ f. not_free f, (λ f. not_free f, (λ f. not_free f, (λ f. not_free f, (λ f. refl, (λ f. not_free f, (λ f. not_free f, tt))))))))))
 
+over_one_or_two : IsSet one_or_two
+over_one_or_two = ((omega (arith, ints), tt, tt), ((omega (arith, ints), omega (arith, ints)), (omega (arith, ints), omega (arith, ints)), tt))
+
+over_truths : IsSet truths
+over_truths = ((omega (arith, ints), tt, tt), ((omega (arith, ints), omega (arith, ints)), (omega (arith, ints), omega (arith, ints)), tt))
+
+unmarked : {A : Type 0} → ◌≡◌ {A = ℕ} 0 1 → A
+unmarked e = absurd (cc)
+
+has_domains : (id : ℕ) (e : Entry) → slice_get arena id ≡ Some e → is_free e.node.kind ≡ true → HasDomain arena e.node
+has_domains = each_at (λ id e. is_free e.node.kind ≡ true → HasDomain arena e.node) arena
+    (λ f. not_free f, (λ f. record { const = record { there = _; stands = refl; is = refl }; both = λ m c. refl }, (λ f. not_free f, (λ f. record { const = record { there = _; stands = refl; is = refl }; both = λ m c. unmarked c }, (λ f. record { const = record { there = _; stands = refl; is = refl }; both = λ m c. not_free m }, (λ f. record { const = record { there = _; stands = refl; is = refl }; both = λ m c. refl }, (λ f. record { const = record { there = _; stands = refl; is = refl }; both = λ m c. refl }, (λ f. record { const = record { there = _; stands = refl; is = refl }; both = λ m c. unmarked c }, (λ f. not_free f, (λ f. not_free f, tt))))))))))
+
+are_canonical : (id : ℕ) (e : Entry) → slice_get arena id ≡ Some e → is_set_const e.node.kind ≡ true → IsSet e.set
+are_canonical = each_at (λ id e. is_set_const e.node.kind ≡ true → IsSet e.set) arena
+    (λ c. over_truths, (λ c. not_free c, (λ c. over_one_or_two, (λ c. not_free c, (λ c. not_free c, (λ c. not_free c, (λ c. not_free c, (λ c. not_free c, (λ c. not_free c, (λ c. not_free c, tt))))))))))
+
 is_arena : IsArena arena
-is_arena = record { ordered = is_ordered; bounded = is_bounded; own = is_own; numbered = record { there = choice_there; all = all_choices } }
+is_arena = record { ordered = is_ordered; bounded = is_bounded; own = is_own; numbered = record { there = choice_there; all = all_choices }; domains = has_domains; canonical = are_canonical }
 
 -- ---- the parts and their nodes
 
@@ -74,12 +91,6 @@ no_more = each_at (λ id e. is_free e.node.kind ≡ true → is_local e.node.kin
 can_take : (id : ℕ) (e : Entry) → slice_get arena id ≡ Some e → is_local e.node.kind ≡ true → CanTake arena e
 can_take = each_at (λ id e. is_local e.node.kind ≡ true → CanTake arena e) arena
     (λ f. not_free f, (λ f. not_free f, (λ f. not_free f, (λ f. not_free f, (λ f. not_free f, (λ f. not_free f, (λ f. not_free f, (λ f. record { over = _; domain = refl; some = λ n e. cc }, (λ f. not_free f, (λ f. not_free f, tt))))))))))
-
-over_one_or_two : AreCanonical one_or_two × AreInLimit one_or_two
-over_one_or_two = ((omega (arith, ints), tt, tt), ((omega (arith, ints), omega (arith, ints)), (omega (arith, ints), omega (arith, ints)), tt))
-
-over_truths : AreCanonical truths × AreInLimit truths
-over_truths = ((omega (arith, ints), tt, tt), ((omega (arith, ints), omega (arith, ints)), (omega (arith, ints), omega (arith, ints)), tt))
 
 is_truth : IsPart (record { sort = Truth; set = truths })
 is_truth = record { truth = refl; canonical = over_truths.0; limited = over_truths.1 }
