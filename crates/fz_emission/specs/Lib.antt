@@ -4,3 +4,4 @@ pub mod Reading
 pub mod Defined
 pub mod Goals
 pub mod Laws
+pub mod Sample

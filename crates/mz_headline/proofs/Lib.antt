@@ -6,3 +6,4 @@ pub mod Variables
 pub mod Defaults
 pub mod Slots
 pub mod Whole
+mod Examples

@@ -3,3 +3,4 @@ pub mod Contents
 pub mod Instance
 pub mod Solved
 pub mod Laws
+pub mod Sample
