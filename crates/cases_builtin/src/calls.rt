@@ -72,7 +72,7 @@ fn push_table(out: &mut String) -> Result<(), Memory> {
     for name in ["/\\", "array6d", "circuit", "all", ""] {
         push_name(out, name)?;
     }
-    for number in [0, 91, 92, 130] {
+    for number in [0, 92, 93, 131] {
         push_number(out, number)?;
     }
     Ok(())

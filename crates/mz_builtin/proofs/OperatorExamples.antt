@@ -126,6 +126,10 @@ calls_of_arrays_and_texts =
     ∷ example (codes "++") (by (i ∷ i ∷ []) n ∷ li n ∷ []) none_fits
     ∷ example (codes "++") (tx ∷ tx ∷ []) (takes 1 (tx ∷ tx ∷ []) tx)
     ∷ example (codes "++") (tx ∷ li n ∷ []) none_fits
+    ∷ example (codes "++") (li tx ∷ li tx ∷ []) (takes 2 (li tx ∷ li tx ∷ []) (li tx))
+    ∷ example (codes "++") (li bot ∷ li tx ∷ []) (takes 2 (li tx ∷ li tx ∷ []) (li tx))
+    ∷ example (codes "++") (li tx ∷ tx ∷ []) none_fits
+    ∷ example (codes "++") (li tx ∷ li n ∷ []) none_fits
     ∷ []
 
 calls_of_arrays_and_texts_are_so : map called calls_of_arrays_and_texts ≡ map expected calls_of_arrays_and_texts

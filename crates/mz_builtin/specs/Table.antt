@@ -102,6 +102,7 @@ built_ins =
     ∷ line (codes "join") letter.None mark.Par (One Text ∷ Array Text ∷ []) (gives.One Text)
     ∷ line (codes "concat") letter.None mark.Par (Array Text ∷ []) (gives.One Text)
     ∷ line (codes "++") letter.None mark.Par (One Text ∷ One Text ∷ []) (gives.One Text)
+    ∷ line (codes "++") letter.None mark.Par (Sized 1 Text ∷ Sized 1 Text ∷ []) (gives.List Text)
     ∷ []
 
 -- the globals, of which a row that lists two names is two lines

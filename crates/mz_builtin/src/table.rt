@@ -133,6 +133,7 @@ pub fn built_ins() -> &'static [Line]
         "join" None Par [One(Text), Array(Text)] One(Text);
         "concat" None Par [Array(Text)] One(Text);
         "++" None Par [One(Text), One(Text)] One(Text);
+        "++" None Par [Sized(1, Text), Sized(1, Text)] List(Text);
     }
 }
 

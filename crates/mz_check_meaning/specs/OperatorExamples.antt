@@ -58,6 +58,9 @@ appends =
     ∷ stops (bin 1 (array 1 []) o.Concat (array 7 [])) Ambiguous 1
     ∷ has (bin 1 (name 7 1) o.Concat (name 8 6)) (li (va n))
     ∷ has (bin 1 (words 1) o.Concat (words 8)) tx
+    ∷ has (bin 1 (array 1 ((words 2) ∷ [])) o.Concat (array 7 ((words 8) ∷ []))) (li tx)
+    ∷ has (bin 1 (array 1 []) o.Concat (array 7 ((words 8) ∷ []))) (li tx)
+    ∷ stops (bin 1 (array 1 ((num 2) ∷ [])) o.Concat (array 7 ((words 8) ∷ []))) NoOverload 1
     ∷ stops (bin 1 (array 1 ((num 2) ∷ [])) o.Concat (words 8)) NoOverload 1
     ∷ stops (bin 1 (name 10 1) o.Concat (name 7 5)) NoOverload 1
     ∷ stops (chain 1 (array 1 ((num 2) ∷ [])) ((o.Concat, (words 7)) ∷ (o.Concat, (array 11 ((num 12) ∷ []))) ∷ [])) NoOverload 7

@@ -141,6 +141,8 @@ lines =
     ∷ named (codes "join") (Made Join)
     ∷ named (codes "concat") (Made ConcatTexts)
     ∷ operator 12 (codes "++") (Made AppendTexts)
+    -- of arrays of texts
+    ∷ operator 12 (codes "++") (Made Concat)
     ∷ []
 
 -- ---- by number
@@ -189,6 +191,10 @@ level_of_power = refl
 level_of_append_of_texts : level_of (number_of (codes "++") 1) ≡ 12
 unfolding lines line_at place_in
 level_of_append_of_texts = refl
+
+append_of_text_arrays : row_of (number_of (codes "++") 2) ≡ Some (Made Concat)
+unfolding lines line_at place_in
+append_of_text_arrays = refl
 
 none_behind_the_last : row_of (length lines) ≡ None
 unfolding lines line_at

@@ -140,6 +140,7 @@ fn lines() -> &'static [TableLine]
         "join" 0 Row::Made(MadeRow::Join);
         "concat" 0 Row::Made(MadeRow::ConcatTexts);
         "++" 12 Row::Made(MadeRow::AppendTexts);
+        "++" 12 Row::Made(MadeRow::Concat);
     }
 }
 
