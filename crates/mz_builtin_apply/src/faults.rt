@@ -1,6 +1,6 @@
 // The faults of rows that come before their values.
 
-ghost use Rattle.std.specs.Prelude.{◌≡◌, IfOk, unwrap_or, false, not};
+ghost use Rattle.std.specs.Prelude.{◌≡◌, IfOk, unwrap_or, false, not, true};
 ghost use Rattle.mz_operations.specs.Arguments.{arguments};
 ghost use Rattle.mz_operations.specs.Arguments as words;
 ghost use Rattle.mz_operations.specs.Answers as answers;
@@ -59,15 +59,15 @@ pub(crate) fn negative(row: Row, args: &[Option<Value>]) -> Option<i64>
 }
 
 fn is_unmet(args: &[Option<Value>]) -> bool
-    ensures { result ≡ not (unwrap_or (words.bool_at (arguments args.now) 0) false) }
+    ensures { result ≡ not (unwrap_or (words.bool_at (arguments args.now) 0) true) }
 {
     match bool_at(args, 0) {
         Some(holds) => !holds,
-        None => true,
+        None => false,
     }
 }
 
-/// Whether the row is an `assert` whose condition is false; an undefined condition counts as false.
+/// Whether the row is an `assert` whose condition is false; with an undefined one it is undefined.
 /// Takes no memory.
 #[tactic(auto, unfolding(mz_operations::specs::Answers::is_failed))]
 pub fn is_failed(row: Row, args: &[Option<Value>]) -> bool

@@ -1,5 +1,5 @@
 -- Mirror of src/; private clauses only.
-use Rattle.std.specs.Prelude.{ℕ, ℤ, pos, List, map, length, Bool, false, not, ◌&&◌, nat_lt, Option, Some, None, unwrap_or, if◌then◌else◌}
+use Rattle.std.specs.Prelude.{ℕ, ℤ, pos, List, map, length, Bool, true, not, ◌&&◌, nat_lt, Option, Some, None, unwrap_or, if◌then◌else◌}
 use Rattle.std.specs.List.{list_all}
 use Rattle.std.specs.Option.{option_and_then, option_map}
 use Rattle.mz_base.specs.declared.fault.Span.{Span}
@@ -42,7 +42,7 @@ all_known ks = map known (cells_of ks)
 
 -- the test of an `assert`
 abbrev pub asserted : Span → Arguments → Run (Unit {0})
-asserted at vs = if not (unwrap_or (bool_at vs 0) false) then stop kind.AssertFailed at (pos 0) else give tt
+asserted at vs = if not (unwrap_or (bool_at vs 0) true) then stop kind.AssertFailed at (pos 0) else give tt
 
 -- ---- src/limits.rt, src/opened.rt
 

@@ -118,7 +118,7 @@ fn show_array(
 }
 
 /// What a row gives of par arguments, of which each is undefined or a value, as a value of this
-/// base. Refused AssertFailed where it is an `assert` whose condition is false or undefined, and as
+/// base. Refused AssertFailed where it is an `assert` whose condition is false, and as
 /// `apply_row` of mz_builtin_apply says.
 #[tactic(auto, unfolding(mz_builtin_apply::specs::Applied::is_applied))]
 pub(crate) fn par_row(

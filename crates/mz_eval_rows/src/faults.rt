@@ -1,6 +1,6 @@
 // The faults of rows with a var argument, which go by par values and shapes alone.
 
-ghost use Rattle.std.specs.Prelude.{◌≡◌, ◌&&◌, ◌<◌, ◌^◌, IfOk, IfSome, MatchOption, None, Some, int_lt, length, map, not, pos, slice_get, unwrap_or, false};
+ghost use Rattle.std.specs.Prelude.{◌≡◌, ◌&&◌, ◌<◌, ◌^◌, IfOk, IfSome, MatchOption, None, Some, int_lt, length, map, not, pos, slice_get, unwrap_or, false, true};
 ghost use Rattle.std.specs.Option.{option_and_then, option_map};
 ghost use Rattle.mz_value.specs.Contents.{absent, content, contents};
 ghost use Rattle.mz_operations.specs.Views as views;
@@ -252,11 +252,11 @@ fn power_tested(at: Span, cells: &[Known]) -> Result<(), Stop>
 }
 
 fn is_unmet(cells: &[Known]) -> bool
-    ensures { result ≡ not (unwrap_or (words.bool_at (all_known cells.now) 0) false) }
+    ensures { result ≡ not (unwrap_or (words.bool_at (all_known cells.now) 0) true) }
 {
     match bool_at(cells, 0) {
         Some(holds) => !holds,
-        None => true,
+        None => false,
     }
 }
 
@@ -272,7 +272,7 @@ fn asserted(at: Span, cells: &[Known]) -> Result<(), Stop>
 
 /// The faults of a row. Refused IndexMismatch where index sets that are given to an array are
 /// defined and don't fit it; NegativeArgument where an exponent is negative, with the exponent;
-/// AssertFailed where the condition of an `assert` is false or undefined.
+/// AssertFailed where the condition of an `assert` is false.
 #[tactic(auto, unfolding(mz_operations::specs::Answers::is_mismatched, mz_operations::specs::Answers::negative, mz_operations::specs::Answers::is_failed))]
 pub(crate) fn tested(alloc: Global, row: Row, at: Span, cells: &[Known]) -> Result<(), Stop>
     ensures { Tells (λ _. tt) result (operations.tested row at (all_known cells.now)) }

@@ -160,7 +160,7 @@ fn read_by_bounds(alloc: Global, row: Row, t: &TypeInst, cells: &[Known]) -> Res
 
 /// What a row gives of arguments of which one is var, at a node of this type. Refused
 /// IndexMismatch where index sets that are given to an array don't fit it; NegativeArgument where
-/// an exponent is negative; AssertFailed where the condition of an `assert` is false or undefined;
+/// an exponent is negative; AssertFailed where the condition of an `assert` is false;
 /// Bounds where an end of its bounds leaves the limit, with this end, the lower one first.
 pub(crate) fn open_row(
     alloc: Global,

@@ -226,7 +226,7 @@ fn open_of_all(
 ///
 /// Refused IndexMismatch where index sets that are given to an array don't fit it;
 /// NegativeArgument where an exponent is negative; AssertFailed where the condition of an `assert`
-/// is false or undefined; Bounds where all arguments are par and the value is an integer outside
+/// is false; Bounds where all arguments are par and the value is an integer outside
 /// the limit, with this integer, or where one is var and an end of the bounds leaves the limit,
 /// with this end, the lower one first. All are at `at`.
 pub fn row_of_all(

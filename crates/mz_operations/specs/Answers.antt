@@ -1,5 +1,5 @@
 -- What a row answers: the first of its faults, or its value.
-use Rattle.std.specs.Prelude.{ℕ, length, ℤ, pos, int_lt, Bool, false, not, Option, Some, None, unwrap_or, if◌then◌else◌}
+use Rattle.std.specs.Prelude.{ℕ, length, ℤ, pos, int_lt, Bool, true, false, not, Option, Some, None, unwrap_or, if◌then◌else◌}
 use Rattle.mz_base.specs.declared.kind.Kind.{Kind}
 use Rattle.mz_base.specs.declared.kind.Kind.TheVariants.{IndexMismatch, NegativeArgument, AssertFailed, Bounds}
 use Rattle.mz_value.specs.Contents.{Content, int}
@@ -37,11 +37,11 @@ negative (Scalar Power) args = do
   if int_lt k (pos 0) then Some k else None
 negative _ args = None
 
--- an `assert` whose condition is false; an undefined one counts as false
+-- an `assert` whose condition is false; with an undefined one it is undefined
 unfoldable pub is_failed : Row → Arguments → Bool
-is_failed (Scalar Assert) args = not (unwrap_or (bool_at args 0) false)
-is_failed (Made AssertValue) args = not (unwrap_or (bool_at args 0) false)
-is_failed (Made AssertArray) args = not (unwrap_or (bool_at args 0) false)
+is_failed (Scalar Assert) args = not (unwrap_or (bool_at args 0) true)
+is_failed (Made AssertValue) args = not (unwrap_or (bool_at args 0) true)
+is_failed (Made AssertArray) args = not (unwrap_or (bool_at args 0) true)
 is_failed _ args = false
 
 -- a computed integer has to lie in the limit

@@ -599,9 +599,13 @@ assertion_that_fails : gives (Scalar Assert) (no ∷ words (codes "m") ∷ []) �
 unfolding is_mismatched negative is_failed bool_at at as_bool
 assertion_that_fails = refl
 
-undefined_condition : gives (Made AssertValue) (None ∷ words (codes "m") ∷ n 3 ∷ []) ≡ Stops AssertFailed (pos 0)
-unfolding is_mismatched negative is_failed bool_at at
+undefined_condition : gives (Made AssertValue) (None ∷ words (codes "m") ∷ n 3 ∷ []) ≡ Gives None
+unfolding is_mismatched negative is_failed limited made_value bool_at text_at at as_bool
 undefined_condition = refl
+
+assertion_of_nothing : gives (Scalar Assert) (None ∷ words (codes "m") ∷ []) ≡ Gives None
+unfolding is_mismatched negative is_failed limited scalar_value bool_at text_at at as_bool
+assertion_of_nothing = refl
 
 undefined_message : gives (Made AssertValue) (yes ∷ None ∷ n 3 ∷ []) ≡ Gives None
 unfolding is_mismatched negative is_failed limited made_value bool_at text_at at as_bool
