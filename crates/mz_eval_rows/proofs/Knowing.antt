@@ -1,8 +1,9 @@
 -- What is known of arguments.
-use Rattle.std.proofs.Common.{◌≡◌, ℕ, zero, suc, List, [], ◌∷◌, map, length, refl, sym, ap, ◌∙◌}
-use Rattle.std.proofs.lemmas.List.{length-map}
+use Rattle.std.proofs.Common.{◌≡◌, ◌<◌, ℕ, zero, suc, Bool, true, List, [], ◌∷◌, map, length, take, refl, sym, ap, ◌∙◌, arith, if◌then◌else◌}
+use Rattle.std.proofs.lemmas.List.{length-map, take-map, take_all}
 use Rattle.std.proofs.lemmas.Option.{slice_get-map}
 use Rattle.std.specs.Prelude.{false, not, Option, Some, None, unwrap_or, slice_get}
+use Rattle.std.specs.List.{list_any}
 use Rattle.std.specs.Option.{option_map, option_and_then}
 use Rattle.mz_value.specs.Contents.{Content, contents, absent}
 use Rattle.mz_operations.specs.Views.{as_set, items_in}
@@ -13,7 +14,7 @@ use Rattle.mz_operations.specs.Bounds.{Bound, Bounds}
 use Rattle.mz_operations.specs.Bounds as bounds
 use Rattle.mz_builtin_arguments.proofs.Views.{items_in_contents}
 use Rattle.mz_meaning.specs.Cells.{Cell, Par, Var, Unshaped, set_in}
-use Rattle.mz_meaning.specs.Operations.{known, known_in, at_place}
+use Rattle.mz_meaning.specs.Operations.{known, known_in, at_place, or_reshaped, is_no_set, shaped_by}
 use Rattle.mz_eval_cells.specs.declared.types.Known.{Known}
 use Rattle.mz_eval_cells.specs.Views.{cell_of, cells_of}
 use Rattle.mz_eval_rows.specs.Steps.{all_known}
@@ -59,3 +60,19 @@ place_there ks k c e = ap (λ o. unwrap_or o (Par None)) (slice_get-map cell_of 
 
 pub place_missing : (ks : List Known) (k : ℕ) → slice_get ks k ≡ None → at_place k (cells_of ks) ≡ Par None
 place_missing ks k e = ap (λ o. unwrap_or o (Par None)) (slice_get-map cell_of ks k ∙ ap (option_map cell_of) e)
+
+-- ---- the index sets among the arguments, which are the first ones
+
+pub sets_there : (ks : List Known) (d : ℕ) → list_any is_no_set (map cell_of (take d ks)) ≡ list_any is_no_set (take d (cells_of ks))
+sets_there ks d = ap (list_any is_no_set) (sym (take-map cell_of d ks))
+
+pub sets_few : (ks : List Known) (d : ℕ) → length ks < d → list_any is_no_set (map cell_of ks) ≡ list_any is_no_set (take d (cells_of ks))
+sets_few ks d few =
+    let count : length (cells_of ks) ≡ length ks = length-map ks cell_of in
+    ap (list_any is_no_set) (sym (take_all d (cells_of ks) (omega (arith, count))))
+
+pub shaped_without : (d : ℕ) (ks : List Known) (c : Cell) (b : Bool) → b ≡ list_any is_no_set (take d (cells_of ks)) → b ≡ true → Unshaped d ≡ shaped_by d (take d (cells_of ks)) (at_place d (cells_of ks)) c
+shaped_without d ks c b h e = ap (λ n. if n then Unshaped d else or_reshaped d (at_place d (cells_of ks)) c) (sym e ∙ h)
+
+pub shaped_with : (d : ℕ) (ks : List Known) (c : Cell) (b : Bool) → b ≡ list_any is_no_set (take d (cells_of ks)) → b ≡ false → or_reshaped d (at_place d (cells_of ks)) c ≡ shaped_by d (take d (cells_of ks)) (at_place d (cells_of ks)) c
+shaped_with d ks c b h e = ap (λ n. if n then Unshaped d else or_reshaped d (at_place d (cells_of ks)) c) (sym e ∙ h)

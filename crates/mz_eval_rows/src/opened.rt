@@ -1,6 +1,7 @@
 // Rows with a var argument.
 
-ghost use Rattle.std.specs.Prelude.{◌≡◌, None, map};
+ghost use Rattle.std.specs.Prelude.{◌≡◌, None, map, take};
+ghost use Rattle.std.specs.List.{list_any};
 ghost use Rattle.std.specs.Option.{option_map};
 ghost use Rattle.mz_value.specs.Shown.{Names};
 ghost use Rattle.mz_core.specs.Types.{plain_type};
@@ -112,12 +113,87 @@ fn or_unshaped_at(cells: &[Known], place: usize, k: Known) -> Known
     }
 }
 
+/// An array without a shape has none under other index sets, with this number of dimensions.
+fn or_reshaped(dimensions: u64, array: &Known, k: Known) -> Known
+    ensures { cell_of result ≡ operations.or_reshaped dimensions (cell_of array.now) (cell_of k) }
+{
+    match array {
+        Known::Unshaped(_) => Known::Unshaped(dimensions),
+        Known::Undefined => k,
+        Known::One(_) => k,
+        Known::Array(_, _) => k,
+        Known::Var(_) => k,
+        Known::Row(_, _) => k,
+    }
+}
+
+#[tactic(auto, using(crate::proofs::Knowing::place_there, crate::proofs::Knowing::place_missing))]
+fn or_reshaped_at(cells: &[Known], place: usize, dimensions: u64, k: Known) -> Known
+    ensures { cell_of result ≡ operations.or_reshaped dimensions (operations.at_place place (cells_of cells.now)) (cell_of k) }
+{
+    match nth(cells, place) {
+        None => k,
+        Some(array) => or_reshaped(dimensions, array, k),
+    }
+}
+
+/// Whether an index set is undefined.
+fn is_no_set(k: &Known) -> bool
+    ensures { result ≡ operations.is_no_set (cell_of k.now) }
+{
+    match k {
+        Known::Undefined => true,
+        Known::One(_) => false,
+        Known::Array(_, _) => false,
+        Known::Var(_) => false,
+        Known::Row(_, _) => false,
+        Known::Unshaped(_) => false,
+    }
+}
+
+fn some_no_set(sets: &[Known]) -> bool
+    ensures { result ≡ list_any operations.is_no_set (map cell_of sets.now) }
+{
+    for k in sets {
+        if is_no_set(k) {
+            return true;
+        }
+    }
+    false
+}
+
+/// Whether one of the first arguments, at most this many, is an undefined index set.
+#[tactic(auto, using(crate::proofs::Knowing::sets_there, crate::proofs::Knowing::sets_few))]
+fn lacks_set(d: u64, cells: &[Known]) -> bool
+    ensures { result ≡ list_any operations.is_no_set (take d (cells_of cells.now)) }
+{
+    let count = d as usize;
+    if cells.len() < count {
+        return some_no_set(cells);
+    }
+    some_no_set(&cells[..count])
+}
+
+/// The cell of `array1d` to `array6d`, without a shape where an index set is undefined or the array
+/// has none.
+#[tactic(auto, using(crate::proofs::Knowing::shaped_without, crate::proofs::Knowing::shaped_with))]
+fn shaped_by(d: u64, cells: &[Known], k: Known) -> Known
+    ensures { cell_of result ≡ operations.with_shape (Row.Made (MadeRow.Shaped d)) (cells_of cells.now) (cell_of k) }
+{
+    if lacks_set(d, cells) {
+        Known::Unshaped(d)
+    } else {
+        or_reshaped_at(cells, d as usize, d, k)
+    }
+}
+
 /// The row's cell, without a shape where its array has none.
 fn with_shape(row: Row, cells: &[Known], k: Known) -> Known
     ensures { cell_of result ≡ operations.with_shape row (cells_of cells.now) (cell_of k) }
 {
     match row {
-        Row::Made(MadeRow::Shaped(d)) => or_unshaped_at(cells, d as usize, k),
+        Row::Made(MadeRow::Shaped(d)) => shaped_by(d, cells, k),
+        Row::Made(MadeRow::Line) => or_reshaped_at(cells, 0, 1, k),
         Row::Made(MadeRow::AssertArray) => or_unshaped_at(cells, 2, k),
         _ => k,
     }

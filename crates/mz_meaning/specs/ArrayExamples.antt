@@ -1,5 +1,5 @@
 -- Worked examples of arrays and their index sets.
-use Rattle.std.specs.Prelude.{◌≡◌, refl, ℕ, ℤ, pos, true, false, List, [], ◌∷◌, Option, Some, None}
+use Rattle.std.specs.Prelude.{◌≡◌, refl, ℕ, ◌+◌, ℤ, pos, true, false, List, [], ◌∷◌, Option, Some, None}
 use Rattle.mz_value.specs.Shown.{range_elements}
 use Rattle.mz_core.specs.Program.{Function}
 use Rattle.mz_core.specs.Tree.{Tree, declares, trees, branches}
@@ -105,6 +105,40 @@ scope = bind 7 (var_number (pos 0) (pos 1) (Some (b false))) no_names
 
 abbrev chosen : Tree → Tree → Answer Cell
 chosen x y = run [] given scope (choose 1 (list_of var_int) (slot 4 var_bool 7) x (Some y))
+
+abbrev q : Tree
+q = slot 4 var_bool 7
+
+-- two var Booleans
+abbrev two : Tree
+two = list 34 var_bool (q ∷ q ∷ [])
+
+abbrev no_set : ℕ → Tree
+no_set at = bin at ints (num at (pos 1)) op.up_to (by_zero (at + 3))
+
+-- if q then [1 div 0] else [1 div 0] endif
+abbrev unshaped : Tree
+unshaped = choose 1 (list_of var_int) q (list 34 int (by_zero 35 ∷ [])) (Some (list 50 int (by_zero 51 ∷ [])))
+
+abbrev square : Tree
+square = fun 1 (table_of var_int) op.array2d (range 9 (pos 1) (pos 2) ∷ range 15 (pos 1) (pos 2) ∷ unshaped ∷ [])
+
+-- An array without a shape: its index sets are compared with nothing, and it keeps its number of dimensions alone
+record NoShape : Type 0 where
+  -- array1d(1..1 div 0, [q, q])
+  undefined_index_set : run [] given scope (fun 1 (list_of var_bool) op.array1d (no_set 9 ∷ two ∷ [])) ≡ gives (Unshaped 1) 14
+  -- array2d(1..2, 1..1 div 0, [q, q])
+  undefined_second_set : run [] Bare scope (fun 1 (table_of var_bool) op.array2d (range 9 (pos 1) (pos 2) ∷ no_set 15 ∷ two ∷ [])) ≡ gives (Unshaped 2) 18
+  -- array1d(unshaped)
+  as_a_list : run [] given scope (fun 1 (list_of var_int) op.as_list (unshaped ∷ [])) ≡ gives (Unshaped 1) 14
+  -- array2d(1..2, 1..2, unshaped): the number of dimensions is the result's
+  as_a_table : run [] given scope square ≡ gives (Unshaped 2) 22
+  -- index_set_1of2(array2d(1..2, 1..2, unshaped))
+  first_index_set : run [] given scope (fun 1 ints op.index_set_1of2 (square ∷ [])) ≡ is (set []) 24
+
+no_shape : NoShape
+unfolding eval lines line_at place_in innermost_of innermost_in back_of back_in backed scalar_value made_value bounding_value equality is_bounded is_fixable as_bool as_int as_case as_set as_text as_items as_index as_row as_ordinal as_element as_pair as_option is_single enum_of at bool_at int_at case_at ordinal_at element_at option_at set_at enum_at text_at items_at row_at index_at pair connected ordered computed signed folded raised toward nearer quantified contains end_of up_to same_set fold_from summand instance place_count with_index shape_from is_mismatched negative is_failed limited scalar_counts made_counts bounding_counts counts_from cost bound_of bounds_of is_settled toward_ends arith_ends sign_ends extreme_from fold_ends folded_ends raised_ends index_tuples is_reached reached branch_bound branch_bounds if_bounds combined_upper bounds_at each ends_at upper_at elements_at all_ends_at all_uppers_at uppers_before scalar_bounds made_bounds lower_of upper_of value_by_bounds range_elements
+no_shape = record { undefined_index_set = refl; undefined_second_set = refl; as_a_list = refl; as_a_table = refl; first_index_set = refl }
 
 abbrev heavy : Cell → ℕ → ℕ → Answer Cell
 heavy c n k = Out c (record { work = n; taken = []; weight = k })

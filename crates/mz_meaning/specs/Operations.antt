@@ -1,7 +1,7 @@
 -- Operators and built-ins over cells.
 use Rattle.std.specs.Prelude.{ℕ, ℤ, pos, Bool, true, false, ◌&&◌, List, [], ◌∷◌, map, take, drop, ◌++◌, length, slice_get, Option, Some, None, if◌then◌else◌, unwrap_or, int_le, nat_lt}
 use Rattle.std.specs.Option.{option_map}
-use Rattle.std.specs.List.{list_all}
+use Rattle.std.specs.List.{list_all, list_any}
 use Rattle.mz_base.specs.declared.fault.Span.{Span}
 use Rattle.mz_base.specs.declared.kind.Kind.TheVariants as kind
 use Rattle.mz_value.specs.Ranges.{Range, cardinality}
@@ -12,7 +12,7 @@ use Rattle.mz_interval.specs.Ends.{is_number}
 use Rattle.mz_core.specs.declared.types.Base.{Base}
 use Rattle.mz_core.specs.Types.{PlainType, is_set}
 use Rattle.mz_operations.specs.declared.row.ScalarRow.TheVariants.{Equal, Unequal, SetEqual, SetUnequal, Length}
-use Rattle.mz_operations.specs.declared.row.MadeRow.TheVariants.{IndexSet, Shaped, AssertArray}
+use Rattle.mz_operations.specs.declared.row.MadeRow.TheVariants.{IndexSet, Line, Shaped, AssertArray}
 use Rattle.mz_operations.specs.declared.row.Row.{Row}
 use Rattle.mz_operations.specs.declared.row.Row.TheVariants.{Scalar, Made, Bounding, Show, ShowArray}
 use Rattle.mz_operations.specs.Lines.{row_of}
@@ -149,13 +149,28 @@ argument_bounds r cs = map bounds_in cs
 abbrev pub at_place : ℕ → List Cell → Cell
 at_place k cs = unwrap_or (slice_get cs k) (Par None)
 
--- an array without a shape that is given other index sets, or handed on by `assert`, stays without one
+-- an array without a shape that is handed on by `assert` stays without one
 abbrev pub or_unshaped : Cell → Cell → Cell
 or_unshaped (Unshaped d) c = Unshaped d
 or_unshaped _ c = c
 
+-- and so it does under other index sets, with this number of dimensions
+abbrev pub or_reshaped : ℕ → Cell → Cell → Cell
+or_reshaped n (Unshaped d) c = Unshaped n
+or_reshaped n _ c = c
+
+-- an index set that is undefined; none is var
+abbrev pub is_no_set : Cell → Bool
+is_no_set (Par None) = true
+is_no_set _ = false
+
+-- nor has an array a shape where one of its index sets is undefined
+abbrev pub shaped_by : ℕ → List Cell → Cell → Cell → Cell
+shaped_by n ixs a c = if list_any is_no_set ixs then Unshaped n else or_reshaped n a c
+
 abbrev pub with_shape : Row → List Cell → Cell → Cell
-with_shape (Made (Shaped d)) cs c = or_unshaped (at_place d cs) c
+with_shape (Made (Shaped d)) cs c = shaped_by d (take d cs) (at_place d cs) c
+with_shape (Made Line) cs c = or_reshaped 1 (at_place 0 cs) c
 with_shape (Made AssertArray) cs c = or_unshaped (at_place 2 cs) c
 with_shape r cs c = c
 

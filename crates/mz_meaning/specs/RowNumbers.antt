@@ -135,6 +135,13 @@ length = number_of (codes "length") 0
 abbrev pub index_set : ℕ
 index_set = number_of (codes "index_set") 0
 
+abbrev pub index_set_1of2 : ℕ
+index_set_1of2 = number_of (codes "index_set_1of2") 0
+
+-- `array1d` of an array alone
+abbrev pub as_list : ℕ
+as_list = number_of (codes "array1d") 0
+
 abbrev pub array1d : ℕ
 array1d = number_of (codes "array1d") 1
 

@@ -1,6 +1,7 @@
 -- Operators and built-ins over cells: in a blank run they give the outline of what they give.
-use Rattle.std.proofs.Common.{◌≡◌, ℕ, ◌+◌, ℤ, pos, Bool, true, false, List, ◌++◌, map, take, drop, Option, Some, None, refl, ap, ◌∙◌, unwrap_or, slice_get, if◌then◌else◌}
+use Rattle.std.proofs.Common.{◌≡◌, ℕ, ◌+◌, ℤ, pos, zero, suc, Bool, true, false, ◌||◌, List, [], ◌∷◌, ◌++◌, map, take, drop, Option, Some, None, refl, ap, ◌∙◌, unwrap_or, slice_get, if◌then◌else◌}
 use Rattle.std.specs.Option.{option_map}
+use Rattle.std.specs.List.{list_any}
 use Rattle.std.proofs.lemmas.List.{take-map, drop-map}
 use Rattle.std.proofs.lemmas.Option.{slice_get-map}
 use Rattle.mz_base.specs.declared.fault.Span.{Span}
@@ -10,7 +11,7 @@ use Rattle.mz_value.specs.Contents.{Content}
 use Rattle.mz_value.specs.Shown.{Names}
 use Rattle.mz_core.specs.declared.types.Base.{Base}
 use Rattle.mz_core.specs.Types.{PlainType}
-use Rattle.mz_operations.specs.declared.row.MadeRow.TheVariants.{Shaped, AssertArray}
+use Rattle.mz_operations.specs.declared.row.MadeRow.TheVariants.{Line, Shaped, AssertArray}
 use Rattle.mz_operations.specs.declared.row.Row.{Row}
 use Rattle.mz_operations.specs.declared.row.Row.TheVariants.{Made}
 use Rattle.mz_operations.specs.Answers as answers
@@ -73,8 +74,34 @@ or_unshaped_outline (Par u) b v = refl
 or_unshaped_outline (Var e u) b v = refl
 or_unshaped_outline (Unshaped d) b v = refl
 
+or_reshaped_outline : (k : ℕ) (c : Cell) (b : Bounds) (v : Option Content) → op.or_reshaped k (outline c) (Var b None) ≡ outline (op.or_reshaped k c (Var b v))
+or_reshaped_outline k (Par u) b v = refl
+or_reshaped_outline k (Var e u) b v = refl
+or_reshaped_outline k (Unshaped d) b v = refl
+
+no_set_outline : (c : Cell) → op.is_no_set (outline c) ≡ op.is_no_set c
+no_set_outline (Par None) = refl
+no_set_outline (Par (Some x)) = refl
+no_set_outline (Var e u) = refl
+no_set_outline (Unshaped d) = refl
+
+no_sets_outline : (d : ℕ) (cs : List Cell) → list_any op.is_no_set (take d (outlines cs)) ≡ list_any op.is_no_set (take d cs)
+no_sets_outline zero cs = refl
+no_sets_outline (suc d) [] = refl
+no_sets_outline (suc d) (c ∷ cs) = both_equal (λ a b. a || b) (no_set_outline c) (no_sets_outline d cs)
+
+unless_no_set_outline : (k : ℕ) (no : Bool) (c : Cell) (b : Bounds) (v : Option Content) → (if no then Unshaped k else op.or_reshaped k (outline c) (Var b None)) ≡ outline (if no then Unshaped k else op.or_reshaped k c (Var b v))
+unless_no_set_outline k true c b v = refl
+unless_no_set_outline k false c b v = or_reshaped_outline k c b v
+
+shaped_by_outline : (d : ℕ) (cs : List Cell) (b : Bounds) (v : Option Content) → op.with_shape (Made (Shaped d)) (outlines cs) (Var b None) ≡ outline (op.with_shape (Made (Shaped d)) cs (Var b v))
+shaped_by_outline d cs b v =
+    both_equal (λ no c. if no then Unshaped d else op.or_reshaped d c (Var b None)) (no_sets_outline d cs) (at_place_outline d cs)
+    ∙ unless_no_set_outline d (list_any op.is_no_set (take d cs)) (op.at_place d cs) b v
+
 with_shape_outline : (r : Row) (cs : List Cell) (b : Bounds) (v : Option Content) → op.with_shape r (outlines cs) (Var b None) ≡ outline (op.with_shape r cs (Var b v))
-with_shape_outline (Made (Shaped d)) cs b v = ap (λ c. op.or_unshaped c (Var b None)) (at_place_outline d cs) ∙ or_unshaped_outline (op.at_place d cs) b v
+with_shape_outline (Made (Shaped d)) cs b v = shaped_by_outline d cs b v
+with_shape_outline (Made Line) cs b v = ap (λ c. op.or_reshaped 1 c (Var b None)) (at_place_outline 0 cs) ∙ or_reshaped_outline 1 (op.at_place 0 cs) b v
 with_shape_outline (Made AssertArray) cs b v = ap (λ c. op.or_unshaped c (Var b None)) (at_place_outline 2 cs) ∙ or_unshaped_outline (op.at_place 2 cs) b v
 with_shape_outline r cs b v = refl
 
