@@ -81,6 +81,9 @@ sealed_same : (v : Bool) (t : PlainType) (k : Known) → is_par (cell_of k) ≡ 
 sealed_same true t k e = var_same t k e
 sealed_same false t k e = par_same k e
 
+pub stays_sealed : (t : PlainType) (k : Known) → is_par (cell_of k) ≡ not t.var → sealed Bare t.var t (cell_of k) ≡ cell_of k
+stays_sealed t k e = sealed_same t.var t k e
+
 never_wide : (n : Bool) → (not n && false) ≡ false
 never_wide true = refl
 never_wide false = refl

@@ -19,6 +19,6 @@ pub use reading::{
     all_par, index_of, is_par, is_there, is_true, length_of, ranges_of, set_in, test_of, there,
 };
 pub use recasting::recast;
-pub use sealing::{both_sure, guarded, is_truth, stays, surely, to_var, typed, unsure};
+pub use sealing::{both_sure, guarded, is_truth, sealed_by, stays, surely, to_var, typed, unsure};
 pub use sharing::{copied_value, given, share, share_bound, share_bounds, share_item};
 pub use types::{Bound, Bounds, Item, Known, Sure};

@@ -88,6 +88,25 @@ fn sealed(alloc: Global, t: &TypeInst, k: &Known) -> Result<Known, AllocError>
     }
 }
 
+/// Whether a cell is par where the type is, and var where it is.
+#[tactic(auto, unfolding(mz_core::specs::Types::plain_type), using(crate::proofs::Seals::stays_sealed))]
+fn is_sealed(t: &TypeInst, k: &Known) -> bool
+    ensures { result ≡ true → cells.sealed Bare t.now.var (plain_type t.now) (cell_of k.now) ≡ cell_of k.now }
+{
+    if t.var { !is_par(k) } else { is_par(k) }
+}
+
+/// The cell made par or var, as the type is.
+pub fn sealed_by(alloc: Global, t: &TypeInst, k: Known) -> Result<Known, AllocError>
+    ensures { IfOk result (λ x. cell_of x ≡ cells.sealed Bare t.now.var (plain_type t.now) (cell_of k)) }
+{
+    if is_sealed(t, &k) {
+        Ok(k)
+    } else {
+        sealed(alloc, t, &k)
+    }
+}
+
 /// Whether the cell is var and has bounds.
 fn has_bounds(k: &Known) -> bool
     ensures { result ≡ has_bounds (cell_of k.now) }

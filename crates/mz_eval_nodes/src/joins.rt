@@ -3,7 +3,7 @@
 ghost use Rattle.std.specs.Prelude.{◌≡◌, ◌++◌, ◌∷◌, [], IfOk, false};
 ghost use Rattle.mz_core.specs.Types.{plain_type};
 ghost use Rattle.mz_meaning.specs.Cells as meaning;
-ghost use Rattle.mz_meaning.specs.Cells.{Bare, guarded};
+ghost use Rattle.mz_meaning.specs.Cells.{Bare, guarded, sealed};
 ghost use Rattle.mz_meaning.specs.Lets as lets;
 ghost use Rattle.mz_meaning.specs.Comprehensions as comps;
 ghost use Rattle.mz_meaning.specs.Comprehensions.{both_occur, present, with_set, made_cell};
@@ -15,7 +15,7 @@ ghost use Rattle.mz_eval_nodes.specs.Views.{names_of, made_of};
 use crate::types::{Made, Names};
 use mz_core::TypeInst;
 use mz_eval_arrays::{gathered_with, line_cell, nothing_gathered, present, set_cell};
-use mz_eval_cells::{Known, Sure, both_sure, guarded, is_par, is_true, there};
+use mz_eval_cells::{Known, Sure, both_sure, guarded, is_par, is_true, sealed_by, there};
 use std::alloc::{AllocError, Global};
 
 /// No name, and all holds.
@@ -137,14 +137,15 @@ pub fn add_set(made: Made, surely: bool, c: &Known) -> Made
     }
 }
 
-/// The array or, in braces, the set of all elements; undefined where a set that counts isn't there.
+/// The array or, in braces, the set of all elements; undefined where a set that counts isn't there,
+/// but a var array keeps its range.
 pub fn comprehended(
     alloc: Global,
     braces: bool,
     t: &TypeInst,
     made: Made,
 ) -> Result<Known, AllocError>
-    ensures { IfOk result (λ k. cell_of k ≡ guarded Bare (plain_type t.now) (made_of made).whole (made_cell Bare (plain_type t.now) braces (made_of made).cells)) }
+    ensures { IfOk result (λ k. cell_of k ≡ guarded Bare (plain_type t.now) (made_of made).whole (sealed Bare t.now.var (plain_type t.now) (made_cell Bare (plain_type t.now) braces (made_of made).cells))) }
 {
     let whole = made.whole;
     let cell = if braces {
@@ -152,5 +153,6 @@ pub fn comprehended(
     } else {
         line_cell(alloc, made.cells)?
     };
+    let cell = sealed_by(alloc, t, cell)?;
     guarded(alloc, t, whole, cell)
 }

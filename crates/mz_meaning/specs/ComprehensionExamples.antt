@@ -137,7 +137,13 @@ record OptionalElements : Type 0 where
   sum_of_options : run [] given (scope (pos 0) (set (fromto (pos 2) (pos 3)))) (fun 1 var_int op.sum_of_options (members ∷ [])) ≡ gives (var_number (pos 0) (pos 6) (Some (i (pos 5)))) 13
   -- [n + 1 | n in a] for a var array a, where its first element is 2
   over_a_var_array : run [] given (scope (pos 2) (set [])) (comp 1 var_int (bin 2 var_int (slot 2 var_int 1) op.plus (to_var (num 6 (pos 1)))) (gen (1 ∷ []) (slot 15 (list_of var_int) 7) None ∷ [])) ≡ gives (var_row (pos 1) (pos 2) (between (pos 1) (pos 4) ∷ between (pos 1) (pos 4) ∷ []) (Some (row (pos 1) (pos 2) (i (pos 3) ∷ i (pos 4) ∷ [])))) 12
+  -- [x | n in 1..1 div 0]: a var array keeps its range, 1..0
+  no_var_elements : run [] Bare blank (comp 1 var_int (x 2) (gen (1 ∷ []) (bin 11 ints (num 11 (pos 1)) op.up_to (by_zero 14)) None ∷ [])) ≡ gives (var_row (pos 1) (pos 0) [] None) 8
+  -- [x | n in 1..2, k in 1..1 div 0]
+  no_inner_elements : run [] given (scope (pos 2) (set [])) (comp 1 var_int (x 2) (gen (1 ∷ []) (range 11 (pos 1) (pos 2)) None ∷ gen (2 ∷ []) (bin 22 ints (num 22 (pos 1)) op.up_to (by_zero 25)) None ∷ [])) ≡ gives (var_row (pos 1) (pos 0) [] None) 21
+  -- [x | n in 2..1]
+  no_elements : run [] given (scope (pos 2) (set [])) (comp 1 var_int (x 2) (gen (1 ∷ []) (range 11 (pos 2) (pos 1)) None ∷ [])) ≡ gives (var_row (pos 1) (pos 0) [] (Some (row (pos 1) (pos 0) []))) 5
 
 optional_elements : OptionalElements
 unfolding eval lines line_at place_in innermost_of innermost_in back_of back_in backed scalar_value made_value bounding_value equality is_bounded is_fixable as_bool as_int as_case as_set as_text as_items as_index as_row as_ordinal as_element as_pair as_option is_single enum_of at bool_at int_at case_at ordinal_at element_at option_at set_at enum_at text_at items_at row_at index_at pair connected ordered computed signed folded raised toward nearer quantified contains end_of up_to same_set fold_from summand instance place_count with_index shape_from is_mismatched negative is_failed limited scalar_counts made_counts bounding_counts counts_from cost bound_of bounds_of is_settled toward_ends arith_ends sign_ends extreme_from fold_ends folded_ends raised_ends index_tuples is_reached reached branch_bound branch_bounds if_bounds combined_upper bounds_at each ends_at upper_at elements_at all_ends_at all_uppers_at uppers_before scalar_bounds made_bounds lower_of upper_of value_by_bounds range_elements
-optional_elements = record { var_where = refl; var_where_blank = refl; over_a_var_set = refl; absent_and_undefined = refl; there_and_undefined = refl; inner_set_of_an_absent_element = refl; inner_set_that_counts = refl; sum_of_options = refl; over_a_var_array = refl }
+optional_elements = record { var_where = refl; var_where_blank = refl; over_a_var_set = refl; absent_and_undefined = refl; there_and_undefined = refl; inner_set_of_an_absent_element = refl; inner_set_that_counts = refl; sum_of_options = refl; over_a_var_array = refl; no_var_elements = refl; no_inner_elements = refl; no_elements = refl }

@@ -16,7 +16,7 @@ use Rattle.mz_operations.specs.Arrays.{element_of}
 use Rattle.mz_operations.specs.Bounds.{Bound, Bounds}
 use Rattle.mz_operations.specs.Bounds as bounds
 use Rattle.mz_meaning.specs.Runs.{Run, ◌>>=◌, ◌>>◌, give, spend, loop}
-use Rattle.mz_meaning.specs.Cells.{Cell, Par, Var, Unshaped, Mode, Blank, Given, held, Env, bind, Test, Settled, Open, test_of, is_true, value_of, par_value, bounds_in, Sure, sure, both_sure, guarded, there}
+use Rattle.mz_meaning.specs.Cells.{Cell, Par, Var, Unshaped, Mode, Blank, Given, held, Env, bind, Test, Settled, Open, test_of, is_true, value_of, par_value, bounds_in, Sure, sure, both_sure, sealed, guarded, there}
 use Rattle.mz_meaning.specs.Coerced.{enum_in}
 use Rattle.mz_meaning.specs.Arrays.{line_cell, set_cell}
 use Rattle.mz_meaning.specs.Contexts.{Context, elsewhere}
@@ -151,7 +151,8 @@ abbrev pub made_cell : Mode → PlainType → Bool → List Cell → Cell
 made_cell m t true cs = set_cell t cs
 made_cell m t false cs = line_cell m cs
 
+-- a var array has its range, of no elements 1..0, also where a set that counts is undefined: only a par array has none there
 abbrev pub comprehension : World → Eval → Context → Bool → Tree → List Gen → Span → PlainType → Env → Run Cell
 comprehension w go ctx braces head gs at t env = do
   made ← generators w go ctx at gs (added w.mode go ctx head) env None nothing_made
-  done w at (guarded w.mode t made.whole (made_cell w.mode t braces made.cells))
+  done w at (guarded w.mode t made.whole (sealed w.mode t.var t (made_cell w.mode t braces made.cells)))

@@ -95,7 +95,7 @@ to_par_outline (Par v) = refl
 to_par_outline (Var b v) = refl
 to_par_outline (Unshaped d) = refl
 
-sealed_outline : (m : Mode) (n v : Bool) (t : PlainType) (c : Cell) → sealed (Blank n) v t (outline c) ≡ outline (sealed m v t c)
+pub sealed_outline : (m : Mode) (n v : Bool) (t : PlainType) (c : Cell) → sealed (Blank n) v t (outline c) ≡ outline (sealed m v t c)
 sealed_outline m n true t c = to_var_outline m n t c
 sealed_outline m n false t c = to_par_outline c
 

@@ -6,7 +6,7 @@ use Rattle.mz_value.specs.Contents as values
 use Rattle.mz_core.specs.Types.{PlainType}
 use Rattle.mz_core.specs.Tree.{Tree, Shape, Layer, Gen, layer, shape_of, place_of, type_of, inner_tree, root_coercions}
 use Rattle.mz_core.specs.Tree as tree
-use Rattle.mz_meaning.specs.Cells.{Cell, Par, Var, Unshaped, Mode, Blank, Env, par_value_of, guarded, typed}
+use Rattle.mz_meaning.specs.Cells.{Cell, Par, Var, Unshaped, Mode, Blank, Env, par_value_of, sealed, guarded, typed}
 use Rattle.mz_meaning.specs.Coerced.{enum_in}
 use Rattle.mz_meaning.specs.Arrays.{set_cell, set_from}
 use Rattle.mz_meaning.specs.Contexts.{Context}
@@ -19,7 +19,7 @@ use Rattle.mz_meaning_laws.specs.FreeLocals.{free_in, free_in_form, free_in_mayb
 use Rattle.mz_meaning_laws.specs.Outlines.{outline, outlines, outline_sure, blank_world, HasOutlines}
 use Rattle.mz_meaning_laws.specs.Ties.{Tie, Ties, HasOutline, HasNotes, Allows, AllowsTree, AllowsIf, AllowsStep, AllowsGen, AllowsBranch, AllowsItem, AllowsFound, EvalHasOutline}
 use Rattle.mz_meaning_laws.proofs.Joins.{then_outlined, stop_outlined, at_same}
-use Rattle.mz_meaning_laws.proofs.Cells.{map_outline, typed_outline, guarded_outline}
+use Rattle.mz_meaning_laws.proofs.Cells.{map_outline, sealed_outline, typed_outline, guarded_outline}
 use Rattle.mz_meaning_laws.proofs.Rows.{done_outlined}
 use Rattle.mz_meaning_laws.proofs.Arrays.{line_outline}
 use Rattle.mz_meaning_laws.proofs.Allowed.{allows_left, allows_right, maybe_allows, trees_allow, rows_allow, branches_allow, steps_allow, gens_allow, items_allow, inner_allows}
@@ -50,8 +50,8 @@ made_outline m n ty false cs = line_outline m n cs
 comprehension_outlined : {t : Tie} {n : Bool} {w : World} {top : Env} {go go' : Eval} → EvalHasOutline t n w top go go' → {c d : Context} → Ties t c d → (braces : Bool) (e : Tree) (gs : List Gen) → Allows t (free_in e) → Each (AllowsGen t) gs → (at : Span) (ty : PlainType) {env env' : Env} → HasOutlines env env' → HasOutline t n outline (comprehension w go c braces e gs at ty env) (comprehension (blank_world n w top) go' d braces e gs at ty env')
 comprehension_outlined {n = n} {w = w} {top = top} g h braces e gs y z at ty i =
     then_outlined _ ((generators_outlined g h at gs z (added_outlined g h e y)).by i None nothing_made)
-    (λ a. done_outlined w top at (guarded w.mode ty a.whole (made_cell w.mode ty braces a.cells))
-    (ap (guarded (Blank n) ty (outline_sure a.whole)) (made_outline w.mode n ty braces a.cells) ∙ guarded_outline w.mode n ty a.whole (made_cell w.mode ty braces a.cells)))
+    (λ a. done_outlined w top at (guarded w.mode ty a.whole (sealed w.mode ty.var ty (made_cell w.mode ty braces a.cells)))
+    (ap (guarded (Blank n) ty (outline_sure a.whole)) (ap (sealed (Blank n) ty.var ty) (made_outline w.mode n ty braces a.cells) ∙ sealed_outline w.mode n ty.var ty (made_cell w.mode ty braces a.cells)) ∙ guarded_outline w.mode n ty a.whole (sealed w.mode ty.var ty (made_cell w.mode ty braces a.cells))))
 
 -- ---- all forms
 
