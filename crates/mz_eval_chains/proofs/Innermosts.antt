@@ -12,9 +12,9 @@ use Rattle.mz_core.specs.Tree as trees
 use Rattle.mz_core.specs.Tree.{Tree, Steps, layer, shape_of, place_of, type_of, steps, all_steps, root_coercions, node, chain, coerce}
 use Rattle.mz_core.specs.TreeViews.{tree, step, form_layer}
 use Rattle.mz_core.proofs.TreeLaws.{place_of_tree, type_of_tree, layer_tree}
-use Rattle.mz_meaning.specs.Chains.{Innermost, Operator, innermost_of, innermost_in, back_of, back_in, backed, same_level, coerced_innermost, with_left, with_right, last_backed, operators_at}
+use Rattle.mz_meaning.specs.Chains.{Innermost, Operator, innermost_of, innermost_in, back_of, back_in, backed, same_level, coerced_innermost, with_left, with_right, last_backed}
 use Rattle.mz_core.specs.declared.types.Coercion.{Coercion}
-use Rattle.mz_eval_chains.specs.Innermosts.{innermost_by, back_by, last_with}
+use Rattle.mz_eval_chains.specs.Innermosts.{innermost_by, back_by, appends_at, place_after, last_with}
 
 innermost_of_layer : (l : ℕ) (t : Tree) → innermost_of l t ≡ innermost_by l (place_of t) (type_of t) (layer (shape_of t))
 unfolding innermost_of innermost_in
@@ -91,30 +91,31 @@ last_is at s t = last_by at s t (back_of t) (back_links t)
 abbrev put_first : Span → trees.Step → List Operator → List Operator
 put_first at x os = record { at = at; step = x } ∷ os
 
-pub backed_split : (at : Span) (xs : List trees.Step) (s : trees.Step) → backed at (steps (xs ++ (s ∷ []))) ≡ operators_at at xs ++ last_backed at s (back_of s.operand)
+pub backed_split : (at : Span) (xs : List trees.Step) (s : trees.Step) → backed at (steps (xs ++ (s ∷ []))) ≡ appends_at at xs ++ last_backed (place_after at xs) s (back_of s.operand)
 unfolding backed
 backed_split at [] s = refl
 backed_split at (x ∷ []) s = refl
-backed_split at (x ∷ y ∷ ys) s = ap (put_first at x) (backed_split at (y ∷ ys) s)
+backed_split at (x ∷ y ∷ ys) s = ap (put_first at x) (backed_split (place_of x.operand) (y ∷ ys) s)
 
 -- the operators of a chain of `++`, by the code's steps
-pub backed_apart : (at : Span) (all others : List CoreStep) (s : CoreStep) → all ≡ others ++ (s ∷ []) → backed at (steps (map step all)) ≡ operators_at at (map step others) ++ last_with at (step s) (root_coercions (tree s.operand)) (back_of (tree s.operand))
+pub backed_apart : (at : Span) (all others : List CoreStep) (s : CoreStep) → all ≡ others ++ (s ∷ []) → backed at (steps (map step all)) ≡ appends_at at (map step others) ++ last_with (place_after at (map step others)) (step s) (root_coercions (tree s.operand)) (back_of (tree s.operand))
 backed_apart at all others s h =
     ap (λ xs. backed at (steps (map step xs))) h
     ∙ ap (λ xs. backed at (steps xs)) (map-append step others (s ∷ []))
     ∙ backed_split at (map step others) (step s)
-    ∙ ap (λ os. operators_at at (map step others) ++ os) (last_is at (step s) (tree s.operand))
+    ∙ ap (λ os. appends_at at (map step others) ++ os) (last_is (place_after at (map step others)) (step s) (tree s.operand))
 
 pub no_back : (at : Span) (all : List CoreStep) → length all ≡ 0 → backed at (steps (map step all)) ≡ []
 unfolding backed
 no_back at [] h = refl
 no_back at (s ∷ ss) h = absurd (omega arith)
 
-pub backed_made : (at : Span) (all others : List CoreStep) (x : CoreStep) (before begun made : List Operator) → before ≡ [] → begun ≡ before ++ operators_at at (map step others) → made ≡ begun ++ last_with at (step x) (root_coercions (tree x.operand)) (back_of (tree x.operand)) → all ≡ others ++ (x ∷ []) → made ≡ backed at (steps (map step all))
-backed_made at all others x before begun made none first last split =
-    let end = last_with at (step x) (root_coercions (tree x.operand)) (back_of (tree x.operand)) in
+pub backed_made : (at : Span) (all others : List CoreStep) (x : CoreStep) (place : Span) (before begun made : List Operator) → before ≡ [] → begun ≡ before ++ appends_at at (map step others) → place ≡ place_after at (map step others) → made ≡ begun ++ last_with place (step x) (root_coercions (tree x.operand)) (back_of (tree x.operand)) → all ≡ others ++ (x ∷ []) → made ≡ backed at (steps (map step all))
+backed_made at all others x place before begun made none first after last split =
+    let end : Span → List Operator = λ y. last_with y (step x) (root_coercions (tree x.operand)) (back_of (tree x.operand)) in
     last
-    ∙ ap (λ os. os ++ end) (first ∙ ap (λ os. os ++ operators_at at (map step others)) none)
+    ∙ ap (λ y. begun ++ end y) after
+    ∙ ap (λ os. os ++ end (place_after at (map step others))) (first ∙ ap (λ os. os ++ appends_at at (map step others)) none)
     ∙ sym (backed_apart at all others x split)
 
 pub backed_none : (at : Span) (all : List CoreStep) (before : List Operator) → before ≡ [] → length all ≡ 0 → before ≡ backed at (steps (map step all))

@@ -19,9 +19,9 @@ use Rattle.mz_meaning.specs.Cells.{Cell}
 use Rattle.mz_meaning.specs.Coerced.{coerced_type}
 use Rattle.mz_meaning.specs.Forms.{World, coerced_once, coerced_by}
 use Rattle.mz_meaning.specs.Chains as chains
-use Rattle.mz_meaning.specs.Chains.{same_level, with_innermost, coerced_innermost, back_of, backed, with_right, operators_at}
+use Rattle.mz_meaning.specs.Chains.{same_level, with_innermost, coerced_innermost, back_of, backed, with_right}
 use Rattle.mz_eval_chains.specs.declared.types.Innermost.{Innermost}
-use Rattle.mz_eval_chains.specs.Innermosts.{innermost_of, innermost_by, back_by, part_innermost, last_with}
+use Rattle.mz_eval_chains.specs.Innermosts.{innermost_of, innermost_by, back_by, part_innermost, appends_at, place_after, last_with}
 use Rattle.mz_eval_chains.proofs.Runs.{coerced_last, coerced_type_last}
 use Rattle.mz_eval_chains.proofs.Innermosts.{innermost_of_tree, back_of_tree, coerced_last_with, backed_apart}
 
@@ -166,12 +166,14 @@ last_of_other at s ls e b v all h q other =
     ∙ ap (back_if e.span (tree b.value) (map step all)) other))
 
 -- the operator before, all operators of the operand but the last, and the last
-pub last_of_chain : (at : Span) (s : trees.Step) (ls : List PathLink) (e first : Core) (b : Box Core Global) (v : Vec CoreStep Global) (all others : List CoreStep) (x : CoreStep) (os begun made : List chains.Operator) → e.form ≡ forms.Chain b v → first ≡ b.value → all ≡ v.items → same_level 12 (map step all) ≡ true → all ≡ others ++ (x ∷ []) → begun ≡ (os ++ (record { at = at; step = with_right ls (tree first) s } ∷ [])) ++ operators_at e.span (map step others) → made ≡ begun ++ last_with e.span (step x) (root_coercions (tree x.operand)) (back_of (tree x.operand)) → made ≡ os ++ last_with at s ls (back_of (tree e))
-last_of_chain at s ls e first b v all others x os begun made h p q same split first_is last_is =
-    let last = last_with e.span (step x) (root_coercions (tree x.operand)) (back_of (tree x.operand)) in
-    let rest = operators_at e.span (map step others) in
+pub last_of_chain : (at : Span) (s : trees.Step) (ls : List PathLink) (e first : Core) (b : Box Core Global) (v : Vec CoreStep Global) (all others : List CoreStep) (x : CoreStep) (place : Span) (os begun made : List chains.Operator) → e.form ≡ forms.Chain b v → first ≡ b.value → all ≡ v.items → same_level 12 (map step all) ≡ true → all ≡ others ++ (x ∷ []) → begun ≡ (os ++ (record { at = at; step = with_right ls (tree first) s } ∷ [])) ++ appends_at e.span (map step others) → place ≡ place_after e.span (map step others) → made ≡ begun ++ last_with place (step x) (root_coercions (tree x.operand)) (back_of (tree x.operand)) → made ≡ os ++ last_with at s ls (back_of (tree e))
+last_of_chain at s ls e first b v all others x place os begun made h p q same split first_is place_is last_is =
+    let last_from : Span → List chains.Operator = λ y. last_with y (step x) (root_coercions (tree x.operand)) (back_of (tree x.operand)) in
+    let last = last_from (place_after e.span (map step others)) in
+    let rest = appends_at e.span (map step others) in
     let o : chains.Operator = record { at = at; step = with_right ls (tree first) s } in
     last_is
+    ∙ ap (λ y. begun ++ last_from y) place_is
     ∙ ap (λ ys. ys ++ last) first_is
     ∙ append_assoc (os ++ (o ∷ [])) rest last
     ∙ append_assoc os (o ∷ []) (rest ++ last)

@@ -53,6 +53,16 @@ back_by at t (chain_form e ss) = if chains.same_level 12 ss then Some (record { 
 back_by at t (coerce_form c e) = option_map (chains.coerced_innermost (c, t)) (chains.back_of e)
 back_by at t _ = None
 
+-- operators of `++`: the first one's node has this place, and each one's after it that of its own first operand
+abbrev pub appends_at : Span → List trees.Step → List chains.Operator
+appends_at at [] = []
+appends_at at (s ∷ ss) = record { at = at; step = s } ∷ appends_at (trees.place_of s.operand) ss
+
+-- the place of the operator's node after them
+abbrev pub place_after : Span → List trees.Step → Span
+place_after at [] = at
+place_after at (s ∷ ss) = place_after (trees.place_of s.operand) ss
+
 -- the last operator, whose operand may be a chain of `++` below these coercions
 abbrev pub last_with : Span → trees.Step → List PathLink → Option chains.Innermost → List chains.Operator
 last_with at s ls None = record { at = at; step = s } ∷ []

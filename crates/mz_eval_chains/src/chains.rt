@@ -7,9 +7,10 @@ ghost use Rattle.mz_core.specs.TreeViews.{tree, step};
 ghost use Rattle.mz_meaning.specs.Chains as chains;
 ghost use Rattle.mz_meaning.specs.Chains.{operators_at, with_left, with_right, with_innermost, backed, back_of, chained};
 ghost use Rattle.mz_eval_chains.specs.Links.{links_round};
-ghost use Rattle.mz_eval_chains.specs.Innermosts.{operator_of, innermost_of, part_innermost, left_of_step, with_links, last_with};
+ghost use Rattle.mz_eval_chains.specs.Innermosts.{operator_of, innermost_of, part_innermost, left_of_step, with_links, appends_at, place_after, last_with};
 
 use crate::levels::{chain_level, is_appended, same_level};
+use crate::nodes::place_of;
 use crate::types::{Innermost, Operator};
 use mz_base::Span;
 use mz_core::{Core, CoreForm, CoreStep};
@@ -54,6 +55,39 @@ fn with_plain<'a>(
         })?;
     }
     Ok(all)
+}
+
+// operators of `++`, the first one's node at this place
+fn with_appends<'a>(
+    all: Vec<Operator<'a>>,
+    at: Span,
+    rest: &'a [CoreStep],
+) -> Result<Vec<Operator<'a>>, AllocError>
+    ensures { IfOk result (λ v. map operator_of v.items ≡ map operator_of all.entry.items ++ appends_at at (map step rest.now)) }
+{
+    let mut all = all;
+    let mut place = at;
+    for s in rest {
+        all.push(Operator {
+            at: place,
+            step: s,
+            before: None,
+            operand: &s.operand,
+            after: None,
+        })?;
+        place = place_of(&s.operand);
+    }
+    Ok(all)
+}
+
+fn place_after(at: Span, rest: &[CoreStep]) -> Span
+    ensures { result ≡ place_after at (map step rest.now) }
+{
+    let mut place = at;
+    for s in rest {
+        place = place_of(&s.operand);
+    }
+    place
 }
 
 // with the operators of a chain at this place; the first one has further coercions of its left operand
@@ -176,7 +210,7 @@ fn with_operand<'a>(
     place: Span,
     others: &'a [CoreStep],
 ) -> Result<Vec<Operator<'a>>, AllocError>
-    ensures { IfOk result (λ v. map operator_of v.items ≡ (map operator_of all.entry.items ++ (record { at = at; step = with_right (root_coercions (tree s.now.operand)) (tree operand.now) (step s.now) } ∷ [])) ++ operators_at place (map step others.now)) }
+    ensures { IfOk result (λ v. map operator_of v.items ≡ (map operator_of all.entry.items ++ (record { at = at; step = with_right (root_coercions (tree s.now.operand)) (tree operand.now) (step s.now) } ∷ [])) ++ appends_at place (map step others.now)) }
 {
     let mut all = all;
     all.push(Operator {
@@ -186,7 +220,7 @@ fn with_operand<'a>(
         operand,
         after: Some(&s.operand),
     })?;
-    let all = with_plain(all, place, others)?;
+    let all = with_appends(all, place, others)?;
     Ok(all)
 }
 
@@ -228,8 +262,9 @@ fn with_last<'a>(
                 return Ok(plain);
             }
             let begun = with_operand(all, at, s, first, e.span, &steps[..count - 1])?;
+            let place = place_after(e.span, &steps[..count - 1]);
             let last = &steps[count - 1];
-            let ended = with_last(begun, e.span, &last.operand, last)?;
+            let ended = with_last(begun, place, &last.operand, last)?;
             Ok(ended)
         }
         CoreForm::Coerce(_, part) => {
@@ -256,9 +291,10 @@ fn with_back<'a>(
     if count == 0 {
         return Ok(none);
     }
-    let begun = with_plain(none, at, &rest[..count - 1])?;
+    let begun = with_appends(none, at, &rest[..count - 1])?;
+    let place = place_after(at, &rest[..count - 1]);
     let last = &rest[count - 1];
-    let ended = with_last(begun, at, &last.operand, last)?;
+    let ended = with_last(begun, place, &last.operand, last)?;
     Ok(ended)
 }
 

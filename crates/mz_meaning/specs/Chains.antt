@@ -5,7 +5,7 @@ use Rattle.mz_base.specs.declared.fault.Span.{Span}
 use Rattle.mz_core.specs.declared.types.Base.{Base}
 use Rattle.mz_core.specs.Types.{PlainType}
 use Rattle.mz_core.specs.Coercions.{PathLink}
-use Rattle.mz_core.specs.Tree.{Tree, Shape, Step, Steps, all_steps, steps, node, chain, coerce, no_steps, a_step, type_of}
+use Rattle.mz_core.specs.Tree.{Tree, Shape, Step, Steps, all_steps, steps, node, chain, coerce, no_steps, a_step, type_of, place_of}
 use Rattle.mz_meaning.specs.Coerced.{coerced_type}
 use Rattle.mz_operations.specs.Lines.{level_of}
 use Rattle.mz_meaning.specs.Operations.{row_at}
@@ -76,11 +76,11 @@ unfoldable mutual
   back_in at t (coerce c e) = option_map (coerced_innermost (c, t)) (back_of e)
   back_in at t form = None
 
-  -- the operators of a chain at a place, with those of a chain that is its last operand
+  -- the operators of a chain at a place, with those of a chain that is its last operand; the node of each operator after the first has the place of its own first operand
   pub backed : Span → Steps → List Operator
   backed at no_steps = []
   backed at (a_step r t l m e no_steps) = last_backed at (a_step_of r t l m e) (back_of e)
-  backed at (a_step r t l m e (a_step r2 t2 l2 m2 e2 ss)) = record { at = at; step = a_step_of r t l m e } ∷ backed at (a_step r2 t2 l2 m2 e2 ss)
+  backed at (a_step r t l m e (a_step r2 t2 l2 m2 e2 ss)) = record { at = at; step = a_step_of r t l m e } ∷ backed (place_of e) (a_step r2 t2 l2 m2 e2 ss)
 
 -- ---- all operators of a chain, with the innermost first operand
 

@@ -5,7 +5,7 @@ use Rattle.mz_base.specs.declared.fault.Span.{Span}
 use Rattle.mz_core.specs.Types.{PlainType}
 use Rattle.mz_core.specs.Coercions.{PathLink}
 use Rattle.mz_core.specs.Program.{Function}
-use Rattle.mz_core.specs.Tree.{Tree, Shape, Trees, Maybe, Maybes, Rows, Branches, Steps, Gens, Items, Step, Decl, steps, if_tree, all_trees, all_maybes, all_rows, all_branches, all_steps, all_gens, all_items, shape_of, inner_tree, inner_under}
+use Rattle.mz_core.specs.Tree.{Tree, Shape, Trees, Maybe, Maybes, Rows, Branches, Steps, Gens, Items, Step, Decl, steps, if_tree, all_trees, all_maybes, all_rows, all_branches, all_steps, all_gens, all_items, shape_of, place_of, inner_tree, inner_under}
 use Rattle.mz_core.specs.Tree as tree
 use Rattle.mz_meaning.specs.Chains.{Innermost, operators_at, with_left, with_innermost, coerced_innermost, innermost_of, innermost_in, last_backed, a_step_of, back_of, back_in, backed, chained, same_level, chain_level}
 use Rattle.mz_meaning.specs.Solutions.{Each}
@@ -186,7 +186,7 @@ mutual
   backed_allows : (t : Tie) (at : Span) (ss : Steps) → Allows t (free_in_steps ss) → Each (AllowsOperator t) (backed at ss)
   backed_allows t at tree.no_steps h = tt
   backed_allows t at (tree.a_step r ty l m e tree.no_steps) h = last_allows t at (a_step_of r ty l m e) (back_of e) (allows_left t (free_in e) [] h) (back_allows t e (allows_left t (free_in e) [] h))
-  backed_allows t at (tree.a_step r ty l m e (tree.a_step r2 ty2 l2 m2 e2 ss)) h = (allows_left t (free_in e) (free_in_steps (tree.a_step r2 ty2 l2 m2 e2 ss)) h, backed_allows t at (tree.a_step r2 ty2 l2 m2 e2 ss) (allows_right t (free_in e) (free_in_steps (tree.a_step r2 ty2 l2 m2 e2 ss)) h))
+  backed_allows t at (tree.a_step r ty l m e (tree.a_step r2 ty2 l2 m2 e2 ss)) h = (allows_left t (free_in e) (free_in_steps (tree.a_step r2 ty2 l2 m2 e2 ss)) h, backed_allows t (place_of e) (tree.a_step r2 ty2 l2 m2 e2 ss) (allows_right t (free_in e) (free_in_steps (tree.a_step r2 ty2 l2 m2 e2 ss)) h))
 
 steps_back : (t : Tie) (ss : List Step) → Each (AllowsStep t) ss → Allows t (free_in_steps (steps ss))
 unfolding free_in_steps

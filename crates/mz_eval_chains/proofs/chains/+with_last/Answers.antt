@@ -13,9 +13,9 @@ returns-in_ok-ended-in-Chain t c =
     let s = c.args.s.now in
     let all = c.as_slice-steps.result.now in
     let x = c.index-steps-count.result in
-    last_of_chain c.args.at (step s) (root_coercions (tree s.operand)) c.args.e.now c.deref.result.now _ _ all (take (length all - 1) all) x _ _ _ c.in-Chain.is c.deref.ensures c.as_slice-steps.ensures.value (search rules)
+    last_of_chain c.args.at (step s) (root_coercions (tree s.operand)) c.args.e.now c.deref.result.now _ _ all (take (length all - 1) all) x c.place_after-place.result _ _ _ c.in-Chain.is c.deref.ensures c.as_slice-steps.ensures.value (search rules)
     (list_by_last (length all) all (take (length all - 1) all) x refl c.if-count-eq0.false c.index-steps-count.is refl)
-    c.in_ok-begun-in-Chain.ensures c.in_ok-ended-in-Chain.ensures
+    c.in_ok-begun-in-Chain.ensures c.place_after-place.ensures c.in_ok-ended-in-Chain.ensures
 
 pub returns-in_ok-under-in-Coerce : goal.returns-in_ok-under-in-Coerce
 returns-in_ok-under-in-Coerce t c =

@@ -8,7 +8,7 @@ pub returns : goal.returns
 returns c =
     let all = c.args.rest.now in
     let x = c.index-rest-count.result in
-    backed_made c.args.at all (take (length all - 1) all) x _ _ _ (ap (map operator_of) c.new-none.ensures.items) c.in_ok-begun.ensures c.in_ok-ended.ensures
+    backed_made c.args.at all (take (length all - 1) all) x c.place_after-place.result _ _ _ (ap (map operator_of) c.new-none.ensures.items) c.in_ok-begun.ensures c.place_after-place.ensures c.in_ok-ended.ensures
     (list_by_last (length all) all (take (length all - 1) all) x refl c.if-count-eq0.false c.index-rest-count.is refl)
 
 pub returns-then-count-eq0 : goal.returns-then-count-eq0
