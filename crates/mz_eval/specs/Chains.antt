@@ -4,11 +4,11 @@ use Rattle.mz_base.specs.declared.fault.Span.{Span}
 use Rattle.mz_core.specs.declared.tree.Core.{Core}
 use Rattle.mz_core.specs.declared.tree.CoreStep.{CoreStep}
 use Rattle.mz_core.specs.TreeViews.{tree, step}
-use Rattle.mz_meaning.specs.Runs.{Run, loop}
+use Rattle.mz_meaning.specs.Runs.{Run}
 use Rattle.mz_meaning.specs.Cells.{Cell, Env}
 use Rattle.mz_meaning.specs.Contexts.{Untested}
 use Rattle.mz_meaning.specs.Chains.{Operator, Innermost, with_innermost}
-use Rattle.mz_meaning.specs.Forms.{World, Eval, Appended, append_operand}
+use Rattle.mz_meaning.specs.Forms.{World, Eval, Appended, append_operands}
 use Rattle.mz_eval_nodes.specs.Operators.{nothing_appended}
 
 -- where no operator of the first operand belongs to the chain
@@ -17,4 +17,4 @@ own_operators at first ss = with_innermost at (map step ss) (tree first) None
 
 -- the operands of `++` after the first one
 abbrev pub operands : World → Eval → Env → Span → Cell → List Operator → Run Appended
-operands w go env place first os = loop (append_operand w go Untested env) (nothing_appended place first) os
+operands w go env place first os = append_operands w go Untested env (nothing_appended place first) os

@@ -177,11 +177,15 @@ operators_well w go g env at left (o ∷ os) =
 append_operand_well : (w : World) (go : Eval) → IsEvaluator go → (env : Env) (x : forms.Appended) (o : Operator) → IsEvaluation (forms.append_operand w go Untested env x o)
 append_operand_well w go g env x o = then_well (coerced_well w x.place o.step.left x.last) (λ a. then_well (g.by o.step.operand env) (λ c. give_well _))
 
+append_operands_well : (w : World) (go : Eval) → IsEvaluator go → (env : Env) (x : forms.Appended) (os : List Operator) → IsEvaluation (forms.append_operands w go Untested env x os)
+append_operands_well w go g env x [] = give_well x
+append_operands_well w go g env x (o ∷ os) = then_well (append_operand_well w go g env x o) (λ y. append_operands_well w go g env y os)
+
 append_node_well : (w : World) (right : Span × Cell) (p : Operator × Cell) → IsEvaluation (forms.append_node w right p)
 append_node_well w right p = then_well (coerced_well w right.0 p.0.step.right right.1) (λ b. then_well (operated_well w p.0.at p.0.step.ty p.0.step.row (operand_base p.0.step) (p.1 ∷ b ∷ [])) (λ next. give_well _))
 
 appended_well : (w : World) (go : Eval) → IsEvaluator go → (env : Env) (f : Innermost) (first : Cell) → IsEvaluation (forms.appended w go Untested env f first)
-appended_well w go g env f first = then_well (loop_well (forms.append_operand w go Untested env) (append_operand_well w go g env) _ f.operators) (λ x. then_well (loop_well (forms.append_node w) (append_node_well w) _ x.lefts) (λ r. give_well _))
+appended_well w go g env f first = then_well (append_operands_well w go g env _ f.operators) (λ x. then_well (loop_well (forms.append_node w) (append_node_well w) _ x.lefts) (λ r. give_well _))
 
 chain_by_well : (w : World) (go : Eval) → IsEvaluator go → (env : Env) (t : Bool) (f : Innermost) → IsEvaluation (forms.chain_by w go Untested env t f)
 chain_by_well w go g env true f = then_well (g.by f.first env) (λ c. appended_well w go g env f c)

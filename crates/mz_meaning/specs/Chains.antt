@@ -129,3 +129,10 @@ abbrev pub before : Context → List Operator → Context
 before Untested os = Untested
 before Positive os = before_all os
 before Other os = Other
+
+-- of `++` each operator's node is the right operand of the one before; here the place of the operand before these operators, whose node has this place
+abbrev pub first_in : Context → List Operator → Context
+first_in Untested os = Untested
+first_in Positive [] = Positive
+first_in Positive (o ∷ os) = left_place o.step
+first_in Other os = Other

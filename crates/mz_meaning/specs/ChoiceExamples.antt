@@ -3,7 +3,8 @@ use Rattle.std.specs.Prelude.{◌≡◌, refl, ℕ, ◌+◌, pos, negsuc, true, 
 use Rattle.mz_value.specs.Contents.{Content}
 use Rattle.mz_value.specs.Shown.{range_elements}
 use Rattle.mz_core.specs.Types.{PlainType}
-use Rattle.mz_core.specs.Tree.{Tree, Decl, declares}
+use Rattle.mz_core.specs.Tree.{Tree, Step, Decl, declares}
+use Rattle.mz_core.specs.Coercions.{PathLink}
 use Rattle.mz_operations.specs.Views.{as_bool, as_int, as_case, as_set, as_text, as_items, as_index, as_row, as_ordinal, as_element, as_pair, as_option, is_single, enum_of}
 use Rattle.mz_operations.specs.Arguments.{at, bool_at, int_at, case_at, ordinal_at, element_at, option_at, set_at, enum_at, text_at, items_at, row_at, index_at, pair}
 use Rattle.mz_operations.specs.Numbers.{connected, ordered, computed, signed, folded, raised, toward, nearer, quantified}
@@ -23,6 +24,7 @@ use Rattle.mz_meaning.specs.Evaluation.{eval}
 use Rattle.mz_meaning.specs.Written.{int, var_int, var_bool, var_opt_int, ints, var_ints, list_of, num, lit, slot, fun, call, step, chain, bin, to_var, to_int, list, comp, gen, choose, let_in, range, plain, within, from, indexed, decl, function, i, set, fromto, row, between, var_number, var_set, var_row, run, gives, stops, by_zero}
 use Rattle.mz_base.specs.declared.kind.Kind.TheVariants as kind
 use Rattle.mz_core.specs.declared.types.Base.TheVariants as base
+use Rattle.mz_core.specs.declared.types.Coercion.TheVariants as coercion
 use Rattle.mz_meaning.specs.RowNumbers as op
 
 -- let { var 1..2: y } in y = 1, whose declaration begins at 34
@@ -56,6 +58,17 @@ one_choice n = Out (var_number (pos 0) (pos 1) None) (record { work = n; taken =
 abbrev bools : List Tree → Tree
 bools es = list 80 var_bool es
 
+-- the coercion from bool to int of an array's elements
+abbrev to_ints : List PathLink
+to_ints = (coercion.BoolToInt, list_of var_int) ∷ []
+
+-- `++` with coercions of its operands
+abbrev append : List PathLink → List PathLink → Tree → Step
+append l r e = record { row = op.append; ty = list_of var_int; left = l; right = r; operand = e }
+
+abbrev ones : Tree
+ones = list 70 var_int (to_var (num 71 (pos 1)) ∷ [])
+
 -- A free local may not be evaluated in these places
 record RefusedPlaces : Type 0 where
   -- not free
@@ -82,6 +95,12 @@ record RefusedPlaces : Type 0 where
   argument_of_bool2int : refused (fun 1 var_int op.bool2int (free ∷ []))
   -- free + 1: the coercion from bool to int
   coerced : refused (bin 1 var_int (to_int free) op.plus (to_var (num 70 (pos 1))))
+  -- [free] ++ [1], and [1] ++ [free]
+  coerced_list : refused (chain 1 (list_of var_int) (bools (free ∷ [])) (append to_ints [] ones ∷ []))
+  coerced_last_list : refused (chain 1 (list_of var_int) ones (append [] to_ints (bools (free ∷ [])) ∷ []))
+  -- [1] ++ [free] ++ [true], and [1] ++ [true] ++ [free]: the coercion of the inner node holds for both its operands
+  coerced_node : refused (chain 1 (list_of var_int) ones (append [] to_ints (bools (free ∷ [])) ∷ step op.append (list_of var_bool) (bools (yes ∷ [])) ∷ []))
+  coerced_node_of_last : refused (chain 1 (list_of var_int) ones (append [] to_ints (bools (yes ∷ [])) ∷ step op.append (list_of var_bool) (bools (free ∷ [])) ∷ []))
   -- xorall([free]), clause([true], [free]), count([free])
   argument_of_xorall : refused (fun 1 var_bool op.xorall (bools (free ∷ []) ∷ []))
   argument_of_clause : refused (fun 1 var_bool op.clause (bools (yes ∷ []) ∷ bools (free ∷ []) ∷ []))
@@ -93,7 +112,7 @@ record RefusedPlaces : Type 0 where
 
 refused_places : RefusedPlaces
 unfolding eval lines line_at place_in innermost_of innermost_in back_of back_in backed scalar_value made_value bounding_value equality is_bounded is_fixable as_bool as_int as_case as_set as_text as_items as_index as_row as_ordinal as_element as_pair as_option is_single enum_of at bool_at int_at case_at ordinal_at element_at option_at set_at enum_at text_at items_at row_at index_at pair connected ordered computed signed folded raised toward nearer quantified contains end_of up_to same_set fold_from summand instance place_count with_index shape_from is_mismatched negative is_failed limited scalar_counts made_counts bounding_counts counts_from cost bound_of bounds_of is_settled toward_ends arith_ends sign_ends extreme_from fold_ends folded_ends raised_ends index_tuples is_reached reached branch_bound branch_bounds if_bounds combined_upper bounds_at each ends_at upper_at elements_at all_ends_at all_uppers_at uppers_before scalar_bounds made_bounds lower_of upper_of value_by_bounds range_elements
-refused_places = record { operand_of_not = refl; equivalence = refl; equivalence_left = refl; exclusive_or = refl; equal_booleans = refl; less_booleans = refl; premise = refl; premise_behind = refl; condition = refl; filter = refl; generator = refl; argument_of_bool2int = refl; coerced = refl; argument_of_xorall = refl; argument_of_clause = refl; argument_of_count = refl; in_a_body = refl; first_of_a_chain = refl }
+refused_places = record { operand_of_not = refl; equivalence = refl; equivalence_left = refl; exclusive_or = refl; equal_booleans = refl; less_booleans = refl; premise = refl; premise_behind = refl; condition = refl; filter = refl; generator = refl; argument_of_bool2int = refl; coerced = refl; coerced_list = refl; coerced_last_list = refl; coerced_node = refl; coerced_node_of_last = refl; argument_of_xorall = refl; argument_of_clause = refl; argument_of_count = refl; in_a_body = refl; first_of_a_chain = refl }
 
 -- Every other place keeps the context. Evaluating `free` has work 9: 4 of the set, 4 of the comparison and 1
 record AllowedPlaces : Type 0 where
@@ -105,6 +124,8 @@ record AllowedPlaces : Type 0 where
   conclusion_first : noting (bin 1 var_bool free op.implied_by yes) ≡ one_choice 12
   -- free \/ true
   disjunct : noting (bin 1 var_bool free op.either yes) ≡ one_choice 12
+  -- [free] ++ [true]
+  in_a_list : noting (chain 1 (list_of var_bool) (bools (free ∷ [])) (step op.append (list_of var_bool) (bools (yes ∷ [])) ∷ [])) ≡ Out (var_row (pos 1) (pos 2) (between (pos 0) (pos 1) ∷ between (pos 1) (pos 1) ∷ []) None) (record { work = 16; taken = domain ∷ []; weight = 1 })
   -- free_number = 1: a comparison of integers
   compared_number : noting (bin 1 var_bool free_number op.equal (to_var (num 70 (pos 1)))) ≡ one_choice 9
   -- forall([free])
@@ -114,7 +135,7 @@ record AllowedPlaces : Type 0 where
 
 allowed_places : AllowedPlaces
 unfolding eval lines line_at place_in innermost_of innermost_in back_of back_in backed scalar_value made_value bounding_value equality is_bounded is_fixable as_bool as_int as_case as_set as_text as_items as_index as_row as_ordinal as_element as_pair as_option is_single enum_of at bool_at int_at case_at ordinal_at element_at option_at set_at enum_at text_at items_at row_at index_at pair connected ordered computed signed folded raised toward nearer quantified contains end_of up_to same_set fold_from summand instance place_count with_index shape_from is_mismatched negative is_failed limited scalar_counts made_counts bounding_counts counts_from cost bound_of bounds_of is_settled toward_ends arith_ends sign_ends extreme_from fold_ends folded_ends raised_ends index_tuples is_reached reached branch_bound branch_bounds if_bounds combined_upper bounds_at each ends_at upper_at elements_at all_ends_at all_uppers_at uppers_before scalar_bounds made_bounds lower_of upper_of value_by_bounds range_elements
-allowed_places = record { alone = refl; conclusion = refl; conclusion_first = refl; disjunct = refl; compared_number = refl; in_forall = refl; branch = refl }
+allowed_places = record { alone = refl; conclusion = refl; conclusion_first = refl; disjunct = refl; in_a_list = refl; compared_number = refl; in_forall = refl; branch = refl }
 
 -- the k-th choice is k + 1
 abbrev counting : ℕ → Content

@@ -17,7 +17,7 @@ use Rattle.mz_meaning.specs.Coerced.{coerced, coercion_work}
 use Rattle.mz_meaning.specs.Operations.{row_at, row_cost, row_cell}
 use Rattle.mz_meaning.specs.Arrays.{line_cell, table_cell, set_cell, access_cell, branch_cell}
 use Rattle.mz_meaning.specs.Contexts.{Context, Untested, Positive, Other, elsewhere, elsewhere_if, closes}
-use Rattle.mz_meaning.specs.Chains.{Operator, Innermost, chained, same_level, before, right_in, closed_by, operand_base}
+use Rattle.mz_meaning.specs.Chains.{Operator, Innermost, chained, same_level, before, first_in, right_in, closed_by, operand_base}
 
 -- WHAT STAYS THE SAME IN A RUN: the program's functions, the names of its enums' cases and its texts; the budget; the range of a free `int`, from -n to n; the cells of top-level names; and the mode
 pub record World : Type 0 where
@@ -123,11 +123,19 @@ pub record Appended : Type 0 where
   pub place : Span
   pub last : Cell
 
+-- here the place of this operand
 abbrev pub append_operand : World → Eval → Context → Env → Appended → Operator → Run Appended
 append_operand w go ctx env x o = do
   a ← coerced_by w x.place o.step.left x.last
   c ← go ctx o.step.operand env
   give (record { lefts = (o, a) ∷ x.lefts; place = operand_place o.step; last = c })
+
+-- here the place of the first of these operators' nodes
+abbrev pub append_operands : World → Eval → Context → Env → Appended → List Operator → Run Appended
+append_operands w go ctx env x [] = give x
+append_operands w go ctx env x (o ∷ os) = do
+  y ← append_operand w go (first_in (right_in ctx o.step) os) env x o
+  append_operands w go (right_in ctx o.step) env y os
 
 -- .. and then the nodes, from the last on; each is the last operand of the one before
 abbrev pub append_node : World → Span × Cell → Operator × Cell → Run (Span × Cell)
@@ -138,12 +146,12 @@ append_node w right p = do
 
 abbrev pub appended : World → Eval → Context → Env → Innermost → Cell → Run Cell
 appended w go ctx env f first = do
-  x ← loop (append_operand w go ctx env) (record { lefts = []; place = place_of f.first; last = first }) f.operators
+  x ← append_operands w go ctx env (record { lefts = []; place = place_of f.first; last = first }) f.operators
   r ← loop (append_node w) (x.place, x.last) x.lefts
   give r.1
 
 abbrev pub chain_by : World → Eval → Context → Env → Bool → Innermost → Run Cell
-chain_by w go ctx env true f = go ctx f.first env >>= appended w go ctx env f
+chain_by w go ctx env true f = go (first_in ctx f.operators) f.first env >>= appended w go ctx env f
 chain_by w go ctx env false f = go (before ctx f.operators) f.first env >>= λ left. operators w go ctx env (place_of f.first) left f.operators
 
 abbrev pub chain : World → Eval → Context → Tree → List Step → Span → Env → Run Cell

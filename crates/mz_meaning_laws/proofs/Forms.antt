@@ -12,7 +12,7 @@ use Rattle.mz_meaning.specs.Coerced.{coerced}
 use Rattle.mz_meaning.specs.Operations.{row_at}
 use Rattle.mz_meaning.specs.Arrays.{line_cell, access_cell}
 use Rattle.mz_meaning.specs.Contexts.{Context, Untested, Other, elsewhere, within_links}
-use Rattle.mz_meaning.specs.Chains.{Operator, Innermost, chained, same_level, before, right_in, operand_base}
+use Rattle.mz_meaning.specs.Chains.{Operator, Innermost, chained, same_level, before, first_in, right_in, operand_base}
 use Rattle.mz_meaning.specs.Forms as forms
 use Rattle.mz_meaning.specs.Forms.{World, Eval, Appended, handed}
 use Rattle.mz_meaning.specs.Solutions.{Each}
@@ -44,6 +44,9 @@ ties_in_arguments k b h = ties_through (λ c. forms.arguments_in c k b) refl ref
 
 ties_before : {t : Tie} {c d : Context} (os : List Operator) → Ties t c d → Ties t (before c os) (before d os)
 ties_before os h = ties_through (λ c. before c os) refl refl h
+
+ties_first : {t : Tie} {c d : Context} (os : List Operator) → Ties t c d → Ties t (first_in c os) (first_in d os)
+ties_first os h = ties_through (λ c. first_in c os) refl refl h
 
 ties_right : {t : Tie} {c d : Context} (s : Step) → Ties t c d → Ties t (right_in c s) (right_in d s)
 ties_right s h = ties_through (λ c. right_in c s) refl refl h
@@ -83,18 +86,23 @@ operators_outlined {w = w} {top = top} g h i at left (o ∷ os) z =
 append_operand_outlined : {t : Tie} {n : Bool} {w : World} {top : Env} {go go' : Eval} → EvalHasOutline t n w top go go' → {c d : Context} → Ties t c d → {env env' : Env} → HasOutlines env env' → (x : Appended) (o : Operator) → AllowsOperator t o → HasOutline t n outline_appended (forms.append_operand w go c env x o) (forms.append_operand (blank_world n w top) go' d env' (outline_appended x) o)
 append_operand_outlined {w = w} {top = top} g h i x o z = then_outlined _ (coerced_by_outlined w top x.place o.step.left x.last) (λ a. then_outlined _ (g.by h o.step.operand z i) (λ y. give_outlined refl))
 
+append_operands_outlined : {t : Tie} {n : Bool} {w : World} {top : Env} {go go' : Eval} → EvalHasOutline t n w top go go' → {c d : Context} → Ties t c d → {env env' : Env} → HasOutlines env env' → (x : Appended) (os : List Operator) → Each (AllowsOperator t) os → HasOutline t n outline_appended (forms.append_operands w go c env x os) (forms.append_operands (blank_world n w top) go' d env' (outline_appended x) os)
+append_operands_outlined g h i x [] z = give_outlined refl
+append_operands_outlined g h i x (o ∷ os) z =
+    then_outlined _ (append_operand_outlined g (ties_first os (ties_right o.step h)) i x o z.0) (λ y. append_operands_outlined g (ties_right o.step h) i y os z.1)
+
 append_node_outlined : {t : Tie} {n : Bool} (w : World) (top : Env) (right : Span × Cell) (p : Operator × Cell) → HasOutline t n outline_placed (forms.append_node w right p) (forms.append_node (blank_world n w top) (outline_placed right) (outline_left p))
 append_node_outlined w top right p =
     then_outlined _ (coerced_by_outlined w top right.0 p.0.step.right right.1)
     (λ b. then_outlined _ (operated_outlined w top p.0.at p.0.step.ty p.0.step.row (operand_base p.0.step) (p.1 ∷ b ∷ [])) (λ next. give_outlined refl))
 
 appended_outlined : {t : Tie} {n : Bool} {w : World} {top : Env} {go go' : Eval} → EvalHasOutline t n w top go go' → {c d : Context} → Ties t c d → {env env' : Env} → HasOutlines env env' → (f : Innermost) → AllowsInnermost t f → (first : Cell) → HasOutline t n outline (forms.appended w go c env f first) (forms.appended (blank_world n w top) go' d env' f (outline first))
-appended_outlined {t = t} {n = n} {w = w} {top = top} {go = go} {go' = go'} g {c = c} {d = d} h {env = env} {env' = env'} i f z first =
-    then_outlined _ (loop_each_outlined (AllowsOperator t) (forms.append_operand w go c env) (forms.append_operand (blank_world n w top) go' d env') (append_operand_outlined g h i) (record { lefts = []; place = place_of f.first; last = first }) f.operators z.tail)
+appended_outlined {n = n} {w = w} {top = top} g h i f z first =
+    then_outlined _ (append_operands_outlined g h i (record { lefts = []; place = place_of f.first; last = first }) f.operators z.tail)
     (λ x. then_outlined _ (loop_over_outlines outline_left (forms.append_node w) (forms.append_node (blank_world n w top)) (append_node_outlined w top) (x.place, x.last) x.lefts) (λ r. give_outlined refl))
 
 chain_by_outlined : {t : Tie} {n : Bool} {w : World} {top : Env} {go go' : Eval} → EvalHasOutline t n w top go go' → {c d : Context} → Ties t c d → {env env' : Env} → HasOutlines env env' → (b : Bool) (f : Innermost) → AllowsInnermost t f → HasOutline t n outline (forms.chain_by w go c env b f) (forms.chain_by (blank_world n w top) go' d env' b f)
-chain_by_outlined g h i true f z = then_outlined _ (g.by h f.first z.head i) (λ x. appended_outlined g h i f z x)
+chain_by_outlined g h i true f z = then_outlined _ (g.by (ties_first f.operators h) f.first z.head i) (λ x. appended_outlined g h i f z x)
 chain_by_outlined g h i false f z = then_outlined _ (g.by (ties_before f.operators h) f.first z.head i) (λ x. operators_outlined g h i (place_of f.first) x f.operators z.tail)
 
 pub chain_outlined : {t : Tie} {n : Bool} {w : World} {top : Env} {go go' : Eval} → EvalHasOutline t n w top go go' → {c d : Context} → Ties t c d → (e : Tree) (ss : List Step) → Allows t (free_in e) → Each (AllowsStep t) ss → (at : Span) {env env' : Env} → HasOutlines env env' → HasOutline t n outline (forms.chain w go c e ss at env) (forms.chain (blank_world n w top) go' d e ss at env')

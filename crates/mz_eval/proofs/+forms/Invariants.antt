@@ -5,7 +5,7 @@ use Rattle.mz_core.specs.TreeViews.{tree, branch, step, item}
 use Rattle.mz_meaning.specs.Runs.{loop}
 use Rattle.mz_meaning.specs.Contexts.{Untested}
 use Rattle.mz_meaning.specs.Chains.{operators_at}
-use Rattle.mz_meaning.specs.Forms.{part, parts, row_of_parts, chain_by, operators, append_operand, branches}
+use Rattle.mz_meaning.specs.Forms.{part, parts, row_of_parts, chain_by, operators, append_operands, branches}
 use Rattle.mz_meaning.specs.Lets.{let_item, nothing_bound, index_wants, one_index}
 use Rattle.mz_meaning.specs.Calls.{parameter}
 use Rattle.mz_eval_cells.specs.Views.{cell_of, cells_of}
@@ -240,7 +240,7 @@ invariant-operators::eval_operators-loop-o l =
 abbrev pub invariant-operators::eval_operands-loop-o : goal.invariant-operators::eval_operands-loop-o
 invariant-operators::eval_operands-loop-o l =
     operands (world_in l.level) (go_of l.level) (scope_of l.level l.scope) l.fn.first (cell_of l.fn.cell) (map operator_of l.all) (at_work l.fn.work)
-    ≡ loop (append_operand (world_in l.level) (go_of l.level) Untested (scope_of l.level l.scope)) (appended_of l.x) (map operator_of (drop l.o-index l.all)) (at_work l.work)
+    ≡ append_operands (world_in l.level) (go_of l.level) Untested (scope_of l.level l.scope) (appended_of l.x) (map operator_of (drop l.o-index l.all)) (at_work l.work)
 
 abbrev pub invariant-choices::eval_if-loop-b : goal.invariant-choices::eval_if-loop-b
 invariant-choices::eval_if-loop-b l =
