@@ -86,10 +86,10 @@ operators_outlined {w = w} {top = top} g h i at left (o ∷ os) z =
 append_operand_outlined : {t : Tie} {n : Bool} {w : World} {top : Env} {go go' : Eval} → EvalHasOutline t n w top go go' → {c d : Context} → Ties t c d → {env env' : Env} → HasOutlines env env' → (x : Appended) (o : Operator) → AllowsOperator t o → HasOutline t n outline_appended (forms.append_operand w go c env x o) (forms.append_operand (blank_world n w top) go' d env' (outline_appended x) o)
 append_operand_outlined {w = w} {top = top} g h i x o z = then_outlined _ (coerced_by_outlined w top x.place o.step.left x.last) (λ a. then_outlined _ (g.by h o.step.operand z i) (λ y. give_outlined refl))
 
-append_operands_outlined : {t : Tie} {n : Bool} {w : World} {top : Env} {go go' : Eval} → EvalHasOutline t n w top go go' → {c d : Context} → Ties t c d → {env env' : Env} → HasOutlines env env' → (x : Appended) (os : List Operator) → Each (AllowsOperator t) os → HasOutline t n outline_appended (forms.append_operands w go c env x os) (forms.append_operands (blank_world n w top) go' d env' (outline_appended x) os)
-append_operands_outlined g h i x [] z = give_outlined refl
-append_operands_outlined g h i x (o ∷ os) z =
-    then_outlined _ (append_operand_outlined g (ties_first os (ties_right o.step h)) i x o z.0) (λ y. append_operands_outlined g (ties_right o.step h) i y os z.1)
+append_operands_outlined : {t : Tie} {n : Bool} {w : World} {top : Env} {go go' : Eval} → EvalHasOutline t n w top go go' → {env env' : Env} → HasOutlines env env' → (os : List Operator) → Each (AllowsOperator t) os → {c d : Context} → Ties t c d → (x : Appended) → HasOutline t n outline_appended (forms.append_operands w go c env x os) (forms.append_operands (blank_world n w top) go' d env' (outline_appended x) os)
+append_operands_outlined g i [] z h x = give_outlined refl
+append_operands_outlined g i (o ∷ os) z h x =
+    then_outlined _ (append_operand_outlined g (ties_first os (ties_right o.step h)) i x o z.0) (λ y. append_operands_outlined g i os z.1 (ties_right o.step h) y)
 
 append_node_outlined : {t : Tie} {n : Bool} (w : World) (top : Env) (right : Span × Cell) (p : Operator × Cell) → HasOutline t n outline_placed (forms.append_node w right p) (forms.append_node (blank_world n w top) (outline_placed right) (outline_left p))
 append_node_outlined w top right p =
@@ -98,7 +98,7 @@ append_node_outlined w top right p =
 
 appended_outlined : {t : Tie} {n : Bool} {w : World} {top : Env} {go go' : Eval} → EvalHasOutline t n w top go go' → {c d : Context} → Ties t c d → {env env' : Env} → HasOutlines env env' → (f : Innermost) → AllowsInnermost t f → (first : Cell) → HasOutline t n outline (forms.appended w go c env f first) (forms.appended (blank_world n w top) go' d env' f (outline first))
 appended_outlined {n = n} {w = w} {top = top} g h i f z first =
-    then_outlined _ (append_operands_outlined g h i (record { lefts = []; place = place_of f.first; last = first }) f.operators z.tail)
+    then_outlined _ (append_operands_outlined g i f.operators z.tail h (record { lefts = []; place = place_of f.first; last = first }))
     (λ x. then_outlined _ (loop_over_outlines outline_left (forms.append_node w) (forms.append_node (blank_world n w top)) (append_node_outlined w top) (x.place, x.last) x.lefts) (λ r. give_outlined refl))
 
 chain_by_outlined : {t : Tie} {n : Bool} {w : World} {top : Env} {go go' : Eval} → EvalHasOutline t n w top go go' → {c d : Context} → Ties t c d → {env env' : Env} → HasOutlines env env' → (b : Bool) (f : Innermost) → AllowsInnermost t f → HasOutline t n outline (forms.chain_by w go c env b f) (forms.chain_by (blank_world n w top) go' d env' b f)
