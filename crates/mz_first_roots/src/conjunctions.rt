@@ -1,6 +1,6 @@
 // Written conjunctions: `/\` of par operands.
 
-ghost use Rattle.std.specs.Prelude.{◌≡◌, ◌++◌, ◌&&◌, IfOk, Some, None, map, not, nat_eq, if◌then◌else◌};
+ghost use Rattle.std.specs.Prelude.{◌≡◌, ◌++◌, ◌&&◌, IfOk, Some, None, map, not, if◌then◌else◌};
 ghost use Rattle.std.specs.List.{list_all};
 ghost use Rattle.std.specs.Option.{option_map};
 ghost use Rattle.mz_core.specs.Types.{plain_type};
@@ -8,20 +8,19 @@ ghost use Rattle.mz_core.specs.Paths.{path_links};
 ghost use Rattle.mz_core.specs.Tree.{root_coercions, type_of};
 ghost use Rattle.mz_core.specs.TreeViews.{tree, step, form_layer};
 ghost use Rattle.mz_core.specs.declared.tree.CoreForm.TheViews.{out-CoreForm};
+ghost use Rattle.mz_operations.specs.Lines as lines;
 ghost use Rattle.mz_meaning.specs.Chains.{chained};
 ghost use Rattle.mz_eval_chains.specs.Innermosts.{operator_of, innermost_of};
 ghost use Rattle.mz_eval_chains.specs.Links.{links_round};
-ghost use Rattle.mz_first_meaning.specs.Roots.{is_par_truth, no_links, is_from_bottom, are_from_bottom, is_operand, is_and, are_ands, begins_and, joined, conjunction};
+ghost use Rattle.mz_first_meaning.specs.Roots.{is_par_truth, no_links, is_from_bottom, are_from_bottom, is_operand, is_and_row, is_and, are_ands, begins_and, joined, conjunction};
 ghost use Rattle.mz_first_roots.specs.Steps.{conjunction_by};
 
 use mz_base::Span;
 use mz_core::{Coercion, Core, CoreForm, CoreStep, TypeInst};
 use mz_eval_cells::is_truth;
 use mz_eval_chains::{Innermost, Operator, all_operators, inner};
+use mz_operations::{Connective, Row, ScalarRow, row_of};
 use std::alloc::{AllocError, Global};
-
-/// The number of the row `/\`.
-const AND: u32 = 5;
 
 // ---- par operands
 
@@ -126,10 +125,26 @@ fn sides_stay(o: &Operator) -> bool
     all_from_bottom(o.before, &o.step.left) && all_from_bottom(o.after, &o.step.right)
 }
 
-fn is_row(s: &CoreStep) -> bool
-    ensures { result ≡ (nat_eq (step s.now).row 5 && is_par_truth (step s.now).ty) }
+fn is_and_row(row: Option<Row>) -> bool
+    ensures { result ≡ is_and_row row }
 {
-    s.row == AND && is_par_truth(&s.ty)
+    match row {
+        Some(Row::Scalar(ScalarRow::Logic(Connective::And))) => true,
+        _ => false,
+    }
+}
+
+// whether a row is that of `/\`
+fn is_and_at(number: u32) -> bool
+    ensures { result ≡ is_and_row (lines.row_of number) }
+{
+    is_and_row(row_of(number))
+}
+
+fn is_row(s: &CoreStep) -> bool
+    ensures { result ≡ (is_and_row (lines.row_of (step s.now).row) && is_par_truth (step s.now).ty) }
+{
+    is_and_at(s.row) && is_par_truth(&s.ty)
 }
 
 fn is_and(o: &Operator) -> bool
@@ -160,7 +175,7 @@ fn begins_and(all: &[CoreStep]) -> bool
 {
     match all {
         [] => false,
-        [s, ..] => s.row == AND,
+        [s, ..] => is_and_at(s.row),
     }
 }
 
