@@ -4,4 +4,4 @@ use Rattle.mz_eval_chains.specs.Innermosts.{place_after}
 use Rattle.mz_eval_chains.proofs.chains.place_after.Given as goal
 
 abbrev pub invariant-loop-s : goal.invariant-loop-s
-invariant-loop-s l = place_after l.at (map step l.rest) ≡ place_after l.place (map step (drop l.s-index l.rest))
+invariant-loop-s l = place_after l.fn.at (map step l.rest) ≡ place_after l.place (map step (drop l.s-index l.rest))

@@ -5,5 +5,5 @@ use Rattle.mz_eval_chains.proofs.chains.with_appends.Given as goal
 
 abbrev pub invariant-loop-s : goal.invariant-loop-s
 invariant-loop-s l =
-    map operator_of l.fn.all.items ++ appends_at l.at (map step l.rest)
+    map operator_of l.fn.all.items ++ appends_at l.fn.at (map step l.rest)
     ≡ map operator_of l.all.items ++ appends_at l.place (map step (drop l.s-index l.rest))
