@@ -3,7 +3,7 @@
 
 use crate::order::{Parts, make};
 use mz_base::Memory;
-use mz_builtin::{entries, fitting, global, known, signatures};
+use mz_builtin::{built_ins, fitting, global, globals, known, signatures};
 use mz_core::{Base, Ix, Signature, TypeInst};
 use mz_overload::{Resolution, choose};
 use std::alloc::Global;
@@ -67,7 +67,7 @@ fn push_number(out: &mut String, number: u32) -> Result<(), Memory> {
 }
 
 fn push_table(out: &mut String) -> Result<(), Memory> {
-    let count = entries().len();
+    let count = built_ins().len() + globals().len();
     write!(out, "{count} entries\n")?;
     for name in ["/\\", "array6d", "circuit", "all", ""] {
         push_name(out, name)?;

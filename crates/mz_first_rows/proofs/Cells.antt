@@ -34,8 +34,8 @@ use Rattle.mz_first_meaning.specs.Posted.{Pair, operand, compare}
 use Rattle.mz_first_meaning.proofs.Inner.{inner_twice, no_coercions}
 use Rattle.mz_first_rows.proofs.Runs.{Gives, after, from, given, weaker}
 use Rattle.mz_first_rows.proofs.Names.{IsVarCell, int_is}
-use Rattle.mz_first_rows.specs.declared.relation.Relation.{Relation}
-use Rattle.mz_first_rows.specs.Relations.{relation_at}
+use Rattle.mz_first_unbuilt.specs.declared.relation.Relation.{Relation}
+use Rattle.mz_first_unbuilt.specs.Relations.{relation_at}
 use Rattle.mz_first_rows.proofs.Sides.{row_for, operation_is, by_relation, value_by, tells}
 
 held_given : (m : Mode) (g : ℕ → Content) (v : Option Content) → m ≡ Given g → held m v ≡ v

@@ -34,7 +34,7 @@ use Rattle.mz_first_unbuilt.specs.Variables.{Named, is_integer, is_built_variabl
 use Rattle.mz_first_unbuilt.specs.Comparisons.{stays_par, is_par_constraint, is_par_integer, is_name_of, is_name, is_operand, all_keep, is_compared, is_constraint_built}
 use Rattle.mz_first_meaning.specs.Posted.{Posted, Whole, Pair, posted_cell, post_comparison, post_by, post_next}
 use Rattle.mz_first_meaning.specs.Ends.{outline_posted}
-use Rattle.mz_first_rows.specs.Relations.{relation_at}
+use Rattle.mz_first_unbuilt.specs.Relations.{relation_at}
 use Rattle.mz_first_rows.specs.Emission.{has_variable, place_in, number_side, name_side, side, side_rows, root_rows, rows_of, all_rows}
 use Rattle.mz_first_rows.proofs.Runs.{Gives, from, given, weaker}
 use Rattle.mz_first_rows.proofs.Names.{is_slot}

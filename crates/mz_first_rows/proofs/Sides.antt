@@ -28,9 +28,9 @@ use Rattle.fz_program.specs.Values.{Values, number_in}
 use Rattle.fz_program.specs.Flat.{Row, RowHolds, is_literal, plain_value}
 use Rattle.mz_first_unbuilt.specs.Comparisons.{is_comparison}
 use Rattle.mz_first_unbuilt.proofs.Lines.{HoldsOf, each_line}
-use Rattle.mz_first_rows.specs.declared.relation.Relation.{Relation}
-use Rattle.mz_first_rows.specs.declared.relation.Relation.TheVariants as relation
-use Rattle.mz_first_rows.specs.Relations.{relation_of, relation_at, is_unequal, holds}
+use Rattle.mz_first_unbuilt.specs.declared.relation.Relation.{Relation}
+use Rattle.mz_first_unbuilt.specs.declared.relation.Relation.TheVariants as relation
+use Rattle.mz_first_unbuilt.specs.Relations.{relation_of, relation_at, is_unequal, holds}
 use Rattle.mz_first_rows.specs.Emission.{never, truth_rows, Side, Nothing, Absent, Number, Place, number_side, int_row, side_rows}
 use Rattle.mz_first_rows.proofs.Domains.{never_holds}
 

@@ -24,9 +24,9 @@ use Rattle.fz_program.specs.declared.row_name.RowName.TheVariants.{IntEq, IntNe,
 use Rattle.fz_program.specs.Flat.{Variable, Row, Program, is_literal}
 use Rattle.mz_first_unbuilt.specs.Comparisons.{is_par_integer}
 use Rattle.mz_first_meaning.specs.Posted.{Posted, Whole, Pair, Posting, post}
-use Rattle.mz_first_rows.specs.declared.relation.Relation.{Relation}
-use Rattle.mz_first_rows.specs.declared.relation.Relation.TheVariants as relation
-use Rattle.mz_first_rows.specs.Relations.{relation_at, is_unequal, holds}
+use Rattle.mz_first_unbuilt.specs.declared.relation.Relation.{Relation}
+use Rattle.mz_first_unbuilt.specs.declared.relation.Relation.TheVariants as relation
+use Rattle.mz_first_unbuilt.specs.Relations.{relation_at, is_unequal, holds}
 
 -- ---- variables
 

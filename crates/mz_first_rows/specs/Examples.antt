@@ -15,7 +15,7 @@ use Rattle.mz_operations.specs.Bounds.{bound_of, bounds_of, is_settled}
 use Rattle.mz_operations.specs.RowBounds.{bounds_at, ends_at, scalar_bounds}
 use Rattle.mz_meaning.specs.Runs.{Answer, Out, start}
 use Rattle.mz_meaning.specs.Cells.{Bare}
-use Rattle.mz_operations.specs.Lines.{lines, line_at, place_in}
+use Rattle.mz_operations.specs.Lines.{lines, line_at, place_in as place_of_line}
 use Rattle.mz_meaning.specs.Contexts.{Untested}
 use Rattle.mz_meaning.specs.Chains.{innermost_in}
 use Rattle.mz_meaning.specs.Evaluation.{eval}
@@ -114,7 +114,7 @@ record Writes : Type 0 where
       ≡ is 8 (output (codes "x") ((pos 0, pos 0) ∷ []) ∷ output (codes "y") ((negsuc 999, pos 1000) ∷ []) ∷ []) (a_false_row ∷ row IntLt (var 0) (var 1) ∷ [])
 
 writes : Writes
-unfolding eval roots lines line_at place_in innermost_in scalar_value bool_at as_bool connected made_value bounding_value equality is_bounded is_fixable as_int as_set as_ordinal as_element as_pair at int_at ordinal_at element_at enum_at pair ordered computed union intersection complement missing_from end_of up_to is_mismatched negative is_failed limited scalar_counts made_counts counts_from cost bound_of bounds_of is_settled bounds_at ends_at scalar_bounds first_unbounded unbounded_in in_form in_maybe in_trees in_maybes in_steps in_items label_in place_in
+unfolding eval roots lines line_at place_of_line innermost_in scalar_value bool_at as_bool connected made_value bounding_value equality is_bounded is_fixable as_int as_set as_ordinal as_element as_pair at int_at ordinal_at element_at enum_at pair ordered computed union intersection complement missing_from end_of up_to is_mismatched negative is_failed limited scalar_counts made_counts counts_from cost bound_of bounds_of is_settled bounds_at ends_at scalar_bounds first_unbounded unbounded_in in_form in_maybe in_trees in_maybes in_steps in_items label_in place_in
 writes = record {
   true_constraint = refl;
   false_constraint = refl;

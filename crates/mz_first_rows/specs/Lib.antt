@@ -1,4 +1,3 @@
-pub mod Relations
 pub mod Emission
 pub mod Headline
 mod Examples

@@ -1,6 +1,7 @@
 pub mod Places
 pub mod Variables
 pub mod Comparisons
+pub mod Relations
 pub mod Unbuilt
 pub mod Examples
 pub mod StepsSlots

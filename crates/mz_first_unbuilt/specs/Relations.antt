@@ -6,8 +6,8 @@ use Rattle.mz_operations.specs.declared.row.Row.TheVariants.{Scalar}
 use Rattle.mz_operations.specs.declared.row.ScalarRow.TheVariants.{Equal, Unequal, Order}
 use Rattle.mz_operations.specs.declared.row.Comparison.TheVariants.{Less, AtMost, Greater, AtLeast}
 use Rattle.mz_operations.specs.Lines.{row_of}
-use Rattle.mz_first_rows.specs.declared.relation.Relation.{Relation}
-use Rattle.mz_first_rows.specs.declared.relation.Relation.TheVariants as relation
+use Rattle.mz_first_unbuilt.specs.declared.relation.Relation.{Relation}
+use Rattle.mz_first_unbuilt.specs.declared.relation.Relation.TheVariants as relation
 
 -- nothing is asked of what is no comparison
 abbrev pub relation_of : Option Row → Relation

@@ -2,7 +2,7 @@
 
 ghost use Rattle.std.specs.Prelude.{◌≡◌};
 ghost use Rattle.mz_operations.specs.Lines as lines;
-ghost use Rattle.mz_first_rows.specs.Relations.{relation_of};
+ghost use Rattle.mz_first_unbuilt.specs.Relations.{relation_of};
 
 use mz_operations::{Comparison, Row, ScalarRow, row_of};
 
