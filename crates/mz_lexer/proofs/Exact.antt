@@ -9,7 +9,7 @@ use Rattle.std.proofs.Math.Seq.{take-append-add}
 use Rattle.std.proofs.Math.Numerals.{one-add}
 use Rattle.std.proofs.lemmas.List.{take_at, drop_at, take_all, take-append-le}
 use Rattle.std.proofs.lemmas.Str.{IsUtf8-nil, IsUtf8-drop, IsCharBoundary-from_take, utf8_valid_len-IsValidUpTo}
-use Rattle.std.proofs.lemmas.Bool.{cases_lt}
+use Rattle.std.proofs.lemmas.Bool.{cases_lt, and_parts}
 use Rattle.std.proofs.lemmas.Bool.Decides.{nat_tests, Decides-eqb}
 use Rattle.mz_base.specs.declared.kind.Kind.{Kind}
 use Rattle.mz_base.specs.declared.kind.Kind.TheVariants.{Lexical, LeftOut, Bounds}
@@ -22,7 +22,6 @@ use Rattle.mz_lexer.specs.Steps as steps
 use Rattle.mz_lexer.specs.Lexemes.{Lexeme}
 use Rattle.mz_lexer.specs.Steps.{Prefix, prefix_of, piece_prefix, piece_end, comment_len, comment_of, ends_comment}
 use Rattle.mz_lexer.specs.Lexes.{Means, nothing, a_byte, an_escape, IsContent, Spells, EndsFirst, opens_piece, NothingBegins, IsStuck, at_the_end, at_newline, at_backslash, at_no_character, IsLineEnd}
-use Rattle.mz_lexer.proofs.Runs.{both}
 use Rattle.mz_base.proofs.Choices.{pick}
 use Rattle.mz_lexer.proofs.Prefixes.{Covers, by_token, by_left_out, covers, raw_prefix, number_raw, raw_is_prefix, raw_is_number, prefix_is_number, prefix_is_blank, prefix_is_line, prefix_is_comment, prefix_is_text, prefix_is_later, piece_up_to, content_of}
 use Rattle.mz_lexer.proofs.LeftOuts.{left_prefix}
@@ -104,7 +103,7 @@ pub line_run : (c bs : List ℕ) → list_all (λ b. not (is_newline b)) c ≡ t
 line_run [] [] all end = refl
 line_run [] (b ∷ bs) all end = rw end refl
 line_run (b ∷ c) bs all end =
-    let parts = both (not (is_newline b)) (list_all (λ x. not (is_newline x)) c) all in
+    let parts = and_parts (not (is_newline b)) (list_all (λ x. not (is_newline x)) c) all in
     ap (λ t. cond t (1 + prefix_len (λ x. not (is_newline x)) (c ++ bs)) 0) parts.0 ∙ omega (arith, line_run c bs parts.1 end)
 
 -- comments
@@ -270,8 +269,8 @@ opens_behind later b bs opens = go (nat_eq b 34) refl later refl
 
     go : (t : Bool) → nat_eq b 34 ≡ t → (l : Bool) → later ≡ l → IsBehind (prefix_of later (b ∷ bs))
     go true e l is = subst IsBehind (sym (ap (λ x. prefix_of later (x ∷ bs)) ((Decides-eqb b 34).0 e) ∙ prefix_is_text later bs)) (piece_behind false bs)
-    go false e true is = subst IsBehind (sym (ap (λ m. prefix_of m (b ∷ bs)) is ∙ ap (λ x. prefix_of true (x ∷ bs)) ((Decides-eqb b 41).0 (both later (nat_eq b 41) (second_opens (nat_eq b 34) e opens)).1) ∙ prefix_is_later bs)) (piece_behind true bs)
-    go false e false is = absurd (no_flag (sym is ∙ (both later (nat_eq b 41) (second_opens (nat_eq b 34) e opens)).0))
+    go false e true is = subst IsBehind (sym (ap (λ m. prefix_of m (b ∷ bs)) is ∙ ap (λ x. prefix_of true (x ∷ bs)) ((Decides-eqb b 41).0 (and_parts later (nat_eq b 41) (second_opens (nat_eq b 34) e opens)).1) ∙ prefix_is_later bs)) (piece_behind true bs)
+    go false e false is = absurd (no_flag (sym is ∙ (and_parts later (nat_eq b 41) (second_opens (nat_eq b 34) e opens)).0))
       where
         no_flag : false ≡ true → ⊥
         no_flag h = cc

@@ -3,7 +3,7 @@ use Rattle.std.proofs.Common.{◌≡◌, ℕ, ◌<◌, ◌≤◌, List, [], ◌�
 use Rattle.std.specs.Prelude.{Option, Some, None, nat_eq, nat_le}
 use Rattle.std.specs.List.{take_while, prefix_len, list_all}
 use Rattle.std.proofs.lemmas.List.{take_at, drop_at}
-use Rattle.std.proofs.lemmas.Bool.{false≢true}
+use Rattle.std.proofs.lemmas.Bool.{false≢true, and_parts}
 use Rattle.std.proofs.lemmas.Bool.Decides.{nat_tests, Decides-eqb}
 use Rattle.mz_base.specs.declared.kind.Kind.TheVariants.{LeftOut}
 use Rattle.mz_base.specs.declared.keyword.Keyword.{Keyword}
@@ -16,7 +16,7 @@ use Rattle.mz_lexer.specs.Numbers.{goes_on}
 use Rattle.mz_lexer.specs.Steps.{Prefix, refusal, prefix_of, keyword_or_name, number_prefix}
 use Rattle.mz_base.specs.Words.{is_word}
 use Rattle.mz_lexer.specs.Lexes.{are_digits, IsLeftOut, left_byte, left_slash, left_number, left_keyword}
-use Rattle.mz_lexer.proofs.Runs.{both, run_is}
+use Rattle.mz_lexer.proofs.Runs.{run_is}
 use Rattle.mz_lexer.proofs.Spellings.{keyword_found, keyword_is_word}
 use Rattle.mz_lexer.proofs.Prefixes.{prefix_is_word, prefix_is_number, word_is, word_letters}
 
@@ -108,7 +108,7 @@ digit_other d k is isnt = go (nat_eq d k) refl
 -- after the first of some decimal digits comes no other base's letter
 second_other : (d : ℕ) (ds bs : List ℕ) (k : ℕ) → list_all is_digit (d ∷ ds) ≡ true → is_digit k ≡ false → nat_eq (first_byte bs) k ≡ false → nat_eq (first_byte (ds ++ bs)) k ≡ false
 second_other d [] bs k all isnt no_k = no_k
-second_other d (e ∷ ds) bs k all isnt no_k = digit_other e k (both (is_digit e) (list_all is_digit ds) (both (is_digit d) (list_all is_digit (e ∷ ds)) all).1).0 isnt
+second_other d (e ∷ ds) bs k all isnt no_k = digit_other e k (and_parts (is_digit e) (list_all is_digit ds) (and_parts (is_digit d) (list_all is_digit (e ∷ ds)) all).1).0 isnt
 
 no_base : (x y : Bool) (z : Bool) → y ≡ false → (x && (y && z)) ≡ false
 no_base true y z e = rw e refl
@@ -126,7 +126,7 @@ number_left d ds bs all on =
 
 digits_left : (later : Bool) (ds bs : List ℕ) → are_digits is_digit ds ≡ true → goes_on bs ≡ true → prefix_of later (ds ++ bs) ≡ refusal LeftOut 0
 digits_left later [] bs is on = cc
-digits_left later (d ∷ ds) bs is on = prefix_is_number later ((d ∷ ds) ++ bs) (both (is_digit d) (list_all is_digit ds) is).0 ∙ number_left d ds bs is on
+digits_left later (d ∷ ds) bs is on = prefix_is_number later ((d ∷ ds) ++ bs) (and_parts (is_digit d) (list_all is_digit ds) is).0 ∙ number_left d ds bs is on
 
 word_left : (later : Bool) (w bs : List ℕ) (k : Keyword) → w ≡ keyword_text k → is_word w ≡ true → is_left_out_keyword k ≡ true → is_word_byte (first_byte bs) ≡ false → prefix_of later (w ++ bs) ≡ refusal LeftOut 0
 word_left later [] bs k e is left stop = cc

@@ -3,14 +3,9 @@ use Rattle.std.proofs.Common.{◌≡◌, ℕ, suc, ◌<◌, ◌≤◌, List, [],
 use Rattle.std.specs.Str.{IsUtf8}
 use Rattle.std.proofs.Math.Utf8.{scalar, scalars, encode, encodes, low_scalar}
 use Rattle.std.proofs.lemmas.Str.{IsUtf8-nil, IsUtf8-append, encode_ascii, inside_one, length-encode, len_utf8_bounds}
-use Rattle.std.proofs.lemmas.Bool.{cases_lt}
+use Rattle.std.proofs.lemmas.Bool.{cases_lt, and_parts}
 use Rattle.std.proofs.lemmas.Bool.Decides.{nat_tests}
 use Rattle.mz_lexer.specs.Texts.{begins_escape, meant, meaning_from, meaning}
-
-both : (a b : Bool) → (a && b) ≡ true → (a ≡ true) × (b ≡ true)
-both true true e = (refl, refl)
-both true false e = (refl, e)
-both false b e = cc
 
 -- every byte of a list is above 127
 abbrev AreHigh : List ℕ → Type 0
@@ -71,7 +66,7 @@ some_bytes c = omega (arith, length-encode c, (len_utf8_bounds c).0)
 chars_utf8 : (cs : List ℕ) → scalars cs ≡ true → (escaped : Bool) → IsUtf8 (meaning_from escaped (encodes cs))
 chars_utf8 [] is escaped = subst IsUtf8 (sym (meaning_nil escaped)) IsUtf8-nil
 chars_utf8 (c ∷ cs) is escaped =
-    let parts = both (scalar c) (scalars cs) is in
+    let parts = and_parts (scalar c) (scalars cs) is in
     elim (cases_lt c 128) [
       | inl low ↦ subst (λ w. IsUtf8 (meaning_from escaped (w ++ encodes cs))) (sym (encode_ascii c low)) (low_step escaped c (encodes cs) low (chars_utf8 cs parts.1 true) (chars_utf8 cs parts.1 false))
       | inr high ↦ subst IsUtf8 (sym (some_run escaped (encode c) (encodes cs) (some_bytes c) (encode_high c high))) (IsUtf8-append (encode c) (meaning_from false (encodes cs)) (char_utf8 c parts.0) (chars_utf8 cs parts.1 false))

@@ -3,7 +3,7 @@ use Rattle.std.proofs.Common.{◌≡◌, ℕ, suc, ◌+◌, ◌≤◌, List, [],
 use Rattle.std.specs.Prelude.{Option, Some, None, nat_eq, pos, if◌then◌else◌}
 use Rattle.std.specs.List.{take_while, prefix_len, list_all}
 use Rattle.std.proofs.lemmas.List.{take_at, drop_at}
-use Rattle.std.proofs.lemmas.Bool.{false≢true}
+use Rattle.std.proofs.lemmas.Bool.{false≢true, and_parts}
 use Rattle.std.proofs.lemmas.Bool.Decides.{nat_tests, Decides-eqb}
 use Rattle.mz_base.specs.declared.kind.Kind.TheVariants.{LeftOut}
 use Rattle.mz_base.specs.declared.keyword.Keyword.{Keyword}
@@ -24,7 +24,7 @@ use Rattle.mz_lexer.specs.Steps.{Prefix, prefix_of, word_prefix, keyword_or_name
 use Rattle.mz_base.specs.Words.{is_word}
 use Rattle.mz_lexer.specs.Lexes.{are_digits, Means, nothing, a_byte, an_escape, IsContent, Spells, an_identifier, a_keyword, decimal, hexadecimal, octal, a_symbol, a_text, a_head, a_middle, a_tail}
 use Rattle.mz_lexer.proofs.Pieces.{valid_piece}
-use Rattle.mz_lexer.proofs.Runs.{both, run_holds}
+use Rattle.mz_lexer.proofs.Runs.{run_holds}
 use Rattle.mz_base.proofs.Choices.{pick}
 use Rattle.mz_lexer.proofs.Spellings.{keyword_known, keyword_found, keyword_is_word, IsCovered, covered, symbol_is_covered}
 
@@ -126,7 +126,7 @@ run_take p v after e = take_at v after _ e
 
 pub word_letters : (b : ℕ) (w : List ℕ) → is_word (b ∷ w) ≡ true → (is_letter b ≡ true) × (list_all is_word_byte (b ∷ w) ≡ true)
 word_letters b w is =
-    let parts = both (is_letter b) (list_all is_word_byte w) is in
+    let parts = and_parts (is_letter b) (list_all is_word_byte w) is in
     (parts.0, rw (letter_in_word b parts.0) parts.1)
 
 covers_word : (later : Bool) (v after : List ℕ) (y : Lexeme) → is_word v ≡ true → y ≡ word_lexeme v (keyword_of v) → Covers v y (raw_prefix later (v ++ after))
@@ -151,7 +151,7 @@ number_covered p base skip prefix ds after len all =
     (λ h. ap (λ us. lx.int (pos (number_of base us))) (sym (run_take p ds after (omega (arith, length-append prefix ds, len, h)))))
 
 are_all : (p : ℕ → Bool) (d : ℕ) (ds : List ℕ) → are_digits p (d ∷ ds) ≡ true → (p d ≡ true) × (list_all p (d ∷ ds) ≡ true)
-are_all p d ds is = ((both (p d) (list_all p ds) is).0, is)
+are_all p d ds is = ((and_parts (p d) (list_all p ds) is).0, is)
 
 hex_raw : (d : ℕ) (bs : List ℕ) → is_hex_digit d ≡ true → number_raw (48 ∷ 120 ∷ d ∷ bs) ≡ number_token 16 (take_while is_hex_digit (d ∷ bs)) (2 + prefix_len is_hex_digit (d ∷ bs))
 unfolding number_raw
@@ -165,7 +165,7 @@ octal_raw d bs is = rw is refl
 one_digit : (d : ℕ) (ds after : List ℕ) (letter : ℕ) → is_digit letter ≡ false → list_all is_digit (d ∷ ds) ≡ true → nat_eq (first_byte (ds ++ after)) letter ≡ true → ds ≡ []
 one_digit d [] after letter isnt all is = refl
 one_digit d (e ∷ ds) after letter isnt all is =
-    let digit = (both (is_digit e) (list_all is_digit ds) (both (is_digit d) (list_all is_digit (e ∷ ds)) all).1).0 in
+    let digit = (and_parts (is_digit e) (list_all is_digit ds) (and_parts (is_digit d) (list_all is_digit (e ∷ ds)) all).1).0 in
     absurd (false≢true (sym isnt ∙ ap is_digit (sym ((Decides-eqb e letter).0 is)) ∙ digit))
 
 short_number : (d : ℕ) (ds : List ℕ) (y x : Lexeme) (n : ℕ) → ds ≡ [] → Covers (d ∷ ds) y (steps.token x (2 + n))
@@ -177,9 +177,9 @@ decimal_covered d ds after all =
     let P = Covers (d ∷ ds) (lx.int (pos (number_of 10 (d ∷ ds)))) in
     let bs : List ℕ = (d ∷ ds) ++ after in
     pick P (nat_eq d 48 && (nat_eq (first_byte (ds ++ after)) 120 && is_hex_digit (first_byte (drop 1 (ds ++ after))))) _ _
-    (λ t. short_number d ds _ _ _ (one_digit d ds after 120 refl all (both _ _ (both _ _ t).1).0)) (λ _.
+    (λ t. short_number d ds _ _ _ (one_digit d ds after 120 refl all (and_parts _ _ (and_parts _ _ t).1).0)) (λ _.
     pick P (nat_eq d 48 && (nat_eq (first_byte (ds ++ after)) 111 && is_octal_digit (first_byte (drop 1 (ds ++ after))))) _ _
-    (λ t. short_number d ds _ _ _ (one_digit d ds after 111 refl all (both _ _ (both _ _ t).1).0)) (λ _.
+    (λ t. short_number d ds _ _ _ (one_digit d ds after 111 refl all (and_parts _ _ (and_parts _ _ t).1).0)) (λ _.
     pick P (goes_on (drop (prefix_len is_digit bs) bs)) _ _ (λ _. by_left_out) (λ _.
     by_token (run_holds is_digit (d ∷ ds) after all) (λ h. ap (λ us. lx.int (pos (number_of 10 us))) (sym (run_take is_digit (d ∷ ds) after h))))))
 

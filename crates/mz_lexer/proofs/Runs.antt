@@ -3,18 +3,13 @@ use Rattle.std.proofs.Common.{◌≡◌, ℕ, ◌+◌, ◌<◌, ◌≤◌, List,
 use Rattle.std.specs.List.{prefix_len, take_while, list_all}
 use Rattle.std.proofs.Math.Numerals.{one-add}
 use Rattle.std.proofs.lemmas.List.Sums.{take_while-cons}
-use Rattle.std.proofs.lemmas.Bool.{false≢true}
+use Rattle.std.proofs.lemmas.Bool.{false≢true, and_parts}
 use Rattle.mz_lexer.specs.Bytes.{first_byte}
 
 -- the first byte passes
 pub some_run : (p : ℕ → Bool) → p 0 ≡ false → (bs : List ℕ) → p (first_byte bs) ≡ true → 0 < prefix_len p bs
 some_run p never [] is = absurd (false≢true (sym never ∙ is))
 some_run p never (b ∷ bs) is = let passes = ap (λ t. cond t (1 + prefix_len p bs) 0) is in omega (arith, passes)
-
-pub both : (a b : Bool) → (a && b) ≡ true → (a ≡ true) × (b ≡ true)
-both true true e = (refl, refl)
-both true false e = (refl, e)
-both false b e = cc
 
 all_from_cons : (p : ℕ → Bool) (b : ℕ) (bs : List ℕ) → list_all p (take_while p bs) ≡ true → list_all p (cond (p b) (b ∷ take_while p bs) []) ≡ true
 all_from_cons p b bs rest = go (p b) refl
@@ -44,7 +39,7 @@ stops_run p never (b ∷ bs) = stops_cons p b bs (stops_run p never bs)
 pub run_holds : (p : ℕ → Bool) (w bs : List ℕ) → list_all p w ≡ true → length w ≤ prefix_len p (w ++ bs)
 run_holds p [] bs all = omega arith
 run_holds p (b ∷ w) bs all =
-    let parts = both (p b) (list_all p w) all in
+    let parts = and_parts (p b) (list_all p w) all in
     let passes = ap (λ t. cond t (1 + prefix_len p (w ++ bs)) 0) parts.0 in
     omega (arith, passes, run_holds p w bs parts.1)
 
@@ -53,5 +48,5 @@ pub run_is : (p : ℕ → Bool) (w bs : List ℕ) → list_all p w ≡ true → 
 run_is p [] [] all stop = refl
 run_is p [] (b ∷ bs) all stop = rw stop refl
 run_is p (b ∷ w) bs all stop =
-    let parts = both (p b) (list_all p w) all in
+    let parts = and_parts (p b) (list_all p w) all in
     ap (λ t. cond t (1 + prefix_len p (w ++ bs)) 0) parts.0 ∙ omega (arith, run_is p w bs parts.1 stop)

@@ -7,7 +7,7 @@ use Rattle.std.specs.Str.Lossy.{utf8_valid_len}
 use Rattle.std.proofs.lemmas.List.{take-append-drop, take_at, drop_at}
 use Rattle.std.proofs.lemmas.List.Sums.{take_while-cons, prefix_len-le-length}
 use Rattle.std.proofs.lemmas.Str.{utf8_valid_len_le}
-use Rattle.std.proofs.lemmas.Bool.{cases_lt}
+use Rattle.std.proofs.lemmas.Bool.{cases_lt, and_parts}
 use Rattle.std.proofs.lemmas.Bool.Decides.{nat_tests, Decides-eqb}
 use Rattle.mz_base.specs.declared.kind.Kind.TheVariants.{Lexical, LeftOut, Bounds}
 use Rattle.mz_base.specs.declared.keyword.Keyword.{Keyword}
@@ -27,7 +27,7 @@ use Rattle.mz_lexer.specs.Lexemes.{Lexeme}
 use Rattle.mz_lexer.specs.Steps.{Prefix, prefix_of, word_prefix, keyword_or_name, number_prefix, literal, piece_prefix, piece_of, piece_end, comment_len, comment_of, ends_comment, symbol_or_fault}
 use Rattle.mz_base.specs.Words.{is_word}
 use Rattle.mz_lexer.specs.Lexes.{are_digits, Means, IsContent, Spells, an_identifier, a_keyword, decimal, hexadecimal, octal, a_symbol, a_text, a_head, a_middle, a_tail, opens_piece, IsLeftOut, left_byte, left_slash, left_number, left_keyword, comment, EndsFirst, IsStuck, at_no_character, IsInLimit}
-use Rattle.mz_lexer.proofs.Runs.{both, stops_run, all_of_run}
+use Rattle.mz_lexer.proofs.Runs.{stops_run, all_of_run}
 use Rattle.mz_base.proofs.Choices.{pick}
 use Rattle.mz_lexer.proofs.Spellings.{keyword_known, keyword_found, IsFound, none_found, one_found, symbol_is_found}
 use Rattle.mz_lexer.proofs.Prefixes.{number_raw, number_token, raw_prefix, raw_is_number, word_is, meaning_of}
@@ -98,8 +98,8 @@ based_shape : (p : ℕ → Bool) (base letter : ℕ) (bs : List ℕ) → p 0 ≡
     → ((later : Bool) (ds : List ℕ) → are_digits p ds ≡ true → Spells later (48 ∷ letter ∷ ds) (lx.int (pos (number_of base ds))))
     → NumberShape bs (number_token base (take_while p (drop 2 bs)) (2 + prefix_len p (drop 2 bs)))
 based_shape p base letter bs never some is spells =
-    let outer = both (nat_eq (first_byte bs) 48) _ is in
-    let inner = both (nat_eq (second_byte bs) letter) (p (third_byte bs)) outer.1 in
+    let outer = and_parts (nat_eq (first_byte bs) 48) _ is in
+    let inner = and_parts (nat_eq (second_byte bs) letter) (p (third_byte bs)) outer.1 in
     let second : second_byte bs ≡ letter = (Decides-eqb (second_byte bs) letter).0 inner.0 in
     let prefix : take (2 + prefix_len p (drop 2 bs)) bs ≡ 48 ∷ letter ∷ take_while p (drop 2 bs) = first_two bs 48 letter (prefix_len p (drop 2 bs)) (omega arith) some ((Decides-eqb (first_byte bs) 48).0 outer.0) second in
     a_literal (λ later. subst (λ w. Spells later w (lx.int (pos (number_of base (take_while p (drop 2 bs)))))) (sym prefix) (spells later (take_while p (drop 2 bs)) (run_digits p (drop 2 bs) never inner.1)))
@@ -167,9 +167,9 @@ never_true : false ≡ true → ⊥
 never_true e = cc
 
 ends_here : (b : ℕ) (bs : List ℕ) (n : ℕ) → ends_comment (b ∷ bs) ≡ true → Some 2 ≡ Some n → IsEnd (b ∷ bs) n
-ends_here b [] n is e = absurd (never_true (both (nat_eq b 42) false is).1)
+ends_here b [] n is e = absurd (never_true (and_parts (nat_eq b 42) false is).1)
 ends_here b (c ∷ bs) n is e =
-    let parts = both (nat_eq b 42) (nat_eq c 47) is in
+    let parts = and_parts (nat_eq b 42) (nat_eq c 47) is in
     record {
       content = [];
       rest = bs;
@@ -227,7 +227,7 @@ prefix_is (b ∷ bs) k some e = ap (λ x. x ∷ bs) (sym ((Decides-eqb b k).0 e)
 
 two_are : (bs : List ℕ) (k j : ℕ) → 0 < k → 0 < j → (nat_eq (first_byte bs) k && nat_eq (second_byte bs) j) ≡ true → k ∷ j ∷ drop 2 bs ≡ bs
 two_are bs k j some more e =
-    let parts = both (nat_eq (first_byte bs) k) (nat_eq (second_byte bs) j) e in
+    let parts = and_parts (nat_eq (first_byte bs) k) (nat_eq (second_byte bs) j) e in
     let prefix = prefix_is bs k some parts.0 in
     let second : j ∷ drop 1 (drop 1 bs) ≡ drop 1 bs = prefix_is (drop 1 bs) j more parts.1 in
     ap (λ us. k ∷ j ∷ us) (drop_two bs) ∙ ap (λ us. k ∷ us) second ∙ prefix
@@ -357,9 +357,9 @@ opened true b bs is = subst (λ x. Shape true (x ∷ bs) (piece_prefix true bs))
 opened false b bs is = cc
 
 noted_shape : (later : Bool) (b : ℕ) (bs : List ℕ) → (nat_eq b 47 && nat_eq (first_byte bs) 42) ≡ true → Shape later (b ∷ bs) (comment_of (comment_len (drop 1 bs)))
-noted_shape later b [] is = absurd (never_true (both (nat_eq b 47) false is).1)
+noted_shape later b [] is = absurd (never_true (and_parts (nat_eq b 47) false is).1)
 noted_shape later b (c ∷ bs) is =
-    let parts = both (nat_eq b 47) (nat_eq c 42) is in
+    let parts = and_parts (nat_eq b 47) (nat_eq c 42) is in
     subst (λ x. Shape later (x ∷ c ∷ bs) (comment_of (comment_len bs))) (sym ((Decides-eqb b 47).0 parts.0)) (subst (λ x. Shape later (47 ∷ x ∷ bs) (comment_of (comment_len bs))) (sym ((Decides-eqb c 42).0 parts.1)) (comment_shape later bs))
 
 pub shape_cons : (later : Bool) (b : ℕ) (bs : List ℕ) → Shape later (b ∷ bs) (prefix_of later (b ∷ bs))

@@ -1,4 +1,5 @@
 -- The resolution is the first best candidate, and what it means.
+use Rattle.std.proofs.lemmas.Bool.{and_parts}
 use Rattle.std.proofs.Common.{◌≡◌, ℕ, zero, suc, ◌+◌, Bool, true, false, not, ◌&&◌, ◌||◌, List, [], ◌∷◌, Option, Some, None, ◌⊎◌, inl, inr, refl, sym, subst, arith, if◌then◌else◌, ◌∙◌}
 use Rattle.std.specs.Prelude.{slice_get}
 use Rattle.std.specs.List.{list_any, list_all, position_from}
@@ -18,10 +19,6 @@ below_trans t u v p q = let a = sound t u p in let b = sound u v q in complete (
 bool_case : (b : Bool) → (b ≡ true) ⊎ (b ≡ false)
 bool_case true = inl refl
 bool_case false = inr refl
-
-both : (a b : Bool) → a && b ≡ true → (a ≡ true) × (b ≡ true)
-both true b h = (refl, h)
-both false b h = absurd cc
 
 implied : (a b : Bool) → not a || b ≡ true → a ≡ true → b ≡ true
 implied true b h e = h
@@ -43,8 +40,8 @@ all_below_trans [] (u ∷ us) vs p q = absurd cc
 all_below_trans (t ∷ ts) [] vs p q = absurd cc
 all_below_trans (t ∷ ts) (u ∷ us) [] p q = absurd cc
 all_below_trans (t ∷ ts) (u ∷ us) (v ∷ vs) p q =
-    let a = both (below t u) (all_below ts us) p in
-    let b = both (below u v) (all_below us vs) q in
+    let a = and_parts (below t u) (all_below ts us) p in
+    let b = and_parts (below u v) (all_below us vs) q in
     all_of (below_trans t u v a.0 b.0) (all_below_trans ts us vs a.1 b.1)
 
 -- a candidate below a least one is least
@@ -52,7 +49,7 @@ least_below : (ds : List PlainSignature) (args : List PlainType) (c d : PlainSig
 unfolding is_least
 least_below [] args c d p h = refl
 least_below (x ∷ ds) args c d p h =
-    let a = both (not (accepts args x) || all_below d.params x.params) (is_least ds args d) h in
+    let a = and_parts (not (accepts args x) || all_below d.params x.params) (is_least ds args d) h in
     all_of (implies (accepts args x) (all_below c.params x.params) (λ e. all_below_trans c.params d.params x.params p (implied (accepts args x) (all_below d.params x.params) a.0 e))) (least_below ds args c d p a.1)
 
 -- what is least of all is least of the rest
@@ -61,11 +58,11 @@ OfAll all rest args = (c : PlainSignature) → is_least all args c ≡ true → 
 
 least_rest : (all rest : List PlainSignature) (args : List PlainType) (d : PlainSignature) → OfAll all (d ∷ rest) args → OfAll all rest args
 unfolding is_least
-least_rest all rest args d h c e = (both (not (accepts args d) || all_below c.params d.params) (is_least rest args c) (h c e)).1
+least_rest all rest args d h c e = (and_parts (not (accepts args d) || all_below c.params d.params) (is_least rest args c) (h c e)).1
 
 least_first : (all rest : List PlainSignature) (args : List PlainType) (d c : PlainSignature) → OfAll all (d ∷ rest) args → is_least all args c ≡ true → accepts args d ≡ true → all_below c.params d.params ≡ true
 unfolding is_least
-least_first all rest args d c h e a = implied (accepts args d) (all_below c.params d.params) (both (not (accepts args d) || all_below c.params d.params) (is_least rest args c) (h c e)).0 a
+least_first all rest args d c h e a = implied (accepts args d) (all_below c.params d.params) (and_parts (not (accepts args d) || all_below c.params d.params) (is_least rest args c) (h c e)).0 a
 
 -- c is the best, or else the first best of the rest
 abbrev first_best : List PlainSignature → List PlainType → ℕ → PlainSignature → ℕ → List PlainSignature → Resolution
@@ -104,8 +101,8 @@ from_is all args k c i (d ∷ ds) a h =
     let stays = from_is all args k c (i + 1) ds a rest_of in
     branch (accepts args d) (all_below c.params d.params) (resolution_from all args i d (i + 1) ds) (resolution_from all args k c (i + 1) ds) (first_best all args k c i (d ∷ ds))
     (λ e. stays ∙ passed (is_best all args c) (is_best all args d) k i after (λ f. absurd (refused (accepts args d) (is_least all args d) e f)))
-    (λ e b. stays ∙ passed (is_best all args c) (is_best all args d) k i after (λ f. all_of a (least_below all args c d b (both (accepts args d) (is_least all args d) f).1)))
-    (λ e b. from_is all args i d (i + 1) ds e rest_of ∙ replaced (is_best all args c) (is_best all args d) k i after (λ f. let g = least_first all ds args d c h (both (accepts args c) (is_least all args c) f).1 e in cc))
+    (λ e b. stays ∙ passed (is_best all args c) (is_best all args d) k i after (λ f. all_of a (least_below all args c d b (and_parts (accepts args d) (is_least all args d) f).1)))
+    (λ e b. from_is all args i d (i + 1) ds e rest_of ∙ replaced (is_best all args c) (is_best all args d) k i after (λ f. let g = least_first all ds args d c h (and_parts (accepts args c) (is_least all args c) f).1 e in cc))
 
 -- no candidate before the i-th accepts
 abbrev best_of : List PlainSignature → List PlainType → ℕ → List PlainSignature → Resolution
@@ -163,8 +160,8 @@ none_passes {X} t (x ∷ xs) e (suc m) c at h = elim (bool_case (t x)) [
 
 all_pass : {X : Type 0} (t : X → Bool) (xs : List X) → list_all t xs ≡ true → (m : ℕ) (c : X) → slice_get xs m ≡ Some c → t c ≡ true
 all_pass t [] e m c at = absurd cc
-all_pass {X} t (x ∷ xs) e zero c at = let q : x ≡ c = cc in subst (λ y. t y ≡ true) q (both (t x) (list_all t xs) e).0
-all_pass t (x ∷ xs) e (suc m) c at = all_pass t xs (both (t x) (list_all t xs) e).1 m c at
+all_pass {X} t (x ∷ xs) e zero c at = let q : x ≡ c = cc in subst (λ y. t y ≡ true) q (and_parts (t x) (list_all t xs) e).0
+all_pass t (x ∷ xs) e (suc m) c at = all_pass t xs (and_parts (t x) (list_all t xs) e).1 m c at
 
 each_passes : {X : Type 0} (t : X → Bool) (xs : List X) → ((m : ℕ) (c : X) → slice_get xs m ≡ Some c → t c ≡ true) → list_all t xs ≡ true
 each_passes t [] h = refl
@@ -185,7 +182,7 @@ is_resolution_of cands args (Some k) b e f =
     let r = hit (is_best cands args) 0 cands k e in
     let c = r.1.0 in
     let q : r.0 ≡ k = omega (arith, r.1.3) in
-    let p = both (accepts args c) (is_least cands args c) r.1.2 in
+    let p = and_parts (accepts args c) (is_least cands args c) r.1.2 in
     (c, record { accepted = record { at = subst (λ m. slice_get cands m ≡ Some c) q r.1.1; accepting = p.0 }; least = least_of cands args c p.1 })
 is_resolution_of cands args None true e f =
     let r = some_passes (accepts args) cands f in
