@@ -2,7 +2,7 @@
 use Rattle.std.proofs.Common.{◌≡◌, ◌∙◌, ◌<◌, ◌≤◌, ◌+◌, ℕ, zero, suc, Bool, true, false, List, [], ◌∷◌, Option, Some, None, length, get_or, slice_get, map, refl, sym, ap, arith, if◌then◌else◌}
 use Rattle.std.specs.Prelude.{nat_eq, nat_le, not, ◌&&◌, is_none}
 use Rattle.std.specs.Option.{option_map}
-use Rattle.std.proofs.lemmas.Bool.{eqb-true}
+use Rattle.std.proofs.lemmas.Bool.{eqb-true, and_parts}
 use Rattle.std.proofs.lemmas.Bool.Decides.{nat_tests}
 use Rattle.mz_core.specs.declared.tree.CoreStep.{CoreStep}
 use Rattle.mz_core.specs.Tree.{Tree, node, chain, coerce, layer, shape_of, inner_tree, all_steps}
@@ -27,17 +27,12 @@ same_bool true false h = sym h
 same_bool false true h = h
 same_bool false false h = refl
 
-both_true : (a b : Bool) → a && b ≡ true → (a ≡ true) × (b ≡ true)
-both_true true true h = (refl, refl)
-both_true true false h = (refl, h)
-both_true false b h = absurd (cc)
-
 told : (ls : List ℕ) (k n m : ℕ) → agree ls k ≡ true → m ≡ k + n → n < length ls → five_at (slice_get ls n) ≡ is_comparison m
 told [] k n m h e w = absurd (omega arith)
 told (l ∷ ls) k zero m h e w =
     let same : k ≡ m = omega arith in
-    same_bool (nat_eq 5 l) (is_comparison k) (both_true _ _ h).0 ∙ ap (λ j. is_comparison j) same
-told (l ∷ ls) k (suc n) m h e w = told ls (k + 1) n m (both_true (if nat_eq 5 l then is_comparison k else not (is_comparison k)) (agree ls (k + 1)) h).1 (omega arith) (omega arith)
+    same_bool (nat_eq 5 l) (is_comparison k) (and_parts _ _ h).0 ∙ ap (λ j. is_comparison j) same
+told (l ∷ ls) k (suc n) m h e w = told ls (k + 1) n m (and_parts (if nat_eq 5 l then is_comparison k else not (is_comparison k)) (agree ls (k + 1)) h).1 (omega arith) (omega arith)
 
 past : (ls : List ℕ) (n : ℕ) → length ls ≤ n → five_at (slice_get ls n) ≡ false
 past [] n h = refl
