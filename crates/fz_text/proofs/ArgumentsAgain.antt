@@ -4,7 +4,7 @@ use Rattle.std.specs.Prelude.{◌||◌, ℤ, pos, not, nat_eq, nat_lt}
 use Rattle.std.specs.List.{AllByRecursion, prefix_len}
 use Rattle.std.specs.Fmt.{signed_decimal}
 use Rattle.std.specs.Str.{bytes_eq}
-use Rattle.std.proofs.lemmas.Bool.{false≢true}
+use Rattle.std.proofs.lemmas.Bool.{false≢true, and_parts}
 use Rattle.std.proofs.lemmas.Slice.Eq.{bytes_eq-Decides}
 use Rattle.mz_base.specs.Words.{is_identifier, is_keyword, is_word}
 use Rattle.mz_value.specs.Ranges.{Range, IsInLimit}
@@ -17,7 +17,7 @@ use Rattle.fz_text_read.specs.Tokens.{behind}
 use Rattle.fz_text_read.specs.Lists.{closed_at}
 use Rattle.fz_text_read.specs.Arguments.{argument_at, array_at, braces_set_at, interval_set_at, number_or_interval_at, number_or_set_at, place_at, place_of, plain_at, word_at, word_of}
 use Rattle.fz_text_spell.specs.Spelling.{argument_text, array_text, commas, elements, interval, label_at, numbers, plain_text, set}
-use Rattle.fz_text.proofs.Prefixes.{both, first_is, name_again, not_behind, number_again, other_byte, word_is}
+use Rattle.fz_text.proofs.Prefixes.{first_is, name_again, not_behind, number_again, other_byte, word_is}
 use Rattle.fz_text.proofs.PartsAgain.{Again, none_again, pieces, some_again, is_stop, stop_is_no_digit, stop_is_no_dot, stop_is_no_name_byte}
 use Rattle.fz_text.proofs.SetsAgain.{brace, braces_again, braces_text, dots, empty_text, from_again, interval_parts, is_set_byte, no_brace, number_first, one_in_limit, one_range, set_first, zero_in_limit}
 
@@ -75,10 +75,10 @@ place_again names k d below = let is = prefix_of names k d below in rw is (rw (b
     below_is m n h = grind (arith, tests)
 
 pub word_of_identifier : (w : Name) → is_identifier w ≡ true → is_word w ≡ true
-word_of_identifier w e = (both (is_word w) (not (is_keyword w)) e).0
+word_of_identifier w e = (and_parts (is_word w) (not (is_keyword w)) e).0
 
 no_keyword : (w v : Name) → is_identifier w ≡ true → is_keyword v ≡ true → bytes_eq w v ≡ false
-no_keyword w v e key = other_bytes w v (λ same. absurd (false≢true (sym (ap not (ap is_keyword same ∙ key)) ∙ (both (is_word w) (not (is_keyword w)) e).1)))
+no_keyword w v e key = other_bytes w v (λ same. absurd (false≢true (sym (ap not (ap is_keyword same ∙ key)) ∙ (and_parts (is_word w) (not (is_keyword w)) e).1)))
 
 true_is_keyword : is_keyword (codes "true") ≡ true
 unfolding is_keyword

@@ -3,7 +3,7 @@ use Rattle.std.proofs.Common.{◌≡◌, ℕ, ◌<◌, List, [], ◌∷◌, ◌+
 use Rattle.std.specs.Prelude.{◌&&◌, ℤ, pos, int_le, nat_eq, slice_get, Option, decimal}
 use Rattle.std.specs.List.{AllByRecursion, list_all}
 use Rattle.std.specs.Fmt.{signed_decimal}
-use Rattle.std.proofs.lemmas.Bool.{false≢true}
+use Rattle.std.proofs.lemmas.Bool.{false≢true, and_parts}
 use Rattle.mz_base.specs.Words.{is_word}
 use Rattle.mz_interval.specs.Ends.{Ends}
 use Rattle.mz_value.specs.Ranges.{Range, AreCanonical, AreInLimit, IsInLimit}
@@ -24,7 +24,7 @@ use Rattle.fz_text_read.specs.Lists.{filled_at, closed_at}
 use Rattle.fz_text_read.specs.Arguments.{argument_at, place_at}
 use Rattle.fz_text_read.specs.Lines.{array_item_at, array_name_at, defined_at, definition_at, domain_at, from_colon, goal_at, integers_at, is_no_colon, mark_at, marked_at, objective_at, optimum_at, row_at, row_name_at, row_named, satisfy_at, set_of_at, undefined_at, variable_at}
 use Rattle.fz_text_spell.specs.Spelling.{argument_list, argument_text, commas, definition, domain_text, element_by, element_of, element_text, goal_line, hull, hull_text, interval, label_at, mark, set}
-use Rattle.fz_text.proofs.Prefixes.{all_append, both, decimal_has_no_colon, drop_prefix, first_is, other_byte, name_again, not_behind, run_is, signed_has_no_colon, word_is}
+use Rattle.fz_text.proofs.Prefixes.{all_append, decimal_has_no_colon, drop_prefix, first_is, other_byte, name_again, not_behind, run_is, signed_has_no_colon, word_is}
 use Rattle.fz_text.proofs.PartsAgain.{Again, either, filled_again, none_again, pieces, some_again, stop_is_no_digit, stop_is_no_name_byte}
 use Rattle.fz_text.proofs.SetsAgain.{is_set_byte, one_in_limit, range_again, set_again, set_first, zero_in_limit}
 use Rattle.fz_program.proofs.Sets.{literal_in}
@@ -371,13 +371,13 @@ same_int a b e = (Decides-int_eq a b).0 e
 ends_in_limit : (r : Range) → is_index_range r ≡ true → IsInLimit r.0 × IsInLimit r.1
 ends_in_limit r e =
     either (int_eq r.0 (pos 1) && int_eq r.1 (pos 0)) (int_le r.0 r.1 && (is_literal r.0 && is_literal r.1))
-    (λ h. let parts = both (int_eq r.0 (pos 1)) (int_eq r.1 (pos 0)) h in (subst IsInLimit (sym (same_int r.0 (pos 1) parts.0)) one_in_limit, subst IsInLimit (sym (same_int r.1 (pos 0) parts.1)) zero_in_limit))
-    (λ h. let parts = both (is_literal r.0) (is_literal r.1) (both (int_le r.0 r.1) (is_literal r.0 && is_literal r.1) h).1 in (literal_in r.0 parts.0, literal_in r.1 parts.1)) e
+    (λ h. let parts = and_parts (int_eq r.0 (pos 1)) (int_eq r.1 (pos 0)) h in (subst IsInLimit (sym (same_int r.0 (pos 1) parts.0)) one_in_limit, subst IsInLimit (sym (same_int r.1 (pos 0) parts.1)) zero_in_limit))
+    (λ h. let parts = and_parts (is_literal r.0) (is_literal r.1) (and_parts (int_le r.0 r.1) (is_literal r.0 && is_literal r.1) h).1 in (literal_in r.0 parts.0, literal_in r.1 parts.1)) e
 
 each_range : (rs : List Range) → list_all is_index_range rs ≡ true → AllByRecursion (Again range_at interval) rs
 each_range [] e = tt
 each_range (r ∷ rs) e =
-    let parts = both (is_index_range r) (list_all is_index_range rs) e in
+    let parts = and_parts (is_index_range r) (list_all is_index_range rs) e in
     let ends = ends_in_limit r parts.0 in
     (λ rest stop. range_again r rest ends.0 ends.1 (stop_is_no_digit (first_byte rest) stop), each_range rs parts.1)
 

@@ -3,7 +3,7 @@ use Rattle.std.proofs.Common.{◌≡◌, ℕ, zero, suc, ◌+◌, ◌-◌, ◌*�
 use Rattle.std.specs.Prelude.{◌&&◌, nat_eq, min, ℤ, pos, negsuc, ◌≤ℤ◌}
 use Rattle.std.specs.List.{prefix_len, list_all}
 use Rattle.std.specs.Fmt.{decimal, digit_glyph, digits, digits_onto, signed_decimal}
-use Rattle.std.proofs.lemmas.Bool.{false≢true, eqb-true}
+use Rattle.std.proofs.lemmas.Bool.{false≢true, eqb-true, and_parts}
 use Rattle.std.proofs.lemmas.Int.{ints}
 use Rattle.std.proofs.lemmas.Nat.{div-add-mod'}
 use Rattle.std.proofs.lemmas.Fmt.{decimal_by_steps}
@@ -13,10 +13,6 @@ use Rattle.soln_reader_items.specs.Bytes.{is_digit, is_letter, is_name_byte, fir
 use Rattle.soln_reader_items.specs.Items.{digits_at, number_from, past}
 use Rattle.fz_text_read.specs.Lines.{is_no_colon}
 use Rattle.fz_text_read.specs.Tokens.{behind, number_at, natural_at, negative_at, name_at}
-
-pub both : (a b : Bool) → (a && b) ≡ true → (a ≡ true) × (b ≡ true)
-both true b e = (refl, e)
-both false b e = absurd (false≢true e)
 
 -- a byte that passes a test isn't one that fails it
 pub other_byte : (p : ℕ → Bool) (b k : ℕ) → p b ≡ true → p k ≡ false → nat_eq b k ≡ false
@@ -42,7 +38,7 @@ pub run_is : (p : ℕ → Bool) (w bs : List ℕ) → list_all p w ≡ true → 
 run_is p [] [] all stop = refl
 run_is p [] (b ∷ bs) all stop = rw stop refl
 run_is p (b ∷ w) bs all stop =
-    let parts = both (p b) (list_all p w) all in
+    let parts = and_parts (p b) (list_all p w) all in
     ap (λ t. cond t (1 + prefix_len p (w ++ bs)) 0) parts.0 ∙ omega (arith, run_is p w bs parts.1 stop)
 
 pub take_prefix : (w bs : List ℕ) → take (length w) (w ++ bs) ≡ w
@@ -55,7 +51,7 @@ drop_prefix (b ∷ w) bs = drop_prefix w bs
 
 all_push : (p : ℕ → Bool) (ds : List ℕ) (d : ℕ) → list_all p ds ≡ true → p d ≡ true → list_all p (ds ++ d ∷ []) ≡ true
 all_push p [] d all e = rw e refl
-all_push p (x ∷ ds) d all e = let parts = both (p x) (list_all p ds) all in rw (parts.0, all_push p ds d parts.1 e) refl
+all_push p (x ∷ ds) d all e = let parts = and_parts (p x) (list_all p ds) all in rw (parts.0, all_push p ds d parts.1 e) refl
 
 -- ---- numbers
 
@@ -102,7 +98,7 @@ digits_again n rest small stop =
 
 pub first_digit : (ds rest : List ℕ) → list_all is_digit ds ≡ true → 0 < length ds → is_digit (first_byte (ds ++ rest)) ≡ true
 first_digit [] rest all some = absurd (omega arith)
-first_digit (d ∷ ds) rest all some = (both (is_digit d) (list_all is_digit ds) all).0
+first_digit (d ∷ ds) rest all some = (and_parts (is_digit d) (list_all is_digit ds) all).0
 
 no_minus : (b : ℕ) → is_digit b ≡ true → nat_eq b 45 ≡ false
 no_minus b e = other_byte is_digit b 45 e refl
@@ -161,14 +157,14 @@ signed_has_no_colon (negsuc n) = decimal_has_no_colon (suc n)
 
 pub all_append : {A : Type 0} (p : A → Bool) (xs ys : List A) → list_all p xs ≡ true → list_all p ys ≡ true → list_all p (xs ++ ys) ≡ true
 all_append p [] ys a b = b
-all_append p (x ∷ xs) ys a b = let parts = both (p x) (list_all p xs) a in rw (parts.0, all_append p xs ys parts.1 b) refl
+all_append p (x ∷ xs) ys a b = let parts = and_parts (p x) (list_all p xs) a in rw (parts.0, all_append p xs ys parts.1 b) refl
 
 -- ---- names
 
 pub word_is : (w : List ℕ) → is_word w ≡ true → (is_letter (first_byte w) ≡ true) × (list_all is_name_byte w ≡ true)
 word_is [] e = absurd (false≢true e)
 word_is (b ∷ bs) e =
-    let parts = both (is_letter b) (list_all is_name_byte bs) e in
+    let parts = and_parts (is_letter b) (list_all is_name_byte bs) e in
     (parts.0, rw (parts.0, parts.1) refl)
 
 pub first_is : (w rest : List ℕ) → is_word w ≡ true → first_byte (w ++ rest) ≡ first_byte w

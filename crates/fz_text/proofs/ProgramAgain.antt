@@ -1,4 +1,5 @@
 -- A well-formed program's text is read again, so bytes spell at most one program.
+use Rattle.std.proofs.lemmas.Bool.{and_parts}
 use Rattle.std.proofs.Common.{◌≡◌, ℕ, zero, suc, ◌+◌, ◌<◌, ◌≤◌, List, [], ◌∷◌, ◌++◌, length, length-append, Bool, true, false, refl, sym, ap, subst, ◌∙◌, arith, Some, None, append_assoc, flat_map, codes}
 use Rattle.std.specs.Prelude.{Option}
 use Rattle.std.specs.List.{AllByRecursion}
@@ -16,7 +17,6 @@ use Rattle.fz_text_read.proofs.LineLoops.{more_at, stop_at}
 use Rattle.fz_text_read.proofs.NameLoops.{named_unit, new_append}
 use Rattle.fz_text_spell.specs.Spelling.{Spells, array_line, goal_line, row_line, spelling, variable_line}
 use Rattle.fz_text.specs.Reading.{IsOnly, SpellsNone}
-use Rattle.fz_text.proofs.Prefixes.{both}
 use Rattle.fz_text.proofs.ArgumentsAgain.{AreNames}
 use Rattle.fz_text.proofs.LinesAgain.{array_line_again, goal_again, inside_array, inside_row, inside_variable, row_again, variable_again}
 use Rattle.fz_text.proofs.NamesOnce.{distinct_are_new, new_names}
@@ -118,7 +118,7 @@ array_is_no_variable vs (a ∷ xs) rs g = refl
 -- ---- names
 
 names_are : (vs : List Variable) (ys : List Name) → AllByRecursion IsWellFormedVariable vs → AreDistinct (labels_of vs ++ ys) → AreNames (labels_of vs)
-names_are vs ys h d = record { identifiers = each vs h; distinct = new_names (labels_of vs) (both (are_new [] (labels_of vs)) (are_new (labels_of vs) ys) (sym (new_append [] (labels_of vs) ys) ∙ distinct_are_new [] (labels_of vs ++ ys) d)).0 }
+names_are vs ys h d = record { identifiers = each vs h; distinct = new_names (labels_of vs) (and_parts (are_new [] (labels_of vs)) (are_new (labels_of vs) ys) (sym (new_append [] (labels_of vs) ys) ∙ distinct_are_new [] (labels_of vs ++ ys) d)).0 }
   where
     each : (vs : List Variable) → AllByRecursion IsWellFormedVariable vs → AllByRecursion (λ w. is_identifier w ≡ true) (labels_of vs)
     each [] h = tt

@@ -1,4 +1,5 @@
 -- Sets are read again.
+use Rattle.std.proofs.lemmas.Bool.{and_parts}
 use Rattle.std.proofs.Common.{◌≡◌, ℕ, zero, suc, List, [], ◌∷◌, ◌++◌, map, Bool, true, false, refl, sym, ap, subst, ◌∙◌, arith, rules, inl, inr, Some, None, append_assoc, flat_map, codes, Contains}
 use Rattle.std.specs.Prelude.{◌⊎◌, ◌||◌, ℤ, pos, negsuc, ◌+ℤ◌, ◌-ℤ◌, ◌≤ℤ◌, ◌<ℤ◌, nat_abs, nat_eq, int_le}
 use Rattle.std.specs.List.{AllByRecursion, list_all}
@@ -13,7 +14,7 @@ use Rattle.fz_text_read.specs.Tokens.{behind, number_at, range_at, interval_at, 
 use Rattle.fz_text_read.specs.Lists.{braces_at, filled_at, set_at}
 use Rattle.fz_text_spell.specs.Spelling.{braces, commas, elements, interval, numbers, numbers_from, set}
 use Rattle.fz_text_spell.proofs.Commas.{after_first, join_is}
-use Rattle.fz_text.proofs.Prefixes.{all_append, below_past, both, is_wide, first_digit, not_behind, number_again, numeral, other_byte}
+use Rattle.fz_text.proofs.Prefixes.{all_append, below_past, is_wide, first_digit, not_behind, number_again, numeral, other_byte}
 use Rattle.fz_text.proofs.PartsAgain.{Again, filled_again, stop_is_no_digit}
 
 -- ---- `l..u`
@@ -146,12 +147,12 @@ unfolding commas
 numbers_commas x xs = join_is signed_decimal x xs ∙ ap (λ t. signed_decimal x ++ t) (sym (after_first signed_decimal xs))
 
 pub in_limit : (n : ℤ) → is_in_limit n ≡ true → IsInLimit n
-in_limit n e = let parts = both (int_le least n) (int_le n greatest) e in search (rules, parts)
+in_limit n e = let parts = and_parts (int_le least n) (int_le n greatest) e in search (rules, parts)
 
 each_number : (ns : List ℤ) → list_all is_in_limit ns ≡ true → AllByRecursion (Again number_at signed_decimal) ns
 each_number [] e = tt
 each_number (n ∷ ns) e =
-    let parts = both (is_in_limit n) (list_all is_in_limit ns) e in
+    let parts = and_parts (is_in_limit n) (list_all is_in_limit ns) e in
     (λ rest stop. number_again n rest (in_limit n parts.0) (stop_is_no_digit (first_byte rest) stop), each_number ns parts.1)
 
 closes : (rest : List ℕ) → behind (codes "}") (codes "}" ++ rest) ≡ Some rest

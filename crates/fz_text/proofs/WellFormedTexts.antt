@@ -2,13 +2,13 @@
 use Rattle.std.proofs.Common.{◌≡◌, ℕ, zero, suc, ◌<◌, List, [], ◌∷◌, length, Bool, true, false, refl, arith, Some}
 use Rattle.std.specs.Prelude.{◌||◌}
 use Rattle.std.specs.List.{AllByRecursion, list_all, list_any}
-use Rattle.std.proofs.lemmas.Bool.{false≢true, eqb-true}
+use Rattle.std.proofs.lemmas.Bool.{false≢true, eqb-true, and_parts}
 use Rattle.std.proofs.lemmas.List.{length-map}
 use Rattle.fz_program.specs.Arguments.{Plain, bool, int, set, var, nested, Argument, one, array}
 use Rattle.fz_program.specs.Flat.{Variable, are_arguments, are_alike, are_variables_of, has_variable, is_argument, is_constant, is_definition, is_literal, is_plain, is_set, is_variable, is_variable_of, labels_of, same_kind}
 use Rattle.fz_program.specs.declared.row_name.Kind.{Kind}
 use Rattle.fz_program.specs.declared.row_name.Kind.TheVariants.{Int, Bool as Truth, Set, ConstInt, Ints, Bools, Sets, ConstInts, ConstBools, ConstSets}
-use Rattle.fz_program.proofs.Sets.{both, literal_in, set_in}
+use Rattle.fz_program.proofs.Sets.{literal_in, set_in}
 use Rattle.fz_text.proofs.PartsAgain.{either}
 use Rattle.fz_text.proofs.ArgumentsAgain.{HasText, HasTexts}
 
@@ -23,8 +23,8 @@ place_is_there vs kind k e = rw length-map (is_there vs kind k e)
 constant_has : (vs : List Variable) (kind : Kind) (p : Plain) → is_constant kind p ≡ true → HasText (labels_of vs) p
 unfolding is_constant
 constant_has vs kind (bool b) e = tt
-constant_has vs kind (int n) e = literal_in n (both (same_kind kind Int) (is_literal n) e).1
-constant_has vs kind (set s) e = set_in s (both (same_kind kind Set) (is_set s) e).1
+constant_has vs kind (int n) e = literal_in n (and_parts (same_kind kind Int) (is_literal n) e).1
+constant_has vs kind (set s) e = set_in s (and_parts (same_kind kind Set) (is_set s) e).1
 constant_has vs kind (var k) e = absurd (false≢true e)
 constant_has vs kind nested e = absurd (false≢true e)
 
@@ -38,7 +38,7 @@ plain_has vs kind nested e = constant_has vs kind nested e
 
 all_have : (vs : List Variable) (test : Plain → Bool) → ((p : Plain) → test p ≡ true → HasText (labels_of vs) p) → (ps : List Plain) → list_all test ps ≡ true → AllByRecursion (HasText (labels_of vs)) ps
 all_have vs test f [] e = tt
-all_have vs test f (p ∷ ps) e = let parts = both (test p) (list_all test ps) e in (f p parts.0, all_have vs test f ps parts.1)
+all_have vs test f (p ∷ ps) e = let parts = and_parts (test p) (list_all test ps) e in (f p parts.0, all_have vs test f ps parts.1)
 
 argument_has : (vs : List Variable) (kind : Kind) (a : Argument) → is_argument vs kind a ≡ true → HasTexts (labels_of vs) a
 unfolding is_argument
@@ -68,12 +68,12 @@ unfolding are_arguments
 arguments_have vs [] [] e = tt
 arguments_have vs [] (x ∷ xs) e = absurd (false≢true e)
 arguments_have vs (k ∷ ks) [] e = absurd (false≢true e)
-arguments_have vs (k ∷ ks) (x ∷ xs) e = let parts = both (is_argument vs k x) (are_arguments vs ks xs) e in (argument_has vs k x parts.0, arguments_have vs ks xs parts.1)
+arguments_have vs (k ∷ ks) (x ∷ xs) e = let parts = and_parts (is_argument vs k x) (are_arguments vs ks xs) e in (argument_has vs k x parts.0, arguments_have vs ks xs parts.1)
 
 -- the places of an array's elements
 places_are_there : (vs : List Variable) (kind : Kind) (ks : List ℕ) → are_variables_of vs kind ks ≡ true → AllByRecursion (λ k. k < length (labels_of vs)) ks
 places_are_there vs kind [] e = tt
-places_are_there vs kind (k ∷ ks) e = let parts = both (is_variable_of vs kind k) (are_variables_of vs kind ks) e in (place_is_there vs kind k parts.0, places_are_there vs kind ks parts.1)
+places_are_there vs kind (k ∷ ks) e = let parts = and_parts (is_variable_of vs kind k) (are_variables_of vs kind ks) e in (place_is_there vs kind k parts.0, places_are_there vs kind ks parts.1)
 
 one_of_three : {P : Type 0} (a b c : Bool) → (a ≡ true → P) → (b ≡ true → P) → (c ≡ true → P) → (a || (b || c)) ≡ true → P
 one_of_three true b c f g h e = f refl

@@ -1,7 +1,7 @@
 -- What is asked of a node, tested.
 use Rattle.std.proofs.Common.{◌≡◌, ℕ, zero, suc, ◌<◌, List, [], ◌∷◌, length, map, take, nat_eq, Bool, true, false, cond, ◌&&◌, Option, Some, None, IsSome, option_map, slice_get, get_or, inl, inr, ◌≤◌, pos, refl, sym, ap, subst, ◌∙◌, arith}
 use Rattle.std.specs.Option.{option_and_then}
-use Rattle.std.proofs.lemmas.Bool.{cases_lt, eqb-true, eq-eqb}
+use Rattle.std.proofs.lemmas.Bool.{cases_lt, eqb-true, eq-eqb, and_parts}
 use Rattle.std.proofs.lemmas.Int.{ints}
 use Rattle.mz_arena.specs.declared.node.Node.{Node}
 use Rattle.mz_arena.specs.declared.node.NodeKind.{NodeKind}
@@ -194,10 +194,6 @@ none_seen sets stored id h = ap is_const (get-entries sets stored id ∙ ap (opt
 
 -- ---- the test
 
-both_true : (a b : Bool) → a && b ≡ true → (a ≡ true) × (b ≡ true)
-both_true true b h = (refl, h)
-both_true false b h = cc
-
 true_both : (a b : Bool) → a ≡ true → b ≡ true → a && b ≡ true
 true_both true b h k = k
 true_both false b h k = cc
@@ -227,8 +223,8 @@ is_next_is count n h = by (is_local n.kind) refl
 
 free_node : (es : List Entry) (n : Node) → is_free_node es n ≡ true → IsFreeNode es (length es) n
 free_node es n h =
-    let own = both_true (is_own (length es) n) (is_const (slice_get es n.a) && is_next (length (local_ids es)) n) h in
-    let rest = both_true (is_const (slice_get es n.a)) (is_next (length (local_ids es)) n) own.1 in
+    let own = and_parts (is_own (length es) n) (is_const (slice_get es n.a) && is_next (length (local_ids es)) n) h in
+    let rest = and_parts (is_const (slice_get es n.a)) (is_next (length (local_ids es)) n) own.1 in
     record { own = own_is (length es) n own.0; domain = const_is es n.a (slice_get es n.a) refl rest.0; next = next_is (length (local_ids es)) n rest.1 }
 
 is_free_node_is : (es : List Entry) (n : Node) → IsFreeNode es (length es) n → is_free_node es n ≡ true

@@ -294,6 +294,10 @@ extents es = folded node_extent [] es
 abbrev pub extent : List Entry → ℕ → Known
 extent es id = at (extents es) id
 
+-- the bounds of an operation on the integers that two ids have
+abbrev pub arith_at : ArithRow → List Entry → ℕ → ℕ → Option Ends
+arith_at op es a b = arith_bounds op (as_whole (extent es a)) (as_whole (extent es b))
+
 -- the interval of an integer or a Boolean
 abbrev pub ends_in : Known → Option Ends
 ends_in (Some (whole e)) = Some e

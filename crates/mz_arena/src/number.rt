@@ -7,7 +7,7 @@ ghost use Rattle.mz_interval.specs.Interval.{ends};
 ghost use Rattle.mz_operations.specs.declared.row.Arith.TheVariants.{Add, Mul, Div, Mod};
 ghost use Rattle.mz_operations.specs.declared.row.Sign.TheVariants.{Abs};
 ghost use Rattle.mz_operations.specs.Bounds.{sign_ends, toward_ends, hull_of_set, card_ends};
-ghost use Rattle.mz_arena.specs.Extents.{as_whole, arith_bounds, abs_bounds, extent};
+ghost use Rattle.mz_arena.specs.Extents.{as_whole, abs_bounds, arith_at, extent};
 ghost use Rattle.mz_arena.specs.Tables.{entries, IsSound};
 
 use crate::node::Id;
@@ -21,7 +21,7 @@ impl Table {
     #[tactic(auto, unfolding(mz_operations::specs::Bounds::arith_ends))]
     pub(crate) fn sum(&self, a: Id, b: Id) -> Option<Interval>
         requires { IsSound self.now.sets.items self.now.stored.items }
-        ensures { option_map ends result ≡ arith_bounds Add (as_whole (extent (entries self.now.sets.items self.now.stored.items) a)) (as_whole (extent (entries self.now.sets.items self.now.stored.items) b)) }
+        ensures { option_map ends result ≡ arith_at Add (entries self.now.sets.items self.now.stored.items) a b }
     {
         let x = self.whole(a)?;
         let y = self.whole(b)?;
@@ -32,7 +32,7 @@ impl Table {
     #[tactic(auto, unfolding(mz_operations::specs::Bounds::arith_ends))]
     pub(crate) fn product(&self, a: Id, b: Id) -> Option<Interval>
         requires { IsSound self.now.sets.items self.now.stored.items }
-        ensures { option_map ends result ≡ arith_bounds Mul (as_whole (extent (entries self.now.sets.items self.now.stored.items) a)) (as_whole (extent (entries self.now.sets.items self.now.stored.items) b)) }
+        ensures { option_map ends result ≡ arith_at Mul (entries self.now.sets.items self.now.stored.items) a b }
     {
         let x = self.whole(a)?;
         let y = self.whole(b)?;
@@ -43,7 +43,7 @@ impl Table {
     #[tactic(auto, unfolding(mz_operations::specs::Bounds::arith_ends))]
     pub(crate) fn quotient(&self, a: Id, b: Id) -> Option<Interval>
         requires { IsSound self.now.sets.items self.now.stored.items }
-        ensures { option_map ends result ≡ arith_bounds Div (as_whole (extent (entries self.now.sets.items self.now.stored.items) a)) (as_whole (extent (entries self.now.sets.items self.now.stored.items) b)) }
+        ensures { option_map ends result ≡ arith_at Div (entries self.now.sets.items self.now.stored.items) a b }
     {
         let x = self.whole(a)?;
         let y = self.whole(b)?;
@@ -54,7 +54,7 @@ impl Table {
     #[tactic(auto, unfolding(mz_operations::specs::Bounds::arith_ends))]
     pub(crate) fn remainder(&self, a: Id, b: Id) -> Option<Interval>
         requires { IsSound self.now.sets.items self.now.stored.items }
-        ensures { option_map ends result ≡ arith_bounds Mod (as_whole (extent (entries self.now.sets.items self.now.stored.items) a)) (as_whole (extent (entries self.now.sets.items self.now.stored.items) b)) }
+        ensures { option_map ends result ≡ arith_at Mod (entries self.now.sets.items self.now.stored.items) a b }
     {
         let x = self.whole(a)?;
         let y = self.whole(b)?;

@@ -17,5 +17,5 @@ pub use set::{
 };
 pub use view::{
     as_bool, as_case, as_element, as_index, as_int, as_items, as_option, as_ordinal, as_pair,
-    as_row, as_set, as_text, enum_of, is_absent, is_bounded, is_fixable, is_single,
+    as_row, as_set, as_text, enum_of, is_absent, is_bounded, is_fixable,
 };

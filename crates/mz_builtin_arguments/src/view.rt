@@ -154,19 +154,6 @@ pub fn is_absent(v: &Value) -> bool
     }
 }
 
-/// Whether this is a truth value, an integer or a case.
-#[tactic(auto, unfolding(mz_operations::specs::Views::is_single))]
-pub fn is_single(v: &Value) -> bool
-    ensures { result ≡ views.is_single (content v.now) }
-{
-    match v {
-        Value::Bool(_) => true,
-        Value::Int(_) => true,
-        Value::Enum(_, _) => true,
-        _ => false,
-    }
-}
-
 /// An absent value, a truth value, an integer or a case.
 #[tactic(auto, unfolding(mz_operations::specs::Views::as_option, mz_operations::specs::Views::is_single))]
 pub fn as_option(v: &Value) -> Option<&Value>

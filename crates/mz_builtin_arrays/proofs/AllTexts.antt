@@ -1,4 +1,5 @@
 -- Elements that are all texts, or not.
+use Rattle.std.proofs.lemmas.Bool.{and_parts}
 use Rattle.std.proofs.Common.{◌≡◌, ℕ, ◌+◌, ◌<◌, ◌≤◌, List, [], ◌∷◌, ◌++◌, map, length, get_or, drop, Bool, true, false, ◌&&◌, refl, sym, ap, ◌∙◌}
 use Rattle.std.proofs.lemmas.List.{at_drop_more, at_drop_all, append_assoc, append-nil}
 use Rattle.std.specs.List.{AllByRecursion}
@@ -35,14 +36,10 @@ no_text (array ix xs) e = refl
 
 -- ---- all
 
-both_true : (a b : Bool) → (a && b) ≡ true → (a ≡ true) × (b ≡ true)
-both_true true b e = (refl, e)
-both_true false b e = cc
-
 pub are_text : (xs : List Content) → all_texts xs ≡ true → AllByRecursion IsText xs
 unfolding all_texts
 are_text [] e = tt
-are_text (x ∷ xs) e = let p = both_true (is_some (as_text x)) (all_texts xs) e in ((text_is x p.0).0, are_text xs p.1)
+are_text (x ∷ xs) e = let p = and_parts (is_some (as_text x)) (all_texts xs) e in ((text_is x p.0).0, are_text xs p.1)
 
 fold_more : (acc : List (List ℕ)) (x : Content) (xs : List Content) → fold_from as_text and_text acc (x ∷ xs) ≡ (as_text x >>= λ t. fold_from as_text and_text (acc ++ t ∷ []) xs)
 unfolding fold_from
@@ -56,7 +53,7 @@ texts_from : (acc : List (List ℕ)) (xs : List Content) → all_texts xs ≡ tr
 unfolding all_texts
 texts_from acc [] e = fold_none acc ∙ ap Some (sym (append-nil acc))
 texts_from acc (x ∷ xs) e =
-    let p = both_true (is_some (as_text x)) (all_texts xs) e in
+    let p = and_parts (is_some (as_text x)) (all_texts xs) e in
     let step : (as_text x >>= λ t. fold_from as_text and_text (acc ++ t ∷ []) xs) ≡ fold_from as_text and_text (acc ++ bytes_of x ∷ []) xs = rw ((text_is x p.0).1) refl in
     fold_more acc x xs ∙ step ∙ texts_from (acc ++ bytes_of x ∷ []) xs p.1 ∙ ap Some (append_assoc acc (bytes_of x ∷ []) (map bytes_of xs))
 

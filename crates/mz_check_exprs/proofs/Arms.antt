@@ -1,5 +1,6 @@
 -- What the arms of matches on the code's forms and items give.
-use Rattle.std.proofs.Common.{◌≡◌, ◌∙◌, ℕ, zero, suc, ◌<◌, ◌≤◌, Bool, false, List, [], ◌∷◌, ◌++◌, Ok, Err, Vec, Global, map, drop, length, get_or, nat_eq, refl, ap, sym, arith, drop-cons}
+use Rattle.std.proofs.lemmas.List.{drop_all}
+use Rattle.std.proofs.Common.{◌≡◌, ◌∙◌, ℕ, suc, ◌<◌, ◌≤◌, Bool, false, List, [], ◌∷◌, ◌++◌, Ok, Err, Vec, Global, map, drop, length, get_or, nat_eq, refl, ap, sym, drop-cons}
 use Rattle.std.specs.Vec.{vec_len}
 use Rattle.mz_base.specs.declared.fault.Span.{Span}
 use Rattle.mz_base.specs.declared.fault.Fault.{Fault}
@@ -39,12 +40,6 @@ call_made m f n xs slice b at env ts is same long empty some_there ok =
     ∙ some_args m at n env slice some
     ∙ ap (λ (r : Test (List typed.Tree)). r >>= λ es. applied m at n es) ok)
 
-dropped : {X : Type 0} (xs : List X) (i : ℕ) → length xs ≤ i → drop i xs ≡ []
-dropped [] zero h = refl
-dropped [] (suc i) h = refl
-dropped (x ∷ xs) zero h = absurd (omega (arith, h))
-dropped (x ∷ xs) (suc i) h = dropped xs i (omega (arith, h))
-
 rows_layer : (m : Model) (f : Form) (rows : Vec (Vec Expr Global) Global) (slice : List (Vec Expr Global)) (at : Span) (env : Env) → f ≡ forms.Rows rows → slice ≡ rows.items → form_layer m (out-Form f) at env ≡ (loop (one_more (row_parts env)) [] (map (λ r. map (expression m) r.items) slice) >>= λ ts. tabled at ts)
 rows_layer m f rows slice at env is same =
     ap (λ g. form_layer m g at env) (ap out-Form is ∙ forms.outs-Rows rows)
@@ -54,7 +49,7 @@ rows_layer m f rows slice at env is same =
 pub rows_made : (m : Model) (f : Form) (rows : Vec (Vec Expr Global) Global) (slice : List (Vec Expr Global)) (lines : List (List typed.Tree)) (i : ℕ) (at : Span) (env : Env) → f ≡ forms.Rows rows → slice ≡ rows.items → loop (one_more (row_parts env)) [] (map (λ r. map (expression m) r.items) slice) ≡ loop (one_more (row_parts env)) lines (map (λ r. map (expression m) r.items) (drop i slice)) → length slice ≤ i → tabled at lines ≡ form_layer m (out-Form f) at env
 rows_made m f rows slice lines i at env is same built end =
     sym (rows_layer m f rows slice at env is same
-    ∙ ap (λ (r : Test (List (List typed.Tree))). r >>= λ ts. tabled at ts) (built ∙ ap (λ rs. loop (one_more (row_parts env)) lines (map (λ r. map (expression m) r.items) rs)) (dropped slice i end)))
+    ∙ ap (λ (r : Test (List (List typed.Tree))). r >>= λ ts. tabled at ts) (built ∙ ap (λ rs. loop (one_more (row_parts env)) lines (map (λ r. map (expression m) r.items) rs)) (drop_all i slice end)))
 
 -- a row is refused
 pub rows_refused : (m : Model) (f : Form) (rows : Vec (Vec Expr Global) Global) (slice : List (Vec Expr Global)) (lines : List (List typed.Tree)) (i : ℕ) (row : Vec Expr Global) (part : List Expr) (at : Span) (env now : Env) (z : Fault) → f ≡ forms.Rows rows → slice ≡ rows.items → loop (one_more (row_parts env)) [] (map (λ r. map (expression m) r.items) slice) ≡ loop (one_more (row_parts env)) lines (map (λ r. map (expression m) r.items) (drop i slice)) → i < length slice → row ≡ get_or slice i row → part ≡ row.items → now ≡ env → parts (map (expression m) part) now ≡ Err z → form_layer m (out-Form f) at env ≡ Err z

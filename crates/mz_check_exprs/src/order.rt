@@ -1,41 +1,14 @@
 // The order of types.
 
 ghost use Rattle.std.specs.Prelude.{◌≡◌, map, ◌++◌, IfOk, OnOk};
-ghost use Rattle.mz_scope_uses.specs.Sketches.{sketch, decl_sketch, function_sketch};
-ghost use Rattle.mz_scope_order.specs.Scoped.{scoped_decl, lent_function, scoped_tree, shared_names, AreDistinct, AreRanked};
+ghost use Rattle.mz_scope_order.specs.Scoped.{scoped_tree, shared_names, AreDistinct, AreRanked};
 ghost use Rattle.mz_check_exprs.specs.Subjects.{subject, subject_at, subjects_in, IsOrderOf};
 
 use crate::subject::Subject;
 use mz_base::Memory;
 use mz_graph::order_of;
-use mz_scope_order::{Scoped, ScopedDecl, type_graph};
-use mz_scope_uses::{Sketch, sketch_of_decl, sketch_of_function};
-use mz_tree::Function;
+use mz_scope_order::{Scoped, decl_sketches, function_sketches, type_graph};
 use std::alloc::Global;
-
-/// What each declaration uses.
-fn decl_sketches(alloc: Global, decls: &[ScopedDecl<'_>]) -> Result<Vec<Sketch>, Memory>
-    ensures { IfOk result (λ v. map sketch v.items ≡ map decl_sketch (map scoped_decl decls.now)) }
-{
-    let mut all = Vec::new(alloc);
-    for d in decls {
-        let o = sketch_of_decl(alloc, d.decl, d.value)?;
-        all.push(o)?;
-    }
-    Ok(all)
-}
-
-/// What each function uses.
-fn function_sketches(alloc: Global, functions: &[&Function]) -> Result<Vec<Sketch>, Memory>
-    ensures { IfOk result (λ v. map sketch v.items ≡ map function_sketch (map lent_function functions.now)) }
-{
-    let mut all = Vec::new(alloc);
-    for f in functions {
-        let o = sketch_of_function(alloc, f)?;
-        all.push(o)?;
-    }
-    Ok(all)
-}
 
 /// Adds what a node of the graph of types is: the functions come first, then their names, and from `base` on the declarations.
 fn add_subject(

@@ -1,7 +1,12 @@
--- The elements of an array, by their bounds.
-use Rattle.std.specs.Prelude.{List, map}
-use Rattle.mz_value.specs.Contents.{content}
+-- The elements of an array, and those that indices reach.
+use Rattle.std.specs.Prelude.{List, map, Option}
+use Rattle.std.specs.Option.{option_and_then}
+use Rattle.mz_value.specs.Contents.{Content, array, content, contents}
+use Rattle.mz_value.specs.Ranges.{Range}
+use Rattle.mz_core.specs.Types.{PlainType}
 use Rattle.mz_operations.specs.Bounds.{Bound, bound_of}
+use Rattle.mz_meaning.specs.Arrays.{element_at, elements_reached, ends_in, hull_over, indices_in}
+use Rattle.mz_meaning.specs.Cells.{Cell, bounds_in, scalar_bound, value_of}
 use Rattle.mz_eval_cells.specs.Views.{known_bound}
 use Rattle.mz_eval_access.specs.declared.placing.Places.{Places}
 use Rattle.mz_eval_access.specs.declared.placing.Places.TheVariants as placing
@@ -9,3 +14,11 @@ use Rattle.mz_eval_access.specs.declared.placing.Places.TheVariants as placing
 abbrev pub places_of : Places → List Bound
 places_of (placing.Items xs) = map bound_of (map content xs.now)
 places_of (placing.Bounds bs) = map known_bound bs.now
+
+-- the element of an array of values at these indices, if they are known and lie in their ranges
+abbrev pub element_in : List Range → List Content → List Cell → Option Content
+element_in ix xs at = option_and_then (element_at (array ix (contents xs))) (indices_in (map value_of at))
+
+-- the bounds of all elements of an array that these indices reach
+abbrev pub reached_bound : PlainType → Cell → List Cell → Bound
+reached_bound t a at = hull_over t (elements_reached (bounds_in a) (map (λ c. ends_in (scalar_bound (bounds_in c))) at))

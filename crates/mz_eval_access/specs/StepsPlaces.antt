@@ -37,3 +37,7 @@ reach [] [] xs = take 1 xs
 reach [] (e ∷ es) xs = []
 reach (r ∷ rs) [] xs = []
 reach (r ∷ rs) (e ∷ es) xs = swept (reach rs es) e (count_of rs) (length_of r) r.0 xs
+
+-- the elements that indices of these bounds reach, of which the first has this range and these ends
+abbrev pub swept_over : {A : Type 0} → Range → Ends → List Range → List Ends → List A → List A
+swept_over r e rs es xs = swept (reach rs es) e (count_of rs) (length_of r) r.0 xs

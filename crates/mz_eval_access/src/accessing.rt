@@ -12,7 +12,7 @@ ghost use Rattle.mz_meaning.specs.Arrays as arrays;
 ghost use Rattle.mz_meaning.specs.Cells as cells;
 ghost use Rattle.mz_meaning.specs.Cells.{Bare, Par, Var, value_of};
 ghost use Rattle.mz_eval_cells.specs.Views.{cell_of, cells_of, item_content, known_bound};
-ghost use Rattle.mz_eval_access.specs.Places.{places_of};
+ghost use Rattle.mz_eval_access.specs.Places.{element_in, places_of, reached_bound};
 
 use crate::indexing::place_of;
 use crate::placing::{Places, with_reached};
@@ -55,7 +55,7 @@ fn element(
     items: &[Value],
     at: &[Known],
 ) -> Result<Known, AllocError>
-    ensures { IfOk result (λ k. cell_of k ≡ Par (option_and_then (arrays.element_at (values.array index.now (contents (map content items.now)))) (arrays.indices_in (map value_of (cells_of at.now))))) }
+    ensures { IfOk result (λ k. cell_of k ≡ Par (element_in index.now (map content items.now) (cells_of at.now))) }
 {
     let _count = items.len();
     let place = place_of(alloc, index, at)?;
@@ -242,7 +242,7 @@ fn hull_over(alloc: Global, t: &TypeInst, bs: &[Bound]) -> Result<Bound, AllocEr
 }
 
 fn open_access(alloc: Global, t: &TypeInst, a: &Known, at: &[Known]) -> Result<Known, AllocError>
-    ensures { IfOk result (λ k. cell_of k ≡ Var (bounds.one (arrays.hull_over (plain_type t.now) (arrays.elements_reached (cells.bounds_in (cell_of a.now)) (map (λ c. arrays.ends_in (cells.scalar_bound (cells.bounds_in c))) (cells_of at.now))))) None) }
+    ensures { IfOk result (λ k. cell_of k ≡ Var (bounds.one (reached_bound (plain_type t.now) (cell_of a.now) (cells_of at.now))) None) }
 {
     let ends = index_ends(alloc, at)?;
     let reached = elements_reached(alloc, a, &ends)?;

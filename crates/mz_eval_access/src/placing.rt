@@ -8,7 +8,7 @@ ghost use Rattle.mz_index.specs.Places.{most};
 ghost use Rattle.mz_operations.specs.Bounds as bounds;
 ghost use Rattle.mz_eval_cells.specs.Views.{known_bound};
 ghost use Rattle.mz_eval_access.specs.Places.{places_of};
-ghost use Rattle.mz_eval_access.specs.StepsPlaces.{reach, steps_between, swept};
+ghost use Rattle.mz_eval_access.specs.StepsPlaces.{reach, steps_between, swept, swept_over};
 
 use mz_eval_cells::{Bound, bound_of, share_bound};
 use mz_index::{capped, count_in, length_of};
@@ -158,7 +158,7 @@ fn with_swept(
     p: Places<'_>,
     out: Vec<Bound>,
 ) -> Result<Vec<Bound>, AllocError>
-    ensures { IfOk result (λ all. map known_bound all.items ≡ map known_bound out.items ++ swept (reach ranges.now ends.now) e (places.count_of ranges.now) (places.length_of r) r.0 (places_of p.entry)) }
+    ensures { IfOk result (λ all. map known_bound all.items ≡ map known_bound out.items ++ swept_over r e ranges.now ends.now (places_of p.entry)) }
 {
     let each = count_in(ranges);
     let reached = overlap(r, e);

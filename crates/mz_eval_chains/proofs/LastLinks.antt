@@ -1,5 +1,6 @@
 -- The base of an operator's right operand: that of its last coercion.
-use Rattle.std.proofs.Common.{◌≡◌, ◌∙◌, ℕ, zero, suc, ◌-◌, Bor, Option, Some, None, List, [], ◌∷◌, ◌++◌, length, slice_get, refl, sym, ap, arith}
+use Rattle.std.proofs.lemmas.List.{append-nil}
+use Rattle.std.proofs.Common.{◌≡◌, ◌∙◌, ℕ, zero, suc, ◌-◌, Bor, Option, Some, None, List, [], ◌∷◌, ◌++◌, length, slice_get, sym, ap, arith}
 use Rattle.std.specs.Option.{option_copied}
 use Rattle.mz_core.specs.declared.types.Coercion.{Coercion}
 use Rattle.mz_core.specs.declared.types.TypeInst.{TypeInst}
@@ -26,17 +27,13 @@ at_end : (xs : List (Coercion × TypeInst)) (x : Coercion × TypeInst) → slice
 at_end [] x e = absurd (cc)
 at_end (y ∷ xs) x e = omega arith
 
-nothing_after : (ls : List PathLink) → ls ++ [] ≡ ls
-nothing_after [] = refl
-nothing_after (l ∷ ls) = ap (λ ms. l ∷ ms) (nothing_after ls)
-
 is_there : (n : ℕ) (zs : List (Coercion × TypeInst)) → suc n ≡ length zs → slice_get zs n ≡ None → ⊥
 is_there n [] h e = absurd (omega arith)
 is_there zero (z ∷ zs) h e = absurd (cc)
 is_there (suc n) (z ∷ zs) h e = is_there n zs (omega arith) e
 
 type_after_none : (t : PlainType) (ls : List PathLink) (xs : List (Coercion × TypeInst)) → slice_get xs (length xs - 1) ≡ None → coerced_type t (ls ++ path_links xs) ≡ coerced_type t ls
-type_after_none t ls [] e = ap (coerced_type t) (nothing_after ls)
+type_after_none t ls [] e = ap (coerced_type t) (append-nil ls)
 type_after_none t ls (y ∷ xs) e = absurd (is_there (length (y ∷ xs) - 1) (y ∷ xs) (omega arith) e)
 
 pub base_at_end : (t : PlainType) (ls : List PathLink) (xs slice : List (Coercion × TypeInst)) (o : Option (Bor (Coercion × TypeInst))) (l : Bor (Coercion × TypeInst)) → slice ≡ xs → option_copied o ≡ slice_get slice (length slice - 1) → o ≡ Some l → l.now.1.base ≡ (coerced_type t (ls ++ path_links xs)).base

@@ -2,12 +2,14 @@
 use Rattle.std.specs.Prelude.{ℕ, List, [], ◌∷◌, ◌++◌, map, Option, Some, None, if◌then◌else◌}
 use Rattle.std.specs.Option.{option_map}
 use Rattle.mz_base.specs.declared.fault.Span.{Span}
+use Rattle.mz_core.specs.declared.tree.Core.{Core}
+use Rattle.mz_core.specs.declared.tree.CoreStep.{CoreStep}
 use Rattle.mz_core.specs.Types.{PlainType, plain_type}
 use Rattle.mz_core.specs.Coercions.{PathLink}
 use Rattle.mz_core.specs.Paths.{path_links}
-use Rattle.mz_core.specs.Tree.{Layer, chain_form, coerce_form, steps}
+use Rattle.mz_core.specs.Tree.{Layer, chain_form, coerce_form, root_coercions, steps}
 use Rattle.mz_core.specs.Tree as trees
-use Rattle.mz_core.specs.TreeViews.{tree}
+use Rattle.mz_core.specs.TreeViews.{step, tree}
 use Rattle.mz_meaning.specs.Chains as chains
 use Rattle.mz_meaning.specs.Chains.{with_right}
 use Rattle.mz_eval_chains.specs.Links.{links_round}
@@ -67,3 +69,7 @@ place_after at (s ∷ ss) = place_after (trees.place_of s.operand) ss
 abbrev pub last_with : Span → trees.Step → List PathLink → Option chains.Innermost → List chains.Operator
 last_with at s ls None = record { at = at; step = s } ∷ []
 last_with at s ls (Some f) = record { at = at; step = with_right ls f.first s } ∷ f.operators
+
+-- the operator of a step with this operand, which stands below the coercions of the step's
+abbrev pub operator_with : Span → CoreStep → Core → chains.Operator
+operator_with at s e = record { at = at; step = with_right (root_coercions (tree s.operand)) (tree e) (step s) }

@@ -7,7 +7,7 @@ ghost use Rattle.mz_core.specs.TreeViews.{tree, step};
 ghost use Rattle.mz_meaning.specs.Chains as chains;
 ghost use Rattle.mz_meaning.specs.Chains.{operators_at, with_left, with_right, with_innermost, backed, back_of, chained};
 ghost use Rattle.mz_eval_chains.specs.Links.{links_round};
-ghost use Rattle.mz_eval_chains.specs.Innermosts.{operator_of, innermost_of, part_innermost, left_of_step, with_links, appends_at, place_after, last_with};
+ghost use Rattle.mz_eval_chains.specs.Innermosts.{operator_of, innermost_of, part_innermost, left_of_step, operator_with, with_links, appends_at, place_after, last_with};
 
 use crate::levels::{chain_level, is_appended, same_level};
 use crate::nodes::place_of;
@@ -210,7 +210,7 @@ fn with_operand<'a>(
     place: Span,
     others: &'a [CoreStep],
 ) -> Result<Vec<Operator<'a>>, AllocError>
-    ensures { IfOk result (λ v. map operator_of v.items ≡ (map operator_of all.entry.items ++ (record { at = at; step = with_right (root_coercions (tree s.now.operand)) (tree operand.now) (step s.now) } ∷ [])) ++ appends_at place (map step others.now)) }
+    ensures { IfOk result (λ v. map operator_of v.items ≡ (map operator_of all.entry.items ++ (operator_with at s.now operand.now ∷ [])) ++ appends_at place (map step others.now)) }
 {
     let mut all = all;
     all.push(Operator {

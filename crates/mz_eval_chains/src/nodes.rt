@@ -12,7 +12,7 @@ ghost use Rattle.mz_meaning.specs.Evaluation.{is_name};
 ghost use Rattle.mz_eval_cells.specs.Views.{cell_of};
 ghost use Rattle.mz_eval_scopes.specs.Runs.{Meets, at_work};
 ghost use Rattle.mz_eval_scopes.specs.Views.{world_of};
-ghost use Rattle.mz_eval_chains.specs.Links.{links_round};
+ghost use Rattle.mz_eval_chains.specs.Links.{finished_by, links_round};
 
 use mz_base::{Span, Stop};
 use mz_core::{Coercion, Core, CoreForm, TypeInst};
@@ -174,7 +174,7 @@ pub fn finished(
     k: Known,
     work: &mut u64,
 ) -> Result<Known, Stop>
-    ensures { Meets cell_of result work.new (coerced_by (world_of world.now) b.now.span (root_coercions (tree e.now)) (typed Bare (is_name (form_layer (out-CoreForm b.now.form))) (plain_type b.now.ty) (cell_of k)) (at_work work.old)) }
+    ensures { Meets cell_of result work.new (finished_by (world_of world.now) e.now b.now (cell_of k) (at_work work.old)) }
 {
     if is_finished(e, b, &k) {
         return Ok(k);

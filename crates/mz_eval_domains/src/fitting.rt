@@ -14,6 +14,7 @@ ghost use Rattle.mz_meaning.specs.Runs.{give};
 ghost use Rattle.mz_eval_cells.specs.Views.{cell_of, known_bound};
 ghost use Rattle.mz_eval_cells.specs.Meets.{Tells};
 ghost use Rattle.mz_eval_domains.specs.Wants.{local_of, wanted, wants_of};
+ghost use Rattle.mz_eval_domains.specs.Steps.{fitted_whole};
 
 use crate::ranges::{declared_ranges, own_ranges, place_count};
 use crate::suiting::suits;
@@ -193,7 +194,7 @@ fn array_fitted(alloc: Global, at: Span, ws: &[Want], n: u64, k: &Known) -> Resu
 }
 
 fn fitted_to(alloc: Global, at: Span, ws: &[Want], k: Known) -> Result<Known, Stop>
-    ensures { Tells cell_of result (arrays.fitted_to at (wants_of ws.now) (arrays.own_ranges (cell_of k)) (cells.length_of (cell_of k)) (cell_of k)) }
+    ensures { Tells cell_of result (fitted_whole at (wants_of ws.now) (cell_of k)) }
 {
     match length_of(&k) {
         None => Ok(k),
@@ -202,7 +203,7 @@ fn fitted_to(alloc: Global, at: Span, ws: &[Want], k: Known) -> Result<Known, St
 }
 
 fn some_fitted(alloc: Global, at: Span, ws: &[Want], k: Known) -> Result<Known, Stop>
-    ensures { Tells cell_of result (if arrays.no_missing (wants_of ws.now) then arrays.fitted_to at (wants_of ws.now) (arrays.own_ranges (cell_of k)) (cells.length_of (cell_of k)) (cell_of k) else give (cell_of k)) }
+    ensures { Tells cell_of result (if arrays.no_missing (wants_of ws.now) then fitted_whole at (wants_of ws.now) (cell_of k) else give (cell_of k)) }
 {
     if no_missing(ws) {
         fitted_to(alloc, at, ws, k)

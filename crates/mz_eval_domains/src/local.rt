@@ -232,7 +232,7 @@ fn some_places(
     set: Option<RangeSet>,
 ) -> Result<(Known, Sure), AllocError>
     requires { 0 < operations.place_count ranges.items }
-    ensures { IfOk result (λ p. (s : State) → lets.choose_places Bare (plain_type t.now) ranges.items (operations.place_count ranges.items) (option_map (domain_over (plain_type t.now)) set) s ≡ Out (local_of p) s) }
+    ensures { IfOk result (λ p. (s : State) → steps.chosen_over (plain_type t.now) ranges.items set s ≡ Out (local_of p) s) }
 {
     match set {
         None => no_choices(alloc, t, ranges),
@@ -248,7 +248,7 @@ fn choose_places(
     ranges: Vec<(i64, i64)>,
     set: Option<RangeSet>,
 ) -> Result<(Known, Sure), AllocError>
-    ensures { IfOk result (λ p. (s : State) → lets.choose_places Bare (plain_type t.now) ranges.items (operations.place_count ranges.items) (option_map (domain_over (plain_type t.now)) set) s ≡ Out (local_of p) s) }
+    ensures { IfOk result (λ p. (s : State) → steps.chosen_over (plain_type t.now) ranges.items set s ≡ Out (local_of p) s) }
 {
     let count = place_count(ranges.as_slice());
     if count == 0 {

@@ -1,4 +1,5 @@
 -- Powers of ends: those of -1, 0 and 1 repeat, and those that have left the limit stay.
+use Rattle.std.proofs.lemmas.Bool.{and_parts}
 use Rattle.std.proofs.Common.{◌≡◌, ℕ, zero, suc, ◌+◌, ◌-◌, ◌*◌, ◌/◌, ◌%◌, ◌<◌, ◌≤◌, ℤ, pos, negsuc, true, false, refl, sym, ap, ◌∙◌, arith}
 use Rattle.std.specs.Prelude.{Bool, ◌&&◌, int_le, nat_lt, None}
 use Rattle.std.proofs.lemmas.Bool.Decides.{nat_tests}
@@ -19,16 +20,11 @@ raised_suc e n = refl
 
 -- ---- -1, 0 and 1
 
-both_true : (a b : Bool) → (a && b) ≡ true → (a ≡ true) × (b ≡ true)
-both_true true true h = (refl, refl)
-both_true true false h = absurd (cc)
-both_true false b h = absurd (cc)
-
 too_great : (n : ℕ) → is_unit (pos (suc (suc n))) ≡ true → ⊥
-too_great n e = let p = both_true (int_le (negsuc 0) (pos (suc (suc n)))) (int_le (pos (suc (suc n))) (pos 1)) e in omega (arith, ints)
+too_great n e = let p = and_parts (int_le (negsuc 0) (pos (suc (suc n)))) (int_le (pos (suc (suc n))) (pos 1)) e in omega (arith, ints)
 
 too_small : (n : ℕ) → is_unit (negsuc (suc n)) ≡ true → ⊥
-too_small n e = let p = both_true (int_le (negsuc 0) (negsuc (suc n))) (int_le (negsuc (suc n)) (pos 1)) e in omega (arith, ints)
+too_small n e = let p = and_parts (int_le (negsuc 0) (negsuc (suc n))) (int_le (negsuc (suc n)) (pos 1)) e in omega (arith, ints)
 
 third : (x y : ℤ) → is_unit x ≡ true → is_unit y ≡ true → raised_ends (x, y) 3 ≡ raised_ends (x, y) 1
 unfolding raised_ends fold_ends
@@ -77,7 +73,7 @@ reduced_power e t n false l =
 
 pub same_power : (e : Ends) (n m : ℕ) (r : Ends) → are_units e ≡ true → m ≡ reduced n → r ≡ raised_ends e m → r ≡ raised_ends e n
 same_power e n m r u s p =
-    let units = both_true (is_unit e.0) (is_unit e.1) u in
+    let units = and_parts (is_unit e.0) (is_unit e.1) u in
     p ∙ ap (raised_ends e) s ∙ sym (reduced_power e (third e.0 e.1 units.0 units.1) n (nat_lt n 3) refl)
 
 -- ---- what has left the limit

@@ -1,4 +1,5 @@
 -- What may be shown, and the rows of `show`.
+use Rattle.std.proofs.lemmas.Bool.{and_parts}
 use Rattle.std.proofs.Common.{◌≡◌, ℕ, List, [], ◌∷◌, length, map, refl, arith}
 use Rattle.std.proofs.lemmas.List.{length-map}
 use Rattle.std.proofs.lemmas.Int.{ints}
@@ -21,27 +22,22 @@ use Rattle.mz_meaning.specs.Coerced.{recast}
 use Rattle.mz_meaning.specs.Operations.{has_case, has_cases, is_showable, are_showable, par_row}
 use Rattle.mz_eval_rows.specs.Steps.{shown_of}
 
-both : (a b : Bool) → (a && b) ≡ true → (a ≡ true) × (b ≡ true)
-both true true h = (refl, refl)
-both true false h = absurd (cc)
-both false b h = absurd (cc)
-
 case_there : (labels : List (List ℕ)) (k : ℤ) → has_case labels k ≡ true → IsCase labels k
 case_there labels k h =
-    let p = both (int_le (pos 1) k) (int_le k (pos (length labels))) h in
+    let p = and_parts (int_le (pos 1) k) (int_le k (pos (length labels))) h in
     (omega (arith, ints), omega (arith, ints))
 
 cases_there : (labels : List (List ℕ)) (rs : List Range) → list_all (λ r. has_case labels r.0 && has_case labels r.1) rs ≡ true → AreCases labels rs
 cases_there labels [] h = tt
 cases_there labels (r ∷ rs) h =
-    let p = both (has_case labels r.0 && has_case labels r.1) (list_all (λ q. has_case labels q.0 && has_case labels q.1) rs) h in
-    let ends = both (has_case labels r.0) (has_case labels r.1) p.0 in
+    let p = and_parts (has_case labels r.0 && has_case labels r.1) (list_all (λ q. has_case labels q.0 && has_case labels q.1) rs) h in
+    let ends = and_parts (has_case labels r.0) (has_case labels r.1) p.0 in
     ((case_there labels r.0 ends.0, case_there labels r.1 ends.1), cases_there labels rs p.1)
 
 set_there : (names : Names) (of : Option ℕ) (rs : List Range) → has_cases names of rs ≡ true → IsShowableSet names of rs
 set_there names None rs h = tt
 set_there names (Some e) rs h =
-    let p = both (nat_lt e (length names)) (list_all (λ r. has_case (names_of names e) r.0 && has_case (names_of names e) r.1) rs) h in
+    let p = and_parts (nat_lt e (length names)) (list_all (λ r. has_case (names_of names e) r.0 && has_case (names_of names e) r.1) rs) h in
     (grind (arith, nat_tests), cases_there (names_of names e) rs p.1)
 
 mutual
@@ -49,7 +45,7 @@ mutual
 
   pub may_show : (names : Names) (x : Content) → is_showable names x ≡ true → IsShowable names x
   may_show names (case e k) h =
-      let p = both (nat_lt e (length names)) (has_case (names_of names e) k) h in
+      let p = and_parts (nat_lt e (length names)) (has_case (names_of names e) k) h in
       (grind (arith, nat_tests), case_there (names_of names e) k p.1)
   may_show names (set of rs) h = set_there names of rs h
   may_show names (array ix xs) h = all_showable names xs h
@@ -61,7 +57,7 @@ mutual
   all_showable : (names : Names) (xs : Contents) → are_showable names xs ≡ true → AreShowable names xs
   all_showable names none h = tt
   all_showable names (more x xs) h =
-      let p = both (is_showable names x) (are_showable names xs) h in
+      let p = and_parts (is_showable names x) (are_showable names xs) h in
       (may_show names x p.0, all_showable names xs p.1)
 
 -- ---- the rows

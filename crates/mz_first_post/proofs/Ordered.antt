@@ -1,6 +1,6 @@
 -- The declarations in the order of evaluation, by their places.
-use Rattle.std.proofs.Common.{◌≡◌, ◌∙◌, ℕ, zero, suc, ◌+◌, ◌≤◌, ◌<◌, List, [], ◌∷◌, ◌++◌, length, map, drop, get_or, slice_get, Option, Some, None, refl, sym, ap, subst, arith, append_assoc, length-append, length-drop}
-use Rattle.std.proofs.lemmas.List.{append-nil, at_drop_more, nil_from_length}
+use Rattle.std.proofs.Common.{◌≡◌, ◌∙◌, ℕ, zero, suc, ◌+◌, ◌≤◌, ◌<◌, List, [], ◌∷◌, ◌++◌, length, map, drop, get_or, slice_get, Option, Some, None, refl, sym, ap, subst, arith, append_assoc, length-append}
+use Rattle.std.proofs.lemmas.List.{append-nil, at_drop_more, drop_all}
 use Rattle.mz_core.specs.Tree.{Decl}
 use Rattle.mz_core.specs.declared.tree.CoreDecl.{CoreDecl}
 use Rattle.mz_core.specs.TreeViews.{decl}
@@ -98,16 +98,13 @@ so_far_more t ds all names next i k d before work after l e h step keys r w =
       within = w;
     }
 
-nothing_left : (i : ℕ) (all : List ℕ) → length all ≤ i → drop i all ≡ []
-nothing_left i all h = nil_from_length (drop i all) (omega (arith, length-drop i all, h))
-
 pub answer_at_end : (t : Task) (ds : List Decl) (all : List ℕ) (names : Declarations) (i before work : ℕ) → length all ≤ i → IsSoFar t ds all names (drop i all) before work → loop (declare Untested (limits_of t) Bare no_values (program_of t)) [] (ordered ds all) (at_work before) ≡ Out (names_in names.list.items) (at_work work)
 answer_at_end t ds all names i before work l h =
-    by_places t ds all [] (at_work before) ∙ h.answer ∙ ap (λ ys. loop (declare_at t ds) (names_in names.list.items) ys (at_work work)) (nothing_left i all l)
+    by_places t ds all [] (at_work before) ∙ h.answer ∙ ap (λ ys. loop (declare_at t ds) (names_in names.list.items) ys (at_work work)) (drop_all i all l)
 
 pub keys_at_end : (t : Task) (ds : List Decl) (all : List ℕ) (names : Declarations) (i before work : ℕ) → length all ≤ i → IsSoFar t ds all names (drop i all) before work → map key names.list.items ≡ map (key_of t.texts.now) (ordered ds all)
 keys_at_end t ds all names i before work l h =
-    sym (h.keys ∙ ap (λ ys. map key names.list.items ++ map (key_of t.texts.now) (ordered ds ys)) (nothing_left i all l) ∙ append-nil (map key names.list.items))
+    sym (h.keys ∙ ap (λ ys. map key names.list.items ++ map (key_of t.texts.now) (ordered ds ys)) (drop_all i all l) ∙ append-nil (map key names.list.items))
 
 -- the whole goes on with the next declaration
 pub answer_next : (t : Task) (ds : List Decl) (all : List ℕ) (names : Declarations) (i k d before work : ℕ) → i < length all → k ≡ get_or all i d → IsSoFar t ds all names (drop i all) before work → loop (declare Untested (limits_of t) Bare no_values (program_of t)) [] (ordered ds all) (at_work before) ≡ then_do (declare_at t ds (names_in names.list.items) k (at_work work)) (λ n. loop (declare_at t ds) n (drop (i + 1) all))

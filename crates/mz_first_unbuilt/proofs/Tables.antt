@@ -2,7 +2,7 @@
 use Rattle.std.proofs.Common.{◌≡◌, ◌∙◌, ◌<◌, ◌≤◌, ℕ, zero, suc, Bool, true, false, List, [], ◌∷◌, ◌++◌, Option, Some, None, All, length, map, drop, get_or, set, slice_get, nat_eq, refl, sym, ap, subst, arith, if◌then◌else◌}
 use Rattle.std.proofs.lemmas.Bool.{eqb-true}
 use Rattle.std.proofs.Math.ListN.{get_or-map}
-use Rattle.std.proofs.lemmas.List.{length-map}
+use Rattle.std.proofs.lemmas.List.{length-map, drop_all}
 use Rattle.std.proofs.lemmas.List.Elements.{All-get_or}
 use Rattle.std.proofs.lemmas.Option.{slice_get_read, slice_get-map, slice_get_within, get_or_from_slice_get}
 use Rattle.std.specs.Option.{option_map}
@@ -16,7 +16,6 @@ use Rattle.mz_meaning.specs.Walk.{ordered, with_decl}
 use Rattle.mz_first_unbuilt.specs.declared.variables.Naming.{Naming}
 use Rattle.mz_first_unbuilt.specs.Variables.{Named, Par, named_in}
 use Rattle.mz_first_unbuilt.specs.StepsSlots.{named, named_else, slot_names, at_slot}
-use Rattle.mz_first_unbuilt.proofs.Walking.{drop_all}
 
 pub else_pushed : (xs : List (Option Naming)) (s : ℕ) (n : Named) → named_else n (slice_get (xs ++ None ∷ []) s) ≡ named_else n (slice_get xs s)
 else_pushed [] zero n = refl
@@ -94,7 +93,7 @@ table_whole table ds order i xs h inv = names_equal (slot_names xs) (named_in ta
     same : (s : ℕ) → slot_names xs s ≡ named_in table (ordered ds order) s
     same s =
         slot_names_is xs s
-        ∙ sym (inv s ∙ ap (λ ks. named_else (named_in table (ordered ds ks) s) (slice_get xs s)) (drop_all order i h)
+        ∙ sym (inv s ∙ ap (λ ks. named_else (named_in table (ordered ds ks) s) (slice_get xs s)) (drop_all i order h)
         ∙ ap (λ n. named_else n (slice_get xs s)) (named_none table s))
 
 pub name_of_item : (n : ℕ) (ds : List CoreDecl) (i : ℕ) (d : CoreDecl) → All (λ m. m < n) (map (λ (e : Decl). e.name) (map decl ds)) → i < length ds → d ≡ get_or ds i d → (decl d).name < n

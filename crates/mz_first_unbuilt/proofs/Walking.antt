@@ -1,5 +1,6 @@
 -- The first place in the parts of a form, one after the other.
-use Rattle.std.proofs.Common.{◌≡◌, ◌∙◌, ◌<◌, ◌≤◌, ◌+◌, ℕ, zero, suc, Bool, List, [], ◌∷◌, ◌++◌, Option, Some, None, Vec, Box, map, length, drop, get_or, refl, sym, ap, arith}
+use Rattle.std.proofs.lemmas.List.{drop_all}
+use Rattle.std.proofs.Common.{◌≡◌, ◌∙◌, ◌<◌, ◌≤◌, ◌+◌, ℕ, zero, suc, Bool, List, [], ◌∷◌, ◌++◌, Option, Some, None, Vec, Box, map, length, drop, get_or, sym, ap, arith}
 use Rattle.std.specs.Global.{Global}
 use Rattle.std.specs.List.{flat_map}
 use Rattle.std.specs.Option.{option_map}
@@ -28,12 +29,6 @@ drop_here [] i x h e = absurd (omega arith)
 drop_here (y ∷ xs) zero x h e = ap (λ z. z ∷ xs) (sym e)
 drop_here (y ∷ xs) (suc i) x h e = drop_here xs i x (omega arith) e
 
-pub drop_all : {A : Type 0} (xs : List A) (i : ℕ) → length xs ≤ i → drop i xs ≡ []
-drop_all [] zero h = refl
-drop_all [] (suc i) h = refl
-drop_all (x ∷ xs) zero h = absurd (omega arith)
-drop_all (x ∷ xs) (suc i) h = drop_all xs i (omega arith)
-
 -- one part more
 pub loop_more : {A B : Type 0} (g : A → B) (f : B → List Span) (xs : List A) (i : ℕ) (x : A) (start now next : Option Span) → i < length xs → x ≡ get_or xs i x → next ≡ first_place now (f (g x)) → first_place start (flat_map f (map g xs)) ≡ first_place now (flat_map f (map g (drop i xs))) → first_place start (flat_map f (map g xs)) ≡ first_place next (flat_map f (map g (drop (i + 1) xs)))
 loop_more g f xs i x start now next h e n inv =
@@ -46,7 +41,7 @@ loop_more g f xs i x start now next h e n inv =
 
 pub loop_done : {A B : Type 0} (g : A → B) (f : B → List Span) (xs : List A) (i : ℕ) (start now : Option Span) → length xs ≤ i → first_place start (flat_map f (map g xs)) ≡ first_place now (flat_map f (map g (drop i xs))) → now ≡ first_place start (flat_map f (map g xs))
 loop_done g f xs i start now h inv =
-    sym (inv ∙ ap (λ ys. first_place now (flat_map f (map g ys))) (drop_all xs i h) ∙ first_of_none now)
+    sym (inv ∙ ap (λ ys. first_place now (flat_map f (map g ys))) (drop_all i xs h) ∙ first_of_none now)
 
 -- ---- parts of a form
 

@@ -238,13 +238,10 @@ after_turn g l x rest rows s e above =
 
 pub no_more_turns : (g : Graph) (l : Line) → Stands g [] l → l.ready ≡ [] → Continues (Edge g) (length g) [] l.order
 no_more_turns g l s e =
-    subst (λ z. Continues (Edge g) (length g) [] z) (and_nothing l.order) (s.begins [] (over (λ x is. elim (s.placed x is.counted) [
+    subst (λ z. Continues (Edge g) (length g) [] z) (append-nil l.order) (s.begins [] (over (λ x is. elim (s.placed x is.counted) [
       | inl p ↦ elim p [ inl o ↦ is.remains o | inr r ↦ absurd (subst (λ z. IsIn x z) e r) ]
       | inr p ↦ elim p [ inl n ↦ n | inr u ↦ let w = s.waits u.for x u.listed in w.still (is.served u.for w.edge) ]
     ])))
-  where
-    and_nothing : (xs : List ℕ) → xs ++ [] ≡ xs
-    and_nothing xs = simp append-nil
 
 -- before the first turn
 

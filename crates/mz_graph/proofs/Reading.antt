@@ -1,8 +1,8 @@
 -- What is known where a loop has read a part of a list of functions or of an order, and what the order of all layers then is.
-use Rattle.std.proofs.Common.{◌≡◌, ℕ, zero, suc, ◌+◌, ◌-◌, ◌<◌, ◌≤◌, inl, inr, List, [], ◌∷◌, ◌++◌, Bool, true, false, Option, Some, None, refl, ap, sym, ◌∙◌, subst, arith, length, get_or, set, drop, append_assoc}
+use Rattle.std.proofs.Common.{◌≡◌, ℕ, ◌+◌, ◌-◌, ◌<◌, ◌≤◌, inl, inr, List, [], ◌∷◌, ◌++◌, Bool, true, false, Option, Some, None, ap, sym, ◌∙◌, subst, arith, length, get_or, set, drop, append_assoc}
 use Rattle.std.specs.Prelude.{if◌then◌else◌, nat_eq, MatchOption}
 use Rattle.std.specs.List.{flat_map}
-use Rattle.std.proofs.lemmas.List.{append-nil, drop_more, length-set, get_or-set_same, get_or-set_other}
+use Rattle.std.proofs.lemmas.List.{append-nil, drop_more, length-set, get_or-set_same, get_or-set_other, drop_all}
 use Rattle.std.proofs.lemmas.Bool.{eq-eqb, ne_eqb}
 use Rattle.mz_graph.specs.Graph.{Graph, IsIn, Edge, AreComponents, number_of}
 use Rattle.mz_graph.specs.Order.{Continues, turn, IsOrder, IsComplete, IsFirstLeft}
@@ -10,12 +10,6 @@ use Rattle.mz_graph.proofs.Membership.{same_or_not, in_front, in_back, old_or_la
 use Rattle.mz_graph.specs.Depends.{DependsOn, AreUses}
 use Rattle.mz_graph.specs.StepsLayers.{AreLayers, decls_in, other, AreMarks}
 use Rattle.mz_graph.proofs.Layered.{skips, takes, decl_order}
-
-dropped : (xs : List ℕ) (i : ℕ) → length xs ≤ i → drop i xs ≡ []
-dropped [] zero h = refl
-dropped [] (suc i) h = refl
-dropped (x ∷ xs) zero h = absurd (omega (arith, h))
-dropped (x ∷ xs) (suc i) h = dropped xs i (omega (arith, h))
 
 -- functions
 
@@ -51,7 +45,7 @@ decl_skipped base i xs so now all k h l g =
     k ∙ ap (λ z. so ++ z) (ap (λ z. decls_in base z) (drop_more xs i 0 h) ∙ skips base (get_or xs i 0) (drop (i + 1) xs) l) ∙ ap (λ z. z ++ rest) (sym g)
 
 pub decls_read : (base i : ℕ) (xs so all : List ℕ) → all ≡ so ++ decls_in base (drop i xs) → length xs ≤ i → so ≡ all
-decls_read base i xs so all k h = sym (k ∙ ap (λ z. so ++ decls_in base z) (dropped xs i h) ∙ append-nil so)
+decls_read base i xs so all k h = sym (k ∙ ap (λ z. so ++ decls_in base z) (drop_all i xs h) ∙ append-nil so)
 
 pub counted_in : {Needs : ℕ → ℕ → Type 0} {n : ℕ} {done : List ℕ} (x : ℕ) (rest : List ℕ) → Continues Needs n done rest → IsIn x rest → x < n
 counted_in x [] o a = absurd a

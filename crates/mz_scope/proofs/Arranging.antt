@@ -1,7 +1,7 @@
 -- Parts with their declarations in order of evaluation are a scoped model.
-use Rattle.std.proofs.Common.{◌≡◌, ℕ, zero, suc, ◌+◌, ◌<◌, ◌≤◌, Bool, true, List, [], ◌∷◌, ◌++◌, Vec, refl, ap, sym, ◌∙◌, subst, map, length, get_or, drop, append_assoc, append-nil, arith}
+use Rattle.std.proofs.Common.{◌≡◌, ℕ, zero, suc, ◌+◌, ◌<◌, ◌≤◌, Bool, true, List, [], ◌∷◌, ◌++◌, Vec, refl, ap, sym, ◌∙◌, subst, map, length, get_or, arith}
 use Rattle.std.specs.Prelude.{All, Result, Ok, Err, IfOk, IfErr}
-use Rattle.std.proofs.lemmas.List.{drop_more, length-map, get_or-map, map-append}
+use Rattle.std.proofs.lemmas.List.{length-map, get_or-map}
 use Rattle.mz_base.specs.declared.fault.Span.{Span}
 use Rattle.mz_base.specs.declared.fault.Fault.{Fault}
 use Rattle.std.specs.Borrow.{Bor}
@@ -145,28 +145,6 @@ cyclic_function p s f x stop k e i r =
     let q : IsBackAt (map decl_sketch (parts_tree p).decls) (map function_sketch (parts_tree p).functions) f = subst (λ z. IsAnswer (map decl_sketch (parts_tree p).decls) (map function_sketch (parts_tree p).functions) z) e k in
     let l = function_counted p.functions.items f q.counted in
     subst (λ z. IfRefused z (HasCycle (parts_tree p))) (sym (r ∙ ap (λ z. Refused (fault_at Cyclic z)) (function_place p.functions.items f x l i))) (of_function f q)
-
--- a loop that makes the sketch of each
-
-pub one_sketched : {X Y R : Type 0} (g : Y → R) (f : X → R) (all : List R) (so_far now : List Y) (y : Y) (xs : List X) (i : ℕ) (x : X) → all ≡ map g so_far ++ map f (drop i xs) → i < length xs → x ≡ get_or xs i x → g y ≡ f x → now ≡ so_far ++ y ∷ [] → all ≡ map g now ++ map f (drop (i + 1) xs)
-one_sketched g f all so_far now y xs i x k l e is n =
-    k ∙ ap (λ z. map g so_far ++ map f z) (drop_more xs i x l ∙ ap (λ z. z ∷ drop (i + 1) xs) (sym e))
-    ∙ ap (λ z. map g so_far ++ z ∷ map f (drop (i + 1) xs)) (sym is)
-    ∙ sym (append_assoc (map g so_far) (g y ∷ []) (map f (drop (i + 1) xs)))
-    ∙ ap (λ z. z ++ map f (drop (i + 1) xs)) (sym (map-append g so_far (y ∷ [])) ∙ ap (λ z. map g z) (sym n))
-
-dropped : {X : Type 0} (xs : List X) (i : ℕ) → length xs ≤ i → drop i xs ≡ []
-dropped [] zero h = refl
-dropped [] (suc i) h = refl
-dropped (x ∷ xs) zero h = absurd (omega (arith, h))
-dropped (x ∷ xs) (suc i) h = dropped xs i (omega (arith, h))
-
-pub all_sketched : {X Y R : Type 0} (g : Y → R) (f : X → R) (all : List R) (so_far : List Y) (xs : List X) (i : ℕ) → all ≡ map g so_far ++ map f (drop i xs) → length xs ≤ i → map g so_far ≡ all
-all_sketched g f all so_far xs i k l = sym (k ∙ ap (λ z. map g so_far ++ map f z) (dropped xs i l) ∙ append-nil (map g so_far))
-
-pub mapped_twice : {X Y R : Type 0} (g : Y → R) (f : X → Y) (xs : List X) → map g (map f xs) ≡ map (λ x. g (f x)) xs
-mapped_twice g f [] = refl
-mapped_twice g f (x ∷ xs) = ap (λ z. g (f x) ∷ z) (mapped_twice g f xs)
 
 -- what is said of an answer
 

@@ -7,10 +7,10 @@ ghost use Rattle.mz_base.specs.declared.stop.Stop.TheVariants.{Refused};
 ghost use Rattle.mz_tree.specs.Data.{given};
 ghost use Rattle.mz_scope_names.specs.Given.{occurrences};
 ghost use Rattle.mz_scope_names.specs.StepsWalk.{items_of};
-ghost use Rattle.mz_scope_uses.specs.Sketches.{sketch, decl_sketch, function_sketch};
+ghost use Rattle.mz_scope_uses.specs.Sketches.{decl_sketch, function_sketch};
 ghost use Rattle.mz_scope_order.specs.Answer.{IsAnswer};
 ghost use Rattle.mz_scope_order.specs.Dependencies.{AreDeclarations};
-ghost use Rattle.mz_scope_order.specs.Scoped.{scoped_decl, lent_function, scoped_tree, parts_tree, IsScoped, AreRanked};
+ghost use Rattle.mz_scope_order.specs.Scoped.{scoped_tree, parts_tree, IsScoped, AreRanked};
 ghost use Rattle.mz_scope.specs.Scope.{IsRefused};
 ghost use Rattle.mz_scope.specs.StepsScope.{IsArranged, HasCycle};
 ghost use Rattle.mz_scope_faults.specs.Tests.{AreNamed, refusal_of};
@@ -18,35 +18,11 @@ ghost use Rattle.mz_scope_faults.specs.Tests.{AreNamed, refusal_of};
 use crate::testing::test_names;
 use mz_base::{Fault, Kind, Memory, Names, Span, Stop};
 use mz_scope_order::{
-    ModelParts, Scoped, ScopedDecl, Sequence, arranged, model_parts, sequence_of,
+    ModelParts, Scoped, Sequence, arranged, decl_sketches, function_sketches, model_parts,
+    sequence_of,
 };
-use mz_scope_uses::{Sketch, sketch_of_decl, sketch_of_function};
-use mz_tree::{Data, Function, Sources};
+use mz_tree::{Data, Sources};
 use std::alloc::Global;
-
-/// What each declaration uses.
-fn decl_sketches(alloc: Global, decls: &[ScopedDecl<'_>]) -> Result<Vec<Sketch>, Memory>
-    ensures { IfOk result (λ v. map sketch v.items ≡ map decl_sketch (map scoped_decl decls.now)) }
-{
-    let mut all = Vec::new(alloc);
-    for d in decls {
-        let o = sketch_of_decl(alloc, d.decl, d.value)?;
-        all.push(o)?;
-    }
-    Ok(all)
-}
-
-/// What each function uses.
-fn function_sketches(alloc: Global, functions: &[&Function]) -> Result<Vec<Sketch>, Memory>
-    ensures { IfOk result (λ v. map sketch v.items ≡ map function_sketch (map lent_function functions.now)) }
-{
-    let mut all = Vec::new(alloc);
-    for f in functions {
-        let o = sketch_of_function(alloc, f)?;
-        all.push(o)?;
-    }
-    Ok(all)
-}
 
 /// The refusal of what is cyclic.
 fn cyclic(at: Span) -> Stop

@@ -12,7 +12,4 @@ no_solve (items.Solve s g) n = absurd (n s g refl)
 no_solve i n = refl
 
 pub passed : (done now more : List Span) → now ≡ done → more ≡ [] → now ≡ done ++ more
-passed done now more p q = p ∙ sym (nothing_more done) ∙ ap (λ z. done ++ z) (sym q)
-  where
-    nothing_more : (zs : List Span) → zs ++ [] ≡ zs
-    nothing_more zs = simp append-nil
+passed done now more p q = p ∙ sym (append-nil done) ∙ ap (λ z. done ++ z) (sym q)

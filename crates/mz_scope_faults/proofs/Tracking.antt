@@ -1,7 +1,7 @@
 -- What was declared and given a value before each occurrence.
 use Rattle.std.proofs.Common.{◌≡◌, ℕ, zero, suc, ◌+◌, ◌<◌, ◌≤◌, Bool, true, false, List, [], ◌∷◌, ◌++◌, refl, ap, sym, ◌∙◌, subst, Option, Some, None, length, get_or, take, drop, append-nil, arith}
 use Rattle.std.specs.Prelude.{◌&&◌, ◌||◌, nat_eq, if◌then◌else◌}
-use Rattle.std.proofs.lemmas.List.{take_more}
+use Rattle.std.proofs.lemmas.List.{take_more, drop_all}
 use Rattle.mz_base.specs.declared.fault.Span.{Span}
 use Rattle.mz_scope_names.specs.declared.occurrence.Occurrence.{Occurrence}
 use Rattle.mz_scope_names.specs.declared.occurrence.Role.{Role}
@@ -80,12 +80,6 @@ drop_next [] i x d h e = absurd (omega (arith, h))
 drop_next (y ∷ xs) zero x d h e = ap (λ z. z ∷ xs) (sym e)
 drop_next (y ∷ xs) (suc i) x d h e = drop_next xs i x d (omega (arith, h)) e
 
-drop_all : {X : Type 0} (xs : List X) (i : ℕ) → length xs ≤ i → drop i xs ≡ []
-drop_all [] zero h = refl
-drop_all [] (suc i) h = refl
-drop_all (x ∷ xs) zero h = absurd (omega (arith, h))
-drop_all (x ∷ xs) (suc i) h = drop_all xs i (omega (arith, h))
-
 taken : (os : List Occurrence) (i : ℕ) (o : Occurrence) → i < length os → o ≡ get_or os i o → take (i + 1) os ≡ take i os ++ o ∷ []
 taken os i o h e = take_more os i o h ∙ ap (λ z. take i os ++ z ∷ []) (sym e)
 
@@ -108,4 +102,4 @@ repeated_here os i o ds vs all h e t r f =
 
 pub none_repeated : (os : List Occurrence) (i : ℕ) (all : Option Span) → length os ≤ i → all ≡ first_after is_repeated (take i os) (drop i os) → None ≡ all
 unfolding first_after
-none_repeated os i all h f = sym (f ∙ ap (λ z. first_after is_repeated (take i os) z) (drop_all os i h))
+none_repeated os i all h f = sym (f ∙ ap (λ z. first_after is_repeated (take i os) z) (drop_all i os h))

@@ -1,4 +1,5 @@
 -- A list of identifiers, read one by one.
+use Rattle.std.proofs.lemmas.List.{drop_all}
 use Rattle.std.proofs.Common.{◌≡◌, ℕ, zero, suc, ◌+◌, ◌<◌, ◌≤◌, List, [], ◌∷◌, ◌++◌, refl, ap, sym, ◌∙◌, map, length, drop, get_or, Option, Some, None, append_assoc, append-nil, arith}
 use Rattle.std.specs.Option.{option_map}
 use Rattle.mz_tree.specs.Tree.{Name}
@@ -10,12 +11,6 @@ drop_next : {X : Type 0} (xs : List X) (i : ℕ) (x d : X) → i < length xs →
 drop_next [] i x d h e = absurd (omega (arith, h))
 drop_next (y ∷ xs) zero x d h e = ap (λ z. z ∷ xs) (sym e)
 drop_next (y ∷ xs) (suc i) x d h e = drop_next xs i x d (omega (arith, h)) e
-
-drop_all : {X : Type 0} (xs : List X) (i : ℕ) → length xs ≤ i → drop i xs ≡ []
-drop_all [] zero h = refl
-drop_all [] (suc i) h = refl
-drop_all (x ∷ xs) zero h = absurd (omega (arith, h))
-drop_all (x ∷ xs) (suc i) h = drop_all xs i (omega (arith, h))
 
 more : (so : List Name) (n : Name) (rest : Option (List Name)) → option_map (λ ns. so ++ ns) (with_identifier (Some n) rest) ≡ option_map (λ ns. (so ++ n ∷ []) ++ ns) rest
 more so n None = refl
@@ -40,7 +35,4 @@ another list i d so all h e is so_far =
 pub all_of_them : (list : List Datum) (i : ℕ) (so : List Name) (all : Option (List Name)) → length list ≤ i → all ≡ option_map (λ ns. so ++ ns) (identifiers (values (map value (drop i list)))) → Some so ≡ all
 unfolding identifiers
 all_of_them list i so all h so_far =
-    sym (so_far ∙ ap (λ z. option_map (λ ns. so ++ ns) (identifiers (values (map value z)))) (drop_all list i h) ∙ ap (λ z. Some z) (nothing_more so))
-  where
-    nothing_more : (ys : List Name) → ys ++ [] ≡ ys
-    nothing_more ys = simp append-nil
+    sym (so_far ∙ ap (λ z. option_map (λ ns. so ++ ns) (identifiers (values (map value z)))) (drop_all i list h) ∙ ap (λ z. Some z) (append-nil so))

@@ -1,8 +1,8 @@
 -- Lists of parts, read one by one.
-use Rattle.std.proofs.Common.{◌≡◌, ℕ, zero, suc, ◌+◌, ◌<◌, ◌≤◌, List, [], ◌∷◌, ◌++◌, refl, ap, sym, ◌∙◌, map, length, drop, get_or, append_assoc, append-nil, arith, Result, OnOk}
+use Rattle.std.proofs.Common.{◌≡◌, ℕ, ◌+◌, ◌<◌, ◌≤◌, List, [], ◌∷◌, ◌++◌, refl, ap, sym, ◌∙◌, map, length, drop, get_or, append_assoc, append-nil, Result, OnOk}
 use Rattle.std.proofs.lemmas.Result.{on_ok_weaker}
 use Rattle.std.specs.List.{flat_map}
-use Rattle.std.proofs.lemmas.List.{drop_more}
+use Rattle.std.proofs.lemmas.List.{drop_more, drop_all}
 use Rattle.mz_tree.specs.Tree as pure
 use Rattle.mz_tree.specs.Tree.{Tree, Part, Generator, Let, Based}
 use Rattle.mz_tree.specs.declared.expr.BinOp.{BinOp}
@@ -63,16 +63,7 @@ one_read {Y = Y} f xs i x old out now k h e g =
 
 pub all_read : {X Y : Type 0} (f : X → List Y) (xs : List X) (i : ℕ) (old out all : List Y) → old ++ flat_map f xs ≡ out ++ flat_map f (drop i xs) → length xs ≤ i → all ≡ flat_map f xs → out ≡ old ++ all
 all_read f xs i old out all e h is =
-    sym (nothing_more out) ∙ sym (e ∙ ap (λ z. out ++ flat_map f z) (dropped xs i h)) ∙ ap (λ z. old ++ z) (sym is)
-  where
-    nothing_more : {Y : Type 0} (ys : List Y) → ys ++ [] ≡ ys
-    nothing_more ys = simp append-nil
-
-    dropped : {X : Type 0} (xs : List X) (i : ℕ) → length xs ≤ i → drop i xs ≡ []
-    dropped [] zero h = refl
-    dropped [] (suc i) h = refl
-    dropped (x ∷ xs) zero h = absurd (omega (arith, h))
-    dropped (x ∷ xs) (suc i) h = dropped xs i (omega (arith, h))
+    sym (append-nil out) ∙ sym (e ∙ ap (λ z. out ++ flat_map f z) (drop_all i xs h)) ∙ ap (λ z. old ++ z) (sym is)
 
 pub flat_mapped : {X Y Z : Type 0} (f : Y → List Z) (g : X → Y) (xs : List X) → flat_map f (map g xs) ≡ flat_map (λ x. f (g x)) xs
 flat_mapped f g [] = refl

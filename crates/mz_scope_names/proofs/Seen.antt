@@ -37,10 +37,7 @@ form_is e f s h is = ap in_tree (tree_is e) ∙ ap (λ z. in_shape e.span (shape
 -- What was read, where nothing is read, or one part, or one after the other
 
 pub after_none : (old whole : List Occurrence) → whole ≡ [] → old ≡ old ++ whole
-after_none old whole r = sym (ap (λ z. old ++ z) r ∙ nothing_more old)
-  where
-    nothing_more : (ys : List Occurrence) → ys ++ [] ≡ ys
-    nothing_more ys = simp append-nil
+after_none old whole r = sym (ap (λ z. old ++ z) r ∙ append-nil old)
 
 pub after_one : (old all a whole : List Occurrence) → all ≡ old ++ a → whole ≡ a → all ≡ old ++ whole
 after_one old all a whole p r = p ∙ ap (λ z. old ++ z) (sym r)

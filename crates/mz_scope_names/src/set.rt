@@ -1,14 +1,14 @@
 // Sets of names.
 
-ghost use Rattle.std.specs.Prelude.{◌≡◌, ℕ, [], IfOk, OnOk};
-ghost use Rattle.mz_scope_names.specs.Sets.{holds, with_name};
+ghost use Rattle.std.specs.Prelude.{◌≡◌, ℕ, ◌<◌, ◌^◌, [], length, take, IfOk, OnOk, IfSome};
+ghost use Rattle.mz_scope_names.specs.Sets.{holds, with_name, place_of};
 
 use indexmap::IndexSet;
 use mz_base::{Memory, Name};
 use std::alloc::Global;
 use std::marker::Model;
 
-/// A set of names.
+/// Names, each once, in the order in which they were added.
 pub struct NameSet {
     names: IndexSet<Name>,
 }
@@ -55,11 +55,35 @@ impl NameSet {
         self.names.contains(&name)
     }
 
-    /// Adds a name.
+    /// Adds a name at the end, where it isn't there yet.
     pub fn add(&mut self, name: Name) -> Result<(), Memory>
         ensures { OnOk result (self.new ≡ with_name self.old name) }
     {
         self.names.insert_full(name)?;
         Ok(())
+    }
+    /// How many names there are.
+    pub fn len(&self) -> usize
+        ensures is { result ≡ length self.now }
+        ensures small { result < 2 ^ 63 }
+    {
+        self.names.len()
+    }
+
+    /// The place of a name, from 0.
+    pub fn place(&self, name: Name) -> Option<usize>
+        ensures is { result ≡ place_of name self.now }
+        ensures within { IfSome result (λ k. k < length self.now) }
+        ensures small { IfSome result (λ k. k < 2 ^ 63) }
+    {
+        let _count = self.names.len();
+        self.names.get_index_of(&name)
+    }
+
+    /// Keeps only the first `count` names.
+    pub fn truncate(&mut self, count: usize)
+        ensures { self.new ≡ take count self.old }
+    {
+        self.names.truncate(count);
     }
 }

@@ -1,15 +1,9 @@
 -- A loop that gathers names.
-use Rattle.std.proofs.Common.{◌≡◌, ℕ, zero, suc, ◌+◌, ◌<◌, ◌≤◌, Bool, List, [], ◌∷◌, refl, ap, sym, ◌∙◌, map, length, drop, get_or, arith}
-use Rattle.std.proofs.lemmas.List.{drop_more}
+use Rattle.std.proofs.Common.{◌≡◌, ℕ, ◌+◌, ◌<◌, ◌≤◌, Bool, List, [], ◌∷◌, ap, sym, ◌∙◌, map, length, drop, get_or}
+use Rattle.std.proofs.lemmas.List.{drop_more, drop_all}
 use Rattle.mz_scope_uses.specs.declared.sketch.Sketch.{Sketch as CodeSketch}
 use Rattle.mz_scope_uses.specs.Sketches.{sketch}
 use Rattle.mz_scope_order.specs.StepsPlaces.{if_in, names_in}
-
-pub dropped : (xs : List CodeSketch) (i : ℕ) → length xs ≤ i → drop i xs ≡ []
-dropped [] zero h = refl
-dropped [] (suc i) h = refl
-dropped (x ∷ xs) zero h = absurd (omega (arith, h))
-dropped (x ∷ xs) (suc i) h = dropped xs i (omega (arith, h))
 
 pub one_gathered : (applied : Bool) (all ns now : List ℕ) (xs : List CodeSketch) (i : ℕ) (x : CodeSketch) → all ≡ names_in applied ns (map sketch (drop i xs)) → i < length xs → x ≡ get_or xs i x → now ≡ if_in applied ns (sketch x) → all ≡ names_in applied now (map sketch (drop (i + 1) xs))
 unfolding names_in
@@ -19,4 +13,4 @@ one_gathered applied all ns now xs i x k l e g =
 
 pub all_gathered : (applied : Bool) (all ns : List ℕ) (xs : List CodeSketch) (i : ℕ) → all ≡ names_in applied ns (map sketch (drop i xs)) → length xs ≤ i → ns ≡ all
 unfolding names_in
-all_gathered applied all ns xs i k l = sym (k ∙ ap (λ z. names_in applied ns (map sketch z)) (dropped xs i l))
+all_gathered applied all ns xs i k l = sym (k ∙ ap (λ z. names_in applied ns (map sketch z)) (drop_all i xs l))

@@ -1,7 +1,7 @@
 -- What code makes for each sketch: loops, rows, and the graphs that are made of them.
 use Rattle.std.proofs.Common.{◌≡◌, ℕ, ◌+◌, ◌<◌, ◌≤◌, Bool, true, false, List, [], ◌∷◌, ◌++◌, ap, sym, ◌∙◌, map, length, drop, get_or, append_assoc, append-nil, replicate, subst, arith}
 use Rattle.std.specs.Prelude.{if◌then◌else◌, Option, Some, None, MatchOption}
-use Rattle.std.proofs.lemmas.List.{drop_more, length-map}
+use Rattle.std.proofs.lemmas.List.{drop_more, length-map, drop_all}
 use Rattle.mz_graph.specs.Graph.{Graph, number_of}
 use Rattle.mz_graph.proofs.Membership.{one_longer}
 use Rattle.mz_graph.specs.Members.{AreMembers}
@@ -14,7 +14,6 @@ use Rattle.mz_scope_uses.specs.Sketches.{Sketch, sketch}
 use Rattle.mz_scope_order.specs.Dependencies.{meant_by}
 use Rattle.mz_scope_order.specs.StepsPlaces.{if_in, names_in, callee, or_zero}
 use Rattle.mz_scope_order.specs.StepsGraphs.{name_count, base_of, numbers_of, numbers_by, call_rows, mention_rows, type_rows, HasMembers, HasMembersBetween, AreGraphs}
-use Rattle.mz_scope_order.proofs.Gathering.{dropped}
 use Rattle.mz_scope_order.proofs.Building.{number_counted}
 
 -- a loop that makes one thing for each sketch
@@ -27,7 +26,7 @@ one_made f all so_far now r xs i x k l e is n =
     ∙ ap (λ z. z ++ map f (map sketch (drop (i + 1) xs))) (sym n)
 
 pub all_made : {R : Type 0} (f : Sketch → R) (all so_far : List R) (xs : List CodeSketch) (i : ℕ) → all ≡ so_far ++ map f (map sketch (drop i xs)) → length xs ≤ i → so_far ≡ all
-all_made f all so_far xs i k l = sym (k ∙ ap (λ z. so_far ++ map f (map sketch z)) (dropped xs i l) ∙ append-nil so_far)
+all_made f all so_far xs i k l = sym (k ∙ ap (λ z. so_far ++ map f (map sketch z)) (drop_all i xs l) ∙ append-nil so_far)
 
 -- names are at most as many as those that have them
 

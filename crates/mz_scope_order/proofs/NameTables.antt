@@ -1,4 +1,5 @@
 -- The first place of a name in a list, and what stands there.
+use Rattle.std.proofs.lemmas.List.{drop_all}
 use Rattle.std.proofs.Common.{◌≡◌, ℕ, zero, suc, ◌+◌, ◌<◌, ◌≤◌, Bool, true, false, List, [], ◌∷◌, ◌++◌, Option, Some, None, cond, is_some, refl, sym, ap, ◌∙◌, ⊎_elim, map, length, drop, get_or, append_assoc, append-nil, arith}
 use Rattle.std.specs.Prelude.{nat_eq}
 use Rattle.std.specs.Option.{option_map}
@@ -63,12 +64,6 @@ dropped xs i x d h e =
     let one : suc i ≡ i + 1 = omega arith in
     drop_next xs i x d h e ∙ ap (λ k. x ∷ drop k xs) one
 
-pub all_dropped : {X : Type 0} (xs : List X) (i : ℕ) → length xs ≤ i → drop i xs ≡ []
-all_dropped [] zero h = refl
-all_dropped [] (suc i) h = refl
-all_dropped (x ∷ xs) zero h = absurd (omega (arith, h))
-all_dropped (x ∷ xs) (suc i) h = all_dropped xs i (omega (arith, h))
-
 -- one more name of a list is in the table
 pub one_placed : (n : Name) (ms : List Name) (k : ℕ) (m d : Name) (old now whole : Option ℕ) → k < length ms → m ≡ get_or ms k d
     → or_next old (place_from k n (drop k ms)) ≡ whole → now ≡ or_next old (cond (nat_eq n m) (Some k) None) → or_next now (place_from (k + 1) n (drop (k + 1) ms)) ≡ whole
@@ -82,7 +77,7 @@ one_placed n ms k m d old now whole h e so_far grown =
 pub all_placed : (n : Name) (ms : List Name) (k : ℕ) (old whole : Option ℕ) → length ms ≤ k → or_next old (place_from k n (drop k ms)) ≡ whole → old ≡ whole
 unfolding place_from
 all_placed n ms k old whole h so_far =
-    sym (or_none old) ∙ sym (ap (λ z. or_next old (place_from k n z)) (all_dropped ms k h)) ∙ so_far
+    sym (or_none old) ∙ sym (ap (λ z. or_next old (place_from k n z)) (drop_all k ms h)) ∙ so_far
 
 later_if : (b : Bool) (j : ℕ) (o p : Option ℕ) → p ≡ option_map suc o → cond b (Some (suc j)) p ≡ option_map suc (cond b (Some j) o)
 later_if true j o p h = refl
@@ -155,10 +150,7 @@ listed_is n ds found read names p q r = ap (λ z. at z (map given ds)) (p ∙ ap
 
 -- a loop over a list ends
 pub all_done : {X Y : Type 0} (f : X → List Y) (xs : List X) (i : ℕ) (done : List Y) → done ++ flat_map f (drop i xs) ≡ flat_map f xs → length xs ≤ i → done ≡ flat_map f xs
-all_done f xs i done e h = sym (nothing_more done) ∙ sym (ap (λ z. done ++ flat_map f z) (all_dropped xs i h)) ∙ e
-  where
-    nothing_more : {Y : Type 0} (ys : List Y) → ys ++ [] ≡ ys
-    nothing_more ys = simp append-nil
+all_done f xs i done e h = sym (append-nil done) ∙ sym (ap (λ z. done ++ flat_map f z) (drop_all i xs h)) ∙ e
 
 -- a loop over files takes one more
 pub one_done : {Y : Type 0} (f : Item → List Y) (fs : List SourceFile) (i : ℕ) (file : SourceFile) (is : List Item) (done now whole : List Y) → i < length fs → file ≡ get_or fs i file → is ≡ file.items.items

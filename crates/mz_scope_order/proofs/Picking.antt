@@ -2,7 +2,7 @@
 use Rattle.std.proofs.Common.{◌≡◌, ℕ, ◌+◌, ◌<◌, ◌≤◌, List, [], ◌∷◌, ◌++◌, refl, ap, sym, ◌∙◌, map, length, drop, get_or, append_assoc, append-nil, Option, Vec}
 use Rattle.std.specs.Global.{Global}
 use Rattle.std.specs.Option.{option_map}
-use Rattle.std.proofs.lemmas.List.{map_push}
+use Rattle.std.proofs.lemmas.List.{map_push, drop_all}
 use Rattle.std.specs.List.{flat_map}
 use Rattle.mz_base.specs.declared.fault.Span.{Span}
 use Rattle.mz_tree.specs.Tree.{Name}
@@ -12,7 +12,7 @@ use Rattle.mz_tree.specs.declared.expr.Expr.{Expr}
 use Rattle.mz_tree.specs.declared.item.Item.{Item}
 use Rattle.mz_tree.specs.declared.item.Item.TheVariants as items
 use Rattle.mz_tree.specs.declared.item.Function.{Function}
-use Rattle.mz_scope_order.proofs.NameTables.{dropped, all_dropped}
+use Rattle.mz_scope_order.proofs.NameTables.{dropped}
 use Rattle.mz_scope_order.specs.Parts.{EnumTree, function_in, constraint_in, output_in}
 use Rattle.mz_scope_order.specs.StepsParts.{own_cases, cases_of_given, enum_by}
 use Rattle.mz_scope_order.specs.StepsTables.{name_assigned, value_assigned}
@@ -29,10 +29,7 @@ picked see done now a ys p q = ap (λ z. map see z) p ∙ map_push see done a �
 
 -- and one that isn't
 pub passed : {Y : Type 0} (done now ys : List Y) → now ≡ done → ys ≡ [] → now ≡ done ++ ys
-passed done now ys p q = p ∙ sym (nothing_more done) ∙ ap (λ z. done ++ z) (sym q)
-  where
-    nothing_more : {Y : Type 0} (zs : List Y) → zs ++ [] ≡ zs
-    nothing_more zs = simp append-nil
+passed done now ys p q = p ∙ sym (append-nil done) ∙ ap (λ z. done ++ z) (sym q)
 
 -- A loop that maps a list
 
@@ -41,10 +38,7 @@ one_mapped f xs i x done now whole k h e g =
     ap (λ z. z ++ map f (drop (i + 1) xs)) g ∙ append_assoc done (f x ∷ []) (map f (drop (i + 1) xs)) ∙ sym (ap (λ z. done ++ map f z) (dropped xs i x x h e)) ∙ k
 
 pub all_mapped : {X Y : Type 0} (f : X → Y) (xs : List X) (i : ℕ) (done whole : List Y) → done ++ map f (drop i xs) ≡ whole → length xs ≤ i → done ≡ whole
-all_mapped f xs i done whole k h = sym (ap (λ z. done ++ map f z) (all_dropped xs i h) ∙ nothing_more done) ∙ k
-  where
-    nothing_more : {Y : Type 0} (zs : List Y) → zs ++ [] ≡ zs
-    nothing_more zs = simp append-nil
+all_mapped f xs i done whole k h = sym (ap (λ z. done ++ map f z) (drop_all i xs h) ∙ append-nil done) ∙ k
 
 -- Items of another kind give nothing
 

@@ -10,7 +10,8 @@ use Rattle.mz_graph.proofs.Membership.{same_or_not, in_front, in_back, in_either
 use Rattle.mz_scope_uses.specs.declared.name_use.NameUse.{NameUse}
 use Rattle.mz_scope_uses.specs.declared.name_use.NameUse.TheVariants.{Mention, Call}
 use Rattle.mz_scope_order.specs.Dependencies.{IsUsed}
-use Rattle.mz_scope_order.specs.StepsPlaces.{place_of, callee, raised_from}
+use Rattle.mz_scope_names.specs.Sets.{place_of}
+use Rattle.mz_scope_order.specs.StepsPlaces.{callee, raised_from}
 
 -- what a row has: the raised number of a use that has one
 pub record IsFrom (number : NameUse → Option ℕ) (by y : ℕ) (us : List NameUse) : Type 0 where

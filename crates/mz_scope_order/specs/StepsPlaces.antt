@@ -1,8 +1,8 @@
 -- The nodes of the graphs of dependencies. Mirror of src/places.rt and src/graphs.rt; private clauses only.
-use Rattle.std.specs.Prelude.{ℕ, ◌+◌, List, [], ◌∷◌, Bool, true, false, if◌then◌else◌, Option, Some, None, length, nat_eq, position}
+use Rattle.std.specs.Prelude.{ℕ, ◌+◌, List, [], ◌∷◌, Bool, true, false, if◌then◌else◌, Option, Some, None, length}
 use Rattle.std.specs.List.{flat_map}
 use Rattle.std.specs.Option.{option_map}
-use Rattle.mz_scope_names.specs.Sets.{with_name}
+use Rattle.mz_scope_names.specs.Sets.{with_name, place_of}
 use Rattle.mz_scope_uses.specs.declared.name_use.NameUse.{NameUse}
 use Rattle.mz_scope_uses.specs.declared.name_use.NameUse.TheVariants.{Mention, Call}
 use Rattle.mz_scope_uses.specs.Sketches.{Sketch}
@@ -15,9 +15,6 @@ if_in false ns s = if s.applied then ns else with_name ns s.name
 unfoldable pub names_in : Bool → List ℕ → List Sketch → List ℕ
 names_in applied ns [] = ns
 names_in applied ns (s ∷ ss) = names_in applied (if_in applied ns s) ss
-
-abbrev pub place_of : ℕ → List ℕ → Option ℕ
-place_of n ns = position (nat_eq n) ns
 
 -- the node of a use, among the names of functions without parameters and then those of functions with parameters
 abbrev pub callee : List ℕ → List ℕ → NameUse → Option ℕ

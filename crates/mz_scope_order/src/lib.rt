@@ -17,6 +17,7 @@ mod parts;
 mod places;
 mod scoped;
 mod sequence;
+mod sketches;
 mod tables;
 mod types;
 
@@ -28,4 +29,5 @@ pub use law::{
 pub use parts::{ModelParts, model_parts};
 pub use scoped::{Scoped, ScopedDecl, ScopedEnum};
 pub use sequence::{Sequence, sequence_of};
+pub use sketches::{decl_sketches, function_sketches};
 pub use types::type_graph;

@@ -6,19 +6,20 @@ ghost use Rattle.mz_scope_order.specs.Dependencies.{meant_by};
 ghost use Rattle.mz_scope_order.specs.StepsPlaces.{names_in, callee, mentioned, or_zero};
 ghost use Rattle.mz_scope_order.specs.StepsGraphs.{numbers_by};
 
-use crate::places::{Places, names_in};
+use crate::places::names_in;
 use mz_base::Memory;
+use mz_scope_names::NameSet;
 use mz_scope_uses::{NameUse, Sketch};
 use std::alloc::Global;
 
 /// The names that uses are looked up in.
 pub(crate) struct Tables {
     /// Of functions without parameters.
-    pub bare: Places,
+    pub bare: NameSet,
     /// Of functions with parameters.
-    pub applied: Places,
+    pub applied: NameSet,
     /// Of declarations.
-    pub decls: Places,
+    pub decls: NameSet,
 }
 
 impl Drop for Tables {

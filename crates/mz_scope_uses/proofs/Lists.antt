@@ -1,7 +1,7 @@
 -- What the items of a list use, one after the other: where all are under the same hidden names, and where each hides more.
-use Rattle.std.proofs.Common.{◌≡◌, ℕ, zero, suc, ◌+◌, ◌<◌, ◌≤◌, List, [], ◌∷◌, ◌++◌, refl, ap, sym, ◌∙◌, map, length, drop, get_or, append_assoc, append-nil, arith}
+use Rattle.std.proofs.Common.{◌≡◌, ℕ, ◌+◌, ◌<◌, ◌≤◌, List, [], ◌∷◌, ◌++◌, refl, ap, sym, ◌∙◌, map, length, drop, get_or, append_assoc, append-nil}
 use Rattle.std.specs.List.{flat_map}
-use Rattle.std.proofs.lemmas.List.{drop_more}
+use Rattle.std.proofs.lemmas.List.{drop_more, drop_all}
 use Rattle.mz_base.specs.declared.fault.Span.{Span}
 use Rattle.mz_tree.specs.declared.expr.BinOp.{BinOp}
 use Rattle.mz_tree.specs.Tree as pure
@@ -41,15 +41,6 @@ unfolding in_tree
 bases_flat h f [] = refl
 bases_flat h f (x ∷ xs) = ap (λ z. in_based h (f x) ++ z) (bases_flat h f xs)
 
-pub dropped : {X : Type 0} (xs : List X) (i : ℕ) → length xs ≤ i → drop i xs ≡ []
-dropped [] zero h = refl
-dropped [] (suc i) h = refl
-dropped (x ∷ xs) zero h = absurd (omega (arith, h))
-dropped (x ∷ xs) (suc i) h = dropped xs i (omega (arith, h))
-
-nothing_more : (us : List NameUse) → us ++ [] ≡ us
-nothing_more us = simp append-nil
-
 -- a loop over a list under the same hidden names
 pub one_read : {X : Type 0} (f : X → List NameUse) (xs : List X) (i : ℕ) (x : X) (old out now : List NameUse) → old ++ flat_map f xs ≡ out ++ flat_map f (drop i xs) → i < length xs → x ≡ get_or xs i x → now ≡ out ++ f x → old ++ flat_map f xs ≡ now ++ flat_map f (drop (i + 1) xs)
 one_read f xs i x old out now k h e g =
@@ -58,7 +49,7 @@ one_read f xs i x old out now k h e g =
 
 pub all_read : {X : Type 0} (f : X → List NameUse) (xs : List X) (i : ℕ) (old out all : List NameUse) → old ++ flat_map f xs ≡ out ++ flat_map f (drop i xs) → length xs ≤ i → all ≡ flat_map f xs → out ≡ old ++ all
 all_read f xs i old out all e h is =
-    sym (nothing_more out) ∙ sym (e ∙ ap (λ z. out ++ flat_map f z) (dropped xs i h)) ∙ ap (λ z. old ++ z) (sym is)
+    sym (append-nil out) ∙ sym (e ∙ ap (λ z. out ++ flat_map f z) (drop_all i xs h)) ∙ ap (λ z. old ++ z) (sym is)
 
 -- generators and the items of a `let`, each of which hides more
 pub gens_from : {X : Type 0} (h : List Name) (f : X → Generator) (xs : List X) (i : ℕ) (x : X) → i < length xs → x ≡ get_or xs i x → in_gens h (pure.gens (map f (drop i xs))) ≡ in_generator h (f x) ++ in_gens (with_generator h (f x)) (pure.gens (map f (drop (i + 1) xs)))
@@ -97,28 +88,28 @@ step uses one after xs i x h hidden all out now u k g e =
 -- such a loop ends
 pub gens_read : {X : Type 0} (h : List Name) (f : X → Generator) (xs : List X) (i : ℕ) (all out : List NameUse) → all ≡ out ++ in_gens h (pure.gens (map f (drop i xs))) → length xs ≤ i → out ≡ all
 unfolding in_tree
-gens_read h f xs i all out k l = sym (k ∙ ap (λ z. out ++ in_gens h (pure.gens (map f z))) (dropped xs i l) ∙ nothing_more out)
+gens_read h f xs i all out k l = sym (k ∙ ap (λ z. out ++ in_gens h (pure.gens (map f z))) (drop_all i xs l) ∙ append-nil out)
 
 pub with_gens_read : {X : Type 0} (h : List Name) (f : X → Generator) (xs : List X) (i : ℕ) (all : List Name) → all ≡ with_gens h (pure.gens (map f (drop i xs))) → length xs ≤ i → h ≡ all
 unfolding with_gens
-with_gens_read h f xs i all k l = sym (k ∙ ap (λ z. with_gens h (pure.gens (map f z))) (dropped xs i l))
+with_gens_read h f xs i all k l = sym (k ∙ ap (λ z. with_gens h (pure.gens (map f z))) (drop_all i xs l))
 
 pub lets_read : {X : Type 0} (h : List Name) (f : X → Let) (xs : List X) (i : ℕ) (all out : List NameUse) → all ≡ out ++ in_lets h (pure.lets (map f (drop i xs))) → length xs ≤ i → out ≡ all
 unfolding in_tree
-lets_read h f xs i all out k l = sym (k ∙ ap (λ z. out ++ in_lets h (pure.lets (map f z))) (dropped xs i l) ∙ nothing_more out)
+lets_read h f xs i all out k l = sym (k ∙ ap (λ z. out ++ in_lets h (pure.lets (map f z))) (drop_all i xs l) ∙ append-nil out)
 
 pub with_lets_read : {X : Type 0} (h : List Name) (f : X → Let) (xs : List X) (i : ℕ) (all : List Name) → all ≡ with_lets h (pure.lets (map f (drop i xs))) → length xs ≤ i → h ≡ all
 unfolding with_lets
-with_lets_read h f xs i all k l = sym (k ∙ ap (λ z. with_lets h (pure.lets (map f z))) (dropped xs i l))
+with_lets_read h f xs i all k l = sym (k ∙ ap (λ z. with_lets h (pure.lets (map f z))) (drop_all i xs l))
 
 pub parameters_read : {X : Type 0} (h : List Name) (f : X → Declaration) (xs : List X) (i : ℕ) (all out : List NameUse) → all ≡ out ++ in_parameters h (map f (drop i xs)) → length xs ≤ i → out ≡ all
 unfolding in_parameters
-parameters_read h f xs i all out k l = sym (k ∙ ap (λ z. out ++ in_parameters h (map f z)) (dropped xs i l) ∙ nothing_more out)
+parameters_read h f xs i all out k l = sym (k ∙ ap (λ z. out ++ in_parameters h (map f z)) (drop_all i xs l) ∙ append-nil out)
 
 pub with_parameters_read : {X : Type 0} (h : List Name) (f : X → Declaration) (xs : List X) (i : ℕ) (all : List Name) → all ≡ with_parameters h (map f (drop i xs)) → length xs ≤ i → h ≡ all
 unfolding with_parameters
-with_parameters_read h f xs i all k l = sym (k ∙ ap (λ z. with_parameters h (map f z)) (dropped xs i l))
+with_parameters_read h f xs i all k l = sym (k ∙ ap (λ z. with_parameters h (map f z)) (drop_all i xs l))
 
 pub bound_read : (h : List Name) (xs : List (Name × Span)) (i : ℕ) (all : List Name) → all ≡ with_bound h (drop i xs) → length xs ≤ i → h ≡ all
 unfolding with_bound
-bound_read h xs i all k l = sym (k ∙ ap (λ z. with_bound h z) (dropped xs i l))
+bound_read h xs i all k l = sym (k ∙ ap (λ z. with_bound h z) (drop_all i xs l))

@@ -70,10 +70,7 @@ pub in_declaration_alone : (h : List Name) (d : Decl) → (out-Decl d).value ≡
 unfolding in_tree
 in_declaration_alone h d i =
     let t = in_written h (written (out-Decl d).ty) in
-    ap (in_declaration h) (declaration_is d) ∙ ap (λ z. t ++ in_maybe h (pure.maybe (option_map tree z))) i ∙ nothing_more t
-  where
-    nothing_more : (ys : List NameUse) → ys ++ [] ≡ ys
-    nothing_more ys = simp append-nil
+    ap (in_declaration h) (declaration_is d) ∙ ap (λ z. t ++ in_maybe h (pure.maybe (option_map tree z))) i ∙ append-nil t
 
 pub with_declaration_is : (h : List Name) (d : Decl) → with_declaration h (declaration d) ≡ with_name h (out-Decl d).name
 with_declaration_is h d = ap (λ z. with_declaration h z) (declaration_is d)
@@ -90,10 +87,7 @@ pub in_generator_alone : (h : List Name) (g : Gen) → (out-Gen g).cond ≡ None
 unfolding in_tree
 in_generator_alone h g i =
     let t = in_tree h (tree (out-Gen g).set) in
-    ap (in_generator h) (generator_is g) ∙ ap (λ z. t ++ in_maybe (with_bound h (out-Gen g).names.items) (pure.maybe (option_map tree z))) i ∙ nothing_more t
-  where
-    nothing_more : (ys : List NameUse) → ys ++ [] ≡ ys
-    nothing_more ys = simp append-nil
+    ap (in_generator h) (generator_is g) ∙ ap (λ z. t ++ in_maybe (with_bound h (out-Gen g).names.items) (pure.maybe (option_map tree z))) i ∙ append-nil t
 
 pub with_generator_is : (h : List Name) (g : Gen) (ns : List (Name × Span)) → ns ≡ (out-Gen g).names.items → with_generator h (generator g) ≡ with_bound h ns
 with_generator_is h g ns q = ap (λ z. with_generator h z) (generator_is g) ∙ ap (λ z. with_bound h z) (sym q)

@@ -122,10 +122,7 @@ in_if h e x b bs cs other i o p q = form_is h e (forms.If bs (Some b)) (pure.cho
 -- where nothing is used, or one part
 
 pub after_none : (old whole : List NameUse) → whole ≡ [] → old ≡ old ++ whole
-after_none old whole r = sym (ap (λ z. old ++ z) r ∙ nothing_more old)
-  where
-    nothing_more : (ys : List NameUse) → ys ++ [] ≡ ys
-    nothing_more ys = simp append-nil
+after_none old whole r = sym (ap (λ z. old ++ z) r ∙ append-nil old)
 
 pub after_one : (old all a whole : List NameUse) → all ≡ old ++ a → whole ≡ a → all ≡ old ++ whole
 after_one old all a whole p r = p ∙ ap (λ z. old ++ z) (sym r)

@@ -4,11 +4,11 @@ ghost use Rattle.std.specs.Prelude.{◌≡◌, ◌++◌, OnOk};
 ghost use Rattle.mz_scope_uses.specs.Uses.{mention, applied};
 
 use crate::NameUse;
-use crate::hidden::Hidden;
 use mz_base::{Memory, Name};
+use mz_scope_names::NameSet;
 
 /// Adds a mention, where the name isn't hidden.
-pub(crate) fn mention(out: &mut Vec<NameUse>, hidden: &Hidden, name: Name) -> Result<(), Memory>
+pub(crate) fn mention(out: &mut Vec<NameUse>, hidden: &NameSet, name: Name) -> Result<(), Memory>
     ensures { OnOk result (out.new.items ≡ out.old.items ++ mention hidden.now name) }
 {
     if !hidden.has(name) {
@@ -20,7 +20,7 @@ pub(crate) fn mention(out: &mut Vec<NameUse>, hidden: &Hidden, name: Name) -> Re
 /// Adds a call, or a mention where there are no arguments.
 pub(crate) fn applied(
     out: &mut Vec<NameUse>,
-    hidden: &Hidden,
+    hidden: &NameSet,
     name: Name,
     empty: bool,
 ) -> Result<(), Memory>

@@ -3,7 +3,6 @@
 #![tactic(auto)]
 
 mod adding;
-mod hidden;
 mod making;
 mod name_use;
 mod sketch;

@@ -7,10 +7,10 @@ ghost use Rattle.mz_scope_uses.specs.Sketches.{sketch, decl_sketch, function_ske
 ghost use Rattle.mz_scope_uses.specs.Uses.{with_declaration};
 ghost use Rattle.mz_scope_uses.specs.Valued.{valued};
 
-use crate::hidden::Hidden;
 use crate::walk::{in_expression, in_type};
 use crate::{NameUse, Sketch};
 use mz_base::Memory;
+use mz_scope_names::NameSet;
 use mz_tree::{Decl, Expr, Function};
 use std::alloc::Global;
 
@@ -19,7 +19,7 @@ use std::alloc::Global;
 pub fn sketch_of_decl(alloc: Global, d: &Decl, value: Option<&Expr>) -> Result<Sketch, Memory>
     ensures { IfOk result (λ o. sketch o ≡ decl_sketch (valued d.now value.entry)) }
 {
-    let mut hidden = Hidden::new(alloc);
+    let mut hidden = NameSet::new(alloc);
     let mut types = Vec::new(alloc);
     let mut rest = Vec::new(alloc);
     in_type(&mut types, &mut hidden, &d.ty)?;
@@ -36,17 +36,21 @@ pub fn sketch_of_decl(alloc: Global, d: &Decl, value: Option<&Expr>) -> Result<S
 
 /// Adds what a parameter's type uses, and hides its name from there on.
 #[tactic(auto, unfolding(mz_tree::specs::Views::declaration, mz_tree::specs::Views::written, mz_tree::specs::Views::tree))]
-fn in_parameter(out: &mut Vec<NameUse>, hidden: &mut Hidden, p: &Decl) -> Result<(), Memory>
+fn in_parameter(out: &mut Vec<NameUse>, hidden: &mut NameSet, p: &Decl) -> Result<(), Memory>
     ensures uses { OnOk result (out.new.items ≡ out.old.items ++ in_parameter hidden.old (declaration p.now)) }
     ensures hidden { OnOk result (hidden.new ≡ with_declaration hidden.old (declaration p.now)) }
 {
     in_type(out, hidden, &p.ty)?;
-    hidden.hide(p.name)?;
+    hidden.add(p.name)?;
     Ok(())
 }
 
 /// Adds what the types of parameters use, and hides their names.
-fn in_parameters(out: &mut Vec<NameUse>, hidden: &mut Hidden, params: &[Decl]) -> Result<(), Memory>
+fn in_parameters(
+    out: &mut Vec<NameUse>,
+    hidden: &mut NameSet,
+    params: &[Decl],
+) -> Result<(), Memory>
     ensures uses { OnOk result (out.new.items ≡ out.old.items ++ in_parameters hidden.old (map declaration params.now)) }
     ensures hidden { OnOk result (hidden.new ≡ with_parameters hidden.old (map declaration params.now)) }
 {
@@ -60,7 +64,7 @@ fn in_parameters(out: &mut Vec<NameUse>, hidden: &mut Hidden, params: &[Decl]) -
 pub fn sketch_of_function(alloc: Global, f: &Function) -> Result<Sketch, Memory>
     ensures { IfOk result (λ o. sketch o ≡ function_sketch (function_of f.now)) }
 {
-    let mut hidden = Hidden::new(alloc);
+    let mut hidden = NameSet::new(alloc);
     let mut types = Vec::new(alloc);
     let mut rest = Vec::new(alloc);
     in_parameters(&mut types, &mut hidden, f.params.as_slice())?;

@@ -7,15 +7,15 @@ ghost use Rattle.mz_scope_uses.specs.Uses.{with_bound, with_generator, with_gens
 
 use crate::NameUse;
 use crate::adding::{applied, mention};
-use crate::hidden::Hidden;
 use mz_base::{Memory, Name, Span};
+use mz_scope_names::NameSet;
 use mz_tree::{BinOp, Decl, Expr, Form, Gen, LetItem, TextPart, TypeBase, TypeText};
 
 /// Adds the names that an expression uses where these are hidden.
 #[cycle(walk)]
 pub(crate) fn in_expression(
     out: &mut Vec<NameUse>,
-    hidden: &mut Hidden,
+    hidden: &mut NameSet,
     e: &Expr,
 ) -> Result<(), Memory>
     ensures uses { OnOk result (out.new.items ≡ out.old.items ++ in_tree hidden.old (tree e.now)) }
@@ -42,7 +42,7 @@ pub(crate) fn in_expression(
             applied(out, hidden, *n, false)?;
             in_generators(out, hidden, gs.as_slice())?;
             in_expression(out, hidden, x)?;
-            hidden.leave(depth);
+            hidden.truncate(depth);
             Ok(())
         }
         Form::Access(x, xs) => {
@@ -61,14 +61,14 @@ pub(crate) fn in_expression(
             let depth = hidden.len();
             in_generators(out, hidden, gs.as_slice())?;
             in_expression(out, hidden, x)?;
-            hidden.leave(depth);
+            hidden.truncate(depth);
             Ok(())
         }
         Form::SetComp(x, gs) => {
             let depth = hidden.len();
             in_generators(out, hidden, gs.as_slice())?;
             in_expression(out, hidden, x)?;
-            hidden.leave(depth);
+            hidden.truncate(depth);
             Ok(())
         }
         Form::If(bs, other) => {
@@ -82,7 +82,7 @@ pub(crate) fn in_expression(
             let depth = hidden.len();
             in_let_items(out, hidden, ls.as_slice())?;
             in_expression(out, hidden, x)?;
-            hidden.leave(depth);
+            hidden.truncate(depth);
             Ok(())
         }
         Form::Whole => Ok(()),
@@ -90,7 +90,7 @@ pub(crate) fn in_expression(
 }
 
 #[cycle(walk)]
-fn in_all(out: &mut Vec<NameUse>, hidden: &mut Hidden, es: &[Expr]) -> Result<(), Memory>
+fn in_all(out: &mut Vec<NameUse>, hidden: &mut NameSet, es: &[Expr]) -> Result<(), Memory>
     ensures uses { OnOk result (out.new.items ≡ out.old.items ++ in_trees hidden.old (trees (map tree es.now))) }
     ensures hidden { OnOk result (hidden.new ≡ hidden.old) }
 {
@@ -103,7 +103,7 @@ fn in_all(out: &mut Vec<NameUse>, hidden: &mut Hidden, es: &[Expr]) -> Result<()
 #[cycle(walk)]
 fn in_operands(
     out: &mut Vec<NameUse>,
-    hidden: &mut Hidden,
+    hidden: &mut NameSet,
     rest: &[(BinOp, Expr)],
 ) -> Result<(), Memory>
     ensures uses { OnOk result (out.new.items ≡ out.old.items ++ in_links hidden.old (links (map link rest.now))) }
@@ -118,7 +118,7 @@ fn in_operands(
 #[cycle(walk)]
 fn in_choices(
     out: &mut Vec<NameUse>,
-    hidden: &mut Hidden,
+    hidden: &mut NameSet,
     choices: &[(Expr, Expr)],
 ) -> Result<(), Memory>
     ensures uses { OnOk result (out.new.items ≡ out.old.items ++ in_branches hidden.old (branches (map branch choices.now))) }
@@ -132,7 +132,11 @@ fn in_choices(
 }
 
 #[cycle(walk)]
-fn in_pieces(out: &mut Vec<NameUse>, hidden: &mut Hidden, pieces: &[TextPart]) -> Result<(), Memory>
+fn in_pieces(
+    out: &mut Vec<NameUse>,
+    hidden: &mut NameSet,
+    pieces: &[TextPart],
+) -> Result<(), Memory>
     ensures uses { OnOk result (out.new.items ≡ out.old.items ++ in_parts hidden.old (parts (map part pieces.now))) }
     ensures hidden { OnOk result (hidden.new ≡ hidden.old) }
 {
@@ -143,7 +147,7 @@ fn in_pieces(out: &mut Vec<NameUse>, hidden: &mut Hidden, pieces: &[TextPart]) -
 }
 
 #[cycle(walk)]
-fn in_piece(out: &mut Vec<NameUse>, hidden: &mut Hidden, piece: &TextPart) -> Result<(), Memory>
+fn in_piece(out: &mut Vec<NameUse>, hidden: &mut NameSet, piece: &TextPart) -> Result<(), Memory>
     ensures uses { OnOk result (out.new.items ≡ out.old.items ++ in_part hidden.old (part piece.now)) }
     ensures hidden { OnOk result (hidden.new ≡ hidden.old) }
 {
@@ -154,18 +158,18 @@ fn in_piece(out: &mut Vec<NameUse>, hidden: &mut Hidden, piece: &TextPart) -> Re
 }
 
 /// Hides the names that a generator binds.
-fn hide_bound(hidden: &mut Hidden, names: &[(Name, Span)]) -> Result<(), Memory>
+fn hide_bound(hidden: &mut NameSet, names: &[(Name, Span)]) -> Result<(), Memory>
     ensures { OnOk result (hidden.new ≡ with_bound hidden.old names.now) }
 {
     for name in names {
-        hidden.hide(name.0)?;
+        hidden.add(name.0)?;
     }
     Ok(())
 }
 
 /// Adds what a generator uses, and hides its names.
 #[cycle(walk)]
-fn in_one(out: &mut Vec<NameUse>, hidden: &mut Hidden, g: &Gen) -> Result<(), Memory>
+fn in_one(out: &mut Vec<NameUse>, hidden: &mut NameSet, g: &Gen) -> Result<(), Memory>
     ensures uses { OnOk result (out.new.items ≡ out.old.items ++ in_generator hidden.old (generator g.now)) }
     ensures hidden { OnOk result (hidden.new ≡ with_generator hidden.old (generator g.now)) }
 {
@@ -178,7 +182,7 @@ fn in_one(out: &mut Vec<NameUse>, hidden: &mut Hidden, g: &Gen) -> Result<(), Me
 }
 
 #[cycle(walk)]
-fn in_generators(out: &mut Vec<NameUse>, hidden: &mut Hidden, gs: &[Gen]) -> Result<(), Memory>
+fn in_generators(out: &mut Vec<NameUse>, hidden: &mut NameSet, gs: &[Gen]) -> Result<(), Memory>
     ensures uses { OnOk result (out.new.items ≡ out.old.items ++ in_gens hidden.old (gens (map generator gs.now))) }
     ensures hidden { OnOk result (hidden.new ≡ with_gens hidden.old (gens (map generator gs.now))) }
 {
@@ -190,7 +194,7 @@ fn in_generators(out: &mut Vec<NameUse>, hidden: &mut Hidden, gs: &[Gen]) -> Res
 
 /// Adds what an item of a `let` uses, and hides the name that it declares.
 #[cycle(walk)]
-fn in_let_item(out: &mut Vec<NameUse>, hidden: &mut Hidden, item: &LetItem) -> Result<(), Memory>
+fn in_let_item(out: &mut Vec<NameUse>, hidden: &mut NameSet, item: &LetItem) -> Result<(), Memory>
     ensures uses { OnOk result (out.new.items ≡ out.old.items ++ in_let hidden.old (let_of item.now)) }
     ensures hidden { OnOk result (hidden.new ≡ with_let hidden.old (let_of item.now)) }
 {
@@ -202,7 +206,7 @@ fn in_let_item(out: &mut Vec<NameUse>, hidden: &mut Hidden, item: &LetItem) -> R
 
 /// Adds what a declaration in a `let` uses, and hides its name.
 #[cycle(walk)]
-fn in_local(out: &mut Vec<NameUse>, hidden: &mut Hidden, d: &Decl) -> Result<(), Memory>
+fn in_local(out: &mut Vec<NameUse>, hidden: &mut NameSet, d: &Decl) -> Result<(), Memory>
     ensures uses { OnOk result (out.new.items ≡ out.old.items ++ in_declaration hidden.old (declaration d.now)) }
     ensures hidden { OnOk result (hidden.new ≡ with_declaration hidden.old (declaration d.now)) }
 {
@@ -210,16 +214,16 @@ fn in_local(out: &mut Vec<NameUse>, hidden: &mut Hidden, d: &Decl) -> Result<(),
     match &d.value {
         Some(value) => {
             in_expression(out, hidden, value)?;
-            hidden.hide(d.name)
+            hidden.add(d.name)
         }
-        None => hidden.hide(d.name),
+        None => hidden.add(d.name),
     }
 }
 
 #[cycle(walk)]
 fn in_let_items(
     out: &mut Vec<NameUse>,
-    hidden: &mut Hidden,
+    hidden: &mut NameSet,
     items: &[LetItem],
 ) -> Result<(), Memory>
     ensures uses { OnOk result (out.new.items ≡ out.old.items ++ in_lets hidden.old (lets (map let_of items.now))) }
@@ -235,7 +239,7 @@ fn in_let_items(
 #[cycle(walk)]
 pub(crate) fn in_type(
     out: &mut Vec<NameUse>,
-    hidden: &mut Hidden,
+    hidden: &mut NameSet,
     t: &TypeText,
 ) -> Result<(), Memory>
     ensures uses { OnOk result (out.new.items ≡ out.old.items ++ in_written hidden.old (written t.now)) }
@@ -251,7 +255,7 @@ pub(crate) fn in_type(
 }
 
 #[cycle(walk)]
-fn in_dims(out: &mut Vec<NameUse>, hidden: &mut Hidden, dims: &[TypeBase]) -> Result<(), Memory>
+fn in_dims(out: &mut Vec<NameUse>, hidden: &mut NameSet, dims: &[TypeBase]) -> Result<(), Memory>
     ensures uses { OnOk result (out.new.items ≡ out.old.items ++ in_bases hidden.old (bases (map based dims.now))) }
     ensures hidden { OnOk result (hidden.new ≡ hidden.old) }
 {
@@ -262,7 +266,7 @@ fn in_dims(out: &mut Vec<NameUse>, hidden: &mut Hidden, dims: &[TypeBase]) -> Re
 }
 
 #[cycle(walk)]
-fn in_base(out: &mut Vec<NameUse>, hidden: &mut Hidden, base: &TypeBase) -> Result<(), Memory>
+fn in_base(out: &mut Vec<NameUse>, hidden: &mut NameSet, base: &TypeBase) -> Result<(), Memory>
     ensures uses { OnOk result (out.new.items ≡ out.old.items ++ in_based hidden.old (based base.now)) }
     ensures hidden { OnOk result (hidden.new ≡ hidden.old) }
 {

@@ -22,7 +22,7 @@ pub use law::names_and_places;
 pub use make::{
     make_absent, make_access, make_array, make_array_comp, make_bool, make_call, make_chain,
     make_gen_call, make_ident, make_if, make_int, make_interp, make_let, make_rows, make_set,
-    make_set_comp, make_text, make_unary, make_whole,
+    make_set_comp, make_text, make_unary,
 };
 pub use make_data::{
     make_absent_datum, make_array_datum, make_array_nd_datum, make_bool_datum, make_ident_datum,

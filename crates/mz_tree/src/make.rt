@@ -2,7 +2,7 @@
 
 ghost use Rattle.std.specs.Prelude.{◌≡◌, IfOk, map};
 ghost use Rattle.std.specs.Option.{option_map};
-ghost use Rattle.mz_tree.specs.Tree.{node, int, bool, absent, text, ident, interp, unary, chain, call, gen_call, access, array, rows, set, array_comp, set_comp, choice, let_in, whole, trees, links, rows_of, branches, parts, gens, lets, maybe};
+ghost use Rattle.mz_tree.specs.Tree.{node, int, bool, absent, text, ident, interp, unary, chain, call, gen_call, access, array, rows, set, array_comp, set_comp, choice, let_in, trees, links, rows_of, branches, parts, gens, lets, maybe};
 ghost use Rattle.mz_tree.specs.Views.{tree, part, generator, let_of, link, branch, tree_row};
 
 use crate::expr::{BinOp, Expr, Form, Gen, LetItem, TextPart, UnOp};
@@ -222,14 +222,4 @@ pub fn make_let(
         span,
         form: Form::Let(items, body),
     })
-}
-
-/// `..` as a whole index.
-pub fn make_whole(span: Span) -> Expr
-    ensures { tree result ≡ node span whole }
-{
-    Expr {
-        span,
-        form: Form::Whole,
-    }
 }

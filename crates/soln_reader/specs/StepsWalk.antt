@@ -2,6 +2,7 @@
 use Rattle.std.specs.Prelude.{◌≡◌, ℕ, ◌+◌, List, Bool, true, false, drop, map}
 use Rattle.mz_value.specs.Contents.{content}
 use Rattle.soln_reader.specs.declared.walk.Stop.{Stop}
+use Rattle.soln_reader.specs.declared.walk.Walk.{Walk}
 use Rattle.soln_reader.specs.declared.walk.Stop.TheVariants as stop
 use Rattle.soln_reader_items.specs.Forms.{Form}
 use Rattle.soln_reader.specs.Blocks.{Block}
@@ -32,6 +33,10 @@ Walks fs ended lines b bs new stop.Bad last taken short = WalksTo fs ended lines
 Walks fs ended lines b bs new stop.NoLine last taken short = WalksOver fs ended lines b bs new last taken × (has_line ended (drop taken bs) ≡ false)
 Walks fs ended lines b bs new stop.Memory last taken short = short
 
+-- the same of a walk that the code took
+abbrev pub Follows : List Form → Bool → ℕ → Block → List ℕ → Block → Walk → Type 0 → Type 0
+Follows fs ended lines b bs new w short = Walks fs ended lines b bs new w.stop w.lines w.taken short
+
 abbrev pub is_short : Stop → Bool
 is_short stop.Memory = true
 is_short _ = false
@@ -39,3 +44,6 @@ is_short _ = false
 -- nothing is taken
 abbrev pub Untouched : Block → Block → ℕ → ℕ → ℕ → Type 0
 Untouched old new lines last taken = (new ≡ old) × (last ≡ lines) × (taken ≡ 0)
+
+abbrev pub IsUntouched : Block → Block → ℕ → Walk → Type 0
+IsUntouched old new lines w = Untouched old new lines w.lines w.taken

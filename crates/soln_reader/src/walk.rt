@@ -5,7 +5,7 @@ ghost use Rattle.soln_reader_items.specs.Forms.{forms, outputs_from};
 ghost use Rattle.soln_reader.specs.Stream.{line_len};
 ghost use Rattle.soln_reader_items.specs.Tables.{Finds};
 ghost use Rattle.soln_reader.specs.StepsUndo.{Restores};
-ghost use Rattle.soln_reader.specs.StepsWalk.{Walks, Untouched, is_short};
+ghost use Rattle.soln_reader.specs.StepsWalk.{Follows, IsUntouched, is_short};
 ghost use Rattle.soln_reader.specs.Views.{block_of};
 
 use crate::block::Given;
@@ -48,7 +48,7 @@ impl Stop {
     }
 }
 
-/// Goes over lines, and notes the slots that they filled. The first `seen` bytes are known to have no newline.
+/// Goes over lines, and gives the slots that they filled too. The first `seen` bytes are known to have no newline.
 fn pass_lines(
     alloc: Global,
     shapes: &[Shape],
@@ -58,16 +58,15 @@ fn pass_lines(
     seen: usize,
     lines: u32,
     block: &mut Option<Vec<Given>>,
-    slots: &mut Vec<Slot>,
-) -> Walk
+) -> (Walk, Vec<Slot>)
     requires table { Finds table.now (outputs_from 0 (forms shapes.now)) }
     requires seen { seen ≤ line_len bytes.now }
     requires few { lines + length bytes.now < 2 ^ 32 }
-    requires empty { slots.old.items ≡ [] }
-    ensures walks { Walks (forms shapes.now) ended lines (block_of block.old) bytes.now (block_of block.new) result.stop result.lines result.taken (Restores slots.new.items (block_of block.old) (block_of block.new)) }
-    ensures within { result.taken ≤ length bytes.now }
-    ensures few { result.lines + (length bytes.now - result.taken) ≤ lines + length bytes.now }
+    ensures walks { Follows (forms shapes.now) ended lines (block_of block.old) bytes.now (block_of block.new) result.0 (Restores result.1.items (block_of block.old) (block_of block.new)) }
+    ensures within { result.0.taken ≤ length bytes.now }
+    ensures few { result.0.lines + (length bytes.now - result.0.taken) ≤ lines + length bytes.now }
 {
+    let mut slots = Vec::new(alloc);
     let mut at = 0;
     let mut passed = lines;
     let mut known = seen;
@@ -77,48 +76,54 @@ fn pass_lines(
                 at += n;
                 passed += 1;
                 known = 0;
-                if !note(block, slots, filled) {
-                    return Walk {
+                if !note(block, &mut slots, filled) {
+                    let walk = Walk {
                         stop: Stop::Memory,
                         taken: at,
                         lines: passed,
                     };
+                    return (walk, slots);
                 }
             }
             Step::Solved(a, n) => {
-                return Walk {
+                let walk = Walk {
                     stop: Stop::Solved(a),
                     taken: at + n,
                     lines: passed + 1,
                 };
+                return (walk, slots);
             }
             Step::Marked(m, n) => {
-                return Walk {
+                let walk = Walk {
                     stop: Stop::Marked(m),
                     taken: at + n,
                     lines: passed + 1,
                 };
+                return (walk, slots);
             }
             Step::Bad(n) => {
-                return Walk {
+                let walk = Walk {
                     stop: Stop::Bad,
                     taken: at + n,
                     lines: passed + 1,
                 };
+                return (walk, slots);
             }
             Step::NoLine => {
-                return Walk {
+                let walk = Walk {
                     stop: Stop::NoLine,
                     taken: at,
                     lines: passed,
                 };
+                return (walk, slots);
             }
             Step::Memory => {
-                return Walk {
+                let walk = Walk {
                     stop: Stop::Memory,
                     taken: at,
                     lines: passed,
                 };
+                return (walk, slots);
             }
         }
     }
@@ -138,15 +143,12 @@ pub(crate) fn walk_lines(
     requires table { Finds table.now (outputs_from 0 (forms shapes.now)) }
     requires seen { seen ≤ line_len bytes.now }
     requires few { lines + length bytes.now < 2 ^ 32 }
-    ensures walks { Walks (forms shapes.now) ended lines (block_of block.old) bytes.now (block_of block.new) result.stop result.lines result.taken (Untouched (block_of block.old) (block_of block.new) lines result.lines result.taken) }
+    ensures walks { Follows (forms shapes.now) ended lines (block_of block.old) bytes.now (block_of block.new) result (IsUntouched (block_of block.old) (block_of block.new) lines result) }
     ensures within { result.taken ≤ length bytes.now }
     ensures few { result.lines + (length bytes.now - result.taken) ≤ lines + length bytes.now }
 {
     let was_open = block.is_some();
-    let mut slots = Vec::new(alloc);
-    let found = pass_lines(
-        alloc, shapes, table, ended, bytes, seen, lines, block, &mut slots,
-    );
+    let (found, mut slots) = pass_lines(alloc, shapes, table, ended, bytes, seen, lines, block);
     if found.stop.is_short() {
         restore(block, was_open, &mut slots);
         return Walk {

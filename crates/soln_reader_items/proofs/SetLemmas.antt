@@ -7,22 +7,17 @@ use Rattle.mz_value.specs.StepsWalks.{common, gaps}
 use Rattle.mz_value.proofs.Joined.{union_canonical, union_members, union_limit}
 use Rattle.mz_value.proofs.Sets.{makes_difference}
 use Rattle.mz_value.proofs.Determined.{determined}
-use Rattle.std.proofs.lemmas.Bool.{false≢true}
+use Rattle.std.proofs.lemmas.Bool.{false≢true, and_parts}
 use Rattle.std.proofs.lemmas.Int.{ints}
 use Rattle.mz_value.proofs.Comparisons.{int_le_true}
 use Rattle.soln_reader_items.specs.Items.{set_of, is_in_limit, listed, has, is_none, is_within}
-
-both : (a b : Bool) → (a && b) ≡ true → (a ≡ true) × (b ≡ true)
-both true true e = (refl, refl)
-both true false e = (refl, e)
-both false b e = absurd (false≢true e)
 
 or_right : (a b : Bool) → b ≡ true → (a || b) ≡ true
 or_right true b e = refl
 or_right false b e = e
 
 in_limit : (x : ℤ) → is_in_limit x ≡ true → IsInLimit x
-in_limit x e = let parts = both (int_le least x) (int_le x greatest) e in search (rules, parts)
+in_limit x e = let parts = and_parts (int_le least x) (int_le x greatest) e in search (rules, parts)
 
 pub record IsSound (xs : List ℤ) (s : List Range) : Type 0 where
   pub canonical : AreCanonical s
@@ -57,7 +52,7 @@ sound : (xs : List ℤ) → list_all is_in_limit xs ≡ true → IsSound xs (set
 unfolding set_of
 sound [] e = record { canonical = tt; limits = tt; members = λ y. (λ h. absurd h, λ h. absurd (none_of y h)) }
 sound (x ∷ xs) e =
-    let parts = both (is_in_limit x) (list_all is_in_limit xs) e in
+    let parts = and_parts (is_in_limit x) (list_all is_in_limit xs) e in
     let fits = in_limit x parts.0 in
     let rest = sound xs parts.1 in
     let one : AreCanonical ((x, x) ∷ []) = (omega (arith, ints), tt, tt) in
@@ -86,7 +81,7 @@ has_true (r ∷ rs) x (inl h) = rw (int_le_true r.0 x h.0, int_le_true x r.1 h.1
 has_true (r ∷ rs) x (inr h) = or_right (int_le r.0 x && int_le x r.1) (has rs x) (has_true rs x h)
 
 one_or_more : (r : Range) (rs : List Range) (x : ℤ) (t : Bool) → (int_le r.0 x && int_le x r.1) ≡ t → (has rs x ≡ true → Has rs x) → (t || has rs x) ≡ true → Has (r ∷ rs) x
-one_or_more r rs x true is rest e = let parts = both (int_le r.0 x) (int_le x r.1) is in inl (search (rules, parts))
+one_or_more r rs x true is rest e = let parts = and_parts (int_le r.0 x) (int_le x r.1) is in inl (search (rules, parts))
 one_or_more r rs x false is rest e = inr (rest e)
 
 true_has : (s : List Range) (x : ℤ) → has s x ≡ true → Has s x

@@ -99,25 +99,25 @@ pub in_expression-returns-in_ok-in_expression-in-ArrayComp-clause-uses : goal.in
 in_expression-returns-in_ok-in_expression-in-ArrayComp-clause-uses t c = after_scope c.args.out.now.items c.in_generators-in-ArrayComp.new.out.items c.in_expression-in-ArrayComp.new.out.items (in_gens c.args.hidden.now (gens (map generator c.as_slice-in-ArrayComp.result.now))) (in_tree c.args.hidden.now (tree c.args.e.now)) c.in_generators-in-ArrayComp.new.hidden (with_gens c.args.hidden.now (gens (map generator c.as_slice-in-ArrayComp.result.now))) (λ z. in_tree z (tree c.deref-in-ArrayComp.result.now)) c.in_ok-in_generators-in-ArrayComp.ensures.uses c.in_ok-in_expression-in-ArrayComp.ensures.uses c.in_ok-in_generators-in-ArrayComp.ensures.hidden (in_array_comp c.args.hidden.now c.args.e.now c.deref-in-ArrayComp.result.now c.in-ArrayComp.x c.in-ArrayComp.gs c.as_slice-in-ArrayComp.result.now c.in-ArrayComp.is c.deref-in-ArrayComp.ensures c.as_slice-in-ArrayComp.ensures.value)
 
 pub in_expression-returns-in_ok-in_expression-in-ArrayComp-clause-hidden : goal.in_expression-returns-in_ok-in_expression-in-ArrayComp-clause-hidden
-in_expression-returns-in_ok-in_expression-in-ArrayComp-clause-hidden t c = left_after c.args.hidden.now (with_gens c.args.hidden.now (gens (map generator c.as_slice-in-ArrayComp.result.now))) c.in_generators-in-ArrayComp.new.hidden c.in_expression-in-ArrayComp.new.hidden c.leave-in-ArrayComp.new.self c.len-depth-in-ArrayComp.result c.len-depth-in-ArrayComp.ensures (begins_gens c.args.hidden.now (gens (map generator c.as_slice-in-ArrayComp.result.now))) c.in_ok-in_generators-in-ArrayComp.ensures.hidden c.in_ok-in_expression-in-ArrayComp.ensures.hidden c.leave-in-ArrayComp.ensures
+in_expression-returns-in_ok-in_expression-in-ArrayComp-clause-hidden t c = left_after c.args.hidden.now (with_gens c.args.hidden.now (gens (map generator c.as_slice-in-ArrayComp.result.now))) c.in_generators-in-ArrayComp.new.hidden c.in_expression-in-ArrayComp.new.hidden c.truncate-in-ArrayComp.new.self c.len-depth-in-ArrayComp.result c.len-depth-in-ArrayComp.ensures.is (begins_gens c.args.hidden.now (gens (map generator c.as_slice-in-ArrayComp.result.now))) c.in_ok-in_generators-in-ArrayComp.ensures.hidden c.in_ok-in_expression-in-ArrayComp.ensures.hidden c.truncate-in-ArrayComp.ensures
 
 pub in_expression-returns-in_ok-in_expression-in-SetComp-clause-uses : goal.in_expression-returns-in_ok-in_expression-in-SetComp-clause-uses
 in_expression-returns-in_ok-in_expression-in-SetComp-clause-uses t c = after_scope c.args.out.now.items c.in_generators-in-SetComp.new.out.items c.in_expression-in-SetComp.new.out.items (in_gens c.args.hidden.now (gens (map generator c.as_slice-in-SetComp.result.now))) (in_tree c.args.hidden.now (tree c.args.e.now)) c.in_generators-in-SetComp.new.hidden (with_gens c.args.hidden.now (gens (map generator c.as_slice-in-SetComp.result.now))) (λ z. in_tree z (tree c.deref-in-SetComp.result.now)) c.in_ok-in_generators-in-SetComp.ensures.uses c.in_ok-in_expression-in-SetComp.ensures.uses c.in_ok-in_generators-in-SetComp.ensures.hidden (in_set_comp c.args.hidden.now c.args.e.now c.deref-in-SetComp.result.now c.in-SetComp.x c.in-SetComp.gs c.as_slice-in-SetComp.result.now c.in-SetComp.is c.deref-in-SetComp.ensures c.as_slice-in-SetComp.ensures.value)
 
 pub in_expression-returns-in_ok-in_expression-in-SetComp-clause-hidden : goal.in_expression-returns-in_ok-in_expression-in-SetComp-clause-hidden
-in_expression-returns-in_ok-in_expression-in-SetComp-clause-hidden t c = left_after c.args.hidden.now (with_gens c.args.hidden.now (gens (map generator c.as_slice-in-SetComp.result.now))) c.in_generators-in-SetComp.new.hidden c.in_expression-in-SetComp.new.hidden c.leave-in-SetComp.new.self c.len-depth-in-SetComp.result c.len-depth-in-SetComp.ensures (begins_gens c.args.hidden.now (gens (map generator c.as_slice-in-SetComp.result.now))) c.in_ok-in_generators-in-SetComp.ensures.hidden c.in_ok-in_expression-in-SetComp.ensures.hidden c.leave-in-SetComp.ensures
+in_expression-returns-in_ok-in_expression-in-SetComp-clause-hidden t c = left_after c.args.hidden.now (with_gens c.args.hidden.now (gens (map generator c.as_slice-in-SetComp.result.now))) c.in_generators-in-SetComp.new.hidden c.in_expression-in-SetComp.new.hidden c.truncate-in-SetComp.new.self c.len-depth-in-SetComp.result c.len-depth-in-SetComp.ensures.is (begins_gens c.args.hidden.now (gens (map generator c.as_slice-in-SetComp.result.now))) c.in_ok-in_generators-in-SetComp.ensures.hidden c.in_ok-in_expression-in-SetComp.ensures.hidden c.truncate-in-SetComp.ensures
 
 pub in_expression-returns-in_ok-in_expression-in-GenCall-clause-uses : goal.in_expression-returns-in_ok-in_expression-in-GenCall-clause-uses
 in_expression-returns-in_ok-in_expression-in-GenCall-clause-uses t c = after_scope c.args.out.now.items c.in_generators.new.out.items c.in_expression-in-GenCall.new.out.items (applied c.args.hidden.now c.in-GenCall.n false ++ in_gens c.args.hidden.now (gens (map generator c.as_slice-in-GenCall.result.now))) (in_tree c.args.hidden.now (tree c.args.e.now)) c.in_generators.new.hidden (with_gens c.args.hidden.now (gens (map generator c.as_slice-in-GenCall.result.now))) (λ z. in_tree z (tree c.deref-in-GenCall.result.now)) (after_both c.args.out.now.items c.applied-in-GenCall.new.out.items c.in_generators.new.out.items (applied c.args.hidden.now c.in-GenCall.n false) (in_gens c.args.hidden.now (gens (map generator c.as_slice-in-GenCall.result.now))) _ c.in_ok-applied-in-GenCall.ensures c.in_ok-in_generators-in-GenCall.ensures.uses refl) c.in_ok-in_expression-in-GenCall.ensures.uses c.in_ok-in_generators-in-GenCall.ensures.hidden (in_gen_call c.args.hidden.now c.args.e.now c.deref-in-GenCall.result.now c.in-GenCall.n c.in-GenCall.x c.in-GenCall.gs c.as_slice-in-GenCall.result.now c.in-GenCall.is c.deref-in-GenCall.ensures c.as_slice-in-GenCall.ensures.value)
 
 pub in_expression-returns-in_ok-in_expression-in-GenCall-clause-hidden : goal.in_expression-returns-in_ok-in_expression-in-GenCall-clause-hidden
-in_expression-returns-in_ok-in_expression-in-GenCall-clause-hidden t c = left_after c.args.hidden.now (with_gens c.args.hidden.now (gens (map generator c.as_slice-in-GenCall.result.now))) c.in_generators.new.hidden c.in_expression-in-GenCall.new.hidden c.leave.new.self c.len-depth.result c.len-depth.ensures (begins_gens c.args.hidden.now (gens (map generator c.as_slice-in-GenCall.result.now))) c.in_ok-in_generators-in-GenCall.ensures.hidden c.in_ok-in_expression-in-GenCall.ensures.hidden c.leave.ensures
+in_expression-returns-in_ok-in_expression-in-GenCall-clause-hidden t c = left_after c.args.hidden.now (with_gens c.args.hidden.now (gens (map generator c.as_slice-in-GenCall.result.now))) c.in_generators.new.hidden c.in_expression-in-GenCall.new.hidden c.truncate.new.self c.len-depth.result c.len-depth.ensures.is (begins_gens c.args.hidden.now (gens (map generator c.as_slice-in-GenCall.result.now))) c.in_ok-in_generators-in-GenCall.ensures.hidden c.in_ok-in_expression-in-GenCall.ensures.hidden c.truncate.ensures
 
 pub in_expression-returns-in_ok-in_expression-in-Let-clause-uses : goal.in_expression-returns-in_ok-in_expression-in-Let-clause-uses
 in_expression-returns-in_ok-in_expression-in-Let-clause-uses t c = after_scope c.args.out.now.items c.in_let_items.new.out.items c.in_expression-in-Let.new.out.items (in_lets c.args.hidden.now (lets (map let_of c.as_slice-in-Let.result.now))) (in_tree c.args.hidden.now (tree c.args.e.now)) c.in_let_items.new.hidden (with_lets c.args.hidden.now (lets (map let_of c.as_slice-in-Let.result.now))) (λ z. in_tree z (tree c.deref-in-Let.result.now)) c.in_ok-in_let_items-in-Let.ensures.uses c.in_ok-in_expression-in-Let.ensures.uses c.in_ok-in_let_items-in-Let.ensures.hidden (in_let_form c.args.hidden.now c.args.e.now c.deref-in-Let.result.now c.in-Let.x c.in-Let.ls c.as_slice-in-Let.result.now c.in-Let.is c.deref-in-Let.ensures c.as_slice-in-Let.ensures.value)
 
 pub in_expression-returns-in_ok-in_expression-in-Let-clause-hidden : goal.in_expression-returns-in_ok-in_expression-in-Let-clause-hidden
-in_expression-returns-in_ok-in_expression-in-Let-clause-hidden t c = left_after c.args.hidden.now (with_lets c.args.hidden.now (lets (map let_of c.as_slice-in-Let.result.now))) c.in_let_items.new.hidden c.in_expression-in-Let.new.hidden c.leave-in-Let.new.self c.len-depth-in-Let.result c.len-depth-in-Let.ensures (begins_lets c.args.hidden.now (lets (map let_of c.as_slice-in-Let.result.now))) c.in_ok-in_let_items-in-Let.ensures.hidden c.in_ok-in_expression-in-Let.ensures.hidden c.leave-in-Let.ensures
+in_expression-returns-in_ok-in_expression-in-Let-clause-hidden t c = left_after c.args.hidden.now (with_lets c.args.hidden.now (lets (map let_of c.as_slice-in-Let.result.now))) c.in_let_items.new.hidden c.in_expression-in-Let.new.hidden c.truncate-in-Let.new.self c.len-depth-in-Let.result c.len-depth-in-Let.ensures.is (begins_lets c.args.hidden.now (lets (map let_of c.as_slice-in-Let.result.now))) c.in_ok-in_let_items-in-Let.ensures.hidden c.in_ok-in_expression-in-Let.ensures.hidden c.truncate-in-Let.ensures
 
 pub in_expression-returns-in_ok-in_expression-in-Chain-clause-uses : goal.in_expression-returns-in_ok-in_expression-in-Chain-clause-uses
 in_expression-returns-in_ok-in_expression-in-Chain-clause-uses t c = scope_on_ok c.in_operands.result c.args.out.now.items c.in_expression-in-Chain.new.out.items c.in_operands.new.out.items (in_tree c.args.hidden.now (tree c.deref-in-Chain.result.now)) (in_tree c.args.hidden.now (tree c.args.e.now)) c.in_expression-in-Chain.new.hidden c.args.hidden.now (λ z. in_links z (links (map link c.as_slice-in-Chain.result.now))) c.in_ok-in_expression-in-Chain.ensures.uses c.in_operands.ensures.uses c.in_ok-in_expression-in-Chain.ensures.hidden (in_chain c.args.hidden.now c.args.e.now c.deref-in-Chain.result.now c.in-Chain.x c.in-Chain.rest c.as_slice-in-Chain.result.now c.in-Chain.is c.deref-in-Chain.ensures c.as_slice-in-Chain.ensures.value)
@@ -271,8 +271,8 @@ in_local-returns-in_ok-in_expression-in-Some t c =
     let uses = after_both c.args.out.now.items c.in_type.new.out.items c.in_expression.new.out.items (in_written h (written (out-Decl d).ty)) (in_tree h e) (in_declaration h (declaration d)) c.in_ok-in_type.ensures.uses
     (c.in_ok-in_expression-in-Some.ensures.uses ∙ ap (λ z. c.in_type.new.out.items ++ in_tree z e) c.in_ok-in_type.ensures.hidden) (in_declaration_value h d c.in-Some.value c.in-Some.is) in
     record {
-      uses = on_ok_weaker c.hide.result (λ k. uses) c.hide.ensures;
-      hidden = on_ok_weaker c.hide.result (λ k. k ∙ ap (λ z. with_name z (out-Decl d).name) (c.in_ok-in_expression-in-Some.ensures.hidden ∙ c.in_ok-in_type.ensures.hidden) ∙ sym (with_declaration_is h d)) c.hide.ensures;
+      uses = on_ok_weaker c.add.result (λ k. uses) c.add.ensures;
+      hidden = on_ok_weaker c.add.result (λ k. k ∙ ap (λ z. with_name z (out-Decl d).name) (c.in_ok-in_expression-in-Some.ensures.hidden ∙ c.in_ok-in_type.ensures.hidden) ∙ sym (with_declaration_is h d)) c.add.ensures;
     }
 
 pub in_local-returns-in-None : goal.in_local-returns-in-None
@@ -281,8 +281,8 @@ in_local-returns-in-None t c =
     let d = c.args.d.now in
     let uses = after_one c.args.out.now.items c.in_type.new.out.items (in_written h (written (out-Decl d).ty)) (in_declaration h (declaration d)) c.in_ok-in_type.ensures.uses (in_declaration_alone h d c.in-None.is) in
     record {
-      uses = on_ok_weaker c.hide-in-None.result (λ k. uses) c.hide-in-None.ensures;
-      hidden = on_ok_weaker c.hide-in-None.result (λ k. k ∙ ap (λ z. with_name z (out-Decl d).name) c.in_ok-in_type.ensures.hidden ∙ sym (with_declaration_is h d)) c.hide-in-None.ensures;
+      uses = on_ok_weaker c.add-in-None.result (λ k. uses) c.add-in-None.ensures;
+      hidden = on_ok_weaker c.add-in-None.result (λ k. k ∙ ap (λ z. with_name z (out-Decl d).name) c.in_ok-in_type.ensures.hidden ∙ sym (with_declaration_is h d)) c.add-in-None.ensures;
     }
 
 pub in_type-returns-in_ok-in_dims-in-Some : goal.in_type-returns-in_ok-in_dims-in-Some

@@ -16,7 +16,7 @@ use Rattle.soln_reader.proofs.walk.pass_lines.Goals as goal
 pub lines-init : goal.lines-init
 lines-init c =
     let R : List Slot → Type 0 = λ ss. Restores ss (block_of c.args.block.now) (block_of c.args.block.now) in
-    record { passed = no_line; within = omega arith; few = omega arith; known = c.requires.seen; restores = subst R (sym c.requires.empty) (restores_none (block_of c.args.block.now)) }
+    record { passed = no_line; within = omega arith; few = omega arith; known = c.requires.seen; restores = subst R (sym c.new-slots.ensures.items) (restores_none (block_of c.args.block.now)) }
 
 pub lines-preserved : goal.lines-preserved
 lines-preserved c =
