@@ -3,11 +3,13 @@
 #![tactic(auto)]
 
 mod case;
+mod rows;
 
 use crate::case::{arguments_of, sizes_of};
+use crate::rows::row_named;
 use cases::Page;
 use mz_base::{Fault, Memory, Span, Stop};
-use mz_builtin_apply::{apply_row, cost_of, is_applied, is_failed, read_as, row_of};
+use mz_builtin_apply::{apply_row, cost_of, is_applied, is_failed, read_as};
 use mz_operations::Row;
 use mz_value::Value;
 use std::alloc::Global;
@@ -61,19 +63,10 @@ fn called(
     answered(call, apply_row(alloc, row, args, Span::start(0)), page)
 }
 
-/// The call of a line that begins with a row's number.
-fn one(
-    alloc: Global,
-    number: &str,
-    call: &str,
-    words: &str,
-    page: &mut Page,
-) -> Result<(), Memory> {
-    let Ok(number) = number.parse::<u32>() else {
-        return Ok(());
-    };
+/// The call of a line that begins with a row's name.
+fn one(alloc: Global, name: &str, call: &str, words: &str, page: &mut Page) -> Result<(), Memory> {
     let args = arguments_of(alloc, words)?;
-    match row_of(number) {
+    match row_named(name) {
         Some(row) => called(alloc, call, row, &args, page),
         None => {
             not_asked(call, page);
@@ -83,35 +76,26 @@ fn one(
 }
 
 /// The cost that a line of `cost` asks for.
-fn cost(
-    alloc: Global,
-    number: &str,
-    name: &str,
-    words: &str,
-    page: &mut Page,
-) -> Result<(), Memory> {
-    let Ok(number) = number.parse::<u32>() else {
-        return Ok(());
-    };
+fn cost(alloc: Global, name: &str, call: &str, words: &str, page: &mut Page) -> Result<(), Memory> {
     let sizes = sizes_of(alloc, words)?;
-    if let Some(row) = row_of(number) {
+    if let Some(row) = row_named(name) {
         page.put("cost of ");
-        page.case(name, cost_of(row, &sizes));
+        page.case(call, cost_of(row, &sizes));
     }
     Ok(())
 }
 
 /// The answer of a line. A line of another kind, as a comment, has no answer.
 fn answer(alloc: Global, line: &str, page: &mut Page) -> Result<(), Memory> {
-    let Some((number, rest)) = line.split_once(';') else {
+    let Some((name, rest)) = line.split_once(';') else {
         return Ok(());
     };
     let Some((call, words)) = rest.split_once(';') else {
         return Ok(());
     };
-    match number.strip_prefix("cost ") {
-        Some(number) => cost(alloc, number, call.trim(), words, page),
-        None => one(alloc, number, call.trim(), words, page),
+    match name.strip_prefix("cost ") {
+        Some(name) => cost(alloc, name, call.trim(), words, page),
+        None => one(alloc, name, call.trim(), words, page),
     }
 }
 

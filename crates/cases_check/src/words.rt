@@ -1,7 +1,7 @@
 // The words of typed trees: names as they stand in the line, local names with their numbers, rows by the table's names.
 
 use cases::Page;
-use mz_builtin::entries;
+use mz_builtin::{built_ins, global, globals};
 
 fn is_of_word(byte: u8) -> bool {
     byte.is_ascii_alphanumeric() || byte == b'_'
@@ -38,8 +38,18 @@ pub fn put_locals(page: &mut Page, count: u64, slots: &[u64]) {
 
 /// The name of a row of the table.
 pub fn row_name(row: u32) -> &'static str {
-    match entries().get(row as usize) {
-        Some(entry) => entry.name,
+    match built_ins().get(row as usize) {
+        Some(line) => line.name,
+        None => global_name(row),
+    }
+}
+
+fn global_name(row: u32) -> &'static str {
+    let Some(place) = global(row) else {
+        return "?";
+    };
+    match globals().get(place as usize) {
+        Some(line) => line.name,
         None => "?",
     }
 }

@@ -17,7 +17,7 @@ use Rattle.mz_core.specs.Order.{below, same_type, same_dims, dims_below}
 use Rattle.mz_core.specs.Join.{join}
 use Rattle.mz_core.specs.Paths.{coercions, index_links}
 use Rattle.mz_overload.specs.Best.{all_below, is_least, resolution}
-use Rattle.mz_builtin.specs.Table.{built_ins, globals, table}
+use Rattle.mz_builtin.specs.Table.{built_ins, globals, placed_from, table}
 use Rattle.mz_builtin.specs.Readings.{with_number, with_base, with_indices, enums_from, index_enums_from, with_rank, ranks_from, choices, cases, sets_of_cases, scalars, sets, meanings, readings_of, result_var, opt_of, base_of, type_of, types_with, types_of_rank, array_types, joined, products, index_lists, index_sets, param_types, given_indices, array_indices, result_type, numbered, all_params, with_mark, with_meaning, of_entry}
 use Rattle.mz_builtin.specs.Signatures.{has_name, of_named, made, signatures, fitting, global_place}
 use Rattle.mz_check_meaning.specs.Models.{entry_of, entries_of, local_in}
@@ -134,5 +134,5 @@ models =
     ∷ []
 
 pub models_are_typed : map ending models ≡ map wanted_ending models
-unfolding below same_type same_dims dims_below join coercions index_links all_below is_least resolution built_ins globals table with_number with_base with_indices enums_from index_enums_from with_rank ranks_from choices cases sets_of_cases scalars sets meanings readings_of result_var opt_of base_of type_of types_with types_of_rank array_types joined products index_lists index_sets param_types given_indices array_indices result_type numbered all_params with_mark with_meaning of_entry has_name of_named made signatures fitting global_place entry_of entries_of local_in wrapped coercions_to coerced all_coerced fitted condition allowed_at is_left_out best rows_for candidates call_node applied row_of row_node prefix_name operator_name operated from_right appended join_next listed tabled set_literal indices_fitted accessed branches_join decided running_type bind_names listed_heads set_of_heads comprehended par_set index values set_of_values declared_base declared let_node meant named bare_call check check_form check_maybe checks check_links check_rows check_branches check_piece check_pieces check_gen check_gens check_let check_lets check_declaration check_written check_based check_dims check_bases heading with_types same_types is_in_library duplicate_after decl with_params function constraint goal output untyped first_from types_met signed items_met sections name_tree one_tree range_tree set_tree plain_tree list_tree rows_tree index_set_tree shaped_tree value_tree wanted typed_value declared_as given_value given_values with_values checked_given checked_with_data
+unfolding below same_type same_dims dims_below join coercions index_links all_below is_least resolution built_ins globals placed_from table with_number with_base with_indices enums_from index_enums_from with_rank ranks_from choices cases sets_of_cases scalars sets meanings readings_of result_var opt_of base_of type_of types_with types_of_rank array_types joined products index_lists index_sets param_types given_indices array_indices result_type numbered all_params with_mark with_meaning of_entry has_name of_named made signatures fitting global_place entry_of entries_of local_in wrapped coercions_to coerced all_coerced fitted condition allowed_at is_left_out best rows_for candidates call_node applied row_of row_node prefix_name operator_name operated from_right appended join_next listed tabled set_literal indices_fitted accessed branches_join decided running_type bind_names listed_heads set_of_heads comprehended par_set index values set_of_values declared_base declared let_node meant named bare_call check check_form check_maybe checks check_links check_rows check_branches check_piece check_pieces check_gen check_gens check_let check_lets check_declaration check_written check_based check_dims check_bases heading with_types same_types is_in_library duplicate_after decl with_params function constraint goal output untyped first_from types_met signed items_met sections name_tree one_tree range_tree set_tree plain_tree list_tree rows_tree index_set_tree shaped_tree value_tree wanted typed_value declared_as given_value given_values with_values checked_given checked_with_data
 models_are_typed = refl
