@@ -1,5 +1,5 @@
 -- A worked example: a program that is faithful to the instance of a small model with an option, a set, an array and a choice.
-use Rattle.std.proofs.Common.{◌≡◌, ◌≢◌, ◌∙◌, ℕ, zero, suc, ℤ, pos, ◌≤ℤ◌, Bool, true, false, not, ◌&&◌, ◌||◌, List, [], ◌∷◌, ◌++◌, Option, Some, None, nat_eq, refl, sym, ap, subst, inl, inr, ◌⊎◌, arith, if◌then◌else◌}
+use Rattle.std.proofs.Common.{◌≡◌, ◌≢◌, ◌∙◌, ℕ, zero, suc, ℤ, pos, ◌≤ℤ◌, Bool, true, false, not, ◌&&◌, ◌||◌, List, [], ◌∷◌, ◌++◌, Option, Some, nat_eq, refl, sym, ap, inl, inr, ◌⊎◌, arith, if◌then◌else◌}
 use Rattle.std.specs.List.{Contains, list_any}
 use Rattle.std.specs.Ordering.{int_eq}
 use Rattle.std.specs.Fmt.{digits}
@@ -11,9 +11,8 @@ use Rattle.std.proofs.lemmas.Slice.Eq.{bytes_eq-Decides}
 use Rattle.mz_base.specs.Words.{is_keyword}
 use Rattle.mz_value.specs.Ranges.{Range, AreCanonical, AreInLimit, Has}
 use Rattle.mz_operations.specs.Views.{number_of_bool}
-use Rattle.mz_operations.specs.declared.row.Side.TheVariants.{Least, Greatest}
 use Rattle.mz_operations.specs.Sets.{end_of}
-use Rattle.mz_arena.specs.Entries.{Entry, folded, is_free}
+use Rattle.mz_arena.specs.Entries.{folded, is_free}
 use Rattle.mz_arena.specs.Values as terms
 use Rattle.mz_arena.specs.Values.{comparison_term}
 use Rattle.mz_arena.specs.Terms.{terms as all_terms}
@@ -26,13 +25,12 @@ use Rattle.mz_instance.proofs.Items.{each_at}
 use Rattle.mz_instance.proofs.Nodes.{parts_fit}
 use Rattle.mz_instance.proofs.SampleHolds.{nodes, locals}
 use Rattle.fz_program.specs.Names.{Name}
-use Rattle.fz_program.specs.Values.{Value, Values, number, set, number_in, linear}
+use Rattle.fz_program.specs.Values.{Value, Values, number, set, number_in}
 use Rattle.fz_program.specs.Table.{line}
-use Rattle.fz_program.specs.Flat.{Program, AreDistinct, labels, WellFormed, AreParts, IsWellFormedVariable, FlatSolves, kind_of_domain, same_kind, is_constant, is_plain, is_argument, are_arguments, is_set, weight, is_within, place_count}
-use Rattle.fz_emission.specs.Goals.{IsGoalOf, objective_of}
+use Rattle.fz_program.specs.Flat.{AreDistinct, labels, WellFormed, FlatSolves, kind_of_domain, same_kind, is_constant, is_plain, is_argument, are_arguments, is_set, weight, is_within, place_count}
 use Rattle.fz_emission.specs.Sample.{table, made, program}
 use Rattle.fz_emission.proofs.Examples.{defined_once}
-use Rattle.flat_meaning.specs.Faithful.{AreIntroduced, front_of, IsReading, IsMet, Faithful}
+use Rattle.flat_meaning.specs.Faithful.{IsReading, IsMet, Faithful}
 
 -- ---- the program is well formed
 

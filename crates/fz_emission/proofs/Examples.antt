@@ -1,5 +1,5 @@
 -- Worked examples: what names have for values in a solution, and which rows define which variables.
-use Rattle.std.proofs.Common.{◌≡◌, refl, ℕ, pos, true, false, Bool, List, [], ◌∷◌, Some, None, Option, codes, slice_get, inl, inr, arith}
+use Rattle.std.proofs.Common.{◌≡◌, refl, ℕ, pos, true, false, Bool, [], ◌∷◌, Some, None, Option, codes, slice_get, inl, inr, arith}
 use Rattle.std.specs.Fmt.{digits}
 use Rattle.mz_value.specs.Contents.{Content, none, more}
 use Rattle.mz_value.specs.Contents as values
@@ -11,8 +11,8 @@ use Rattle.mz_core.specs.Types.{PlainType}
 use Rattle.mz_instance.specs.Sample.{one_or_two, sample}
 use Rattle.mz_instance.proofs.Items.{each_at}
 use Rattle.fz_program.specs.Names.{Name}
-use Rattle.fz_program.specs.Values.{Value, Values, number, set}
-use Rattle.fz_program.specs.Flat.{Variable, Program}
+use Rattle.fz_program.specs.Values.{Values, number, set}
+use Rattle.fz_program.specs.Flat.{Variable}
 use Rattle.fz_emission.specs.Front.{front_variables, front_arrays}
 use Rattle.fz_emission.specs.Reading.{read_content, HasDefaults}
 use Rattle.fz_emission.specs.Defined.{DefinedOnce, IsDefinedBy}

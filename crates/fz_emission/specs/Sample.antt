@@ -3,7 +3,7 @@
 use Rattle.std.specs.Prelude.{ℕ, pos, true, false, List, [], ◌∷◌, ◌++◌, Some, None, codes}
 use Rattle.mz_instance.specs.Sample.{one_or_two}
 use Rattle.fz_program.specs.Names.{Name}
-use Rattle.fz_program.specs.Arguments.{Plain, bool, int, var, one, array}
+use Rattle.fz_program.specs.Arguments.{int, var, one, array}
 use Rattle.fz_program.specs.declared.program.Domain.{Domain}
 use Rattle.fz_program.specs.declared.program.Domain.TheVariants.{Bool as Truths, Ints, SetOf}
 use Rattle.fz_program.specs.declared.program.FzGoal.TheVariants.{Satisfy}

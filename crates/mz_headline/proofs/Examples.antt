@@ -1,7 +1,6 @@
 -- WRONG PROGRAMS, each of which keeps no solutions: one that minimizes where the model maximizes, one without a declared variable, one with a name of another kind, and one whose variable isn't marked for output.
 -- var 1..3: x; solve maximize x;
-use Rattle.std.proofs.Common.{◌≡◌, ℕ, pos, Bool, true, false, List, [], ◌∷◌, Some, None, codes, refl}
-use Rattle.std.specs.Str.{bytes_eq}
+use Rattle.std.proofs.Common.{◌≡◌, ℕ, pos, Bool, true, false, List, [], ◌∷◌, Some, None, codes}
 use Rattle.mz_core.specs.Program.{PlainProgram, maximize}
 use Rattle.mz_core.specs.Types.{PlainType}
 use Rattle.mz_core.specs.Tree.{Decl}

@@ -1,17 +1,17 @@
 -- The worked example is an instance, and its choice has its node.
-use Rattle.std.proofs.Common.{◌≡◌, ◌≢◌, refl, ℕ, zero, suc, ℤ, pos, true, false, List, [], ◌∷◌, Option, Some, None, slice_get, IsSome, sym, subst, inl, inr, arith}
+use Rattle.std.proofs.Common.{◌≡◌, ◌≢◌, refl, ℕ, zero, suc, ℤ, true, false, [], ◌∷◌, Some, slice_get, IsSome, subst, inr, arith}
 use Rattle.std.proofs.lemmas.Int.{ints}
 use Rattle.mz_operations.specs.Arrays.{place_count}
 use Rattle.mz_operations.specs.Laws.{IsSet}
-use Rattle.mz_operations.specs.Sets.{end_of, union, complement, missing_from}
+use Rattle.mz_operations.specs.Sets.{end_of}
 use Rattle.mz_arena.specs.Entries.{Entry, children, AllBelow, is_free, is_local, is_set_const, folded}
 use Rattle.mz_arena.specs.Terms.{own_id}
-use Rattle.mz_arena.specs.Extents.{Known, extents, extent, bool_extent, variable_extent, set_variable_extent, comparison_extent, node_extent}
-use Rattle.mz_arena.specs.Numbering.{local_ids_from, local_ids, IsChoice, Numbered}
+use Rattle.mz_arena.specs.Extents.{extents, extent, bool_extent, variable_extent, set_variable_extent, comparison_extent}
+use Rattle.mz_arena.specs.Numbering.{local_ids_from, local_ids, IsChoice}
 use Rattle.mz_arena.specs.Arenas.{HasDomain, IsArena}
-use Rattle.mz_instance.specs.Parts.{Truth, truths, IsNode, AreNodes, ids, parts}
-use Rattle.mz_instance.specs.Instance.{IsInstance, IsModelVar, AreModelVars, IsPart, AreParts, AreTruths, CanTake}
-use Rattle.mz_instance.specs.Sample.{one_or_two, arena, o, s, b, sample, choice}
+use Rattle.mz_instance.specs.Parts.{Truth, truths, AreNodes, ids, parts}
+use Rattle.mz_instance.specs.Instance.{IsInstance, AreModelVars, IsPart, AreParts, AreTruths, CanTake}
+use Rattle.mz_instance.specs.Sample.{one_or_two, arena, sample, choice}
 use Rattle.mz_instance.proofs.Items.{each_at}
 
 -- ---- the arena

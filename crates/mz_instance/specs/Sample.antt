@@ -7,7 +7,7 @@ use Rattle.mz_arena.specs.declared.instance.InstanceGoal.TheVariants.{Satisfy}
 use Rattle.mz_arena.specs.declared.node.NodeKind.{NodeKind}
 use Rattle.mz_arena.specs.declared.node.NodeKind.TheVariants.{Int, Var, Local, Eq, SetConst, SetVar}
 use Rattle.mz_arena.specs.Entries.{Entry, entry}
-use Rattle.mz_arena.specs.Instances.{VarCell, ModelVar, Instance}
+use Rattle.mz_arena.specs.Instances.{ModelVar, Instance}
 use Rattle.mz_instance.specs.Parts.{Whole, Part, truths}
 
 abbrev pub one_or_two : List Range

@@ -1,6 +1,6 @@
 -- Worked examples: the walks over a small model, and what its instance says of them.
 -- var opt 1..2: o; var set of 1..2: s; array[1..2] of var bool: b; constraint let { var 1..2: y } in y = 2;
-use Rattle.std.specs.Prelude.{refl, ◌≡◌, ℕ, ℤ, pos, Bool, true, false, List, [], ◌∷◌, Some, None, nat_eq, nat_lt, if◌then◌else◌}
+use Rattle.std.specs.Prelude.{refl, ◌≡◌, ℕ, ℤ, pos, true, false, [], ◌∷◌, Some, None, nat_eq, if◌then◌else◌}
 use Rattle.mz_value.specs.Shown.{range_elements}
 use Rattle.mz_value.specs.Contents.{Content}
 use Rattle.mz_value.specs.Contents as values
@@ -29,9 +29,8 @@ use Rattle.mz_meaning.specs.Unbounded.{unbounded_in, in_form, in_maybe, in_trees
 use Rattle.mz_meaning.specs.Walk.{Limits, Assignment}
 use Rattle.mz_meaning.specs.Written.{list_of, var_int, var_bool, var_opt_int, var_ints, num, slot, bin, to_var, let_in, range, within, indexed, decl, i, row, fromto}
 use Rattle.mz_meaning.specs.RowNumbers as op
-use Rattle.mz_instance.specs.Parts.{AreNodes}
 use Rattle.mz_instance.specs.Sample.{one_or_two, sample}
-use Rattle.mz_model_meaning.specs.Decoded.{all_parts, Tells, Chooses}
+use Rattle.mz_model_meaning.specs.Decoded.{Tells, Chooses}
 use Rattle.mz_model_meaning.specs.Modeled.{AreVarsOf, names_in, IsWalked}
 
 abbrev limits : Limits
