@@ -11,21 +11,22 @@ use Rattle.mz_meaning.specs.Walk.{Limits, Assignment, ordered, walk}
 use Rattle.mz_meaning_laws.specs.Ties.{outline_answer}
 use Rattle.mz_meaning_laws.proofs.Consequences.{nothing_solves}
 use Rattle.fz_program.specs.Flat.{Program, WellFormed}
+use Rattle.mz_headline.specs.Keeping.{KeepsSolutions}
 use Rattle.mz_first_unbuilt.specs.Unbuilt.{unbuilt_places}
 use Rattle.mz_first_meaning.specs.Ends.{EndAlike, outline_posting, is_walk_kind}
 use Rattle.mz_first_meaning.specs.Posted.{Posting, posting_walk, walked_of}
 use Rattle.mz_first_meaning.proofs.Told as told
 use Rattle.mz_first_rows.specs.Emission.{emission, writing_walk}
-use Rattle.mz_first_rows.specs.Headline.{AreNumberedAndNamed, KeepsSolutions}
+use Rattle.mz_first_rows.specs.Headline.{AreNumberedAndNamed}
 use Rattle.mz_first_rows.proofs.Written.{emits}
-use Rattle.mz_first_rows.proofs.Solved.{keeps}
+use Rattle.mz_first_rows.proofs.Typed.{keeps_typed}
 
 -- ---- the headline
 
 written_keeps : (l : Limits) (table : List (List ℕ)) (p : PlainProgram) → unbuilt_places table p ≡ [] → AreNumberedAndNamed table (ordered p.decls p.order) → (b : Assignment) (flat : Program) (t : State) (r : Answer Posting) → posting_walk Untested l Bare b p start ≡ r → then_do r (λ v. give (emission table p v)) ≡ Out flat t → WellFormed flat → KeepsSolutions l table p flat
 written_keeps l table p h n b flat t (Out v q) e k w =
     let o : emission table p v ≡ flat = cc in
-    subst (KeepsSolutions l table p) o (keeps l table p h n b v q e (subst WellFormed (sym o) w))
+    subst (KeepsSolutions l table p) o (keeps_typed l table p h n b v q e (subst WellFormed (sym o) w))
 written_keeps l table p h n b flat t (Stopped f) e k w = absurd (cc)
 
 pub headline : (l : Limits) (table : List (List ℕ)) (p : PlainProgram) → unbuilt_places table p ≡ [] → AreNumberedAndNamed table (ordered p.decls p.order) → (b : Assignment) (flat : Program) (t : State) → writing_walk Untested l Bare b table p start ≡ Out flat t → WellFormed flat → KeepsSolutions l table p flat

@@ -8,4 +8,5 @@ mod Roots
 mod Posts
 pub mod Written
 mod Solved
+mod Typed
 pub mod Laws

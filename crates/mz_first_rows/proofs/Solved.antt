@@ -24,7 +24,7 @@ use Rattle.mz_first_meaning.specs.Ends.{outline_posting, outline_posted}
 use Rattle.mz_first_meaning.specs.Posted.{Posting, post_next, posting_walk, walked_of}
 use Rattle.mz_first_meaning.proofs.Told as told
 use Rattle.mz_first_rows.specs.Emission.{labels_for, variables, empties, all_rows, emission}
-use Rattle.mz_first_rows.specs.Headline.{AreNumberedAndNamed, ReadsBy, Reads, ReadsOff, Readable, IsReadFrom, KeepsSolutions, integer_at}
+use Rattle.mz_first_rows.specs.Headline.{AreNumberedAndNamed, ReadsBy, Reads, ReadsOff, Readable, IsReadFrom, KeepsIntegers, integer_at}
 use Rattle.mz_first_rows.proofs.Runs.{Gives, after, from, given, gives_at}
 use Rattle.mz_first_rows.proofs.Names.{AreDeclared, names_are, slot_is, cell_is}
 use Rattle.mz_first_rows.proofs.Variables.{each_to, numbers, AreRead, to_slots, from_slots, labels_of_declared, are_read, reads_numbers}
@@ -61,11 +61,11 @@ run_by table p h l g a v t (Out x q) e k = record { out = x; end = q; posts = e;
 run_by table p h l g a v t (Stopped f) e k = absurd (cc)
 
 -- a model of which all is built, and what the walk that posts gives of it without values
-record IsShown (l : Limits) (table : List (List ℕ)) (p : PlainProgram) (b : Assignment) (v : Posting) (t : State) : Type 0 where
-  built : unbuilt_places table p ≡ []
-  numbered : AreNumberedAndNamed table (evaluated p)
-  posts : posting_walk Untested l Bare b p start ≡ Out v t
-  formed : WellFormed (emission table p v)
+pub record IsShown (l : Limits) (table : List (List ℕ)) (p : PlainProgram) (b : Assignment) (v : Posting) (t : State) : Type 0 where
+  pub built : unbuilt_places table p ≡ []
+  pub numbered : AreNumberedAndNamed table (evaluated p)
+  pub posts : posting_walk Untested l Bare b p start ≡ Out v t
+  pub formed : WellFormed (emission table p v)
 
 run : (l : Limits) (table : List (List ℕ)) (p : PlainProgram) (b : Assignment) (v : Posting) (t : State) → IsShown l table p b v t → (g : ℕ → Content) (a : Assignment) → IsRun l p g a v
 run l table p b v t z g a = run_by table p z.built l g a v t (posting_walk Positive l (Given g) a p start) refl (sym (told.outlines table p z.built Positive Untested l a b g) ∙ z.posts)
@@ -73,7 +73,7 @@ run l table p b v t z g a = run_by table p z.built l g a v t (posting_walk Posit
 bare_walk : (l : Limits) (table : List (List ℕ)) (p : PlainProgram) (b : Assignment) (v : Posting) (t : State) → IsShown l table p b v t → walk Untested l Bare b p start ≡ Out (walked_of v) t
 bare_walk l table p b v t z = told.walks table p z.built Untested l Bare b start ∙ ap (λ r. then_do r (λ v. give (walked_of v))) z.posts
 
-shown_names : (l : Limits) (table : List (List ℕ)) (p : PlainProgram) (b : Assignment) (v : Posting) (t : State) → IsShown l table p b v t → AreDeclared Bare b (evaluated p) v.names
+pub shown_names : (l : Limits) (table : List (List ℕ)) (p : PlainProgram) (b : Assignment) (v : Posting) (t : State) → IsShown l table p b v t → AreDeclared Bare b (evaluated p) v.names
 shown_names l table p b v t z = gives_at (λ v. AreDeclared Bare b (evaluated p) v.names) (posting_walk Untested l Bare b p) start v t (names_gives Untested l Bare b table p (told.parts table p z.built).declarations) z.posts
 
 run_gives : (l : Limits) (table : List (List ℕ)) (p : PlainProgram) → unbuilt_places table p ≡ [] → (g : ℕ → Content) (a : Assignment) (v : Posting) (w : IsRun l p g a v) → IsPosting (Given g) a p w.out
@@ -84,7 +84,7 @@ run_gives l table p h g a v w = gives_at (IsPosting (Given g) a p) (posting_walk
 distinct_labels : (p : Program) → p.arrays ≡ [] → WellFormed p → AreDistinct (labels_of p.vars)
 distinct_labels p e w = subst AreDistinct (ap (λ xs. labels_of p.vars ++ map (λ x. x.label) xs) e ∙ append-nil (labels_of p.vars)) w.distinct
 
-each_pair : {A : Type 0} (P Q : A → Type 0) (xs : List A) → Each P xs → Each Q xs → Each (λ x. P x × Q x) xs
+pub each_pair : {A : Type 0} (P Q : A → Type 0) (xs : List A) → Each P xs → Each Q xs → Each (λ x. P x × Q x) xs
 each_pair P Q [] h k = tt
 each_pair P Q (x ∷ xs) h k = ((h.0, k.0), each_pair P Q xs h.1 k.1)
 
@@ -182,7 +182,7 @@ none_lost l table p b v t z a k s =
       objective = sym aim;
     }
 
-pub keeps : (l : Limits) (table : List (List ℕ)) (p : PlainProgram) → unbuilt_places table p ≡ [] → AreNumberedAndNamed table (evaluated p) → (b : Assignment) (v : Posting) (t : State) → posting_walk Untested l Bare b p start ≡ Out v t → WellFormed (emission table p v) → KeepsSolutions l table p (emission table p v)
+pub keeps : (l : Limits) (table : List (List ℕ)) (p : PlainProgram) → unbuilt_places table p ≡ [] → AreNumberedAndNamed table (evaluated p) → (b : Assignment) (v : Posting) (t : State) → posting_walk Untested l Bare b p start ≡ Out v t → WellFormed (emission table p v) → KeepsIntegers l table p (emission table p v)
 keeps l table p h n b v t e w =
     let z : IsShown l table p b v t = record { built = h; numbered = n; posts = e; formed = w } in
     record {

@@ -1,17 +1,20 @@
--- WHAT A FLATZINC PROGRAM IS TO THE MODEL THAT IT WAS WRITTEN FOR: its solutions, read off by names, are the model's, with the same objective.
-use Rattle.std.specs.Prelude.{◌≡◌, ◌<◌, ℕ, ℤ, pos, Bool, true, false, List, length, map, Option, Some, None, slice_index_or}
+-- What a FlatZinc program whose variables are all integers is to the model that it was written for, and that it is the one that the walk writes.
+use Rattle.std.specs.Prelude.{◌≡◌, ◌<◌, ℕ, ℤ, Bool, true, false, List, length, map, Option, Some, None, slice_index_or}
 use Rattle.mz_base.specs.Names.{text_of}
 use Rattle.mz_value.specs.Contents as values
 use Rattle.mz_core.specs.Program.{PlainProgram}
 use Rattle.mz_core.specs.Tree.{Decl}
+use Rattle.mz_meaning.specs.Runs.{State, Out, start}
+use Rattle.mz_meaning.specs.Cells.{Bare}
+use Rattle.mz_meaning.specs.Contexts.{Untested}
 use Rattle.mz_meaning.specs.Walk.{Limits, Assignment, ordered}
 use Rattle.mz_meaning.specs.Solutions.{Each, SolvesWith}
 use Rattle.fz_program.specs.Names.{Name}
-use Rattle.fz_program.specs.Values.{Values, number, number_in}
-use Rattle.fz_program.specs.declared.program.FzGoal.{FzGoal}
-use Rattle.fz_program.specs.declared.program.FzGoal.TheVariants.{Satisfy, Minimize, Maximize}
+use Rattle.fz_program.specs.Values.{Values, number_in}
 use Rattle.fz_program.specs.Flat.{Program, AreDistinct, labels_of, FlatSolves}
+use Rattle.fz_emission.specs.Goals.{objective_of}
 use Rattle.fz_emission.specs.Solutions.{read_off}
+use Rattle.mz_first_rows.specs.Emission.{writing_walk}
 
 -- the declarations, in the order of evaluation, have their places as slots, and names that differ
 pub record AreNumberedAndNamed (table : List (List ℕ)) (ds : List Decl) : Type 0 where
@@ -34,12 +37,6 @@ Reads table flat f a d = ReadsBy d.ty.ty.var table flat f a d
 abbrev pub ReadsOff : List (List ℕ) → PlainProgram → Program → Values → Assignment → Type 0
 ReadsOff table p flat f a = Each (Reads table flat f a) (ordered p.decls p.order)
 
--- what a solution makes of the objective
-abbrev pub objective_of : FzGoal → Values → Option ℤ
-objective_of Satisfy f = None
-objective_of (Minimize k) f = Some (number_in (slice_index_or f k (number (pos 0))))
-objective_of (Maximize k) f = Some (number_in (slice_index_or f k (number (pos 0))))
-
 pub record Readable (table : List (List ℕ)) (p : PlainProgram) (flat : Program) (f : Values) : Type 0 where
   pub assignment : Assignment
   pub reads : ReadsOff table p flat f assignment
@@ -51,7 +48,8 @@ pub record IsReadFrom (table : List (List ℕ)) (p : PlainProgram) (flat : Progr
   pub reads : ReadsOff table p flat values a
   pub objective : objective_of flat.goal values ≡ n
 
-pub record KeepsSolutions (l : Limits) (table : List (List ℕ)) (p : PlainProgram) (flat : Program) : Type 0 where
+-- solutions are kept, each declared variable having the integer of its name
+pub record KeepsIntegers (l : Limits) (table : List (List ℕ)) (p : PlainProgram) (flat : Program) : Type 0 where
   -- an assignment can be read off from any values
   pub readable : (f : Values) → Readable table p flat f
   -- no solution is invented: what is read off from a solution of the program solves the model
@@ -60,3 +58,8 @@ pub record KeepsSolutions (l : Limits) (table : List (List ℕ)) (p : PlainProgr
   pub none_lost : (a : Assignment) (n : Option ℤ) → SolvesWith l p a n → IsReadFrom table p flat a n
   -- from one alone
   pub one : (a : Assignment) (f g : Values) → FlatSolves flat f → FlatSolves flat g → ReadsOff table p flat f a → ReadsOff table p flat g a → f ≡ g
+
+-- the program that the walk without values writes: the variables in the order of evaluation, false rows of empty domains, the rows of the constraints in source order, and no objective
+pub record IsEmitted (l : Limits) (table : List (List ℕ)) (p : PlainProgram) (flat : Program) : Type 0 where
+  pub end : State
+  pub writes : writing_walk Untested l Bare (λ s. None) table p start ≡ Out flat end

@@ -10,16 +10,18 @@ ghost use Rattle.mz_meaning.specs.Contexts.{Context, Untested, Positive};
 ghost use Rattle.mz_meaning.specs.Solutions.{Solves};
 ghost use Rattle.mz_meaning.specs.Walk.{Limits, Assignment, ordered, walk};
 ghost use Rattle.fz_program.specs.Flat.{Program, WellFormed};
+ghost use Rattle.mz_headline.specs.Keeping.{KeepsSolutions};
 ghost use Rattle.mz_first_unbuilt.specs.Unbuilt.{unbuilt_places};
 ghost use Rattle.mz_first_meaning.specs.Ends.{EndAlike, is_walk_kind};
 ghost use Rattle.mz_first_meaning.specs.Posted.{posting_walk};
 ghost use Rattle.mz_first_rows.specs.Emission.{emission, writing_walk};
-ghost use Rattle.mz_first_rows.specs.Headline.{AreNumberedAndNamed, KeepsSolutions};
+ghost use Rattle.mz_first_rows.specs.Headline.{AreNumberedAndNamed};
 
 /// Does nothing: its contract says what the program is that the walk without values writes, for a
-/// model of which all is built. Its solutions, read off by names, are the model's, each from one
-/// alone. The walk ends as the walk with values over the model does, under each assignment: with as
-/// much work, or at the same fault. A fault is one of evaluations or ParUndefined, and leaves no
+/// model of which all is built. It has the model's variables by their names and its kind of goal.
+/// Its solutions, read off by names, are the model's, each from one alone where no choice is taken.
+/// The walk ends as the walk with values over the model does, under each assignment: with as much
+/// work, or at the same fault. A fault is one of evaluations or ParUndefined, and leaves no
 /// solution.
 pub fn models_are_written()
     ensures headline { (l : Limits) (table : List (List ℕ)) (p : PlainProgram) → unbuilt_places table p ≡ [] → AreNumberedAndNamed table (ordered p.decls p.order) → (b : Assignment) (flat : Program) (t : State) → writing_walk Untested l Bare b table p start ≡ Out flat t → WellFormed flat → KeepsSolutions l table p flat }

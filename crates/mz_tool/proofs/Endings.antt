@@ -37,11 +37,12 @@ use Rattle.mz_meaning.specs.Cells.{Bare}
 use Rattle.mz_meaning.specs.Cells as cells
 use Rattle.mz_meaning.specs.Contexts.{Untested, Positive}
 use Rattle.mz_meaning.specs.Walk.{Limits, walk}
+use Rattle.mz_headline.specs.Keeping.{KeepsSolutions}
 use Rattle.mz_first_unbuilt.specs.Unbuilt.{first_unbuilt}
 use Rattle.mz_first_unbuilt.proofs.Laws.{nothing_unbuilt}
 use Rattle.mz_first_meaning.specs.Ends.{is_walk_kind, EndAlike}
 use Rattle.mz_first_rows.specs.Emission.{writing_walk}
-use Rattle.mz_first_rows.specs.Headline.{AreNumberedAndNamed, KeepsSolutions}
+use Rattle.mz_first_rows.specs.Headline.{AreNumberedAndNamed, IsEmitted}
 use Rattle.mz_first_rows.proofs.Laws.{headline, ends, kinds}
 use Rattle.mz_first_post.specs.Names.{no_values}
 use Rattle.mz_analysis.specs.Analysis.{FailsTest, IsOfTests, IsRefused, IsTypedModel, IsRead, evaluated, file_name, files_read, items_read}
@@ -57,8 +58,8 @@ use Rattle.mz_tool.specs.StepsCompiling.{status_of, file_of, IsWritten, IsFinish
 
 -- what is left of a program that is written, or that could be
 module _ (table : List Name) (files : List File) (data_files : List Name) (items : List Given) where
-  compiled : (l : Limits) (p : PlainProgram) (flat : Program) → IsTypedModel table files items p → KeepsSolutions l table p flat → WellFormed flat → Compiled l table files items (spelling flat)
-  compiled l p flat typed keeps formed = record { model = p; typed = typed; program = flat; keeps = keeps; spelled = record { well_formed = formed; spelled = refl } }
+  compiled : (l : Limits) (p : PlainProgram) (flat : Program) → IsTypedModel table files items p → KeepsSolutions l table p flat → IsEmitted l table p flat → WellFormed flat → Compiled l table files items (spelling flat)
+  compiled l p flat typed keeps emitted formed = record { model = p; typed = typed; program = flat; keeps = keeps; emitted = emitted; spelled = record { well_formed = formed; spelled = refl } }
 
   written : (s : Settings) (flat : Program) (old new : Held) (e : End) → Compiled (limits_of s) table files items (spelling flat) → IsWritten flat old new e → IsLeft (compile s) table files data_files items old new e
   written s flat old new end.Done is put = (spelling flat, is, put)
@@ -76,7 +77,7 @@ module _ (table : List Name) (files : List File) (data_files : List Name) (items
       → writing_walk Untested (limits_of (settings_in a)) Bare no_values table p start ≡ Out flat t → WellFormed flat → IsFinished a flat old new e → IsLeft a table files data_files items old new e
   writes a p flat t old new e typed none named runs formed left =
       finished a flat old new e
-      (compiled (limits_of (settings_in a)) p flat typed (headline (limits_of (settings_in a)) table p (nothing_unbuilt table p none) named no_values flat t runs formed) formed)
+      (compiled (limits_of (settings_in a)) p flat typed (headline (limits_of (settings_in a)) table p (nothing_unbuilt table p none) named no_values flat t runs formed) (record { end = t; writes = runs }) formed)
       left
 
 written_named : (table : List Name) (flat : Program) (old new : Held) (e : End) → IsWritten flat old new e → IsNamedEnd table e

@@ -2,3 +2,4 @@ pub mod Words
 pub mod Headline
 pub mod Status
 pub mod StepsCompiling
+pub mod Promises

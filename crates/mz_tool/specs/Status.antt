@@ -85,6 +85,10 @@ pub data IsRefusal (table : List Name) (texts : Texts) (s : Settings) : Fault �
   a_test_fails : {f : Fault} (files : List File) (items : List datum.Given) → IsSourcesWithData table texts s.model s.data_files files items → FailsTest table files (length s.data_files) items f → IsRefusal table texts s f (file_name files s.data_files f.span.file)
   not_compiled : {f : Fault} (files : List File) (items : List datum.Given) (p : PlainProgram) → IsSourcesWithData table texts s.model s.data_files files items → IsTypedModel table files items p → IsStopped (limits_of s) table p f → IsRefusal table texts s f (file_name files s.data_files f.span.file)
 
+-- Why what is asked for is refused. Today both commands are refused alike.
+abbrev pub IsRefusalOf : List Name → Texts → Asked → Fault → Name → Type 0
+IsRefusalOf table texts a f file = IsRefusal table texts (settings_in a) f file
+
 -- by some table of names, whose texts are distinct, this holds
 pub record ByDistinctNames (P : List Name → Type 0) : Type 0 where
   pub table : List Name
@@ -94,7 +98,7 @@ pub record ByDistinctNames (P : List Name → Type 0) : Type 0 where
 -- the file that the line of a refusal names
 abbrev pub IsOwnerOf : Texts → Option Asked → Fault → Name → Type 0
 IsOwnerOf texts None f file = ⊥
-IsOwnerOf texts (Some a) f file = ByDistinctNames (λ table. IsRefusal table texts (settings_in a) f file)
+IsOwnerOf texts (Some a) f file = ByDistinctNames (λ table. IsRefusalOf table texts a f file)
 
 -- the file that an answer's line names
 abbrev pub IsOwner : Texts → Option Asked → Status → Name → Type 0
@@ -178,10 +182,14 @@ pub record Completes (known : List Name) (texts : Texts) (s : Settings) (status 
   pub whole : (table : List Name) (files : List File) (values : List datum.Given) → Grows known table → AreToldFiles table texts s files values → IsSourcesWithData known texts s.model s.data_files files values ⊎ IsDoneOrMemory status
   pub compiled : IsToldModel known texts s → IsDoneOrMemory status
 
+-- of what is asked for
+abbrev pub CompletesAsked : List Name → Texts → Asked → Status → Type 0
+CompletesAsked known texts a status = Completes known texts (settings_in a) status
+
 -- A told model is compiled, unless a count of faults rose or memory ran out.
 abbrev pub IsComplete : Texts → Option Asked → FileCounts → FileCounts → SinkCounts → SinkCounts → Status → Type 0
 IsComplete texts asked old new before after status =
-    (a : Asked) → asked ≡ Some a → (Rose old.faults new.faults → ⊥) → (Rose before.faults after.faults → ⊥) → (known : List Name) × Completes known texts (settings_in a) status
+    (a : Asked) → asked ≡ Some a → (Rose old.faults new.faults → ⊥) → (Rose before.faults after.faults → ⊥) → (known : List Name) × CompletesAsked known texts a status
 
 -- what a reference to bytes points to
 abbrev pub now : Bor (List ℕ) → List ℕ
