@@ -1,13 +1,12 @@
 // The compiler as a program: the command's words, the system's files and streams, the exit status.
 #![tactic(auto)]
 
-ghost use Rattle.std.specs.Prelude.{◌≡◌, IsSomeAnd};
+ghost use Rattle.std.specs.Prelude.{◌≡◌};
 ghost use Rattle.std.specs.Process.{exit_status};
 ghost use Rattle.mz_words_command.specs.Found.{text_of};
 ghost use Rattle.mz_words.specs.Requests.{asked};
-ghost use Rattle.mz_tool.specs.Words.{IsUsage};
-ghost use Rattle.mz_tool.specs.Headline.{Writes};
-ghost use Rattle.mz_tool.specs.Status.{OnDone, ByDistinctNames, IsNoted};
+ghost use Rattle.mz_tool.specs.Words.{OnCheck};
+ghost use Rattle.mz_tool.specs.Promises.{Promises};
 ghost use Rattle.mzc.specs.Exit.{number_of, EndsWith};
 
 use mz_io::{DiskFiles, Files, Sink, Source, StdSink, StdSource};
@@ -54,11 +53,13 @@ fn ended<F: Files, I: Source, S: Sink, E: Sink>(
     out: &mut S,
     notes: &mut E,
 ) -> ExitCode
-    ensures usage { EndsWith result (IsUsage (asked (text_of words.now.items))) }
-    ensures headline { EndsWith result (λ answer. OnDone answer (IsSomeAnd (asked (text_of words.now.items)) (λ a. ByDistinctNames (λ table.
-        Writes table (F.texts files.old) a (S.held out.old) (S.held out.new))))) }
-    ensures notes { EndsWith result (λ answer. IsNoted (F.texts files.old) (asked (text_of words.now.items)) answer
-        (E.held notes.old) (E.held notes.new) (E.counts notes.old) (E.counts notes.new)) }
+    ensures promises { EndsWith result (Promises (F.texts files.old) (asked (text_of words.now.items))
+        (F.counts files.old) (F.counts files.new)
+        (record { held = S.held out.old; counts = S.counts out.old }) (record { held = S.held out.new; counts = S.counts out.new })
+        (record { held = E.held notes.old; counts = E.counts notes.old }) (record { held = E.held notes.new; counts = E.counts notes.new })) }
+    ensures texts { F.texts files.new ≡ F.texts files.old }
+    ensures silent { OnCheck (asked (text_of words.now.items)) (out.new ≡ out.old) }
+    ensures input { input.new ≡ input.old }
 {
     let status = mz_tool::run(alloc, words, files, input, out, notes);
     code_of(&status)

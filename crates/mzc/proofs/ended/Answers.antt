@@ -1,10 +1,24 @@
 use Rattle.mzc.proofs.ended.Goals as goal
 
-pub returns-clause-usage : goal.returns-clause-usage
-returns-clause-usage g c = record { answer = c.run-status.result; number = c.code_of.ensures; holds = c.run-status.ensures.usage }
-
-pub returns-clause-headline : goal.returns-clause-headline
-returns-clause-headline g c = record { answer = c.run-status.result; number = c.code_of.ensures; holds = c.run-status.ensures.headline }
-
-pub returns-clause-notes : goal.returns-clause-notes
-returns-clause-notes g c = record { answer = c.run-status.result; number = c.code_of.ensures; holds = c.run-status.ensures.notes }
+pub returns-clause-promises : goal.returns-clause-promises
+returns-clause-promises g c =
+    let run = c.run-status.ensures in
+    record {
+      answer = c.run-status.result;
+      number = c.code_of.ensures;
+      holds = record {
+        headline = run.headline;
+        usage = run.usage;
+        refused = run.refused;
+        read_fault = run.read_fault;
+        write_fault = run.write_fault;
+        failed_fetch = run.failed_fetch;
+        failed_put = run.failed_put;
+        counted = run.counted;
+        counted_out = run.counted_out;
+        complete = run.complete;
+        cut_short = run.cut_short;
+        untouched = run.untouched;
+        noted = run.notes;
+      };
+    }
