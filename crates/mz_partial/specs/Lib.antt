@@ -1,0 +1,4 @@
+pub mod Groups
+pub mod Totals
+pub mod Nodes
+pub mod Calls
