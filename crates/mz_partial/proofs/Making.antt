@@ -1,5 +1,5 @@
 -- What the calls that make nodes give.
-use Rattle.std.proofs.Common.{◌≡◌, ◌≢◌, ℕ, ◌<◌, ℤ, List, [], length, take, Bool, true, Some, slice_get, refl, sym, ap, subst, ◌∙◌}
+use Rattle.std.proofs.Common.{◌≡◌, ◌≢◌, ℕ, ◌<◌, arith, ℤ, List, [], length, take, Bool, true, Some, slice_get, refl, sym, ap, subst, ◌∙◌}
 use Rattle.mz_interval.specs.Ends.{Ends, is_number}
 use Rattle.mz_arena.specs.declared.node.Node.{Node}
 use Rattle.mz_arena.specs.declared.node.NodeKind.{NodeKind}
@@ -8,20 +8,23 @@ use Rattle.mz_arena.specs.Entries.{Entry, entry, arity, children}
 use Rattle.mz_arena.specs.Values.{number, Values, bit}
 use Rattle.mz_arena.specs.Terms.{term}
 use Rattle.mz_arena.specs.Extents.{whole, truth, bool_extent, kind_extent}
-use Rattle.mz_arena.specs.Arenas.{IsArena, Grew, Extends, Made}
+use Rattle.mz_arena.specs.Arenas.{IsArena, HasAtMost, Grew, Extends, Made}
 use Rattle.mz_arena.proofs.Folds.{get-below}
+use Rattle.mz_partial.specs.Costs.{cost_of}
 use Rattle.mz_partial.specs.Totals.{SaysAt, Has}
 use Rattle.mz_partial.specs.Nodes.{IsNode, Placed, MayRemake, Remade, three}
 use Rattle.mz_partial.specs.Calls.{IsNumber, IsConstant}
 use Rattle.mz_partial.proofs.Standing.{node_means, node_bounds, node_total, node_as, extends_same}
+use Rattle.mz_partial.proofs.Costing.{at_most_costs}
 use Rattle.mz_partial.proofs.Asked.{number_bounds}
 use Rattle.mz_partial.proofs.Saying.{some_is}
 
-pub placed : (old new : List Entry) (n : Node) (id : ℕ) → Extends old new → IsArena new → Made new (entry n) id → Placed old new n.kind (children n) id
-placed old new n id e a m = record {
+pub placed : (old new : List Entry) (n : Node) (id : ℕ) → Extends old new → IsArena new → Made new (entry n) id → HasAtMost old new (entry n) → Placed old new n.kind (children n) id
+placed old new n id e a m h = record {
   extends = e;
   arena = a;
   node = record { there = entry n; stands = m.stands; kind = refl; kids = refl };
+  cost = at_most_costs old new (entry n) h;
 }
 
 pub remade_same : (es : List Entry) (id : ℕ) (n : Node) (is : List ℕ) → MayRemake es id n (take (arity n.kind) is) → is ≡ three n.a n.b n.c → Remade es es id n is id
@@ -29,6 +32,7 @@ remade_same es id n is m h = record {
   extends = extends_same es;
   arena = m.arena;
   node = node_as es id n.kind (children n) (take (arity n.kind) is) (ap (take (arity n.kind)) (sym h)) m.node;
+  cost = omega arith;
   own = λ p. refl;
 }
 
@@ -37,6 +41,7 @@ remade old new id n is t p other = record {
   extends = p.extends;
   arena = p.arena;
   node = p.node;
+  cost = p.cost;
   own = λ h. absurd (other h);
 }
 
@@ -70,6 +75,7 @@ pub number_placed : (old new : List Entry) (n : Node) (t : ℕ) (m : ℤ) → n.
 number_placed old new n t m k e limit p h = subst (λ i. IsNumber old new i t) e (record {
   extends = p.extends;
   arena = p.arena;
+  cost = omega (arith, p.cost, ap cost_of k);
   has = λ fs g a. number_node fs t n a (stands_as new fs t n Int g (get-below new t (entry n) h) k h refl) refl (ap is_number e ∙ limit);
 })
 
@@ -77,5 +83,6 @@ pub constant_placed : (old new : List Entry) (n : Node) (t : ℕ) (b : Bool) (e 
 constant_placed old new n t b e k is bounds p h = record {
   extends = p.extends;
   arena = p.arena;
+  cost = omega (arith, p.cost, ap cost_of k);
   says = λ fs g a. truth_node fs t n b e a (stands_as new fs t n BoolNode g (get-below new t (entry n) h) k h refl) refl is bounds;
 }

@@ -13,11 +13,13 @@ use Rattle.mz_arena.proofs.Growing.{grew_same}
 use Rattle.mz_partial.specs.declared.part.Part.{Part}
 use Rattle.mz_partial.specs.declared.group.Group.TheVariants as group
 use Rattle.mz_partial.specs.Groups.{group_of, is_partial}
+use Rattle.mz_partial.specs.Costs.{costs}
 use Rattle.mz_partial.specs.Totals.{IsPart, Parted}
 use Rattle.mz_partial.specs.Nodes.{IsNode, IsPartialNode, MayRemake, Remade, Takes, three}
 use Rattle.mz_partial.specs.Calls.{Joins, Tests, IsSafe, HasNoValue, IsPlaceIn, IsPlaceWithin, is_nonzero, is_place}
 use Rattle.mz_partial.proofs.Standing.{node_some, node_later, extends_both, part_later, total_in}
 use Rattle.mz_partial.proofs.ByKind.{HasWhole, cons_kind, access_kind, arith_second}
+use Rattle.mz_partial.proofs.Costing.{group_cost, node_cost}
 use Rattle.mz_partial.proofs.Partial.{number_or, cons_part, extreme_part, extreme_no_value, divides, division_part, division_no_value, access_index, access_part, access_no_value}
 use Rattle.mz_partial.proofs.Taking.{takes_one, takes_two, may_two, remade_as, kind_as}
 use Rattle.mz_partial.proofs.Testing.{tested}
@@ -33,6 +35,7 @@ cons_parted old mid new memo id n p q f t c h hp hq m j count =
     let np = part_later old new n.a p g h.arena k.first (h.parts n.a p hp) in
     let nq = part_later old new n.b q g h.arena k.second (h.parts n.b q hq) in
     record {
+      cost = node_cost old id n.kind (n.a ∷ n.b ∷ []) (costs new) (costs old) k.node (omega (arith, m.cost, j.cost, group_cost n.kind group.Cons h.kind));
       extends = e;
       arena = j.arena;
       part = cons_part new id n.a n.b p q f t c j.arena (kind_as new id n.kind Cons (n.a ∷ n.b ∷ []) kind (node_later old new id n.kind (n.a ∷ n.b ∷ []) g k.node))
@@ -45,6 +48,7 @@ extreme_parted old new memo id n p t h hp m long =
     let k = takes_one old memo id n group.Extreme h refl refl in
     let g = m.extends.grew in
     record {
+      cost = node_cost old id n.kind (n.a ∷ []) (costs new) (costs old) k.node (omega (arith, m.cost, group_cost n.kind group.Extreme h.kind));
       extends = m.extends;
       arena = m.arena;
       part = extreme_part new id n.a n.kind p t m.arena h.kind (node_later old new id n.kind (n.a ∷ []) g k.node) (remade_as old new id n (three p.term n.b n.c) t 1 group.Extreme h.kind refl refl m)
@@ -122,7 +126,7 @@ index_range es memo id n p e h hp r = ranged es n.a p e (h.parts n.a p hp) (inde
 
 -- ---- quotients
 
-pub division_parted : (old m1 m2 m3 m4 new : List Entry) (memo : List Part) (id : ℕ) (n : Node) (p q : Part) (test parts flag : Option ℕ) (w t : ℕ) (k : ℤ) (e : Ends) → Takes old memo id n group.Division → slice_get memo n.a ≡ Some p → slice_get memo n.b ≡ Some q → extent old n.b ≡ Some (whole e) → Encloses e k → is_nonzero k ≡ true → Tests old m1 q.term is_nonzero test → IsSafe m1 m2 q.term test k w → Remade m2 m3 id n (three p.term w n.c) t → Joins m3 m4 p.flag q.flag parts → Joins m4 new parts test flag → Parted old new id (record { flag = flag; term = t; len = 0 })
+pub division_parted : (old m1 m2 m3 m4 new : List Entry) (memo : List Part) (id : ℕ) (n : Node) (p q : Part) (test parts flag : Option ℕ) (w t : ℕ) (k : ℤ) (e : Ends) → Takes old memo id n group.Division → slice_get memo n.a ≡ Some p → slice_get memo n.b ≡ Some q → extent old n.b ≡ Some (whole e) → Encloses e k → is_nonzero k ≡ true → Tests 2 old m1 q.term is_nonzero test → IsSafe m1 m2 q.term test k w → Remade m2 m3 id n (three p.term w n.c) t → Joins m3 m4 p.flag q.flag parts → Joins m4 new parts test flag → Parted old new id (record { flag = flag; term = t; len = 0 })
 division_parted old m1 m2 m3 m4 new memo id n p q test parts flag w t k e h hp hq range enc pass ts sf m j1 j2 =
     let kids = takes_two old memo id n group.Division h refl refl in
     let x4 = extends_both m3 m4 new j1.extends j2.extends in
@@ -131,9 +135,10 @@ division_parted old m1 m2 m3 m4 new memo id n p q test parts flag w t k e h hp h
     let x1 = extends_both old m1 new ts.extends x2 in
     let g = x1.grew in
     let np = part_later old new n.a p g h.arena kids.first (h.parts n.a p hp) in
-    let u = tested old m1 m2 new n.b q is_nonzero test k w e h.arena kids.second (h.parts n.b q hq) range enc ts sf x3.grew j2.arena in
+    let u = tested 2 old m1 m2 new n.b q is_nonzero test k w e h.arena kids.second (h.parts n.b q hq) range enc ts sf x3.grew j2.arena in
     let both = j1.says new j2.extends.grew j2.arena np.holds u.part.holds np.flag u.part.flag in
     record {
+      cost = node_cost old id n.kind (n.a ∷ n.b ∷ []) (costs new) (costs old) kids.node (omega (arith, ts.cost, sf.cost, m.cost, j1.cost, j2.cost, group_cost n.kind group.Division h.kind));
       extends = x1;
       arena = j2.arena;
       part = division_part new id n.a n.b n.kind p q flag w t k e j2.arena h.kind (node_later old new id n.kind (n.a ∷ n.b ∷ []) g kids.node)
@@ -143,12 +148,12 @@ division_parted old m1 m2 m3 m4 new memo id n p q test parts flag w t k e h hp h
     }
 
 -- what is asked for the node over the safe operand
-pub division_may : (old m1 m2 : List Entry) (memo : List Part) (id : ℕ) (n : Node) (p q : Part) (test : Option ℕ) (w : ℕ) (k : ℤ) (e : Ends) → Takes old memo id n group.Division → slice_get memo n.a ≡ Some p → slice_get memo n.b ≡ Some q → extent old n.b ≡ Some (whole e) → Encloses e k → Tests old m1 q.term is_nonzero test → IsSafe m1 m2 q.term test k w → MayRemake m2 id n (take (arity n.kind) (three p.term w n.c))
+pub division_may : (old m1 m2 : List Entry) (memo : List Part) (id : ℕ) (n : Node) (p q : Part) (test : Option ℕ) (w : ℕ) (k : ℤ) (e : Ends) → Takes old memo id n group.Division → slice_get memo n.a ≡ Some p → slice_get memo n.b ≡ Some q → extent old n.b ≡ Some (whole e) → Encloses e k → Tests 2 old m1 q.term is_nonzero test → IsSafe m1 m2 q.term test k w → MayRemake m2 id n (take (arity n.kind) (three p.term w n.c))
 division_may old m1 m2 memo id n p q test w k e h hp hq range enc ts sf =
     let kids = takes_two old memo id n group.Division h refl refl in
     let g = (extends_both old m1 m2 ts.extends sf.extends).grew in
     let np = part_later old m2 n.a p g h.arena kids.first (h.parts n.a p hp) in
-    let u = tested old m1 m2 m2 n.b q is_nonzero test k w e h.arena kids.second (h.parts n.b q hq) range enc ts sf (grew_same m2) sf.arena in
+    let u = tested 2 old m1 m2 m2 n.b q is_nonzero test k w e h.arena kids.second (h.parts n.b q hq) range enc ts sf (grew_same m2) sf.arena in
     may_two m2 id n group.Division p.term w sf.arena (node_later old m2 id n.kind (children n) g h.node) h.kind refl refl (total_in m2 p.term np.kept.total) (total_in m2 w u.has.total) np.kept.bounds (u.has.bounds ∙ sym u.is_whole)
 
 pub division_never : (es : List Entry) (memo : List Part) (id : ℕ) (n : Node) (p q : Part) (e : Ends) → Takes es memo id n group.Division → slice_get memo n.a ≡ Some p → slice_get memo n.b ≡ Some q → extent es n.b ≡ Some (whole e) → e ≡ bounds.nothing → HasNoValue es id
@@ -163,7 +168,7 @@ nonzero_by (negsuc k) other = refl
 
 -- ---- accesses
 
-pub access_parted : (old m1 m2 m3 m4 new : List Entry) (memo : List Part) (id : ℕ) (n : Node) (p q : Part) (test parts flag : Option ℕ) (w t : ℕ) (k : ℤ) (e : Ends) → Takes old memo id n group.Access → slice_get memo n.a ≡ Some p → slice_get memo n.b ≡ Some q → extent old n.a ≡ Some (whole e) → Encloses e k → is_place (pos q.len) k ≡ true → Tests old m1 p.term (is_place (pos q.len)) test → IsSafe m1 m2 p.term test k w → Remade m2 m3 id n (three w q.term n.c) t → Joins m3 m4 q.flag p.flag parts → Joins m4 new parts test flag → Parted old new id (record { flag = flag; term = t; len = 0 })
+pub access_parted : (old m1 m2 m3 m4 new : List Entry) (memo : List Part) (id : ℕ) (n : Node) (p q : Part) (test parts flag : Option ℕ) (w t : ℕ) (k : ℤ) (e : Ends) → Takes old memo id n group.Access → slice_get memo n.a ≡ Some p → slice_get memo n.b ≡ Some q → extent old n.a ≡ Some (whole e) → Encloses e k → is_place (pos q.len) k ≡ true → Tests 6 old m1 p.term (is_place (pos q.len)) test → IsSafe m1 m2 p.term test k w → Remade m2 m3 id n (three w q.term n.c) t → Joins m3 m4 q.flag p.flag parts → Joins m4 new parts test flag → Parted old new id (record { flag = flag; term = t; len = 0 })
 access_parted old m1 m2 m3 m4 new memo id n p q test parts flag w t k e h hp hq range enc pass ts sf m j1 j2 =
     let kids = takes_two old memo id n group.Access h refl refl in
     let kind = access_kind n.kind h.kind in
@@ -173,9 +178,10 @@ access_parted old m1 m2 m3 m4 new memo id n p q test parts flag w t k e h hp hq 
     let x1 = extends_both old m1 new ts.extends x2 in
     let g = x1.grew in
     let nq = part_later old new n.b q g h.arena kids.second (h.parts n.b q hq) in
-    let u = tested old m1 m2 new n.a p (is_place (pos q.len)) test k w e h.arena kids.first (h.parts n.a p hp) range enc ts sf x3.grew j2.arena in
+    let u = tested 6 old m1 m2 new n.a p (is_place (pos q.len)) test k w e h.arena kids.first (h.parts n.a p hp) range enc ts sf x3.grew j2.arena in
     let both = j1.says new j2.extends.grew j2.arena nq.holds u.part.holds nq.flag u.part.flag in
     record {
+      cost = node_cost old id n.kind (n.a ∷ n.b ∷ []) (costs new) (costs old) kids.node (omega (arith, ts.cost, sf.cost, m.cost, j1.cost, j2.cost, group_cost n.kind group.Access h.kind));
       extends = x1;
       arena = j2.arena;
       part = access_part new id n.a n.b p q flag w t k e j2.arena (kind_as new id n.kind Access (n.a ∷ n.b ∷ []) kind (node_later old new id n.kind (n.a ∷ n.b ∷ []) g kids.node))
@@ -184,12 +190,12 @@ access_parted old m1 m2 m3 m4 new memo id n p q test parts flag w t k e h hp hq 
           (j2.says new (grew_same new) j2.arena (λ v. nq.holds v && u.part.holds v) (λ v. is_place (pos q.len) (number_or (u.part.value v))) both u.says);
     }
 
-pub access_may : (old m1 m2 : List Entry) (memo : List Part) (id : ℕ) (n : Node) (p q : Part) (test : Option ℕ) (w : ℕ) (k : ℤ) (e : Ends) → Takes old memo id n group.Access → slice_get memo n.a ≡ Some p → slice_get memo n.b ≡ Some q → extent old n.a ≡ Some (whole e) → Encloses e k → Tests old m1 p.term (is_place (pos q.len)) test → IsSafe m1 m2 p.term test k w → MayRemake m2 id n (take (arity n.kind) (three w q.term n.c))
+pub access_may : (old m1 m2 : List Entry) (memo : List Part) (id : ℕ) (n : Node) (p q : Part) (test : Option ℕ) (w : ℕ) (k : ℤ) (e : Ends) → Takes old memo id n group.Access → slice_get memo n.a ≡ Some p → slice_get memo n.b ≡ Some q → extent old n.a ≡ Some (whole e) → Encloses e k → Tests 6 old m1 p.term (is_place (pos q.len)) test → IsSafe m1 m2 p.term test k w → MayRemake m2 id n (take (arity n.kind) (three w q.term n.c))
 access_may old m1 m2 memo id n p q test w k e h hp hq range enc ts sf =
     let kids = takes_two old memo id n group.Access h refl refl in
     let g = (extends_both old m1 m2 ts.extends sf.extends).grew in
     let nq = part_later old m2 n.b q g h.arena kids.second (h.parts n.b q hq) in
-    let u = tested old m1 m2 m2 n.a p (is_place (pos q.len)) test k w e h.arena kids.first (h.parts n.a p hp) range enc ts sf (grew_same m2) sf.arena in
+    let u = tested 6 old m1 m2 m2 n.a p (is_place (pos q.len)) test k w e h.arena kids.first (h.parts n.a p hp) range enc ts sf (grew_same m2) sf.arena in
     may_two m2 id n group.Access w q.term sf.arena (node_later old m2 id n.kind (children n) g h.node) h.kind refl refl (total_in m2 w u.has.total) (total_in m2 q.term nq.kept.total) (u.has.bounds ∙ sym u.is_whole) nq.kept.bounds
 
 pub access_never : (es : List Entry) (memo : List Part) (id : ℕ) (n : Node) (p q : Part) (e : Ends) (k : ℤ) → Takes es memo id n group.Access → slice_get memo n.a ≡ Some p → slice_get memo n.b ≡ Some q → extent es n.a ≡ Some (whole e) → IsPlaceIn e (pos q.len) k → k ≡ pos 0 → HasNoValue es id

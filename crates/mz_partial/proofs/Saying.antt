@@ -1,5 +1,5 @@
 -- Booleans that say where something holds, and the nodes that are made of them.
-use Rattle.std.proofs.Common.{◌≡◌, ℕ, List, [], ◌∷◌, Bool, true, false, not, ◌&&◌, ◌||◌, cond, Option, Some, None, IsSome, refl, sym, ap, subst, ◌∙◌}
+use Rattle.std.proofs.Common.{◌≡◌, ℕ, List, [], ◌∷◌, Bool, true, false, not, ◌&&◌, ◌||◌, cond, Option, Some, None, IsSome, refl, sym, ap, subst, ◌∙◌, arith}
 use Rattle.mz_interval.specs.Ends.{Ends}
 use Rattle.mz_operations.specs.Bounds as bounds
 use Rattle.mz_arena.specs.declared.node.NodeKind.TheVariants.{And, Or, Not, If}
@@ -110,6 +110,7 @@ if_says es c a b h z x y ar n r p q =
 
 pub joins_none : (es : List Entry) (f g : Option ℕ) → IsArena es → f ≡ None → Joins es es f g g
 joins_none es f g a h = record {
+  cost = omega arith;
   extends = extends_same es;
   arena = a;
   says = λ fs e ar x y p q. let n = says_by fs f None x h p in says_as fs g y (λ v. x v && y v) (λ v i. ap (λ b. b && y v) (sym (n v i))) q;
@@ -119,6 +120,7 @@ joins_none es f g a h = record {
 
 pub joins_first : (es : List Entry) (f g : Option ℕ) → IsArena es → g ≡ None → Joins es es f g f
 joins_first es f g a h = record {
+  cost = omega arith;
   extends = extends_same es;
   arena = a;
   says = λ fs e ar x y p q. let n = says_by fs g None y h q in says_as fs f x (λ v. x v && y v) (λ v i. both_true (x v) (y v) (n v i)) p;
@@ -135,6 +137,7 @@ some_none f d h k = absurd (cc)
 
 pub joins_both : (old new : List Entry) (f g : Option ℕ) (a b h : ℕ) → f ≡ Some a → g ≡ Some b → Placed old new And (a ∷ b ∷ []) h → Joins old new f g (Some h)
 joins_both old new f g a b h p q m = record {
+  cost = m.cost;
   extends = m.extends;
   arena = m.arena;
   says = λ fs e ar x y r s. and_says fs a b h x y ar (node_later new fs h And (a ∷ b ∷ []) e m.node) (says_by fs f (Some a) x p r) (says_by fs g (Some b) y q s);
@@ -146,6 +149,7 @@ joins_both old new f g a b h p q m = record {
 
 pub conjoins_none : (es : List Entry) (f : Option ℕ) (t : ℕ) → IsArena es → f ≡ None → Conjoins es es f t t
 conjoins_none es f t a h = record {
+  cost = omega arith;
   extends = extends_same es;
   arena = a;
   says = λ fs e ar x y p q. let n = says_by fs f None x h p in says_at_as fs t y (λ v. x v && y v) (λ v i. ap (λ b. b && y v) (sym (n v i))) q;
@@ -155,6 +159,7 @@ conjoins_none es f t a h = record {
 
 pub conjoins_some : (old new : List Entry) (f : Option ℕ) (t d r : ℕ) → f ≡ Some d → IsTruth old d → Placed old new And (d ∷ t ∷ []) r → Conjoins old new f t r
 conjoins_some old new f t d r h td m = record {
+  cost = m.cost;
   extends = m.extends;
   arena = m.arena;
   says = λ fs e ar x y p q. and_says fs d t r x y ar (node_later new fs r And (d ∷ t ∷ []) e m.node) (says_by fs f (Some d) x h p) q;
@@ -192,6 +197,7 @@ open_truths _ e h o = absurd (cc)
 
 pub reads : (old new : List Entry) (id : ℕ) (p : Part) (t : ℕ) → Conjoins old new p.flag p.term t → Reads old new id p t
 reads old new id p t c = record {
+  cost = c.cost;
   extends = c.extends;
   arena = c.arena;
   says = λ es e a h k. says_at_as es t (λ v. h.holds v && is_true (Some (h.value v))) (λ v. is_true (term v es id)) (λ v i. only_true (h.holds v) (h.value v) ∙ ap is_true (sym (h.is v i)))
@@ -206,6 +212,7 @@ reads old new id p t c = record {
 
 pub chooses_none : (es : List Entry) (c : ℕ) (g : Option ℕ) → IsArena es → g ≡ None → Chooses es es c None g None
 chooses_none es c g a h = record {
+  cost = omega arith;
   extends = extends_same es;
   arena = a;
   says = λ fs e ar z x y r p q. let n = says_by fs g None y h q in (λ v i. either (z v) (x v) (y v) (p v i) (n v i));
@@ -218,6 +225,7 @@ chooses_none es c g a h = record {
 
 pub chooses_or : (old new : List Entry) (c b h : ℕ) (g : Option ℕ) → g ≡ Some b → Placed old new Or (c ∷ b ∷ []) h → Chooses old new c None g (Some h)
 chooses_or old new c b h g k m = record {
+  cost = omega (arith, m.cost);
   extends = m.extends;
   arena = m.arena;
   says = λ fs e ar z x y r p q. says_at_as fs h (λ v. z v || y v) (λ v. cond (z v) (x v) (y v)) (λ v i. either (z v) (x v) (y v) (p v i)) (or_says fs c b h z y ar (node_later new fs h Or (c ∷ b ∷ []) e m.node) r (says_by fs g (Some b) y k q));
@@ -230,6 +238,7 @@ chooses_or old new c b h g k m = record {
 
 pub chooses_not : (old mid new : List Entry) (c a n h : ℕ) (g : Option ℕ) → g ≡ None → Placed old mid Not (c ∷ []) n → Placed mid new Or (n ∷ a ∷ []) h → Chooses old new c (Some a) g (Some h)
 chooses_not old mid new c a n h g k l m = record {
+  cost = omega (arith, l.cost, m.cost);
   extends = extends_both old mid new l.extends m.extends;
   arena = m.arena;
   says = λ fs e ar z x y r p q.
@@ -246,6 +255,7 @@ chooses_not old mid new c a n h g k l m = record {
 
 pub chooses_if : (old new : List Entry) (c a b h : ℕ) (g : Option ℕ) → g ≡ Some b → Placed old new If (three c a b) h → Chooses old new c (Some a) g (Some h)
 chooses_if old new c a b h g k m = record {
+  cost = m.cost;
   extends = m.extends;
   arena = m.arena;
   says = λ fs e ar z x y r p q. if_says fs c a b h z x y ar (node_later new fs h If (three c a b) e m.node) r p (says_by fs g (Some b) y k q);

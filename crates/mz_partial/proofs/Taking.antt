@@ -18,11 +18,13 @@ use Rattle.mz_partial.specs.declared.part.Part.{Part}
 use Rattle.mz_partial.specs.declared.group.Group.{Group}
 use Rattle.mz_partial.specs.declared.group.Group.TheVariants as group
 use Rattle.mz_partial.specs.Groups.{group_of, reads, is_inner_group, is_inner}
+use Rattle.mz_partial.specs.Costs.{cost_of, costs}
 use Rattle.mz_partial.specs.Totals.{IsTotal, is_total, IsTruth, Tells, Counts, IsPart, Parted}
 use Rattle.mz_partial.specs.Nodes.{IsNode, Placed, MayRemake, Remade, Takes, three}
 use Rattle.mz_partial.specs.Calls.{Joins, Conjoins, Reads, Chooses}
 use Rattle.mz_partial.proofs.Standing.{inner_by, arity_by, taken, node_as, node_below, node_in, node_some, node_means, node_bounds, node_total, node_later, extends_same, extends_both, part_later, truth_later}
 use Rattle.mz_partial.proofs.ByKind.{HasTruth, connective_truths, reading_truth, choice_kind, guard_kind, choice_truth, guard_truth, connective_open}
+use Rattle.mz_partial.proofs.Costing.{group_cost, node_cost}
 use Rattle.mz_partial.proofs.Saying.{some_is, and_says, part_says}
 use Rattle.mz_partial.proofs.Partwise.{value_or, some_or, pair_like, one_part, two_part, test_part, connective_part, reading_part, choice_part, guard_part, guard_truth_part}
 
@@ -218,7 +220,7 @@ leaf_part es id k is a g n =
     }
 
 pub leaf_parted : (es : List Entry) (memo : List Part) (id : ℕ) (n : Node) → Takes es memo id n group.Leaf → Parted es es id (record { flag = None; term = id; len = 0 })
-leaf_parted es memo id n t = record { extends = extends_same es; arena = t.arena; part = leaf_part es id n.kind (children n) t.arena t.kind t.node }
+leaf_parted es memo id n t = record { cost = λ e there. omega arith; extends = extends_same es; arena = t.arena; part = leaf_part es id n.kind (children n) t.arena t.kind t.node }
 
 -- ---- one child, two children
 
@@ -227,6 +229,7 @@ one_parted old new memo id n p t h hp m =
     let k = takes_one old memo id n group.One h refl refl in
     let g = m.extends.grew in
     record {
+      cost = node_cost old id n.kind (n.a ∷ []) (costs new) (costs old) k.node (omega (arith, m.cost, group_cost n.kind group.One h.kind));
       extends = m.extends;
       arena = m.arena;
       part = one_part new id n.a n.kind p t m.arena h.kind (node_later old new id n.kind (n.a ∷ []) g k.node) (remade_as old new id n (three p.term n.b n.c) t 1 group.One h.kind refl refl m)
@@ -241,6 +244,7 @@ two_parted old mid new memo id n p q f t h hp hq m j =
     let np = part_later old new n.a p g h.arena k.first (h.parts n.a p hp) in
     let nq = part_later old new n.b q g h.arena k.second (h.parts n.b q hq) in
     record {
+      cost = node_cost old id n.kind (n.a ∷ n.b ∷ []) (costs new) (costs old) k.node (omega (arith, m.cost, j.cost, group_cost n.kind group.Two h.kind));
       extends = e;
       arena = j.arena;
       part = two_part new id n.a n.b n.kind p q f t j.arena h.kind (node_later old new id n.kind (n.a ∷ n.b ∷ []) g k.node)
@@ -259,6 +263,7 @@ test_parted old m1 m2 new memo id n p q f h t x hp hq m j c =
     let np = part_later old new n.a p g x.arena k.first (x.parts n.a p hp) in
     let nq = part_later old new n.b q g x.arena k.second (x.parts n.b q hq) in
     record {
+      cost = node_cost old id n.kind (n.a ∷ n.b ∷ []) (costs new) (costs old) k.node (omega (arith, m.cost, j.cost, c.cost, group_cost n.kind group.Test x.kind));
       extends = e;
       arena = c.arena;
       part = test_part new id n.a n.b n.kind p q f h t c.arena x.kind (node_later old new id n.kind (n.a ∷ n.b ∷ []) g k.node)
@@ -315,6 +320,7 @@ connective_parted old m1 m2 new memo id n p q c d t x hp hq rc rd m =
     let ta = truth_later old new n.a g kids.first in
     let tb = truth_later old new n.b g kids.second in
     record {
+      cost = node_cost old id n.kind (n.a ∷ n.b ∷ []) (costs new) (costs old) k.node (omega (arith, rc.cost, rd.cost, m.cost, group_cost n.kind group.Connective x.kind));
       extends = e;
       arena = m.arena;
       part = connective_part new id n.a n.b n.kind p q c d t m.arena x.kind (node_later old new id n.kind (n.a ∷ n.b ∷ []) g k.node)
@@ -330,6 +336,7 @@ reading_parted old mid new memo id n p c t x hp rc m =
     let np = part_later old new n.a p g x.arena k.first (x.parts n.a p hp) in
     let ta = truth_later old new n.a g (reading_kid old memo id n x) in
     record {
+      cost = node_cost old id n.kind (n.a ∷ []) (costs new) (costs old) k.node (omega (arith, rc.cost, m.cost, group_cost n.kind group.Reading x.kind));
       extends = e;
       arena = m.arena;
       part = reading_part new id n.a n.kind p c t m.arena x.kind (node_later old new id n.kind (n.a ∷ []) g k.node) (remade_as mid new id n (three c n.b n.c) t 1 group.Reading x.kind refl refl m)
@@ -351,6 +358,7 @@ choice_parted old m1 m2 new memo id n p q r f c t x hp hq hr rc m o =
     let ta = truth_later old new n.a g (choice_kid old memo id n x) in
     let sc = rc.says new late.grew o.arena np ta in
     record {
+      cost = node_cost old id n.kind (three n.a n.b n.c) (costs new) (costs old) k.node (omega (arith, rc.cost, m.cost, o.cost, group_cost n.kind group.Choice x.kind));
       extends = e;
       arena = o.arena;
       part = choice_part new id n.a n.b n.c p q r f c t o.arena
@@ -394,6 +402,7 @@ guard_parted old m1 new memo id n p q f c s x hp hq rc j sort other =
     let nq = part_later old new n.b q g x.arena k.second (x.parts n.b q hq) in
     let ta = truth_later old new n.a g (guard_kid old memo id n x) in
     record {
+      cost = node_cost old id n.kind (n.a ∷ n.b ∷ []) (costs new) (costs old) k.node (omega (arith, rc.cost, j.cost, group_cost n.kind group.Guard x.kind, ap cost_of (guard_kind n.kind x.kind)));
       extends = e;
       arena = j.arena;
       part = guard_part new id n.a n.b q f j.arena (kind_as new id n.kind Guard (n.a ∷ n.b ∷ []) (guard_kind n.kind x.kind) (node_later old new id n.kind (n.a ∷ n.b ∷ []) g k.node)) nq
@@ -414,6 +423,7 @@ guard_truth_parted old m1 m2 new memo id n p q f c t x hp hq rc j sort m =
     let sc = rc.says new late.grew m.arena np ta in
     let sq = part_says new n.b q m.arena nq tb in
     record {
+      cost = node_cost old id n.kind (n.a ∷ n.b ∷ []) (costs new) (costs old) k.node (omega (arith, rc.cost, j.cost, m.cost, group_cost n.kind group.Guard x.kind, ap cost_of (guard_kind n.kind x.kind)));
       extends = e;
       arena = m.arena;
       part = guard_truth_part new id n.a n.b q f t m.arena (kind_as new id n.kind Guard (n.a ∷ n.b ∷ []) (guard_kind n.kind x.kind) (node_later old new id n.kind (n.a ∷ n.b ∷ []) g k.node)) nq tb

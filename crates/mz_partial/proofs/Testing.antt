@@ -13,6 +13,7 @@ use Rattle.mz_arena.specs.Entries.{Entry, arity, is_set_const}
 use Rattle.mz_arena.specs.Values.{Val, number, set, Term, Values, bit, if_term, comparison_term}
 use Rattle.mz_arena.specs.Terms.{kind_term, term}
 use Rattle.mz_arena.specs.Extents.{Known, whole, truth, subset, wholes, truths, subsets, empty as no_element, open_truth, sort_of, not_extent, extent}
+use Rattle.mz_arena.specs.Charges.{charges}
 use Rattle.mz_arena.specs.Arenas.{IsArena, IsConst, Grew, Extends}
 use Rattle.mz_arena.specs.InBounds.{AreInBounds}
 use Rattle.mz_arena.proofs.Folds.{get-below}
@@ -24,6 +25,7 @@ use Rattle.mz_partial.specs.Nodes.{IsNode, Placed, AreAlike, IsPartialNode, comp
 use Rattle.mz_partial.specs.Calls.{IsFlag, Joins, IsNumber, IsConstant, Tests, IsSafe, is_nonzero, is_from_one, is_up_to, is_place, IsNever, HasNoValue, IsBlank}
 use Rattle.mz_partial.proofs.Standing.{node_means, node_bounds, node_total, node_later, extends_same, extends_both, extent_in, truth_later, part_later, bounds_before}
 use Rattle.mz_partial.proofs.ByKind.{Fits, not_open, IsPlain, plain_tells, plain_counts, plain_open}
+use Rattle.mz_partial.proofs.Costing.{costs_by_charges, partial_charge}
 use Rattle.mz_partial.proofs.Asked.{comparison_bounds, wholes_choice}
 use Rattle.mz_partial.proofs.Saying.{some_is, if_bit, not_says, says_by}
 use Rattle.mz_partial.proofs.Partial.{number_or, part_number, has_fits}
@@ -44,8 +46,9 @@ encloses_at : (es : List Entry) (u : ℕ) (e : Ends) (m : Values → ℤ) (v : V
 encloses_at es u e m v a h b = (has_fits es u (Some (whole e)) (λ v. number (m v)) v a h b).lies (whole e) refl
 
 -- no flag, where the bounds tell it
-pub tests_told : (es : List Entry) (u : ℕ) (e : Ends) (holds : ℤ → Bool) → IsArena es → extent es u ≡ Some (whole e) → ((m : ℤ) → Encloses e m → holds m ≡ true) → Tests es es u holds None
+pub tests_told : (es : List Entry) (u : ℕ) (e : Ends) (holds : ℤ → Bool) → IsArena es → extent es u ≡ Some (whole e) → ((m : ℤ) → Encloses e m → holds m ≡ true) → Tests 2 es es u holds None
 tests_told es u e holds a h all = record {
+  cost = omega arith;
   extends = extends_same es;
   arena = a;
   flag = tt;
@@ -76,10 +79,11 @@ le_means : (v : Values) (d : Entry) (i j : ℤ) → kind_term v d Le (Some (numb
 unfolding comparison_term
 le_means v d i j = refl
 
-pub tests_nonzero : (old mid new : List Entry) (u d f : ℕ) (e : Ends) → extent old u ≡ Some (whole e) → IsNumber old mid (pos 0) d → Placed mid new Ne (u ∷ d ∷ []) f → Tests old new u is_nonzero (Some f)
+pub tests_nonzero : (old mid new : List Entry) (u d f : ℕ) (e : Ends) → extent old u ≡ Some (whole e) → IsNumber old mid (pos 0) d → Placed mid new Ne (u ∷ d ∷ []) f → Tests 2 old new u is_nonzero (Some f)
 tests_nonzero old mid new u d f e h z p =
     let w = extends_both old mid new z.extends p.extends in
     record {
+      cost = omega (arith, z.cost, p.cost);
       extends = w;
       arena = p.arena;
       flag = compare_truth new Ne u d f e (pos 0, pos 0) p.arena refl p.node (whole_later old new u e w.grew h) (z.has new p.extends.grew p.arena).bounds;
@@ -88,10 +92,11 @@ tests_nonzero old mid new u d f e h z p =
           compare_says fs Ne u d f e (pos 0, pos 0) m (λ v. pos 0) (λ i j. not (int_eq i j)) ar refl (node_later new fs f Ne (u ∷ d ∷ []) g p.node) ne_means (has_as fs u x (Some (whole e)) (λ v. number (m v)) (whole_later old fs u e late h) k) (z.has fs (grew_both p.extends.grew g) ar);
     }
 
-pub tests_from_one : (old mid new : List Entry) (u d f : ℕ) (e : Ends) → extent old u ≡ Some (whole e) → IsNumber old mid (pos 1) d → Placed mid new Le (d ∷ u ∷ []) f → Tests old new u is_from_one (Some f)
+pub tests_from_one : (old mid new : List Entry) (u d f : ℕ) (e : Ends) → extent old u ≡ Some (whole e) → IsNumber old mid (pos 1) d → Placed mid new Le (d ∷ u ∷ []) f → Tests 2 old new u is_from_one (Some f)
 tests_from_one old mid new u d f e h z p =
     let w = extends_both old mid new z.extends p.extends in
     record {
+      cost = omega (arith, z.cost, p.cost);
       extends = w;
       arena = p.arena;
       flag = compare_truth new Le d u f (pos 1, pos 1) e p.arena refl p.node (z.has new p.extends.grew p.arena).bounds (whole_later old new u e w.grew h);
@@ -100,10 +105,11 @@ tests_from_one old mid new u d f e h z p =
           compare_says fs Le d u f (pos 1, pos 1) e (λ v. pos 1) m int_le ar refl (node_later new fs f Le (d ∷ u ∷ []) g p.node) le_means (z.has fs (grew_both p.extends.grew g) ar) (has_as fs u x (Some (whole e)) (λ v. number (m v)) (whole_later old fs u e late h) k);
     }
 
-pub tests_up_to : (old mid new : List Entry) (u d f : ℕ) (e : Ends) (n : ℤ) → extent old u ≡ Some (whole e) → IsNumber old mid n d → Placed mid new Le (u ∷ d ∷ []) f → Tests old new u (is_up_to n) (Some f)
+pub tests_up_to : (old mid new : List Entry) (u d f : ℕ) (e : Ends) (n : ℤ) → extent old u ≡ Some (whole e) → IsNumber old mid n d → Placed mid new Le (u ∷ d ∷ []) f → Tests 2 old new u (is_up_to n) (Some f)
 tests_up_to old mid new u d f e n h z p =
     let w = extends_both old mid new z.extends p.extends in
     record {
+      cost = omega (arith, z.cost, p.cost);
       extends = w;
       arena = p.arena;
       flag = compare_truth new Le u d f e (n, n) p.arena refl p.node (whole_later old new u e w.grew h) (z.has new p.extends.grew p.arena).bounds;
@@ -112,10 +118,11 @@ tests_up_to old mid new u d f e n h z p =
           compare_says fs Le u d f e (n, n) m (λ v. n) int_le ar refl (node_later new fs f Le (u ∷ d ∷ []) g p.node) le_means (has_as fs u x (Some (whole e)) (λ v. number (m v)) (whole_later old fs u e late h) k) (z.has fs (grew_both p.extends.grew g) ar);
     }
 
-pub tests_place : (old m1 m2 new : List Entry) (u : ℕ) (n : ℤ) (f g h : Option ℕ) → Tests old m1 u is_from_one f → Tests m1 m2 u (is_up_to n) g → Joins m2 new f g h → Tests old new u (is_place n) h
+pub tests_place : (old m1 m2 new : List Entry) (u : ℕ) (n : ℤ) (f g h : Option ℕ) → Tests 2 old m1 u is_from_one f → Tests 2 m1 m2 u (is_up_to n) g → Joins m2 new f g h → Tests 6 old new u (is_place n) h
 tests_place old m1 m2 new u n f g h s t j =
     let late = extends_both m1 m2 new t.extends j.extends in
     record {
+      cost = omega (arith, s.cost, t.cost, j.cost);
       extends = extends_both old m1 new s.extends late;
       arena = j.arena;
       flag = j.flag (is_flag_later m1 m2 f t.extends.grew s.flag) t.flag;
@@ -146,6 +153,7 @@ length_number n h = both (int_le least_number (pos n)) (int_le (pos n) greatest_
 
 pub safe_none : (es : List Entry) (u : ℕ) (f : Option ℕ) (k : ℤ) → IsArena es → f ≡ None → IsSafe es es u f k u
 safe_none es u f k a h = record {
+  cost = omega arith;
   extends = extends_same es;
   arena = a;
   has = λ fs g ar e m b p q s. let n = says_by fs f None b h s in record {
@@ -170,6 +178,7 @@ cond_number false m k = refl
 
 pub safe_some : (old mid new : List Entry) (u c d w : ℕ) (f : Option ℕ) (k : ℤ) → f ≡ Some c → IsNumber old mid k d → Placed mid new If (three c u d) w → IsSafe old new u f k w
 safe_some old mid new u c d w f k h z p = record {
+  cost = omega (arith, z.cost, p.cost);
   extends = extends_both old mid new z.extends p.extends;
   arena = p.arena;
   has = λ fs g ar e m b q enc s.
@@ -195,8 +204,8 @@ pub record IsTested (es : List Entry) (i : ℕ) (p : Part) (holds : ℤ → Bool
   pub says : Says es f (λ v. holds (number_or (part.value v)))
   pub has : Has es w (Some (whole e)) (λ v. number (cond (holds (number_or (part.value v))) (number_or (part.value v)) k))
 
-pub tested : (old m1 m2 es : List Entry) (i : ℕ) (p : Part) (holds : ℤ → Bool) (f : Option ℕ) (k : ℤ) (w : ℕ) (e : Ends) → IsArena old → i < length old → IsPart old i p → extent old i ≡ Some (whole e) → Encloses e k → Tests old m1 p.term holds f → IsSafe m1 m2 p.term f k w → Grew m2 es → IsArena es → IsTested es i p holds f k w e
-tested old m1 m2 es i p holds f k w e a below h is_whole enc t s g ar =
+pub tested : (most : ℕ) (old m1 m2 es : List Entry) (i : ℕ) (p : Part) (holds : ℤ → Bool) (f : Option ℕ) (k : ℤ) (w : ℕ) (e : Ends) → IsArena old → i < length old → IsPart old i p → extent old i ≡ Some (whole e) → Encloses e k → Tests most old m1 p.term holds f → IsSafe m1 m2 p.term f k w → Grew m2 es → IsArena es → IsTested es i p holds f k w e
+tested most old m1 m2 es i p holds f k w e a below h is_whole enc t s g ar =
     let late = grew_both s.extends.grew g in
     let all = grew_both t.extends.grew late in
     let np = part_later old es i p all a below h in
@@ -231,6 +240,9 @@ partial_whole es id n (no_partial o e h p kids) = clash (ap (λ (d : Entry). is_
     clash : {B : Type 0} → is_partial n.there.node.kind ≡ false → B
     clash f = let t = n.partial in absurd (cc)
 
+same_entry : {a b : Entry} → Some a ≡ Some b → a ≡ b
+same_entry q = cc
+
 pub never_parted : (old mid new : List Entry) (id t d : ℕ) → IsArena old → HasNoValue old id → IsPartialNode old id → IsBlank old mid (extent old id) t → IsConstant mid new false d → Parted old new id (record { flag = Some d; term = t; len = 0 })
 never_parted old mid new id t d a none partial b c =
     let e = extends_both old mid new b.extends c.extends in
@@ -241,6 +253,7 @@ never_parted old mid new id t d a none partial b c =
     let h = b.has new c.extends.grew c.arena in
     let there : IsPartialNode new id = record { there = partial.there; stands = g.same id below ∙ partial.stands; partial = partial.partial } in
     record {
+      cost = λ f there_f. omega (arith, b.cost, c.cost, partial_charge f.node.kind (ap (λ (d : Entry). is_partial d.node.kind) (sym (same_entry (sym partial.stands ∙ there_f))) ∙ partial.partial));
       extends = e;
       arena = c.arena;
       part = record {
@@ -257,13 +270,14 @@ never_parted old mid new id t d a none partial b c =
     }
 
 pub blank_number : (old new : List Entry) (t : ℕ) → IsNumber old new (pos 0) t → IsBlank old new (Some (whole bounds.nothing)) t
-blank_number old new t n = record { extends = n.extends; arena = n.arena; value = λ v. number (pos 0); has = n.has }
+blank_number old new t n = record { cost = omega (arith, n.cost); extends = n.extends; arena = n.arena; value = λ v. number (pos 0); has = n.has }
 
 pub constant_truth : (old new : List Entry) (b : Bool) (t : ℕ) → IsConstant old new b t → IsTruth new t
 constant_truth old new b t c = (c.says new (grew_same new) c.arena).truth
 
 pub blank_truth : (old mid new : List Entry) (y t : ℕ) → IsConstant old mid true y → Placed mid new Not (y ∷ []) t → IsBlank old new open_truth t
 blank_truth old mid new y t c p = record {
+  cost = omega (arith, c.cost, p.cost);
   extends = extends_both old mid new c.extends p.extends;
   arena = p.arena;
   value = λ v. number (pos 0);
@@ -276,10 +290,11 @@ set_kind : (k : NodeKind) → is_set_const k ≡ true → k ≡ SetConst
 set_kind SetConst h = refl
 set_kind _ h = absurd (cc)
 
-pub blank_set : (old new : List Entry) (t : ℕ) (s : List Range) → Extends old new → IsArena new → IsConst new s t → s ≡ [] → IsBlank old new (Some (subset [])) t
-blank_set old new t s e a c h =
+pub blank_set : (old new : List Entry) (t : ℕ) (s : List Range) → Extends old new → IsArena new → IsConst new s t → s ≡ [] → charges new ≡ charges old → IsBlank old new (Some (subset [])) t
+blank_set old new t s e a c h same =
     let kind = set_kind c.node.kind c.const in
     record {
+      cost = omega (arith, costs_by_charges old new e.grew same);
       extends = e;
       arena = a;
       value = λ v. set [];

@@ -1,5 +1,5 @@
 -- What the calls give, in each arena that goes on from theirs.
-use Rattle.std.specs.Prelude.{◌≡◌, ℕ, zero, ℤ, pos, ◌≤ℤ◌, ◌<ℤ◌, int_le, not, List, [], Bool, true, ◌&&◌, Option, Some, None, ◌⊎◌, if◌then◌else◌}
+use Rattle.std.specs.Prelude.{◌≡◌, ℕ, ◌+◌, ◌≤◌, zero, ℤ, pos, ◌≤ℤ◌, ◌<ℤ◌, int_le, not, List, [], Bool, true, ◌&&◌, Option, Some, None, ◌⊎◌, if◌then◌else◌}
 use Rattle.std.specs.Ordering.{int_eq}
 use Rattle.mz_interval.specs.Ends.{Ends, Encloses}
 use Rattle.mz_operations.specs.Bounds as bounds
@@ -10,6 +10,7 @@ use Rattle.mz_arena.specs.Extents.{Known, whole, truth, subset, open_truth, exte
 use Rattle.mz_arena.specs.Arenas.{IsArena, Grew, Extends}
 use Rattle.mz_arena.specs.InBounds.{AreInBounds}
 use Rattle.mz_partial.specs.declared.part.Part.{Part}
+use Rattle.mz_partial.specs.Costs.{costs}
 use Rattle.mz_partial.specs.Totals.{IsTruth, SaysAt, Says, Has, IsPart}
 
 -- what is asked of a flag: a Boolean node
@@ -21,6 +22,7 @@ IsFlag es (Some d) = IsTruth es d
 pub record Joins (old new : List Entry) (f g h : Option ℕ) : Type 0 where
   pub extends : Extends old new
   pub arena : IsArena new
+  pub cost : costs new ≤ costs old + 2
   pub says : (es : List Entry) → Grew new es → IsArena es → (a b : Values → Bool) → Says es f a → Says es g b → Says es h (λ v. a v && b v)
   pub flag : IsFlag old f → IsFlag old g → IsFlag new h
   pub own : f ≡ None → g ≡ None → h ≡ None
@@ -29,6 +31,7 @@ pub record Joins (old new : List Entry) (f g h : Option ℕ) : Type 0 where
 pub record Conjoins (old new : List Entry) (f : Option ℕ) (t r : ℕ) : Type 0 where
   pub extends : Extends old new
   pub arena : IsArena new
+  pub cost : costs new ≤ costs old + 2
   pub says : (es : List Entry) → Grew new es → IsArena es → (a b : Values → Bool) → Says es f a → SaysAt es t b → SaysAt es r (λ v. a v && b v)
   pub bounds : (es : List Entry) → Grew new es → IsArena es → IsTruth es t → ((d : ℕ) → f ≡ Some d → extent es t ≡ open_truth) → extent es r ≡ extent es t
   pub own : f ≡ None → r ≡ t
@@ -37,6 +40,7 @@ pub record Conjoins (old new : List Entry) (f : Option ℕ) (t r : ℕ) : Type 0
 pub record Reads (old new : List Entry) (id : ℕ) (p : Part) (t : ℕ) : Type 0 where
   pub extends : Extends old new
   pub arena : IsArena new
+  pub cost : costs new ≤ costs old + 2
   pub says : (es : List Entry) → Grew new es → IsArena es → IsPart es id p → IsTruth es id → SaysAt es t (λ v. is_true (term v es id))
   pub bounds : (es : List Entry) → Grew new es → IsArena es → IsPart es id p → IsTruth es id → extent es t ≡ extent es id
   pub own : p.flag ≡ None → t ≡ p.term
@@ -45,6 +49,7 @@ pub record Reads (old new : List Entry) (id : ℕ) (p : Part) (t : ℕ) : Type 0
 pub record Chooses (old new : List Entry) (c : ℕ) (f g h : Option ℕ) : Type 0 where
   pub extends : Extends old new
   pub arena : IsArena new
+  pub cost : costs new ≤ costs old + 6
   pub says : (es : List Entry) → Grew new es → IsArena es → (b x y : Values → Bool) → SaysAt es c b → Says es f x → Says es g y → Says es h (λ v. if b v then x v else y v)
   pub own : f ≡ None → g ≡ None → h ≡ None
 
@@ -52,17 +57,20 @@ pub record Chooses (old new : List Entry) (c : ℕ) (f g h : Option ℕ) : Type 
 pub record IsNumber (old new : List Entry) (n : ℤ) (t : ℕ) : Type 0 where
   pub extends : Extends old new
   pub arena : IsArena new
+  pub cost : costs new ≤ costs old
   pub has : (es : List Entry) → Grew new es → IsArena es → Has es t (Some (whole (n, n))) (λ v. number n)
 
 pub record IsConstant (old new : List Entry) (b : Bool) (t : ℕ) : Type 0 where
   pub extends : Extends old new
   pub arena : IsArena new
+  pub cost : costs new ≤ costs old
   pub says : (es : List Entry) → Grew new es → IsArena es → SaysAt es t (λ v. b)
 
--- a flag that tests an integer node
-pub record Tests (old new : List Entry) (u : ℕ) (holds : ℤ → Bool) (f : Option ℕ) : Type 0 where
+-- a flag that tests an integer node, at a cost of at most this
+pub record Tests (most : ℕ) (old new : List Entry) (u : ℕ) (holds : ℤ → Bool) (f : Option ℕ) : Type 0 where
   pub extends : Extends old new
   pub arena : IsArena new
+  pub cost : costs new ≤ costs old + most
   pub flag : IsFlag new f
   pub says : (es : List Entry) → Grew new es → IsArena es → (x : Known) (m : Values → ℤ) → Has es u x (λ v. number (m v)) → Says es f (λ v. holds (m v))
 
@@ -70,6 +78,7 @@ pub record Tests (old new : List Entry) (u : ℕ) (holds : ℤ → Bool) (f : Op
 pub record IsSafe (old new : List Entry) (u : ℕ) (f : Option ℕ) (k : ℤ) (w : ℕ) : Type 0 where
   pub extends : Extends old new
   pub arena : IsArena new
+  pub cost : costs new ≤ costs old + 6
   pub has : (es : List Entry) → Grew new es → IsArena es → (e : Ends) (m : Values → ℤ) (b : Values → Bool) → Has es u (Some (whole e)) (λ v. number (m v)) → Encloses e k → Says es f b → Has es w (Some (whole e)) (λ v. number (if b v then m v else k))
 
 abbrev pub is_nonzero : ℤ → Bool
@@ -109,5 +118,6 @@ pub record HasNoValue (es : List Entry) (id : ℕ) : Type 0 where
 pub record IsBlank (old new : List Entry) (x : Known) (t : ℕ) : Type 0 where
   pub extends : Extends old new
   pub arena : IsArena new
+  pub cost : costs new ≤ costs old + 2
   pub value : Values → Val
   pub has : (es : List Entry) → Grew new es → IsArena es → Has es t x value

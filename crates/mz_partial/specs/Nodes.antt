@@ -1,5 +1,5 @@
 -- Nodes by their kinds and children, and what is asked for them.
-use Rattle.std.specs.Prelude.{◌≡◌, ℕ, ◌≤◌, List, [], ◌∷◌, length, map, take, Bool, true, false, Some, slice_get, ◌⊎◌}
+use Rattle.std.specs.Prelude.{◌≡◌, ℕ, ◌+◌, ◌≤◌, List, [], ◌∷◌, length, map, take, Bool, true, false, Some, slice_get, ◌⊎◌}
 use Rattle.mz_arena.specs.declared.node.Node.{Node}
 use Rattle.mz_arena.specs.declared.node.NodeKind.{NodeKind}
 use Rattle.mz_arena.specs.declared.node.NodeKind.TheVariants.{Eq, Ne, Le, Lt}
@@ -9,6 +9,7 @@ use Rattle.mz_arena.specs.Arenas.{Extends, IsArena}
 use Rattle.mz_partial.specs.declared.part.Part.{Part}
 use Rattle.mz_partial.specs.declared.group.Group.{Group}
 use Rattle.mz_partial.specs.Groups.{group_of, is_inner, is_partial}
+use Rattle.mz_partial.specs.Costs.{cost_of, costs}
 use Rattle.mz_partial.specs.Totals.{IsTruth, IsWhole, AreParts}
 
 -- the node of a kind over these children
@@ -23,6 +24,7 @@ pub record Placed (old new : List Entry) (k : NodeKind) (is : List ℕ) (id : �
   pub extends : Extends old new
   pub arena : IsArena new
   pub node : IsNode new id k is
+  pub cost : costs new ≤ costs old + cost_of k
 
 abbrev pub three : ℕ → ℕ → ℕ → List ℕ
 three a b c = a ∷ b ∷ c ∷ []
@@ -40,6 +42,7 @@ pub record Remade (old new : List Entry) (id : ℕ) (n : Node) (is : List ℕ) (
   pub extends : Extends old new
   pub arena : IsArena new
   pub node : IsNode new t n.kind (take (arity n.kind) is)
+  pub cost : costs new ≤ costs old + cost_of n.kind
   pub own : is ≡ three n.a n.b n.c → t ≡ id
 
 -- comparisons of integers

@@ -1,5 +1,5 @@
 -- What is kept of each id: a total term, and where the id has a value.
-use Rattle.std.specs.Prelude.{◌≡◌, ℕ, ◌<◌, List, length, Bool, true, false, Option, Some, None, IsSome, slice_get}
+use Rattle.std.specs.Prelude.{◌≡◌, ℕ, ◌+◌, ◌<◌, ◌≤◌, List, length, take, Bool, true, false, Option, Some, None, IsSome, slice_get}
 use Rattle.mz_interval.specs.Ends.{Ends}
 use Rattle.mz_operations.specs.Bounds as bounds
 use Rattle.mz_arena.specs.Entries.{Entry, children}
@@ -7,9 +7,11 @@ use Rattle.mz_arena.specs.Values.{Val, numbers, sets, empty, Term, Values, bit}
 use Rattle.mz_arena.specs.Terms.{term}
 use Rattle.mz_arena.specs.Extents.{Known, whole, truth, wholes, truths, subsets, empty as no_element, extent}
 use Rattle.mz_arena.specs.Arenas.{Extends, IsArena}
+use Rattle.mz_arena.specs.Charges.{charge_of, charges}
 use Rattle.mz_arena.specs.InBounds.{AreInBounds}
 use Rattle.mz_partial.specs.declared.part.Part.{Part}
 use Rattle.mz_partial.specs.declared.memo.Pair.{Pair}
+use Rattle.mz_partial.specs.Costs.{costs}
 use Rattle.mz_partial.specs.Groups.{is_partial}
 
 -- a value where a condition holds, else none
@@ -115,7 +117,18 @@ AreParts es memo = (i : ℕ) (p : Part) → slice_get memo i ≡ Some p → IsPa
 pub record Parted (old new : List Entry) (id : ℕ) (p : Part) : Type 0 where
   pub extends : Extends old new
   pub arena : IsArena new
+  pub cost : (e : Entry) → slice_get old id ≡ Some e → costs new ≤ costs old + charge_of e.node.kind
   pub part : IsPart new id p
+
+-- what is made while the first m ids are looked at, of which n were before, costs at most what the arena charges for the others
+abbrev pub CostsWithin : List Entry → List Entry → ℕ → ℕ → Type 0
+CostsWithin old new n m = costs new + charges (take n old) ≤ costs old + charges (take m new)
+
+-- the pair that a part gives
+pub record Paired (old new : List Entry) (id : ℕ) (p : Pair) : Type 0 where
+  pub extends : Extends old new
+  pub pair : IsPair new id p
+  pub cost : costs new ≤ costs old
 
 -- the pair of an id, in an arena that goes on with no further variable or choice
 pub record Totaled (old new : List Entry) (id : ℕ) (p : Pair) : Type 0 where
@@ -123,7 +136,8 @@ pub record Totaled (old new : List Entry) (id : ℕ) (p : Pair) : Type 0 where
   pub pair : IsPair new id p
 
 -- the parts of the first ids, in an arena that goes on
-pub record Filled (old new : List Entry) (memo : List Part) : Type 0 where
+pub record Filled (old new : List Entry) (n : ℕ) (memo : List Part) : Type 0 where
   pub extends : Extends old new
   pub arena : IsArena new
+  pub cost : CostsWithin old new n (length memo)
   pub parts : AreParts new memo

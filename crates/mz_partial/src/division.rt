@@ -24,7 +24,7 @@ use std::alloc::Global;
 fn nonzero(arena: &mut Arena, u: Id, range: Interval) -> Result<Option<Id>, Memory>
     requires arena { IsArena arena.old }
     requires whole { extent arena.old u ≡ Some (whole (ends range)) }
-    ensures { IfOk result (Tests arena.old arena.new u is_nonzero) }
+    ensures { IfOk result (Tests 2 arena.old arena.new u is_nonzero) }
 {
     if range.lo > 0 {
         return Ok(None);

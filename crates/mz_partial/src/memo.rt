@@ -2,7 +2,7 @@
 
 ghost use Rattle.std.specs.Prelude.{◌≡◌, ◌+◌, ◌<◌, ◌≤◌, [], IfOk, OnOk, length};
 ghost use Rattle.mz_arena.specs.Arenas.{IsArena};
-ghost use Rattle.mz_partial.specs.Totals.{IsPart, AreParts, Parted, Totaled, Filled};
+ghost use Rattle.mz_partial.specs.Totals.{IsPart, AreParts, Parted, Paired, Totaled, Filled, CostsWithin};
 
 use crate::access::access;
 use crate::division::division;
@@ -54,7 +54,8 @@ impl Memo {
 }
 
 /// The pair of an id. The arena goes on with no further variable or choice; where the id and those
-/// below it are of no partial kind, the term is the id itself.
+/// below it are of no partial kind, the term is the id itself. The nodes that are made cost at most
+/// what the arena charges for the ids that are looked at.
 ///
 /// Each id up to this one is looked at once for all calls with one memo. After `Memory` nothing is
 /// known of the memo.
@@ -63,6 +64,7 @@ pub fn total(arena: &mut Arena, id: Id, memo: &mut Memo) -> Result<Pair, Memory>
     requires place { id < length arena.old }
     ensures totaled { IfOk result (Totaled arena.old arena.new id) }
     ensures memo { OnOk result (AreParts arena.new memo.new) }
+    ensures cost { OnOk result (CostsWithin arena.old arena.new (length memo.old) (length memo.new)) }
 {
     let alloc = memo.alloc;
     fill(arena, alloc, &mut memo.parts, id)?;
@@ -75,7 +77,7 @@ pub fn total(arena: &mut Arena, id: Id, memo: &mut Memo) -> Result<Pair, Memory>
 fn fill(arena: &mut Arena, alloc: Global, parts: &mut Vec<Part>, id: Id) -> Result<(), Memory>
     requires memo { AreParts arena.old parts.old.items }
     requires place { id < length arena.old }
-    ensures filled { OnOk result (Filled arena.old arena.new parts.new.items) }
+    ensures filled { OnOk result (Filled arena.old arena.new (length parts.old.items) parts.new.items) }
     ensures reach { OnOk result (id < length parts.new.items) }
 {
     let _count = arena.len();
@@ -90,7 +92,7 @@ fn next_part(arena: &mut Arena, alloc: Global, parts: &mut Vec<Part>) -> Result<
     requires arena { IsArena arena.old }
     requires memo { AreParts arena.old parts.old.items }
     requires place { length parts.old.items < length arena.old }
-    ensures filled { OnOk result (Filled arena.old arena.new parts.new.items) }
+    ensures filled { OnOk result (Filled arena.old arena.new (length parts.old.items) parts.new.items) }
     ensures longer { OnOk result (length parts.new.items ≡ length parts.old.items + 1) }
 {
     let next = parts.len() as u64;
@@ -128,7 +130,7 @@ fn part_of(arena: &mut Arena, alloc: Global, memo: &[Part], id: Id) -> Result<Pa
 fn paired(arena: &mut Arena, id: Id, p: Part) -> Result<Pair, Memory>
     requires arena { IsArena arena.old }
     requires part { IsPart arena.old id p }
-    ensures { IfOk result (Totaled arena.old arena.new id) }
+    ensures { IfOk result (Paired arena.old arena.new id) }
 {
     let _id = id;
     let Some(defined) = p.flag else {

@@ -13,4 +13,4 @@ both-requires-clause-f c = is_flag_later c.from_one.new.arena c.up_to.new.arena 
 
 pub returns : goal.returns
 returns c = tests_place c.args.arena.now c.from_one.new.arena c.up_to.new.arena c.both.new.arena c.args.u c.args.len c.in_ok-low.low c.in_ok-high.high c.in_ok-f.f c.in_ok-low.ensures
-    (subst (λ l. Tests c.from_one.new.arena c.up_to.new.arena c.args.u (is_up_to l) c.in_ok-high.high) (to_z-of_z w64 c.args.len c.ranges.len) c.in_ok-high.ensures) c.in_ok-f.ensures
+    (subst (λ l. Tests 2 c.from_one.new.arena c.up_to.new.arena c.args.u (is_up_to l) c.in_ok-high.high) (to_z-of_z w64 c.args.len c.ranges.len) c.in_ok-high.ensures) c.in_ok-f.ensures
