@@ -1,9 +1,12 @@
 // What the calls of an arena answer: each line is a call and its answer.
 #![tactic(auto)]
 
+ghost use Rattle.std.specs.Prelude.{◌<◌, IfOk, IfSome, length};
+
 use cases::Page;
-use mz_arena::{Arena, Node, NodeKind, charge};
+use mz_arena::{Arena, Id, Node, NodeKind, charge};
 use mz_base::Memory;
+use mz_partial::{Memo, total};
 use mz_value::RangeSet;
 use std::alloc::Global;
 use std::io;
@@ -27,12 +30,59 @@ fn sets(alloc: Global, arena: &mut Arena, page: &mut Page) -> Result<(), Memory>
     Ok(())
 }
 
+/// The id of an operation on two nodes, where it may be made.
+fn made(arena: &mut Arena, kind: NodeKind, a: Id, b: Id) -> Result<Option<Id>, Memory>
+    ensures { IfOk result (λ r. IfSome r (λ id. id < length arena.new)) }
+{
+    let node = Node {
+        kind,
+        a,
+        b,
+        c: 0,
+        number: 0,
+    };
+    let id = arena.checked(node)?;
+    Ok(id)
+}
+
+/// The total term of an operation on two nodes, and the Boolean that tells where it has a value.
+fn split(
+    alloc: Global,
+    arena: &mut Arena,
+    page: &mut Page,
+    kind: NodeKind,
+    a: Id,
+    b: Id,
+) -> Result<(), Memory> {
+    let Some(id) = made(arena, kind, a, b)? else {
+        return Ok(());
+    };
+    let mut memo = Memo::new(alloc);
+    let pair = total(arena, id, &mut memo)?;
+    page.case("an operation on two integers", id);
+    page.case("its total term", pair.term);
+    page.case("where it has a value", pair.defined);
+    Ok(())
+}
+
+fn totals(alloc: Global, arena: &mut Arena, page: &mut Page) -> Result<(), Memory> {
+    split(alloc, arena, page, NodeKind::Mul, 0, 0)?;
+    let Some(zero) = made(arena, NodeKind::Int, 0, 0)? else {
+        return Ok(());
+    };
+    page.case("the integer 0", zero);
+    split(alloc, arena, page, NodeKind::Div, 0, zero)?;
+    Ok(())
+}
+
 fn all(alloc: Global) -> Result<String, Memory> {
     let mut page = Page::new(alloc);
     let mut arena = Arena::new(alloc);
     page.case("nodes of a new arena", arena.len());
     nodes(&mut arena, &mut page)?;
     sets(alloc, &mut arena, &mut page)?;
+    page.case("nodes", arena.len());
+    totals(alloc, &mut arena, &mut page)?;
     page.case("nodes", arena.len());
     page.case("charge of a quotient", charge(NodeKind::Div));
     Ok(page.into_text()?)

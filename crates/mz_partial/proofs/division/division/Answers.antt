@@ -1,0 +1,87 @@
+use Rattle.std.proofs.Common.{rules, ◌≡◌, pos, true, refl, sym, ap, subst, ◌∙◌, w64, of_z, to_z}
+use Rattle.std.proofs.lemmas.Int.{to_z-of_z}
+use Rattle.mz_interval.specs.Ends.{is_number}
+use Rattle.mz_interval.specs.Interval.{ends}
+use Rattle.mz_partial.specs.declared.group.Group.TheVariants as group
+use Rattle.mz_partial.specs.Calls.{IsSafe}
+use Rattle.mz_partial.proofs.Standing.{extends_both}
+use Rattle.mz_partial.proofs.Taking.{takes_two}
+use Rattle.mz_partial.proofs.Readying.{flag_later, joined_flag}
+use Rattle.mz_partial.proofs.Testing.{is_flag_later, whole_later}
+use Rattle.mz_partial.proofs.Parting.{has_ends, divisor_whole, divisor_range, division_never, division_node, division_may, division_parted, nonzero_by}
+use Rattle.mz_partial.proofs.division.division.Goals as goal
+
+pub part_at-p-requires : goal.part_at-p-requires
+part_at-p-requires c = (takes_two c.args.arena.now c.args.memo.now c.args.id c.args.n group.Division c.requires refl refl).in_memo
+
+pub part_at-q-requires : goal.part_at-q-requires
+part_at-q-requires c = (takes_two c.args.arena.now c.args.memo.now c.args.id c.args.n group.Division c.requires refl refl).next_in_memo
+
+pub bounds-range-requires : goal.bounds-range-requires
+bounds-range-requires c = has_ends c.args.arena.now c.args.n.b c.part_at-q.result (c.requires.parts c.args.n.b c.part_at-q.result c.part_at-q.ensures) (divisor_whole c.args.arena.now c.args.memo.now c.args.id c.args.n c.requires)
+
+pub never-requires : goal.never-requires
+never-requires c =
+    let r = divisor_range c.args.arena.now c.args.memo.now c.args.id c.args.n c.part_at-q.result (ends c.bounds-range.result) c.requires c.part_at-q.ensures c.bounds-range.ensures in
+    let zero : c.divisor-number.result ≡ pos 0 = sym (to_z-of_z w64 c.divisor-number.result (search rules)) ∙ ap (to_z w64) c.if-number-eq0.true in
+    record {
+      arena = c.requires.arena;
+      never = division_never c.args.arena.now c.args.memo.now c.args.id c.args.n c.part_at-p.result c.part_at-q.result (ends c.bounds-range.result) c.requires c.part_at-p.ensures c.part_at-q.ensures r.is_whole (c.divisor-number.ensures.never zero);
+      partial = division_node c.args.arena.now c.args.memo.now c.args.id c.args.n c.requires;
+    }
+
+pub nonzero-requires : goal.nonzero-requires
+nonzero-requires c =
+    let r = divisor_range c.args.arena.now c.args.memo.now c.args.id c.args.n c.part_at-q.result (ends c.bounds-range.result) c.requires c.part_at-q.ensures c.bounds-range.ensures in
+    record { arena = c.requires.arena; whole = r.term }
+
+pub safe-requires : goal.safe-requires
+safe-requires c =
+    let r = divisor_range c.args.arena.now c.args.memo.now c.args.id c.args.n c.part_at-q.result (ends c.bounds-range.result) c.requires c.part_at-q.ensures c.bounds-range.ensures in
+    let t = c.in_ok-test.ensures in
+    record {
+      arena = t.arena;
+      whole = record { ends = ends c.bounds-range.result; is = whole_later c.args.arena.now c.nonzero.new.arena c.part_at-q.result.term (ends c.bounds-range.result) t.extends.grew r.term };
+      flag = t.flag;
+      limit = subst (λ k. is_number k ≡ true) (sym (to_z-of_z w64 c.divisor-number.result (search rules))) c.divisor-number.ensures.limit;
+    }
+
+pub remake-requires : goal.remake-requires
+remake-requires c =
+    let r = divisor_range c.args.arena.now c.args.memo.now c.args.id c.args.n c.part_at-q.result (ends c.bounds-range.result) c.requires c.part_at-q.ensures c.bounds-range.ensures in
+    let s = subst (λ k. IsSafe c.nonzero.new.arena c.safe.new.arena c.part_at-q.result.term c.in_ok-test.test k c.in_ok-w.w) (to_z-of_z w64 c.divisor-number.result (search rules)) c.in_ok-w.ensures in
+    division_may c.args.arena.now c.nonzero.new.arena c.safe.new.arena c.args.memo.now c.args.id c.args.n c.part_at-p.result c.part_at-q.result c.in_ok-test.test c.in_ok-w.w c.divisor-number.result (ends c.bounds-range.result) c.requires c.part_at-p.ensures c.part_at-q.ensures r.is_whole c.divisor-number.ensures.within c.in_ok-test.ensures s
+
+pub both-requires : goal.both-requires
+both-requires c =
+    let old = c.args.arena.now in
+    let p = c.requires.parts c.args.n.a c.part_at-p.result c.part_at-p.ensures in
+    let q = c.requires.parts c.args.n.b c.part_at-q.result c.part_at-q.ensures in
+    let e = extends_both old c.nonzero.new.arena c.remake.new.arena c.in_ok-test.ensures.extends (extends_both c.nonzero.new.arena c.safe.new.arena c.remake.new.arena c.in_ok-w.ensures.extends c.in_ok-term.ensures.extends) in
+    record {
+      arena = c.in_ok-term.ensures.arena;
+      f = flag_later old c.remake.new.arena c.part_at-p.result.flag p.holds e.grew p.flag;
+      g = flag_later old c.remake.new.arena c.part_at-q.result.flag q.holds e.grew q.flag;
+    }
+
+pub both-requires-2 : goal.both-requires-2
+both-requires-2 c =
+    let old = c.args.arena.now in
+    let p = c.requires.parts c.args.n.a c.part_at-p.result c.part_at-p.ensures in
+    let q = c.requires.parts c.args.n.b c.part_at-q.result c.part_at-q.ensures in
+    let late = extends_both c.nonzero.new.arena c.safe.new.arena c.remake.new.arena c.in_ok-w.ensures.extends c.in_ok-term.ensures.extends in
+    let e = extends_both old c.nonzero.new.arena c.remake.new.arena c.in_ok-test.ensures.extends late in
+    let last = extends_both c.nonzero.new.arena c.remake.new.arena c.both.new.arena late c.in_ok-parts.ensures.extends in
+    record {
+      arena = c.in_ok-parts.ensures.arena;
+      f = joined_flag old c.remake.new.arena c.both.new.arena c.part_at-p.result.flag c.part_at-q.result.flag c.in_ok-parts.parts p.holds q.holds e.grew c.in_ok-parts.ensures p.flag q.flag;
+      g = is_flag_later c.nonzero.new.arena c.both.new.arena c.in_ok-test.test last.grew c.in_ok-test.ensures.flag;
+    }
+
+pub returns : goal.returns
+returns c =
+    let r = divisor_range c.args.arena.now c.args.memo.now c.args.id c.args.n c.part_at-q.result (ends c.bounds-range.result) c.requires c.part_at-q.ensures c.bounds-range.ensures in
+    let s = subst (λ k. IsSafe c.nonzero.new.arena c.safe.new.arena c.part_at-q.result.term c.in_ok-test.test k c.in_ok-w.w) (to_z-of_z w64 c.divisor-number.result (search rules)) c.in_ok-w.ensures in
+    division_parted c.args.arena.now c.nonzero.new.arena c.safe.new.arena c.remake.new.arena c.both.new.arena c.both-2.new.arena c.args.memo.now c.args.id c.args.n c.part_at-p.result c.part_at-q.result c.in_ok-test.test c.in_ok-parts.parts c.in_ok-flag.flag c.in_ok-w.w c.in_ok-term.term c.divisor-number.result (ends c.bounds-range.result)
+    c.requires c.part_at-p.ensures c.part_at-q.ensures r.is_whole c.divisor-number.ensures.within (nonzero_by c.divisor-number.result (λ h. c.if-number-eq0.false (ap (of_z w64) h)))
+    c.in_ok-test.ensures s c.in_ok-term.ensures c.in_ok-parts.ensures c.in_ok-flag.ensures

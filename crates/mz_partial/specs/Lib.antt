@@ -1,0 +1,5 @@
+pub mod Groups
+pub mod Costs
+pub mod Totals
+pub mod Nodes
+pub mod Calls
