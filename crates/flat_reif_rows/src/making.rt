@@ -1,0 +1,77 @@
+// Variables for nodes.
+
+ghost use Rattle.std.specs.Prelude.{◌≡◌, ◌∷◌, [], IfOk, OnErr, map, Some, true};
+ghost use Rattle.fz_program.specs.Arguments.{argument, plain};
+ghost use Rattle.flat_reif_rows.specs.NodeRows.{inputs_by, inputs_of_two, row_of_one, row_of_two};
+ghost use Rattle.flat_reif_rows.specs.Making.{AreOperands, Gives, Makes, MayGive};
+
+use crate::table::is_joined;
+use fz_build::Build;
+use fz_program::{Arg, RowName};
+use mz_arena::NodeKind;
+use mz_base::Memory;
+use std::alloc::Global;
+
+/// A variable for what the row gives of these inputs, in the domain of its result.
+///
+/// The inputs are of the row's kinds, and their result has a domain in the limit.
+pub fn defined(build: &mut Build, name: RowName, inputs: &[Arg]) -> Result<Arg, Memory>
+    requires { MayGive build.old name (map argument inputs.now) }
+    ensures gives { IfOk result (λ out. Gives build.old build.new name (map argument inputs.now) (plain out)) }
+    ensures err { OnErr result (build.new ≡ build.old) }
+{
+    let domain = given!(build.result(name, inputs));
+    build.define(name, inputs, domain)
+}
+
+/// A variable for a node of this kind, by the row that takes its one child's argument.
+///
+/// The argument lies within the bounds of a child that such a node may have.
+pub fn made_of_one(build: &mut Build, kind: NodeKind, name: RowName, a: Arg) -> Result<Arg, Memory>
+    requires row { row_of_one kind ≡ Some name }
+    requires operands { AreOperands build.old.vars kind (plain a ∷ []) }
+    ensures makes { IfOk result (λ out. Makes build.old build.new kind (plain a ∷ []) (plain out)) }
+    ensures err { OnErr result (build.new ≡ build.old) }
+{
+    let inputs = [a];
+    defined(build, name, &inputs)
+}
+
+// Both in one array.
+fn joined(alloc: Global, a: Arg, b: Arg) -> Result<Vec<Arg>, Memory>
+    ensures { IfOk result (λ all. map argument all.items ≡ inputs_by true (argument a) (argument b)) }
+{
+    let both = vec![in alloc; a, b]?;
+    Ok(vec![in alloc; Arg::Array(both)]?)
+}
+
+// The inputs of the row of two children.
+fn inputs_of_two(alloc: Global, kind: NodeKind, a: Arg, b: Arg) -> Result<Vec<Arg>, Memory>
+    ensures { IfOk result (λ all. map argument all.items ≡ inputs_of_two kind (argument a) (argument b)) }
+{
+    if is_joined(kind) {
+        joined(alloc, a, b)
+    } else {
+        Ok(vec![in alloc; a, b]?)
+    }
+}
+
+/// A variable for a node of this kind, by the row that takes its two children's arguments.
+///
+/// The arguments lie within the bounds of two children that such a node may have.
+pub fn made_of_two(
+    alloc: Global,
+    build: &mut Build,
+    kind: NodeKind,
+    name: RowName,
+    a: Arg,
+    b: Arg,
+) -> Result<Arg, Memory>
+    requires row { row_of_two kind ≡ Some name }
+    requires operands { AreOperands build.old.vars kind (plain a ∷ plain b ∷ []) }
+    ensures makes { IfOk result (λ out. Makes build.old build.new kind (plain a ∷ plain b ∷ []) (plain out)) }
+    ensures err { OnErr result (build.new ≡ build.old) }
+{
+    let inputs = given!(inputs_of_two(alloc, kind, a, b));
+    defined(build, name, &inputs)
+}

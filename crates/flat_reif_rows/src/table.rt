@@ -1,0 +1,45 @@
+// The table of rows by kinds of nodes.
+
+ghost use Rattle.std.specs.Prelude.{◌≡◌};
+ghost use Rattle.flat_reif_rows.specs.NodeRows.{is_joined, row_of_one, row_of_two};
+
+use fz_program::RowName;
+use mz_arena::NodeKind;
+
+/// The row that gives a node of this kind from its one child; `None` where there is no such row here.
+pub fn row_of_one(kind: NodeKind) -> Option<RowName>
+    ensures { result ≡ row_of_one kind }
+{
+    match kind {
+        NodeKind::Not => Some(RowName::BoolNot),
+        NodeKind::ToInt => Some(RowName::BoolToInt),
+        _ => None,
+    }
+}
+
+/// The row that gives a node of this kind from its two children; `None` where there is no such row here.
+pub fn row_of_two(kind: NodeKind) -> Option<RowName>
+    ensures { result ≡ row_of_two kind }
+{
+    match kind {
+        NodeKind::Eq => Some(RowName::IntEqReif),
+        NodeKind::Ne => Some(RowName::IntNeReif),
+        NodeKind::Le => Some(RowName::IntLeReif),
+        NodeKind::Lt => Some(RowName::IntLtReif),
+        NodeKind::And => Some(RowName::ArrayBoolAnd),
+        NodeKind::Or => Some(RowName::ArrayBoolOr),
+        NodeKind::Iff => Some(RowName::BoolEqReif),
+        NodeKind::Member => Some(RowName::SetInReif),
+        NodeKind::Diff => Some(RowName::SetDiff),
+        NodeKind::SetEq => Some(RowName::SetEqReif),
+        NodeKind::Subset => Some(RowName::SetSubsetReif),
+        _ => None,
+    }
+}
+
+// Whether the row takes both children in one array.
+pub(crate) fn is_joined(kind: NodeKind) -> bool
+    ensures { result ≡ is_joined kind }
+{
+    matches!(kind, NodeKind::And | NodeKind::Or)
+}
