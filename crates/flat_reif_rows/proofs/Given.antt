@@ -44,10 +44,11 @@ over : (n : ℕ) (a : Argument) → IsArgumentOver n a → IsOver n (plain_of a)
 over n (one p) h = h
 over n (array ps) h = tt
 
-pub gives_by : (old new : Program) (name : RowName) (inputs : List Argument) (d : Domain) (out : Argument) → MayDefine old name inputs d → result_domain old.vars name inputs ≡ Some d → HoldsResults old.vars name inputs d → IsAdded old new name inputs d → Defines old new name inputs d out → Gives old new name inputs (plain_of out)
-gives_by old new name inputs d out m is holds added g = record {
+pub gives_by : (old new : Program) (name : RowName) (inputs : List Argument) (d : Domain) (out : Argument) → MayDefine old name inputs d → result_domain old.vars name inputs ≡ Some d → HasSome d → HoldsResults old.vars name inputs d → IsAdded old new name inputs d → Defines old new name inputs d out → Gives old new name inputs (plain_of out)
+gives_by old new name inputs d out m is some holds added g = record {
   domain = d;
   is = is;
+  some = some;
   typed = g.typed;
   grows = grows_where old new (HasResult name inputs d) (GivesSome name inputs) g.grows (λ f s h. record { result = h.result; is = h.is; inside = holds f h.result s.domains h.is });
   place = over (length new.vars) out g.place;
@@ -57,22 +58,25 @@ gives_by old new name inputs d out m is holds added g = record {
 
 -- ---- a row that fits a node
 
--- what a row gives of the children's arguments is the node over them
-pub record RowFits (k : NodeKind) (name : RowName) (ps : List Plain) (inputs : List Argument) : Type 0 where
-  pub may : (p : Program) (xs : List Known) → AllSuit p.vars ps xs → IsSome (extent_over k xs) → MayGive p name inputs
-  pub suits : (vs ws : List Variable) (xs : List Known) (d : Domain) (out : Plain) → AllSuit vs ps xs → IsSome (extent_over k xs) → result_domain vs name inputs ≡ Some d → HasDomain ws out d → Suits ws out (extent_over k xs)
+-- what a row gives of the children's arguments is the node over them, where `Can` holds of the variables
+pub record RowFits (k : NodeKind) (name : RowName) (ps : List Plain) (inputs : List Argument) (Can : List Variable → Type 0) : Type 0 where
+  pub may : (p : Program) → Can p.vars → (xs : List Known) → AllSuit p.vars ps xs → IsSome (extent_over k xs) → MayGive p name inputs
+  pub suits : (vs ws : List Variable) → Can vs → (xs : List Known) (d : Domain) (out : Plain) → AllSuit vs ps xs → IsSome (extent_over k xs) → result_domain vs name inputs ≡ Some d → HasSome d → HasDomain ws out d → Suits ws out (extent_over k xs)
   pub same : (vs : List Variable) (xs : List Known) → AllSuit vs ps xs → IsSome (extent_over k xs) → (v : terms.Values) (f : Values) → AreInDomains vs f → term_over v k ps f ≡ seen_maybe (result_given name (map (argument_value f) inputs))
 
-result_there : (name : RowName) (inputs : List Argument) (f : Values) (o : Option Value) (r : terms.Val) → result_given name (map (argument_value f) inputs) ≡ o → seen_maybe o ≡ Some r → GivesSome name inputs f
+abbrev pub Always : List Variable → Type 0
+Always vs = Unit {0}
+
+pub result_there : (name : RowName) (inputs : List Argument) (f : Values) (o : Option Value) (r : terms.Val) → result_given name (map (argument_value f) inputs) ≡ o → seen_maybe o ≡ Some r → GivesSome name inputs f
 result_there name inputs f None r e h = absurd (cc)
 result_there name inputs f (Some x) r e h = record { result = x; is = e }
 
-pub makes_by : (old new : Program) (k : NodeKind) (name : RowName) (ps : List Plain) (inputs : List Argument) (out : Plain) → RowFits k name ps inputs → AreOperands old.vars k ps → Gives old new name inputs out → Makes old new k ps out
-makes_by old new k name ps inputs out fits are g = record {
+pub makes_by : (old new : Program) (k : NodeKind) (name : RowName) (ps : List Plain) (inputs : List Argument) (out : Plain) (Can : List Variable → Type 0) → RowFits k name ps inputs Can → Can old.vars → AreOperands old.vars k ps → Gives old new name inputs out → Makes old new k ps out
+makes_by old new k name ps inputs out Can fits can are g = record {
   grows = λ v. grows_where old new (GivesSome name inputs) (HasValue v k ps) g.grows
       (λ f s h. result_there name inputs f (result_given name (map (argument_value f) inputs)) h.result refl (sym (fits.same old.vars are.bounds are.suit are.known v f s.domains) ∙ h.is));
   place = g.place;
-  suits = λ bounds suit known. fits.suits old.vars new.vars bounds g.domain out suit known g.is g.typed;
+  suits = λ bounds suit known. fits.suits old.vars new.vars can bounds g.domain out suit known g.is g.some g.typed;
   value = λ v f s. fits.same new.vars are.bounds (all_kept old.vars new.vars g.grows.kept ps are.bounds are.suit) are.known v f s.domains ∙ ap seen_maybe (g.value f s);
   made = g.made;
 }

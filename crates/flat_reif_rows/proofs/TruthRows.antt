@@ -32,7 +32,7 @@ use Rattle.flat_reif_rows.specs.Standing.{seen, seen_maybe, Suits, AllSuit, of_k
 use Rattle.flat_reif_rows.specs.NodeRows.{is_joined, inputs_by, inputs_of_two}
 use Rattle.flat_reif_rows.specs.Making.{MayGive}
 use Rattle.flat_reif_rows.proofs.Sorts.{Sort, of_integer, of_truth, of_set, kind_of, Raw, flat, HasSort, OfWhole, OfTruth, OfSubset, whole_of, truth_of, subset_of, both_there, open_both, suit_sort, sort_value}
-use Rattle.flat_reif_rows.proofs.Given.{RowFits}
+use Rattle.flat_reif_rows.proofs.Given.{RowFits, Always}
 
 -- ---- the sort of what a row gives
 
@@ -85,8 +85,8 @@ pub record TruthRow (k : NodeKind) (name : RowName) (s t : Sort) : Type 0 where
 pub not_linear : {A : Type 0} (name : RowName) → is_linear_row name ≡ false → is_linear_row name ≡ true → A
 not_linear name o h = absurd (cc)
 
-pub truth_row : (k : NodeKind) (name : RowName) (s t : Sort) → TruthRow k name s t → (a b : Plain) → RowFits k name (a ∷ b ∷ []) (inputs_of_two k (one a) (one b))
-truth_row k name s t r a b = record { may = may; suits = suits; same = same }
+pub truth_row : (k : NodeKind) (name : RowName) (s t : Sort) → TruthRow k name s t → (a b : Plain) → RowFits k name (a ∷ b ∷ []) (inputs_of_two k (one a) (one b)) Always
+truth_row k name s t r a b = record { may = λ p c. may p; suits = λ vs ws c xs d out u h is some. suits vs ws xs d out u h is; same = same }
   where
     may : (p : Program) (xs : List Known) → AllSuit p.vars (a ∷ b ∷ []) xs → IsSome (extent_over k xs) → MayGive p name (inputs_of_two k (one a) (one b))
     may p [] u h = absurd u
@@ -129,7 +129,7 @@ two_inputs vs j k a b h l = and_from (is_argument vs j (one a)) (is_argument vs 
 
 -- ---- kind by kind
 
-integers_of : (x y : Known) → IsSome (comparison_extent x y) → OfWhole x × OfWhole y
+pub integers_of : (x y : Known) → IsSome (comparison_extent x y) → OfWhole x × OfWhole y
 unfolding comparison_extent
 integers_of x y h = let b = both_there (as_whole x) (as_whole y) (λ i j. open_truth) h in (whole_of x b.0, whole_of y b.1)
 
@@ -137,7 +137,7 @@ comparison_opens : (x y : Known) → IsSome (comparison_extent x y) → comparis
 unfolding comparison_extent
 comparison_opens x y h = open_both (as_whole x) (as_whole y) h
 
-truths_of : (x y : Known) → IsSome (connective_extent x y) → OfTruth x × OfTruth y
+pub truths_of : (x y : Known) → IsSome (connective_extent x y) → OfTruth x × OfTruth y
 unfolding connective_extent
 truths_of x y h = let b = both_there (as_truth x) (as_truth y) (λ i j. open_truth) h in (truth_of x b.0, truth_of y b.1)
 
@@ -145,7 +145,7 @@ connective_opens : (x y : Known) → IsSome (connective_extent x y) → connecti
 unfolding connective_extent
 connective_opens x y h = open_both (as_truth x) (as_truth y) h
 
-sets_of : (x y : Known) → IsSome (set_comparison_extent x y) → OfSubset x × OfSubset y
+pub sets_of : (x y : Known) → IsSome (set_comparison_extent x y) → OfSubset x × OfSubset y
 unfolding set_comparison_extent
 sets_of x y h = let b = both_there (as_subset x) (as_subset y) (λ i j. open_truth) h in (subset_of x b.0, subset_of y b.1)
 
@@ -153,7 +153,7 @@ set_comparison_opens : (x y : Known) → IsSome (set_comparison_extent x y) → 
 unfolding set_comparison_extent
 set_comparison_opens x y h = open_both (as_subset x) (as_subset y) h
 
-member_of : (x y : Known) → IsSome (member_extent x y) → OfWhole x × OfSubset y
+pub member_of : (x y : Known) → IsSome (member_extent x y) → OfWhole x × OfSubset y
 unfolding member_extent
 member_of x y h = let b = both_there (as_whole x) (as_subset y) (λ i j. open_truth) h in (whole_of x b.0, subset_of y b.1)
 

@@ -7,7 +7,7 @@ use Rattle.fz_program.specs.declared.program.Domain.{Domain}
 use Rattle.fz_program.specs.declared.row_name.RowName.{RowName}
 use Rattle.fz_program.specs.Arguments.{Plain, Argument}
 use Rattle.fz_program.specs.Values.{Value, Values}
-use Rattle.fz_program.specs.Flat.{Variable, Program, FlatSolves, argument_value, plain_value, is_within}
+use Rattle.fz_program.specs.Flat.{Variable, Program, FlatSolves, IsSome as HasSome, argument_value, plain_value, is_within}
 use Rattle.fz_build_domains.specs.Results.{result_given}
 use Rattle.fz_build_domains.specs.Bounds.{AreInputs, result_domain}
 use Rattle.fz_build.specs.Build.{IsOver, args_with, defined_variable}
@@ -37,6 +37,7 @@ GoesOnMade old new = (front : Program) (n : ℕ) → Made front old n → Made f
 pub record Gives (old new : Program) (name : RowName) (inputs : List Argument) (out : Plain) : Type 0 where
   pub domain : Domain
   pub is : result_domain old.vars name inputs ≡ Some domain
+  pub some : HasSome domain
   pub typed : HasDomain new.vars out domain
   pub grows : Grows old new (GivesSome name inputs)
   pub place : IsOver (length new.vars) out

@@ -11,8 +11,16 @@ macro_rules! given {
     };
 }
 
+mod access;
+mod branching;
+mod law;
 mod making;
+mod posting;
 mod table;
 
-pub use making::{defined, made_of_one, made_of_two};
-pub use table::{row_of_one, row_of_two};
+pub use access::made_of_access;
+pub use branching::made_of_branches;
+pub use law::nodes_are_told_by_kind;
+pub use making::{defined, made_of_multiple, made_of_one, made_of_sum, made_of_two};
+pub use posting::{post_test, post_true};
+pub use table::{row_of_one, row_of_two, test_of};

@@ -1,8 +1,10 @@
 // Variables for nodes.
 
 ghost use Rattle.std.specs.Prelude.{◌≡◌, ◌∷◌, [], IfOk, OnErr, map, Some, true};
-ghost use Rattle.fz_program.specs.Arguments.{argument, plain};
-ghost use Rattle.flat_reif_rows.specs.NodeRows.{inputs_by, inputs_of_two, row_of_one, row_of_two};
+ghost use Rattle.mz_arena.specs.declared.node.NodeKind.TheVariants.{Add, Mul};
+ghost use Rattle.fz_program.specs.Arguments.{argument, int, plain};
+ghost use Rattle.fz_build_domains.specs.Bounds.{ends_of};
+ghost use Rattle.flat_reif_rows.specs.NodeRows.{HasDivisor, inputs_by, inputs_of_two, multiple_inputs, row_of_one, row_of_two, sum_inputs};
 ghost use Rattle.flat_reif_rows.specs.Making.{AreOperands, Gives, Makes, MayGive};
 
 use crate::table::is_joined;
@@ -58,7 +60,8 @@ fn inputs_of_two(alloc: Global, kind: NodeKind, a: Arg, b: Arg) -> Result<Vec<Ar
 
 /// A variable for a node of this kind, by the row that takes its two children's arguments.
 ///
-/// The arguments lie within the bounds of two children that such a node may have.
+/// The arguments lie within the bounds of two children that such a node may have. A divisor isn't one that
+/// is 0 alone.
 pub fn made_of_two(
     alloc: Global,
     build: &mut Build,
@@ -69,9 +72,52 @@ pub fn made_of_two(
 ) -> Result<Arg, Memory>
     requires row { row_of_two kind ≡ Some name }
     requires operands { AreOperands build.old.vars kind (plain a ∷ plain b ∷ []) }
+    requires divisor { HasDivisor kind (ends_of build.old.vars (plain b)) }
     ensures makes { IfOk result (λ out. Makes build.old build.new kind (plain a ∷ plain b ∷ []) (plain out)) }
     ensures err { OnErr result (build.new ≡ build.old) }
 {
     let inputs = given!(inputs_of_two(alloc, kind, a, b));
     defined(build, name, &inputs)
+}
+
+// Once each of two, and the constant 0.
+fn sum_inputs(alloc: Global, a: Arg, b: Arg) -> Result<Vec<Arg>, Memory>
+    ensures { IfOk result (λ all. map argument all.items ≡ sum_inputs (argument a) (argument b)) }
+{
+    let once = vec![in alloc; Arg::Int(1), Arg::Int(1)]?;
+    let both = vec![in alloc; a, b]?;
+    Ok(vec![in alloc; Arg::Array(once), Arg::Array(both), Arg::Int(0)]?)
+}
+
+/// A variable for the sum of two integers, by one linear row.
+///
+/// The arguments lie within the bounds of two children that an `Add` may have.
+pub fn made_of_sum(alloc: Global, build: &mut Build, a: Arg, b: Arg) -> Result<Arg, Memory>
+    requires { AreOperands build.old.vars Add (plain a ∷ plain b ∷ []) }
+    ensures makes { IfOk result (λ out. Makes build.old build.new Add (plain a ∷ plain b ∷ []) (plain out)) }
+    ensures err { OnErr result (build.new ≡ build.old) }
+{
+    let inputs = given!(sum_inputs(alloc, a, b));
+    defined(build, RowName::IntLinEq, &inputs)
+}
+
+// So many times one, and the constant 0.
+fn multiple_inputs(alloc: Global, n: i64, a: Arg) -> Result<Vec<Arg>, Memory>
+    ensures { IfOk result (λ all. map argument all.items ≡ multiple_inputs n (argument a)) }
+{
+    let times = vec![in alloc; Arg::Int(n)]?;
+    let of = vec![in alloc; a]?;
+    Ok(vec![in alloc; Arg::Array(times), Arg::Array(of), Arg::Int(0)]?)
+}
+
+/// A variable for a number times an integer, by one linear row.
+///
+/// The number and the argument lie within the bounds of two children that a `Mul` may have.
+pub fn made_of_multiple(alloc: Global, build: &mut Build, n: i64, a: Arg) -> Result<Arg, Memory>
+    requires { AreOperands build.old.vars Mul (int n ∷ plain a ∷ []) }
+    ensures makes { IfOk result (λ out. Makes build.old build.new Mul (int n ∷ plain a ∷ []) (plain out)) }
+    ensures err { OnErr result (build.new ≡ build.old) }
+{
+    let inputs = given!(multiple_inputs(alloc, n, a));
+    defined(build, RowName::IntLinEq, &inputs)
 }

@@ -10,4 +10,4 @@ pub returns-clause-gives : goal.returns-clause-gives
 returns-clause-gives c =
     let inputs = map argument c.args.inputs.now in
     let may = may_define_by c.args.build.now c.args.name inputs c.in-Ok.x c.requires c.in-Ok.ensures.is c.in-Ok.ensures.some in
-    if_ok_both c.define.result _ _ _ (λ added out g. gives_by c.args.build.now c.define.new.self c.args.name inputs c.in-Ok.x (argument out) may c.in-Ok.ensures.is c.in-Ok.ensures.holds added g) c.define.ensures.added c.define.ensures.defines
+    if_ok_both c.define.result _ _ _ (λ added out g. gives_by c.args.build.now c.define.new.self c.args.name inputs c.in-Ok.x (argument out) may c.in-Ok.ensures.is c.in-Ok.ensures.some c.in-Ok.ensures.holds added g) c.define.ensures.added c.define.ensures.defines
