@@ -57,7 +57,7 @@ pub record AccessFits (p : Program) (name : RowName) (i : Plain) (ps : List Plai
 abbrev AllPlain : List Variable → Kind → List Plain → Type 0
 AllPlain vs k ps = list_all (is_plain vs k) ps ≡ true
 
-whole_plain : (vs : List Variable) (ps : List Plain) (es : List Ends) → AllWhole vs ps es → AllPlain vs Int ps
+pub whole_plain : (vs : List Variable) (ps : List Plain) (es : List Ends) → AllWhole vs ps es → AllPlain vs Int ps
 whole_plain vs [] [] h = refl
 whole_plain vs [] (e ∷ es) h = absurd h
 whole_plain vs (p ∷ ps) [] h = absurd h
@@ -132,7 +132,7 @@ record IsIn (g e : Ends) : Type 0 where
 hulls_in : (g a b : Ends) → IsIn g a → IsIn g b → IsIn g (hull_of a b)
 hulls_in g a b p q = let r = p.rises in let s = q.rises in record { within = hull_within a b g p.within q.within; rises = omega (arith, ints, clamps, r, s) }
 
-limited : (e : Ends) → if_in_limit e ≡ Some e → IsWithin e every_number
+pub limited : (e : Ends) → if_in_limit e ≡ Some e → IsWithin e every_number
 limited e h =
     let n = are_numbers e h in
     record {

@@ -43,7 +43,7 @@ abbrev place_of : Bool → ℤ
 place_of true = pos 2
 place_of false = pos 1
 
-is_number : (x : Value) (n : ℤ) → Some (seen x) ≡ Some (terms.number n) → x ≡ values.number n
+pub is_number : (x : Value) (n : ℤ) → Some (seen x) ≡ Some (terms.number n) → x ≡ values.number n
 is_number (values.number m) n h = let e : m ≡ n = cc in ap values.number e
 is_number (values.set s) n h = absurd (cc)
 
@@ -118,7 +118,7 @@ sort_of_branches vs ws f y z (Some empty) kept d h = absurd h
 -- ---- elements stay what they are
 
 module _ (vs ws : List Variable) (kept : AreKept vs ws) where
-  whole_kept : (ps : List Plain) (es : List Ends) → AllWhole vs ps es → AllWhole ws ps es
+  pub whole_kept : (ps : List Plain) (es : List Ends) → AllWhole vs ps es → AllWhole ws ps es
   whole_kept [] [] h = tt
   whole_kept [] (e ∷ es) h = h
   whole_kept (p ∷ ps) [] h = h

@@ -16,7 +16,7 @@ take_fewer xs (suc m) zero l = absurd (omega (arith, l))
 take_fewer [] (suc m) (suc n) l = refl
 take_fewer (x ∷ xs) (suc m) (suc n) l = ap (λ ys. x ∷ ys) (take_fewer xs m n (omega (arith, l)))
 
-all_in_turn : {A : Type 0} (xs ys zs : List A) → (xs ++ ys) ++ zs ≡ xs ++ (ys ++ zs)
+pub all_in_turn : {A : Type 0} (xs ys zs : List A) → (xs ++ ys) ++ zs ≡ xs ++ (ys ++ zs)
 all_in_turn [] ys zs = refl
 all_in_turn (x ∷ xs) ys zs = ap (λ us. x ∷ us) (all_in_turn xs ys zs)
 

@@ -19,7 +19,7 @@ use Rattle.flat_reif_rows.specs.Elements.{list_term, access_over, element_inputs
 
 -- ---- lists
 
-abbrev numbers_value : List ℤ → Val
+abbrev pub numbers_value : List ℤ → Val
 numbers_value [] = terms.empty
 numbers_value (n ∷ ns) = terms.numbers (n ∷ ns)
 
@@ -46,13 +46,13 @@ abbrev pub AreSetValues : Values → List Plain → Type 0
 AreSetValues f [] = Unit {0}
 AreSetValues f (p ∷ ps) = (plain_value f p ≡ values.set (set_in (plain_value f p))) × AreSetValues f ps
 
-abbrev Numbers : Values → List Plain → List ℤ
+abbrev pub Numbers : Values → List Plain → List ℤ
 Numbers f ps = map number_in (map (plain_value f) ps)
 
 abbrev Sets : Values → List Plain → List (List Range)
 Sets f ps = map set_in (map (plain_value f) ps)
 
-number_list : (f : Values) (ps : List Plain) → AreNumbers f ps → list_term f ps ≡ Some (numbers_value (Numbers f ps))
+pub number_list : (f : Values) (ps : List Plain) → AreNumbers f ps → list_term f ps ≡ Some (numbers_value (Numbers f ps))
 number_list f [] h = refl
 number_list f (p ∷ ps) h = ap₂ (λ x y. cons_term (Some (seen x)) y) h.0 (number_list f ps h.1) ∙ cons_number (number_in (plain_value f p)) (Numbers f ps)
 

@@ -15,6 +15,8 @@ pub mod SumOperands
 pub mod Accessed
 pub mod Chains
 pub mod BranchRows
+pub mod ExtremeRows
+pub mod Stepping
 pub mod ToldByKind
 pub mod TestRows
 pub mod Tested

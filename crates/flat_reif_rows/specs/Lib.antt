@@ -4,4 +4,5 @@ pub mod Making
 pub mod RootRows
 pub mod Elements
 pub mod Branches
+pub mod Extremes
 pub mod Laws

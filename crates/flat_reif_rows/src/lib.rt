@@ -13,6 +13,7 @@ macro_rules! given {
 
 mod access;
 mod branching;
+mod extreme;
 mod law;
 mod making;
 mod posting;
@@ -20,6 +21,7 @@ mod table;
 
 pub use access::made_of_access;
 pub use branching::made_of_branches;
+pub use extreme::made_of_extreme;
 pub use law::nodes_are_told_by_kind;
 pub use making::{defined, made_of_multiple, made_of_one, made_of_sum, made_of_two};
 pub use posting::{post_test, post_true};
