@@ -1,10 +1,10 @@
 -- The rows of accesses: to a list of integers, of truth values, of sets.
-use Rattle.std.proofs.Common.{◌≡◌, ◌≢◌, ℕ, zero, suc, ◌-◌, ℤ, pos, ◌+ℤ◌, ◌≤ℤ◌, int_le, Bool, true, false, List, [], ◌∷◌, length, map, slice_get, Option, Some, None, IsSome, unwrap_or, ◌&&◌, ⊎_elim, refl, sym, ap, subst, ◌∙◌, arith}
+use Rattle.std.proofs.Common.{◌≡◌, ℕ, zero, suc, ◌-◌, pos, ◌+ℤ◌, ◌≤ℤ◌, int_le, true, List, [], ◌∷◌, length, map, slice_get, Option, Some, None, IsSome, unwrap_or, ◌&&◌, ⊎_elim, refl, sym, ap, subst, ◌∙◌, arith}
 use Rattle.std.specs.List.{list_all}
 use Rattle.std.proofs.lemmas.Bool.{and_parts, and_from}
 use Rattle.std.proofs.lemmas.Int.{ints, clamps}
 use Rattle.mz_value.specs.Ranges.{Range, range_of}
-use Rattle.mz_interval.specs.Ends.{Ends, hull_of, limit as every_number, if_in_limit, if_interval, is_number, least_number, greatest_number}
+use Rattle.mz_interval.specs.Ends.{Ends, hull_of, limit as every_number, if_in_limit, least_number, greatest_number}
 use Rattle.mz_interval.proofs.Limits.{if_interval-ordered}
 use Rattle.mz_operations.specs.Sets.{union, is_within}
 use Rattle.mz_operations.specs.Bounds.{nothing, hull_of_all, union_from, union_of_all}
@@ -36,9 +36,9 @@ use Rattle.fz_build_domains.specs.Bounds.{AreInputs, result_domain, form_of, dom
 use Rattle.fz_build_domains.specs.Bounds as domains
 use Rattle.fz_build.specs.Growth.{HasDomain, AreKept}
 use Rattle.flat_reif_rows.specs.Standing.{seen_maybe, LiesWithin, IsPartOf, Suits, extent_over}
-use Rattle.flat_reif_rows.specs.Elements.{AllWhole, AllTruth, AllSubset, AreElements, element_row, element_inputs, Reaches, AreAccessed, access_over}
+use Rattle.flat_reif_rows.specs.Elements.{AllWhole, AllTruth, AllSubset, AreElements, element_row, element_inputs, Reaches, access_over}
 use Rattle.flat_reif_rows.specs.Making.{MayGive}
-use Rattle.flat_reif_rows.proofs.Sorts.{Sort, of_integer, of_truth, of_set, kind_of, sort_value}
+use Rattle.flat_reif_rows.proofs.Sorts.{of_integer, of_truth, of_set, sort_value}
 use Rattle.flat_reif_rows.proofs.Keeping.{plain_kept}
 use Rattle.flat_reif_rows.proofs.TruthRows.{domain_kind, upper_out, truth_out, same_some, not_linear}
 use Rattle.flat_reif_rows.proofs.NumberRows.{ordered, limit_inside, ends_within, IsNarrow, number_out}

@@ -1,13 +1,11 @@
 -- The code's arguments as an index and the elements of a list.
 use Rattle.std.proofs.Common.{◌≡◌, List, map, Some, refl, sym, ap, subst, ◌∙◌}
-use Rattle.mz_interval.specs.Ends.{Ends}
 use Rattle.mz_arena.specs.Extents.{whole}
 use Rattle.fz_program.specs.declared.row_name.RowName.{RowName}
-use Rattle.fz_program.specs.declared.row_name.Kind.TheVariants.{Int}
 use Rattle.fz_program.specs.Arguments.{Plain, Argument, one, plain_of}
-use Rattle.fz_program.specs.Flat.{Variable, Program, argument_value}
+use Rattle.fz_program.specs.Flat.{Program, argument_value}
 use Rattle.fz_build_domains.specs.Results.{result_given}
-use Rattle.flat_reif_rows.specs.Standing.{seen_maybe, LiesWithin}
+use Rattle.flat_reif_rows.specs.Standing.{seen_maybe}
 use Rattle.flat_reif_rows.specs.Elements.{AreAccessed, element_inputs, HasElement, MakesAccess}
 use Rattle.flat_reif_rows.specs.Making.{MayGive, GivesSome, Gives}
 use Rattle.flat_reif_rows.proofs.Given.{grows_where, result_there}

@@ -1,5 +1,5 @@
 -- The branch of a condition is the access to the list of both at the condition's place: 1 where it is false, and 2 where it is true.
-use Rattle.std.proofs.Common.{◌≡◌, ℤ, pos, ◌≤ℤ◌, ◌≤◌, Bool, true, false, List, [], ◌∷◌, length, take, Option, Some, None, IsSome, cond, ◌⊎◌, inl, inr, refl, sym, ap, ap₂, subst, ◌∙◌, ⊎_elim, arith}
+use Rattle.std.proofs.Common.{◌≡◌, ℤ, pos, ◌≤◌, Bool, true, false, List, [], ◌∷◌, length, take, Some, None, IsSome, cond, ◌⊎◌, inl, inr, refl, sym, ap, ap₂, subst, ◌∙◌, ⊎_elim, arith}
 use Rattle.std.proofs.lemmas.Int.{ints, clamps}
 use Rattle.mz_value.specs.Ranges.{Range}
 use Rattle.mz_interval.specs.Ends.{Ends, hull_of}
@@ -11,25 +11,22 @@ use Rattle.mz_operations.specs.Numbers.{computed}
 use Rattle.mz_operations.specs.Sets.{union}
 use Rattle.mz_operations.specs.Views.{number_of_bool}
 use Rattle.mz_operations.proofs.SetMembers.{union_set, union_members}
-use Rattle.mz_arena.specs.declared.node.NodeKind.{NodeKind}
 use Rattle.mz_arena.specs.declared.node.NodeKind.TheVariants as kinds
 use Rattle.mz_arena.specs.Values as terms
 use Rattle.mz_arena.specs.Values.{Term, bit, is_true, arith_term, to_int_term, if_term, access_term, cons_term}
 use Rattle.mz_arena.specs.Terms.{kind_term}
-use Rattle.mz_arena.specs.Extents.{Known, whole, truth, subset, wholes, truths, subsets, empty, open_truth, reached, to_int_extent, access_extent, if_extent}
+use Rattle.mz_arena.specs.Extents.{Known, whole, truth, subset, wholes, truths, subsets, empty, open_truth, to_int_extent, access_extent, if_extent}
 use Rattle.fz_program.specs.declared.row_name.RowName.{RowName}
-use Rattle.fz_program.specs.declared.row_name.RowName.TheVariants as rows
-use Rattle.fz_program.specs.declared.row_name.Kind.TheVariants.{Int, Bool as Truth, Set}
+use Rattle.fz_program.specs.declared.row_name.Kind.TheVariants.{Int, Bool as Truth}
 use Rattle.fz_program.specs.Arguments.{Plain, int}
 use Rattle.fz_program.specs.Values as values
 use Rattle.fz_program.specs.Values.{Value, Values, number_in, set_in}
 use Rattle.fz_program.specs.Flat.{Variable, Program, FlatSolves, AreInDomains, plain_value, is_plain, is_constant, same_kind}
-use Rattle.fz_build.specs.Build.{IsOver}
 use Rattle.fz_build.specs.Growth.{AreKept, Grows}
-use Rattle.fz_build_domains.specs.Bounds.{ends_of, upper_of}
+use Rattle.fz_build_domains.specs.Bounds.{ends_of}
 use Rattle.flat_reif_rows.specs.Standing.{seen, LiesWithin, IsPartOf, Suits, of_kind, extent_over, term_over}
 use Rattle.flat_reif_rows.specs.Making.{AreOperands, HasValue, Makes}
-use Rattle.flat_reif_rows.specs.Elements.{AllWhole, AllTruth, AllSubset, AreElements, element_row, Reaches, AreAccessed, list_term, access_over, HasElement, MakesAccess}
+use Rattle.flat_reif_rows.specs.Elements.{AllWhole, AllTruth, AllSubset, AreElements, Reaches, AreAccessed, list_term, access_over, HasElement, MakesAccess}
 use Rattle.flat_reif_rows.specs.Branches.{branch_row, AreBranches, MakesBranch}
 use Rattle.flat_reif_rows.proofs.Keeping.{plain_kept, suits_kept}
 use Rattle.flat_reif_rows.proofs.NumberRows.{ordered}

@@ -1,13 +1,10 @@
 -- An access to the values of arguments is what its row gives.
 use Rattle.std.proofs.Common.{◌≡◌, ℤ, pos, negsuc, zero, suc, List, [], ◌∷◌, map, Option, Some, None, option_map, refl, sym, ap, ap₂, ◌∙◌}
 use Rattle.mz_value.specs.Ranges.{Range}
-use Rattle.mz_operations.specs.Views.{◌>>=◌}
-use Rattle.mz_arena.specs.declared.node.NodeKind.TheVariants as kinds
 use Rattle.mz_arena.specs.Values as terms
 use Rattle.mz_arena.specs.Values.{Val, Term, cons_term, access_term, before, value_at}
-use Rattle.fz_program.specs.declared.row_name.RowName.{RowName}
 use Rattle.fz_program.specs.declared.row_name.RowName.TheVariants as rows
-use Rattle.fz_program.specs.Arguments.{Plain, one, array}
+use Rattle.fz_program.specs.Arguments.{Plain, one}
 use Rattle.fz_program.specs.Values as values
 use Rattle.fz_program.specs.Values.{Value, Values, number_in, set_in}
 use Rattle.fz_program.specs.Table.{line}

@@ -1,9 +1,8 @@
 -- One more integer before those whose extreme a variable is.
-use Rattle.std.proofs.Common.{◌≡◌, ◌≢◌, ℤ, pos, ◌≤ℤ◌, true, false, List, [], ◌∷◌, ◌++◌, length, take, map, Some, refl, sym, ap, ap₂, subst, ◌∙◌, arith}
-use Rattle.std.specs.Int.{int_min, int_max}
+use Rattle.std.proofs.Common.{◌≡◌, ℤ, true, false, List, [], ◌∷◌, length, take, map, Some, refl, sym, ap, ap₂, subst, ◌∙◌, arith}
 use Rattle.std.proofs.lemmas.Int.{ints, clamps}
 use Rattle.mz_value.specs.Ranges.{range_of}
-use Rattle.mz_interval.specs.Ends.{Ends, limit as every_number, if_in_limit, if_interval}
+use Rattle.mz_interval.specs.Ends.{Ends, limit as every_number, if_interval}
 use Rattle.mz_operations.specs.declared.row.Arith.{Arith}
 use Rattle.mz_operations.specs.declared.row.Arith.TheVariants.{Div, Min, Max}
 use Rattle.mz_operations.specs.declared.row.Side.{Side}
@@ -15,16 +14,13 @@ use Rattle.mz_operations_laws.proofs.Numbers.{arith_is_monotone}
 use Rattle.mz_arena.specs.Values as terms
 use Rattle.mz_arena.specs.Extents.{whole}
 use Rattle.mz_arena.specs.Values.{extreme_number, extreme_value, extreme_term, cons_term}
-use Rattle.fz_program.specs.declared.program.Domain.{Domain}
 use Rattle.fz_program.specs.declared.program.Domain.TheVariants.{Ints as Integers}
-use Rattle.fz_program.specs.declared.row_name.RowName.{RowName}
 use Rattle.fz_program.specs.declared.row_name.Kind.TheVariants.{Int}
 use Rattle.fz_program.specs.Arguments.{Plain, Argument, one}
 use Rattle.fz_program.specs.Values as values
 use Rattle.fz_program.specs.Values.{Value, Values, number_in}
 use Rattle.fz_program.specs.Table.{line}
 use Rattle.fz_program.specs.Flat.{Variable, Program, FlatSolves, plain_value, argument_value, is_plain, is_argument}
-use Rattle.fz_build.specs.Build.{IsOver}
 use Rattle.fz_build.specs.Growth.{AreKept, Grows}
 use Rattle.fz_build.specs.Results.{is_linear_row}
 use Rattle.fz_build_domains.specs.Inputs.{is_sum}
@@ -32,14 +28,14 @@ use Rattle.fz_build_domains.specs.Results.{result_given}
 use Rattle.fz_build_domains.specs.Bounds.{AreInputs, result_domain, form_of, domain_by, ends_of, arith_by}
 use Rattle.fz_build_domains.specs.Bounds as domains
 use Rattle.flat_reif_rows.specs.Standing.{seen, LiesWithin}
-use Rattle.flat_reif_rows.specs.Making.{MayGive, GivesSome, Gives, GoesOnMade}
+use Rattle.flat_reif_rows.specs.Making.{MayGive, GivesSome, Gives}
 use Rattle.flat_reif_rows.specs.Elements.{AllWhole, list_term}
 use Rattle.flat_reif_rows.specs.Extremes.{side_row, Ever, IsExtreme}
 use Rattle.flat_reif_rows.proofs.Keeping.{suits_kept}
 use Rattle.flat_reif_rows.proofs.TruthRows.{not_linear, two_inputs}
 use Rattle.flat_reif_rows.proofs.NumberRows.{ordered, limit_inside, ends_within, Divides, arith_ordered, IsNarrow, number_out}
 use Rattle.flat_reif_rows.proofs.SumRows.{interval_limit}
-use Rattle.flat_reif_rows.proofs.ElementValues.{AreNumbers, Numbers, numbers_value, number_list}
+use Rattle.flat_reif_rows.proofs.ElementValues.{AreNumbers, Numbers, number_list}
 use Rattle.flat_reif_rows.proofs.AccessRows.{limited, whole_values}
 use Rattle.flat_reif_rows.proofs.Chains.{made_twice, grows_twice, plain_taken, plain_over, over_more}
 use Rattle.flat_reif_rows.proofs.BranchRows.{is_number}

@@ -1,5 +1,5 @@
 -- The rows of the tables fit their kinds of nodes.
-use Rattle.std.proofs.Common.{◌≡◌, List, [], ◌∷◌, Some, subst}
+use Rattle.std.proofs.Common.{◌≡◌, [], ◌∷◌, Some, subst}
 use Rattle.mz_operations.specs.declared.row.Arith.TheVariants as arith_row
 use Rattle.mz_operations.specs.declared.row.SetOp.TheVariants as set_op
 use Rattle.mz_arena.specs.declared.node.NodeKind.{NodeKind}

@@ -1,5 +1,5 @@
 -- The rows that give an integer, whose bounds lie in those of the node: of two integers, of one, and of a set.
-use Rattle.std.proofs.Common.{◌≡◌, ◌≢◌, ℤ, pos, neg_ℤ, ◌≤ℤ◌, int_le, Bool, true, false, List, [], ◌∷◌, map, Option, Some, None, IsSome, option_map, cond, ◌&&◌, refl, sym, ap, ap₂, subst, ◌∙◌, arith}
+use Rattle.std.proofs.Common.{◌≡◌, ◌≢◌, ℤ, pos, ◌≤ℤ◌, int_le, Bool, true, false, List, [], ◌∷◌, map, Option, Some, None, IsSome, option_map, cond, ◌&&◌, refl, sym, ap, ap₂, subst, ◌∙◌, arith}
 use Rattle.std.specs.Ordering.{int_eq}
 use Rattle.std.proofs.lemmas.Bool.{and_parts, and_from}
 use Rattle.std.proofs.lemmas.Int.{ints, clamps}
@@ -24,7 +24,7 @@ use Rattle.mz_arena.specs.declared.node.NodeKind.TheVariants as kinds
 use Rattle.mz_arena.specs.Values as terms
 use Rattle.mz_arena.specs.Values.{arith_term, sign_term, card_term}
 use Rattle.mz_arena.specs.Terms.{kind_term}
-use Rattle.mz_arena.specs.Extents.{Known, whole, subset, as_whole, as_subset, arith_bounds, arith_extent, abs_bounds, abs_extent, card_bounds, card_extent}
+use Rattle.mz_arena.specs.Extents.{Known, whole, as_whole, as_subset, arith_bounds, arith_extent, abs_bounds, abs_extent, card_bounds, card_extent}
 use Rattle.fz_program.specs.declared.program.Domain.{Domain}
 use Rattle.fz_program.specs.declared.program.Domain.TheVariants.{Ints as Integers}
 use Rattle.fz_program.specs.declared.row_name.RowName.{RowName}
@@ -35,7 +35,7 @@ use Rattle.fz_program.specs.Arguments.{Plain, Argument, one}
 use Rattle.fz_program.specs.Values as values
 use Rattle.fz_program.specs.Values.{Value, Values}
 use Rattle.fz_program.specs.Table.{line}
-use Rattle.fz_program.specs.Flat.{Variable, Program, AreInDomains, IsSome as HasSome, plain_value, argument_value, same_kind, kind_of_domain, is_plain, is_argument, are_arguments}
+use Rattle.fz_program.specs.Flat.{Variable, Program, AreInDomains, IsSome as HasSome, argument_value, same_kind, kind_of_domain, is_plain, is_argument, are_arguments}
 use Rattle.fz_build_domains.specs.Inputs.{is_sum}
 use Rattle.fz_build_domains.specs.Results.{result_given}
 use Rattle.fz_build_domains.specs.Bounds.{AreInputs, result_domain, form_of, domain_by, ends_of, upper_of, domain_ends, arith_by, magnitude_by}

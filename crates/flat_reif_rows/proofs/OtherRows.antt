@@ -1,25 +1,21 @@
 -- The rows of one truth value: turned round, and as an integer.
-use Rattle.std.proofs.Common.{◌≡◌, ◌≤ℤ◌, Bool, true, false, List, [], ◌∷◌, map, Some, None, IsSome, cond, refl, sym, ap, ap₂, subst, ◌∙◌}
+use Rattle.std.proofs.Common.{◌≡◌, ◌≤ℤ◌, Bool, true, false, List, [], ◌∷◌, map, Some, None, IsSome, cond, refl, sym, ap, subst, ◌∙◌}
 use Rattle.std.specs.Prelude.{int_le}
 use Rattle.std.proofs.lemmas.Bool.{and_from}
-use Rattle.mz_value.specs.Ranges.{Range, range_of}
+use Rattle.mz_value.specs.Ranges.{range_of}
 use Rattle.mz_interval.specs.Ends.{Ends, if_interval, if_in_limit}
 use Rattle.mz_operations.specs.Sets.{end_of}
-use Rattle.mz_operations.specs.Bounds.{combined_upper, hull_of_set}
-use Rattle.mz_operations.specs.Laws.{IsSet, IsPart}
-use Rattle.mz_operations.specs.declared.row.SetOp.TheVariants as set_row
+use Rattle.mz_operations.specs.Bounds.{hull_of_set}
 use Rattle.mz_operations.specs.Views.{◌>>=◌}
-use Rattle.mz_arena.specs.declared.node.NodeKind.{NodeKind}
 use Rattle.mz_arena.specs.declared.node.NodeKind.TheVariants as kinds
 use Rattle.mz_arena.specs.Values as terms
 use Rattle.mz_arena.specs.Values.{not_term, to_int_term, set_term}
 use Rattle.mz_arena.specs.Terms.{kind_term}
-use Rattle.mz_arena.specs.Extents.{Known, whole, truth, subset, open_truth, as_truth, as_subset, not_extent, to_int_extent, set_extent}
+use Rattle.mz_arena.specs.Extents.{Known, whole, truth, open_truth, as_truth, not_extent, to_int_extent}
 use Rattle.fz_program.specs.declared.program.Domain.{Domain}
-use Rattle.fz_program.specs.declared.program.Domain.TheVariants.{Bool as Truths, Ints as Integers, SetOf}
-use Rattle.fz_program.specs.declared.row_name.RowName.{RowName}
+use Rattle.fz_program.specs.declared.program.Domain.TheVariants.{Bool as Truths, Ints as Integers}
 use Rattle.fz_program.specs.declared.row_name.RowName.TheVariants as rows
-use Rattle.fz_program.specs.declared.row_name.Kind.TheVariants.{Int, Bool as Truth, Set}
+use Rattle.fz_program.specs.declared.row_name.Kind.TheVariants.{Int, Bool as Truth}
 use Rattle.fz_program.specs.Arguments.{Plain, one}
 use Rattle.fz_program.specs.Values as values
 use Rattle.fz_program.specs.Values.{Value, Values}
@@ -30,10 +26,9 @@ use Rattle.fz_build_domains.specs.Results.{result_given}
 use Rattle.fz_build_domains.specs.Bounds.{AreInputs, result_domain, form_of, domain_by, ends_of, upper_of, domain_ends, domain_upper}
 use Rattle.fz_build_domains.specs.Bounds as domains
 use Rattle.fz_build.specs.Growth.{HasDomain}
-use Rattle.flat_reif_rows.specs.Standing.{seen, seen_maybe, LiesWithin, IsPartOf, Suits, AllSuit, of_kind, extent_over, term_over}
-use Rattle.flat_reif_rows.specs.NodeRows.{row_of_one, row_of_two, inputs_of_two}
+use Rattle.flat_reif_rows.specs.Standing.{seen, seen_maybe, LiesWithin, Suits, AllSuit, of_kind, extent_over, term_over}
 use Rattle.flat_reif_rows.specs.Making.{MayGive}
-use Rattle.flat_reif_rows.proofs.Sorts.{of_integer, of_truth, of_set, OfTruth, OfSubset, truth_of, subset_of, both_there, first_there, open_one, suit_sort, flat, sort_value}
+use Rattle.flat_reif_rows.proofs.Sorts.{of_truth, OfTruth, truth_of, first_there, open_one, suit_sort, flat, sort_value}
 use Rattle.flat_reif_rows.proofs.Given.{RowFits, Always}
 use Rattle.flat_reif_rows.proofs.TruthRows.{domain_kind, ends_out, truth_out, same_some, not_linear}
 

@@ -1,13 +1,11 @@
 -- The hull and the union of the elements that a row's index reaches, within those of the node's.
-use Rattle.std.proofs.Common.{◌≡◌, ℕ, zero, suc, ◌<◌, ◌≤◌, ◌+◌, ◌-◌, ℤ, pos, negsuc, ◌+ℤ◌, ◌≤ℤ◌, int_le, Bool, true, false, List, [], ◌∷◌, length, slice_get, Option, Some, None, IsSome, cond, ◌&&◌, refl, sym, ap, subst, ◌∙◌, arith}
+use Rattle.std.proofs.Common.{◌≡◌, ℕ, zero, suc, ◌<◌, ℤ, pos, negsuc, ◌+ℤ◌, ◌≤ℤ◌, int_le, Bool, true, false, List, [], ◌∷◌, length, slice_get, Option, Some, None, IsSome, refl, sym, subst, arith}
 use Rattle.std.proofs.lemmas.Bool.{and_parts, and_from}
-use Rattle.std.proofs.lemmas.Int.{ints, clamps}
+use Rattle.std.proofs.lemmas.Int.{ints}
 use Rattle.mz_value.specs.Ranges.{Range}
 use Rattle.mz_value.proofs.Comparisons.{int_le_true}
 use Rattle.mz_interval.specs.Ends.{Ends, Encloses, hull_of}
 use Rattle.mz_operations.specs.Sets.{union, is_within}
-use Rattle.mz_operations.specs.Laws.{IsSet, IsPart}
-use Rattle.mz_operations.proofs.SetMembers.{union_set}
 use Rattle.mz_operations_laws.specs.Monotone.{IsWithin}
 use Rattle.fz_program.specs.Arguments.{Plain}
 use Rattle.fz_program.specs.Flat.{Variable}

@@ -1,5 +1,5 @@
 -- The extreme of the arguments from some place on, as those before it join them from the last to the first.
-use Rattle.std.proofs.Common.{◌≡◌, ℕ, zero, suc, ◌≤◌, ℤ, pos, List, [], ◌∷◌, ◌++◌, length, take, map, Some, refl, sym, ap, ap₂, subst, ◌∙◌, arith}
+use Rattle.std.proofs.Common.{◌≡◌, ℕ, zero, suc, ℤ, List, [], ◌∷◌, ◌++◌, length, take, Some, refl, sym, ap, ap₂, subst, ◌∙◌, arith}
 use Rattle.mz_interval.specs.Ends.{Ends}
 use Rattle.mz_operations.specs.declared.row.Side.{Side}
 use Rattle.mz_operations.specs.Bounds.{extreme_from, extreme_ends}
@@ -8,15 +8,15 @@ use Rattle.mz_arena.specs.Values.{extreme_term, cons_term}
 use Rattle.mz_arena.specs.Extents.{whole}
 use Rattle.fz_program.specs.declared.row_name.Kind.TheVariants.{Int}
 use Rattle.fz_program.specs.declared.program.Arg.{Arg}
-use Rattle.fz_program.specs.Arguments.{Plain, Argument, one, plain, plains, plain_of, argument}
-use Rattle.fz_program.specs.Values.{Value, Values}
-use Rattle.fz_program.specs.Flat.{Variable, Program, FlatSolves, plain_value}
+use Rattle.fz_program.specs.Arguments.{Plain, one, plain, plains, argument}
+use Rattle.fz_program.specs.Values.{Values}
+use Rattle.fz_program.specs.Flat.{Variable, Program, FlatSolves}
 use Rattle.fz_build.specs.Growth.{Grows}
 use Rattle.fz_build.proofs.Values.{domains_length}
 use Rattle.fz_build_domains.proofs.Copies.{pushed_plains}
 use Rattle.flat_reif_rows.specs.Standing.{seen, LiesWithin}
 use Rattle.flat_reif_rows.specs.Making.{MayGive, Gives}
-use Rattle.flat_reif_rows.specs.Elements.{AllWhole, list_term}
+use Rattle.flat_reif_rows.specs.Elements.{AllWhole}
 use Rattle.flat_reif_rows.specs.Extremes.{side_row, Ever, IsExtreme, AreCompared}
 use Rattle.flat_reif_rows.proofs.Sorts.{of_integer, sort_value}
 use Rattle.flat_reif_rows.proofs.Operands.{single}

@@ -1,8 +1,8 @@
 -- The code's arguments as operands of a sum and of a multiple.
-use Rattle.std.proofs.Common.{◌≡◌, ℤ, List, [], ◌∷◌, refl, sym, ap, subst}
+use Rattle.std.proofs.Common.{ℤ, List, [], ◌∷◌}
 use Rattle.mz_arena.specs.declared.node.NodeKind.TheVariants.{Add, Mul}
 use Rattle.fz_program.specs.declared.row_name.RowName.TheVariants.{IntLinEq}
-use Rattle.fz_program.specs.Arguments.{Plain, int, Argument, one, plain_of}
+use Rattle.fz_program.specs.Arguments.{Plain, int, Argument, plain_of}
 use Rattle.fz_program.specs.Flat.{Program}
 use Rattle.flat_reif_rows.specs.NodeRows.{sum_inputs, multiple_inputs}
 use Rattle.flat_reif_rows.specs.Making.{MayGive, Gives, AreOperands, Makes}

@@ -1,5 +1,5 @@
 -- The linear row that gives the sum of two integers, and the one that gives a number times an integer.
-use Rattle.std.proofs.Common.{◌≡◌, ℕ, ◌+◌, ◌*◌, ◌≤◌, ◌-◌, ◌^◌, max, ℤ, pos, negsuc, neg_ℤ, ◌+ℤ◌, ◌*ℤ◌, ◌-ℤ◌, ◌≤ℤ◌, int_le, unsigned_abs, nat_le, Bool, true, false, List, [], ◌∷◌, ◌++◌, length, map, slice_get, Option, Some, None, IsSome, unwrap_or, cond, ◌&&◌, refl, sym, ap, ap₂, subst, ◌∙◌, arith, mul-le-mul_left}
+use Rattle.std.proofs.Common.{◌≡◌, ℕ, ◌+◌, ◌*◌, ◌≤◌, ◌^◌, max, ℤ, pos, neg_ℤ, ◌+ℤ◌, ◌*ℤ◌, ◌-ℤ◌, ◌≤ℤ◌, int_le, unsigned_abs, nat_le, Bool, true, false, List, [], ◌∷◌, ◌++◌, length, map, slice_get, Option, Some, None, IsSome, unwrap_or, cond, ◌&&◌, refl, sym, ap, ap₂, subst, ◌∙◌, arith, mul-le-mul_left}
 use Rattle.std.proofs.lemmas.Bool.{and_parts, and_from, le-leb}
 use Rattle.std.proofs.lemmas.Bool.Decides.{nat_tests}
 use Rattle.std.proofs.lemmas.Int.{ints, clamps, unsigned_abs-mul}
@@ -7,7 +7,6 @@ use Rattle.mz_value.specs.Ranges.{Range, range_of}
 use Rattle.mz_interval.specs.Ends.{Ends, between, hull_of, is_number, least_number, greatest_number, if_in_limit, if_interval}
 use Rattle.mz_interval.specs.Rows.{sum_of, product_of}
 use Rattle.mz_interval.proofs.Limits.{if_interval-ordered}
-use Rattle.mz_operations.specs.declared.row.Arith.{Arith}
 use Rattle.mz_operations.specs.declared.row.Arith.TheVariants as arith_op
 use Rattle.mz_operations.specs.declared.row.Side.TheVariants.{Least, Greatest}
 use Rattle.mz_operations.specs.Sets.{end_of}
@@ -22,11 +21,11 @@ use Rattle.fz_program.specs.declared.program.Domain.{Domain}
 use Rattle.fz_program.specs.declared.program.Domain.TheVariants.{Bool as Truths, Ints as Integers, SetOf}
 use Rattle.fz_program.specs.declared.row_name.RowName.TheVariants.{IntLinEq}
 use Rattle.fz_program.specs.declared.row_name.Kind.TheVariants.{Int}
-use Rattle.fz_program.specs.Arguments.{Plain, bool, int, set, var, nested, Argument, one, array}
+use Rattle.fz_program.specs.Arguments.{Plain, bool, int, set, var, nested, Argument, one}
 use Rattle.fz_program.specs.Values as values
 use Rattle.fz_program.specs.Values.{Value, Values, linear}
 use Rattle.fz_program.specs.Table.{line}
-use Rattle.fz_program.specs.Flat.{Variable, Program, AreInDomains, IsSome as HasSome, argument_value, plain_value, is_constant, is_plain, same_kind, is_argument, are_arguments, end_magnitude, domain_magnitude, magnitude_at, magnitude, weight, most, is_within}
+use Rattle.fz_program.specs.Flat.{Variable, Program, AreInDomains, IsSome as HasSome, argument_value, is_constant, is_plain, same_kind, is_argument, are_arguments, end_magnitude, domain_magnitude, magnitude_at, magnitude, weight, most, is_within}
 use Rattle.fz_build_domains.specs.Inputs.{is_sum}
 use Rattle.fz_build_domains.specs.Results.{result_given}
 use Rattle.fz_build_domains.specs.Bounds.{AreInputs, result_domain, form_of, domain_by, ends_of, domain_ends, variable_ends, plus, times, sum_ends, negative, excess_ends}

@@ -1,5 +1,5 @@
 -- The rows that hold where a node is true, kind by kind.
-use Rattle.std.proofs.Common.{◌≡◌, ℤ, pos, Bool, true, false, List, [], ◌∷◌, map, Option, Some, None, IsSome, int_eq, int_le, int_lt, refl, sym, ap, ap₂, subst, ◌∙◌}
+use Rattle.std.proofs.Common.{◌≡◌, pos, Bool, true, false, List, [], ◌∷◌, map, Some, IsSome, int_eq, int_le, int_lt, refl, sym, ap, ap₂, subst, ◌∙◌}
 use Rattle.std.specs.Prelude.{◌&&◌, not}
 use Rattle.std.proofs.lemmas.Bool.{and_from}
 use Rattle.mz_operations.specs.Sets.{contains, is_subset, same_set}
@@ -12,16 +12,16 @@ use Rattle.mz_arena.specs.Extents.{Known}
 use Rattle.fz_program.specs.declared.row_name.RowName.{RowName}
 use Rattle.fz_program.specs.declared.row_name.RowName.TheVariants as rows
 use Rattle.fz_program.specs.declared.row_name.Kind.TheVariants.{Int, Bool as Truth, Set}
-use Rattle.fz_program.specs.Arguments.{Plain, bool, Argument, one, array}
+use Rattle.fz_program.specs.Arguments.{Plain, bool, one}
 use Rattle.fz_program.specs.Values as values
 use Rattle.fz_program.specs.Values.{Value, Values, ArgumentValue}
 use Rattle.fz_program.specs.Table.{Meaning, tests, gives, line, Holds, answer_of}
-use Rattle.fz_program.specs.Flat.{Variable, Program, Row, FlatSolves, RowHolds, AreInDomains, number_of_truth, plain_value, argument_value, is_plain, is_constant, same_kind, is_argument, are_arguments, is_within, IsWellFormedRow}
+use Rattle.fz_program.specs.Flat.{Variable, RowHolds, AreInDomains, number_of_truth, plain_value, argument_value, is_plain, is_constant, same_kind, is_argument, are_arguments, is_within, IsWellFormedRow}
 use Rattle.fz_build_domains.specs.Results.{is_giving}
 use Rattle.fz_build.specs.Build.{constraint}
 use Rattle.flat_reif_rows.specs.Standing.{seen, AllSuit, of_kind, extent_over, term_over}
 use Rattle.flat_reif_rows.specs.RootRows.{test_of, is_clause_kind, test_inputs_by, test_inputs, truth_row}
-use Rattle.flat_reif_rows.proofs.Sorts.{Sort, of_integer, of_truth, of_set, kind_of, Raw, flat, HasSort, suit_sort, IsFlat, sort_value}
+use Rattle.flat_reif_rows.proofs.Sorts.{Sort, of_integer, of_truth, of_set, kind_of, Raw, flat, HasSort, suit_sort, sort_value}
 use Rattle.flat_reif_rows.proofs.TruthRows.{two_inputs, integers_of, truths_of, sets_of, member_of}
 
 -- ---- a row that tests

@@ -1,5 +1,5 @@
 -- What posting a row leaves of the solutions.
-use Rattle.std.proofs.Common.{◌≡◌, ℕ, List, [], ◌∷◌, pos, true, Option, Some, refl, sym, ap₂, subst, ◌∙◌}
+use Rattle.std.proofs.Common.{◌≡◌, List, [], ◌∷◌, true, Some, refl, sym, ap₂, subst}
 use Rattle.std.specs.Prelude.{Result, Ok, Err, OnOk}
 use Rattle.mz_arena.specs.declared.node.NodeKind.{NodeKind}
 use Rattle.fz_program.specs.declared.row_name.RowName.{RowName}

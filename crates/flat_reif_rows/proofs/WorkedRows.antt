@@ -1,12 +1,11 @@
 -- Worked examples of nodes over arguments, and of the inputs of their rows.
-use Rattle.std.proofs.Common.{◌≡◌, pos, negsuc, List, [], ◌∷◌, true, false, Some, None, refl}
+use Rattle.std.proofs.Common.{◌≡◌, pos, negsuc, [], ◌∷◌, true, false, Some, None, refl}
 use Rattle.mz_arena.specs.declared.node.NodeKind.TheVariants as kinds
 use Rattle.mz_arena.specs.Values as terms
 use Rattle.mz_arena.specs.Values.{bit, comparison_term, and_term, iff_term, to_int_term, member_term, arith_term}
 use Rattle.mz_operations.specs.Numbers.{computed}
 use Rattle.mz_operations.specs.Sets.{contains}
-use Rattle.mz_arena.specs.Extents.{whole, truth, subset, open_truth, comparison_extent, connective_extent, to_int_extent, member_extent}
-use Rattle.fz_program.specs.declared.row_name.RowName.TheVariants as rows
+use Rattle.mz_arena.specs.Extents.{whole, open_truth, comparison_extent, to_int_extent}
 use Rattle.fz_program.specs.Arguments.{bool, int, set, var, one, array}
 use Rattle.fz_program.specs.Values.{Values, number}
 use Rattle.flat_reif_rows.specs.Standing.{extent_over, term_over}

@@ -10,7 +10,7 @@ use Rattle.mz_arena.specs.Extents.{Known, whole, wholes, truths, subsets}
 use Rattle.fz_program.specs.declared.row_name.RowName.{RowName}
 use Rattle.fz_program.specs.declared.row_name.RowName.TheVariants as rows
 use Rattle.fz_program.specs.declared.row_name.Kind.TheVariants.{Int, Bool as Truth}
-use Rattle.fz_program.specs.Arguments.{Plain, Argument, one, array}
+use Rattle.fz_program.specs.Arguments.{Plain, Argument, array}
 use Rattle.fz_program.specs.Values.{Values}
 use Rattle.fz_program.specs.Flat.{Variable, Program, FlatSolves, is_plain, plain_value}
 use Rattle.fz_build.specs.Build.{IsOver}

@@ -1,5 +1,5 @@
 -- A variable that stands for the least or the greatest of a list of integers.
-use Rattle.std.specs.Prelude.{◌≡◌, ◌≢◌, List, [], ◌∷◌, length, Some}
+use Rattle.std.specs.Prelude.{◌≡◌, ◌≢◌, List, [], length, Some}
 use Rattle.mz_interval.specs.Ends.{Ends}
 use Rattle.mz_operations.specs.declared.row.Side.{Side}
 use Rattle.mz_operations.specs.declared.row.Side.TheVariants.{Least, Greatest}

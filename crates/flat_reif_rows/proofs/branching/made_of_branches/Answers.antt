@@ -1,7 +1,7 @@
-use Rattle.std.proofs.Common.{◌≡◌, ◌∷◌, [], ap, pos, subst, sym}
+use Rattle.std.proofs.Common.{◌∷◌, [], ap, pos, subst, sym}
 use Rattle.mz_arena.specs.declared.node.NodeKind.TheVariants.{Add}
 use Rattle.mz_arena.specs.Values as terms
-use Rattle.fz_program.specs.Arguments.{Plain, int, plain, plains, plain_of}
+use Rattle.fz_program.specs.Arguments.{int, plain, plain_of}
 use Rattle.fz_build.proofs.Lists.{if_ok_weaker}
 use Rattle.flat_reif_rows.specs.Making.{AreOperands, Makes}
 use Rattle.flat_reif_rows.specs.Elements.{AreAccessed, MakesAccess}
