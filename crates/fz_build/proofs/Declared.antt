@@ -1,11 +1,11 @@
 -- One more variable, of which no row speaks, and one more row.
-use Rattle.std.proofs.Common.{◌≡◌, ℕ, List, [], ◌∷◌, ◌++◌, length, take, slice_index_or, refl, sym, ap, ap₂, subst, ◌∙◌, Some}
+use Rattle.std.proofs.Common.{◌≡◌, ℕ, [], ◌∷◌, ◌++◌, length, take, slice_index_or, refl, sym, ap, ap₂, subst, ◌∙◌}
 use Rattle.std.specs.Prelude.{pos}
 use Rattle.std.specs.List.{AllByRecursion}
 use Rattle.std.proofs.lemmas.List.{take_at, length_push}
 use Rattle.fz_program.specs.Arguments.{var, one}
 use Rattle.fz_program.specs.Values.{Value, Values, number}
-use Rattle.fz_program.specs.Flat.{Variable, Row, Program, RowHolds, IsInDomain, AreInDomains, FlatSolves, IsWellFormedRow}
+use Rattle.fz_program.specs.Flat.{Variable, Row, Program, RowHolds, IsInDomain, FlatSolves, IsWellFormedRow}
 use Rattle.fz_build.specs.Build.{with_variable, with_row}
 use Rattle.fz_build.specs.Growth.{Declares, Posts, value_of}
 use Rattle.fz_build.proofs.Lists.{get_last, get_more, at_last, each_push, each_before, each_last}

@@ -1,5 +1,5 @@
 -- Inputs of a row's kinds, whose result has a domain, define a variable of that domain.
-use Rattle.std.proofs.Common.{◌≡◌, ℕ, List, [], ◌∷◌, ◌++◌, length, Bool, true, false, Option, Some, None, refl, sym, ap, subst, ◌∙◌, arith, ℤ}
+use Rattle.std.proofs.Common.{◌≡◌, ℕ, List, [], ◌∷◌, ◌++◌, length, Bool, true, false, Some, refl, sym, ap, subst, ◌∙◌, arith}
 use Rattle.std.specs.Prelude.{◌||◌, ◌&&◌, not, nat_eq, negsuc}
 use Rattle.std.specs.List.{list_any, list_all}
 use Rattle.std.proofs.lemmas.Bool.{and_parts, and_from}
@@ -12,12 +12,11 @@ use Rattle.fz_program.specs.declared.row_name.Kind.{Kind}
 use Rattle.fz_program.specs.declared.row_name.Kind.TheVariants.{Int, Bool as Truth, Set, ConstInt, Ints, Bools, Sets, ConstInts, ConstBools, ConstSets}
 use Rattle.fz_program.specs.Arguments.{Plain, var, int, Argument, one, array}
 use Rattle.fz_program.specs.Table.{line}
-use Rattle.fz_program.specs.Flat.{Variable, Program, IsSome, is_kind, same_kind, kind_of_domain, is_constant, is_plain, is_one_of, are_all_of, is_argument, are_arguments, is_variable, has_variable, is_definition, is_within, IsWellFormedRow}
+use Rattle.fz_program.specs.Flat.{Variable, Program, IsSome, is_kind, same_kind, kind_of_domain, is_constant, is_plain, is_one_of, is_argument, are_arguments, is_variable, has_variable, is_definition, is_within}
 use Rattle.fz_build_domains.specs.Inputs.{is_sum, argument_at, elements_at}
-use Rattle.fz_build_domains.specs.Results.{has_result}
 use Rattle.fz_build_domains.specs.Bounds.{AreInputs, input_kinds, result_domain}
 use Rattle.fz_build_domains.proofs.ResultKinds.{giving, last_kind, sum_kind}
-use Rattle.fz_build.specs.Build.{args_by, args_with, coefficients_with, sum_with, defined_variable, defining}
+use Rattle.fz_build.specs.Build.{args_by, args_with, coefficients_with, sum_with, defined_variable}
 use Rattle.fz_build.specs.Results.{MayDefine, is_array_kind, begin_linear, is_linear_row}
 use Rattle.fz_build.proofs.Lists.{get_last, all_from, all_append}
 use Rattle.fz_build.proofs.Wider.{argument_wider, arguments_over, or_left, or_right, plain_wider}

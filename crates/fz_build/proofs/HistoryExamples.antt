@@ -1,5 +1,5 @@
 -- Worked examples of histories: a variable of the model, one that a row defines, and a choice.
-use Rattle.std.proofs.Common.{◌≡◌, List, [], ◌∷◌, length, true, false, None, refl, codes, pos}
+use Rattle.std.proofs.Common.{◌≡◌, List, [], ◌∷◌, length, true, false, refl, codes, pos}
 use Rattle.fz_program.specs.declared.program.Domain.TheVariants.{Bool as Truths}
 use Rattle.fz_program.specs.declared.row_name.RowName.TheVariants as rows
 use Rattle.fz_program.specs.Arguments.{var, one}

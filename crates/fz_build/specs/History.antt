@@ -1,11 +1,11 @@
 -- How a program is made of a model's variables and arrays, item by item, and what that tells of the program.
-use Rattle.std.specs.Prelude.{◌≡◌, ℕ, suc, ◌+◌, nat_eq, List, [], ◌∷◌, ◌++◌, length, filter, Bool, true, false, not, Option, Some, None, if◌then◌else◌}
+use Rattle.std.specs.Prelude.{◌≡◌, ℕ, suc, nat_eq, List, [], ◌∷◌, ◌++◌, length, filter, Bool, true, false, not, Option, Some, None, if◌then◌else◌}
 use Rattle.std.specs.List.{AllByRecursion}
 use Rattle.fz_program.specs.declared.program.Domain.{Domain}
 use Rattle.fz_program.specs.declared.row_name.RowName.{RowName}
 use Rattle.fz_program.specs.Arguments.{Argument}
 use Rattle.fz_program.specs.Values.{Values}
-use Rattle.fz_program.specs.Flat.{Variable, Row, Program, FlatSolves, IsWellFormedRow}
+use Rattle.fz_program.specs.Flat.{Variable, Row, Program, IsWellFormedRow}
 use Rattle.fz_build.specs.Naming.{introduced_name}
 use Rattle.fz_build.specs.Build.{AreOver, constraint, defining, introduced_variable, with_row, with_variable, with_defined}
 use Rattle.fz_build.specs.Results.{MayDefine}

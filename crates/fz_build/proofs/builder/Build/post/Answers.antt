@@ -2,7 +2,7 @@ use Rattle.std.proofs.Common.{◌≡◌, None, ap, subst, sym, map, ◌∙◌}
 use Rattle.fz_program.specs.declared.program.FzRow.{FzRow}
 use Rattle.fz_program.specs.Arguments.{argument}
 use Rattle.fz_program.specs.Flat.{Program, row}
-use Rattle.fz_build.specs.Build.{constraint, items, with_row}
+use Rattle.fz_build.specs.Build.{constraint, with_row}
 use Rattle.fz_build.specs.Growth.{Posts}
 use Rattle.fz_build.proofs.Declared.{posted}
 use Rattle.fz_build.proofs.Grown.{items_row, stands_row}

@@ -1,0 +1,28 @@
+// The rows that give nodes of an arena: a variable for a node, over the arguments of its children.
+#![tactic(auto)]
+
+// What a call gives. Its error is handed on as it is: `?` would convert it.
+macro_rules! given {
+    ($call:expr) => {
+        match $call {
+            Ok(x) => x,
+            Err(e) => return Err(e),
+        }
+    };
+}
+
+mod access;
+mod branching;
+mod extreme;
+mod law;
+mod making;
+mod posting;
+mod table;
+
+pub use access::made_of_access;
+pub use branching::made_of_branches;
+pub use extreme::made_of_extreme;
+pub use law::nodes_are_told_by_kind;
+pub use making::{defined, made_of_multiple, made_of_one, made_of_sum, made_of_two};
+pub use posting::{post_test, post_true};
+pub use table::{row_of_one, row_of_two, test_of};
