@@ -1,5 +1,5 @@
 -- The rows that are written are well formed.
-use Rattle.std.proofs.Common.{◌≡◌, ℕ, ℤ, Bool, true, false, ◌&&◌, ◌||◌, List, [], ◌∷◌, ◌++◌, nat_eq, Option, Some, None, inl, inr, refl, subst, if◌then◌else◌}
+use Rattle.std.proofs.Common.{◌≡◌, ℕ, ℤ, Bool, true, false, ◌&&◌, ◌||◌, List, [], ◌∷◌, ◌++◌, Option, Some, None, inl, inr, refl, subst, if◌then◌else◌}
 use Rattle.std.specs.List.{AllByRecursion}
 use Rattle.std.proofs.lemmas.Bool.{and_parts, or_cases}
 use Rattle.mz_base.specs.declared.fault.Span.{Span}
@@ -28,6 +28,9 @@ use Rattle.mz_first_unbuilt.specs.Variables as unbuilt
 use Rattle.mz_first_unbuilt.specs.Comparisons.{is_par_constraint, is_par_integer, is_name, is_name_of, is_operand, is_compared, is_constraint_built, are_operands, is_step, all_keep, is_var_truth}
 use Rattle.mz_first_meaning.specs.Roots.{roots}
 use Rattle.mz_first_meaning.specs.Posted.{Posted, Whole, Pair, operand, post, post_by, post_comparison, compare, below}
+use Rattle.mz_first_unbuilt.specs.declared.relation.Relation.{Relation}
+use Rattle.mz_first_unbuilt.specs.declared.relation.Relation.TheVariants as relation
+use Rattle.mz_first_unbuilt.specs.Relations.{relation_at, is_unequal}
 use Rattle.mz_first_rows.specs.Emission.{Side, Nothing, Absent, Number, Place, never, two, int_row, truth_rows, root_rows, side_rows, side, name_side, number_side, rows_of, write_next, place_in, empties, empty_in}
 
 abbrev pub AreRows : List Variable → List Row → Type 0
@@ -61,18 +64,13 @@ two_formed vs _ a b ne h k = record { args = two_arguments vs a b h k; defines =
 two_formed vs _ a b lt h k = record { args = two_arguments vs a b h k; defines = refl; within = refl }
 two_formed vs _ a b le h k = record { args = two_arguments vs a b h k; defines = refl; within = refl }
 
-either : {X : Type 0} (P : X → Type 0) (t : Bool) (x y : X) → P x → P y → P (if t then x else y)
-either P true x y h k = h
-either P false x y h k = k
-
-row_formed : (vs : List Variable) (r : ℕ) (a b : Plain) → IsInt vs a → IsInt vs b → IsWellFormedRow vs (int_row r a b)
-row_formed vs r a b h k =
-    let P = IsWellFormedRow vs in
-    either P (nat_eq r 7) _ _ (two_formed vs name.IntEq a b eq h k)
-    (either P (nat_eq r 8) _ _ (two_formed vs name.IntNe a b ne h k)
-    (either P (nat_eq r 9) _ _ (two_formed vs name.IntLt a b lt h k)
-    (either P (nat_eq r 10) _ _ (two_formed vs name.IntLe a b le h k)
-    (either P (nat_eq r 11) _ _ (two_formed vs name.IntLt b a lt k h) (two_formed vs name.IntLe b a le k h)))))
+row_formed : (vs : List Variable) (r : Relation) (a b : Plain) → IsInt vs a → IsInt vs b → IsWellFormedRow vs (int_row r a b)
+row_formed vs relation.Equal a b h k = two_formed vs name.IntEq a b eq h k
+row_formed vs relation.Unequal a b h k = two_formed vs name.IntNe a b ne h k
+row_formed vs relation.Less a b h k = two_formed vs name.IntLt a b lt h k
+row_formed vs relation.AtMost a b h k = two_formed vs name.IntLe a b le h k
+row_formed vs relation.Greater a b h k = two_formed vs name.IntLt b a lt k h
+row_formed vs relation.AtLeast a b h k = two_formed vs name.IntLe b a le k h
 
 truth_formed : (vs : List Variable) (t : Bool) → AreRows vs (truth_rows t)
 truth_formed vs true = tt
@@ -96,17 +94,17 @@ int_is : (vs : List Variable) (n : ℤ) → is_literal n ≡ true → IsInt vs (
 unfolding is_plain is_constant same_kind
 int_is vs n h = h
 
-number_first : (vs : List Variable) (r : ℕ) (m : ℤ) (k : ℕ) (t u : Bool) → is_literal m ≡ t → is_variable_of vs kind.Int k ≡ true → AreRows vs (if t then int_row r (int m) (var k) ∷ [] else truth_rows u)
+number_first : (vs : List Variable) (r : Relation) (m : ℤ) (k : ℕ) (t u : Bool) → is_literal m ≡ t → is_variable_of vs kind.Int k ≡ true → AreRows vs (if t then int_row r (int m) (var k) ∷ [] else truth_rows u)
 number_first vs r m k true u h g = (row_formed vs r (int m) (var k) (int_is vs m h) (var_is vs k g), tt)
 number_first vs r m k false u h g = truth_formed vs u
 
-number_last : (vs : List Variable) (r : ℕ) (j : ℕ) (n : ℤ) (t u : Bool) → is_literal n ≡ t → is_variable_of vs kind.Int j ≡ true → AreRows vs (if t then int_row r (var j) (int n) ∷ [] else truth_rows u)
+number_last : (vs : List Variable) (r : Relation) (j : ℕ) (n : ℤ) (t u : Bool) → is_literal n ≡ t → is_variable_of vs kind.Int j ≡ true → AreRows vs (if t then int_row r (var j) (int n) ∷ [] else truth_rows u)
 number_last vs r j n true u h g = (row_formed vs r (var j) (int n) (var_is vs j g) (int_is vs n h), tt)
 number_last vs r j n false u h g = truth_formed vs u
 
-sides_formed : (vs : List Variable) (r : ℕ) (a b : Side) → IsSide vs a → IsSide vs b → AreRows vs (side_rows r a b)
+sides_formed : (vs : List Variable) (r : Relation) (a b : Side) → IsSide vs a → IsSide vs b → AreRows vs (side_rows r a b)
 sides_formed vs r Nothing b h k = (never_formed vs, tt)
-sides_formed vs r Absent (Place j) h k = truth_formed vs (nat_eq r 8)
+sides_formed vs r Absent (Place j) h k = truth_formed vs (is_unequal r)
 sides_formed vs r Absent Nothing h k = (never_formed vs, tt)
 sides_formed vs r Absent Absent h k = (never_formed vs, tt)
 sides_formed vs r Absent (Number n) h k = (never_formed vs, tt)
@@ -115,7 +113,7 @@ sides_formed vs r (Number m) Absent h k = (never_formed vs, tt)
 sides_formed vs r (Number m) (Number n) h k = truth_formed vs _
 sides_formed vs r (Number m) (Place j) h k = number_first vs r m j (is_literal m) _ refl k
 sides_formed vs r (Place i) Nothing h k = (never_formed vs, tt)
-sides_formed vs r (Place i) Absent h k = truth_formed vs (nat_eq r 8)
+sides_formed vs r (Place i) Absent h k = truth_formed vs (is_unequal r)
 sides_formed vs r (Place i) (Number n) h k = number_last vs r i n (is_literal n) _ refl h
 sides_formed vs r (Place i) (Place j) h k = (row_formed vs r (var i) (var j) (var_is vs i h) (var_is vs j k), tt)
 
@@ -191,7 +189,7 @@ module _ (vs : List Variable) (xs : List Declared) (names : ℕ → Named) (know
       (λ x y z v. operated w at u r (operand_base (a_step_of r u l m b)) (y ∷ v ∷ []))
       (λ x y z e. Pair x.0 z.0 (typed w.mode false t e))
       (posted (node at t (chain a (a_step r u l m b no_steps))))
-      (λ x y z e. sides_formed vs r (side xs a x.0) (side xs b z.0) (side_formed a x.0 q.0) (side_formed b z.0 q.1))
+      (λ x y z e. sides_formed vs (relation_at r) (side xs a x.0) (side xs b z.0) (side_formed a x.0 q.0) (side_formed b z.0 q.1))
       (operand w below Untested a env st)
 
   comparison_formed : (w : World) (env : Env) (e : Tree) (st : State) → is_compared names e ≡ true → Gives (post_comparison w Untested env e st) (posted e)

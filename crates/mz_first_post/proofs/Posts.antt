@@ -15,6 +15,7 @@ use Rattle.mz_first_unbuilt.specs.Comparisons.{is_par_constraint}
 use Rattle.mz_first_meaning.specs.Roots.{roots}
 use Rattle.mz_first_meaning.specs.Posted.{Whole, Pair, operand, compare, below, post, post_by, post_comparison}
 use Rattle.fz_program.specs.Flat.{Row}
+use Rattle.mz_first_unbuilt.specs.Relations.{relation_at}
 use Rattle.mz_first_rows.specs.Emission.{rows_of, write_next, side, side_rows}
 use Rattle.mz_first_post.specs.Steps.{compared, posted_by, form_rows, par_rows}
 
@@ -41,7 +42,7 @@ abbrev a_chain : Span → PlainType → Tree → Step → Tree
 a_chain at t a s = node at t (chain a (a_step s.row s.ty s.left s.right s.operand no_steps))
 
 -- the same steps, with the rows made of the cells at the end
-by_cells : (w : World) (xs : List Declared) (at : Span) (t : PlainType) (a : Tree) (s : Step) (env : Env) (st : State) → then_do (compare w below Untested at t a s env st) (λ q. give (rows_of xs (a_chain at t a s) q)) ≡ then_do (operand w below Untested a env st) (λ x n. then_do (coerced_by w (place_of a) s.left x.1 n) (λ l m. then_do (operand w below Untested s.operand env m) (λ y z. then_do (operated_on w l (record { at = at; step = s }) y.1 z) (λ c. give (side_rows s.row (side xs a x.0) (side xs s.operand y.0))))))
+by_cells : (w : World) (xs : List Declared) (at : Span) (t : PlainType) (a : Tree) (s : Step) (env : Env) (st : State) → then_do (compare w below Untested at t a s env st) (λ q. give (rows_of xs (a_chain at t a s) q)) ≡ then_do (operand w below Untested a env st) (λ x n. then_do (coerced_by w (place_of a) s.left x.1 n) (λ l m. then_do (operand w below Untested s.operand env m) (λ y z. then_do (operated_on w l (record { at = at; step = s }) y.1 z) (λ c. give (side_rows (relation_at s.row) (side xs a x.0) (side xs s.operand y.0))))))
 by_cells w xs at t a s env st =
     all_five
     (λ x l. operand w below Untested s.operand env)
@@ -74,7 +75,7 @@ compared_is w xs at t a s env st = by_cells w xs at t a s env st ∙ sym (read_b
     (λ p. coerced_by w (place_of a) s.left p.1)
     (operand w below Untested s.operand env)
     (λ l q. operated_on w l (record { at = at; step = s }) q.1)
-    (λ p q. side_rows s.row p.0 q.0)
+    (λ p q. side_rows (relation_at s.row) p.0 q.0)
     (operand w below Untested a env st))
 
 comparison_is : (w : World) (xs : List Declared) (env : Env) (e : Tree) (st : State) → then_do (post_comparison w Untested env e st) (λ q. give (rows_of xs e q)) ≡ posted_by w xs (place_of e) (layer (shape_of e)) env st

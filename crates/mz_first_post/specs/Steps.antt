@@ -20,6 +20,7 @@ use Rattle.mz_base.specs.Names.{text_of}
 use Rattle.fz_program.specs.declared.program.FzGoal.TheVariants.{Satisfy}
 use Rattle.fz_program.specs.Names.{Name}
 use Rattle.fz_program.specs.Flat.{Row, Program, AreDistinct}
+use Rattle.mz_first_unbuilt.specs.Relations.{relation_at}
 use Rattle.mz_first_rows.specs.Emission.{Side, side, side_rows, truth_rows, root_rows, empties, label_in, variables, write_next}
 use Rattle.mz_eval_nodes.specs.Operators.{operated_on}
 use Rattle.mz_first_post.specs.declared.types.Task.{Task}
@@ -86,7 +87,7 @@ compared w xs at a s env = do
   l ← coerced_by w (place_of a) s.left x.1
   y ← sided w xs s.operand env
   c ← operated_on w l (record { at = at; step = s }) y.1
-  give (side_rows s.row x.0 y.0)
+  give (side_rows (relation_at s.row) x.0 y.0)
 
 -- a constraint that isn't par, by the layer of its node: a comparison, or what isn't built
 

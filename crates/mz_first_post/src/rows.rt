@@ -7,13 +7,15 @@ ghost use Rattle.mz_eval_cells.specs.Views.{cell_of, cells_of};
 ghost use Rattle.fz_program.specs.Arguments.{argument, one};
 ghost use Rattle.fz_program.specs.Flat.{row, is_literal};
 ghost use Rattle.mz_first_rows.specs.Emission as emission;
-ghost use Rattle.mz_first_rows.specs.Emission.{never, truth_rows, root_rows, two, int_row, holds, side_rows, empties, empty_in};
+ghost use Rattle.mz_first_unbuilt.specs.Relations.{relation_at, is_unequal, holds};
+ghost use Rattle.mz_first_rows.specs.Emission.{never, truth_rows, root_rows, two, int_row, side_rows, empties, empty_in};
 ghost use Rattle.mz_first_post.specs.Names.{declared, names_in};
 ghost use Rattle.mz_first_post.specs.Rows.{plain_of, side_of, rows_if};
 
 use crate::types::{Declared, Operand, Side};
 use fz_program::{Arg, FzRow, RowName};
 use mz_eval_cells::{Known, is_true};
+use mz_first_unbuilt::{Relation, relation_at};
 use mz_value::{GREATEST, LEAST, RangeSet};
 use std::alloc::{AllocError, Global};
 
@@ -75,26 +77,21 @@ fn two(alloc: Global, name: RowName, a: Operand, b: Operand) -> Result<FzRow, Al
     pair(alloc, name, argument_of(a), argument_of(b))
 }
 
-// a comparison by the number of its row: `>` and `>=` are turned round
-fn int_row(alloc: Global, r: u32, a: Operand, b: Operand) -> Result<FzRow, AllocError>
+// a comparison: `>` and `>=` are turned round
+fn int_row(alloc: Global, r: Relation, a: Operand, b: Operand) -> Result<FzRow, AllocError>
     ensures { IfOk result (λ x. row x ≡ int_row r (plain_of a) (plain_of b)) }
 {
-    if r == 7 {
-        two(alloc, RowName::IntEq, a, b)
-    } else if r == 8 {
-        two(alloc, RowName::IntNe, a, b)
-    } else if r == 9 {
-        two(alloc, RowName::IntLt, a, b)
-    } else if r == 10 {
-        two(alloc, RowName::IntLe, a, b)
-    } else if r == 11 {
-        two(alloc, RowName::IntLt, b, a)
-    } else {
-        two(alloc, RowName::IntLe, b, a)
+    match r {
+        Relation::Equal => two(alloc, RowName::IntEq, a, b),
+        Relation::Unequal => two(alloc, RowName::IntNe, a, b),
+        Relation::Less => two(alloc, RowName::IntLt, a, b),
+        Relation::AtMost => two(alloc, RowName::IntLe, a, b),
+        Relation::Greater => two(alloc, RowName::IntLt, b, a),
+        Relation::AtLeast => two(alloc, RowName::IntLe, b, a),
     }
 }
 
-fn some_row(alloc: Global, r: u32, a: Operand, b: Operand) -> Result<Option<FzRow>, AllocError>
+fn some_row(alloc: Global, r: Relation, a: Operand, b: Operand) -> Result<Option<FzRow>, AllocError>
     ensures { IfOk result (λ o. rows_if o ≡ int_row r (plain_of a) (plain_of b) ∷ []) }
 {
     let x = int_row(alloc, r, a, b)?;
@@ -102,25 +99,27 @@ fn some_row(alloc: Global, r: u32, a: Operand, b: Operand) -> Result<Option<FzRo
 }
 
 // whether a comparison holds of numbers
-fn holds(r: u32, m: i64, n: i64) -> bool
+fn holds(r: Relation, m: i64, n: i64) -> bool
     ensures { result ≡ holds r m n }
 {
-    if r == 7 {
-        m == n
-    } else if r == 8 {
-        !(m == n)
-    } else if r == 9 {
-        m < n
-    } else if r == 10 {
-        m <= n
-    } else if r == 11 {
-        n < m
-    } else {
-        n <= m
+    match r {
+        Relation::Equal => m == n,
+        Relation::Unequal => !(m == n),
+        Relation::Less => m < n,
+        Relation::AtMost => m <= n,
+        Relation::Greater => n < m,
+        Relation::AtLeast => n <= m,
     }
 }
 
-fn number_first(alloc: Global, r: u32, m: i64, k: u64) -> Result<Option<FzRow>, AllocError>
+// whether an absent operand makes a comparison true
+fn is_unequal(r: Relation) -> bool
+    ensures { result ≡ is_unequal r }
+{
+    matches!(r, Relation::Unequal)
+}
+
+fn number_first(alloc: Global, r: Relation, m: i64, k: u64) -> Result<Option<FzRow>, AllocError>
     ensures { IfOk result (λ o. rows_if o ≡ side_rows r (emission.Number m) (emission.Place k)) }
 {
     if is_literal(m) {
@@ -130,7 +129,7 @@ fn number_first(alloc: Global, r: u32, m: i64, k: u64) -> Result<Option<FzRow>, 
     }
 }
 
-fn number_last(alloc: Global, r: u32, j: u64, n: i64) -> Result<Option<FzRow>, AllocError>
+fn number_last(alloc: Global, r: Relation, j: u64, n: i64) -> Result<Option<FzRow>, AllocError>
     ensures { IfOk result (λ o. rows_if o ≡ side_rows r (emission.Place j) (emission.Number n)) }
 {
     if is_literal(n) {
@@ -140,16 +139,16 @@ fn number_last(alloc: Global, r: u32, j: u64, n: i64) -> Result<Option<FzRow>, A
     }
 }
 
-fn after_absent(alloc: Global, r: u32, b: Side) -> Result<Option<FzRow>, AllocError>
+fn after_absent(alloc: Global, r: Relation, b: Side) -> Result<Option<FzRow>, AllocError>
     ensures { IfOk result (λ o. rows_if o ≡ side_rows r emission.Absent (side_of b)) }
 {
     match b {
-        Side::Variable(_) => truth_row(alloc, r == 8),
+        Side::Variable(_) => truth_row(alloc, is_unequal(r)),
         _ => never_row(alloc),
     }
 }
 
-fn after_number(alloc: Global, r: u32, m: i64, b: Side) -> Result<Option<FzRow>, AllocError>
+fn after_number(alloc: Global, r: Relation, m: i64, b: Side) -> Result<Option<FzRow>, AllocError>
     ensures { IfOk result (λ o. rows_if o ≡ side_rows r (emission.Number m) (side_of b)) }
 {
     match b {
@@ -160,19 +159,18 @@ fn after_number(alloc: Global, r: u32, m: i64, b: Side) -> Result<Option<FzRow>,
     }
 }
 
-fn after_variable(alloc: Global, r: u32, j: u64, b: Side) -> Result<Option<FzRow>, AllocError>
+fn after_variable(alloc: Global, r: Relation, j: u64, b: Side) -> Result<Option<FzRow>, AllocError>
     ensures { IfOk result (λ o. rows_if o ≡ side_rows r (emission.Place j) (side_of b)) }
 {
     match b {
         Side::Nothing => never_row(alloc),
-        Side::Absent => truth_row(alloc, r == 8),
+        Side::Absent => truth_row(alloc, is_unequal(r)),
         Side::Number(n) => number_last(alloc, r, j, n),
         Side::Variable(k) => some_row(alloc, r, Operand::Variable(j), Operand::Variable(k)),
     }
 }
 
-/// The row of a comparison by the number of its row and its operands; none where it is true.
-pub(crate) fn side_row(alloc: Global, r: u32, a: Side, b: Side) -> Result<Option<FzRow>, AllocError>
+fn row_of_sides(alloc: Global, r: Relation, a: Side, b: Side) -> Result<Option<FzRow>, AllocError>
     ensures { IfOk result (λ o. rows_if o ≡ side_rows r (side_of a) (side_of b)) }
 {
     match a {
@@ -181,6 +179,18 @@ pub(crate) fn side_row(alloc: Global, r: u32, a: Side, b: Side) -> Result<Option
         Side::Number(m) => after_number(alloc, r, m, b),
         Side::Variable(j) => after_variable(alloc, r, j, b),
     }
+}
+
+/// The row of a comparison by the number of its line and its operands; none where it is true.
+pub(crate) fn side_row(
+    alloc: Global,
+    number: u32,
+    a: Side,
+    b: Side,
+) -> Result<Option<FzRow>, AllocError>
+    ensures { IfOk result (λ o. rows_if o ≡ side_rows (relation_at number) (side_of a) (side_of b)) }
+{
+    row_of_sides(alloc, relation_at(number), a, b)
 }
 
 /// Puts a row last, if there is one.
