@@ -10,22 +10,28 @@ use Rattle.mz_tool.specs.Status.{OnDone, IfRefused, OnReadFault, OnWriteFault, O
 use Rattle.mz_tool.specs.declared.status.Status.{Status}
 use Rattle.mz_tool.specs.declared.status.Status.TheVariants.{ReadFault, WriteFault}
 
--- what a sink holds, and its counts
-pub record SinkState : Type 0 where
-  pub held : Held
-  pub counts : SinkCounts
+-- what a run finds outside itself, or leaves there: how the files' calls went, and what the output and the notes hold, with their counts
+pub record Outside : Type 0 where
+  pub files : FileCounts
+  pub out : Held
+  pub out_counts : SinkCounts
+  pub notes : Held
+  pub note_counts : SinkCounts
 
-pub record Promises (texts : Texts) (asked : Option Asked) (files files_after : FileCounts) (out out_after notes notes_after : SinkState) (answer : Status) : Type 0 where
-  pub headline : OnDone answer (IsSomeAnd asked (λ a. ByDistinctNames (λ table. Writes table texts a out.held out_after.held)))
+pub record Promises (texts : Texts) (asked : Option Asked) (old new : Outside) (answer : Status) : Type 0 where
+  pub headline : OnDone answer (IsSomeAnd asked (λ a. ByDistinctNames (λ table. Writes table texts a old.out new.out)))
+  -- each other answer has its cause
   pub usage : IsUsage asked answer
   pub refused : IfRefused answer (λ fault. IsSomeAnd asked (λ a. ByDistinctNames (λ table. (file : List ℕ) × IsRefusalOf table texts a fault file)))
-  pub read_fault : OnReadFault answer (Rose files.faults files_after.faults)
-  pub write_fault : OnWriteFault answer (Rose out.counts.faults out_after.counts.faults)
-  pub failed_fetch : files.faults < files_after.faults → answer ≡ ReadFault
-  pub failed_put : out.counts.faults < out_after.counts.faults → answer ≡ WriteFault
-  pub counted : CountsFiles files files_after answer
-  pub counted_out : CountsOut out.counts out_after.counts answer
-  pub complete : IsComplete texts asked files files_after out.counts out_after.counts answer
-  pub cut_short : OnWriteFault answer (IsSomeAnd asked (λ a. ByDistinctNames (λ table. WritesPrefix table texts a out.held out_after.held)))
-  pub untouched : OnNothingWritten answer (out_after.held ≡ out.held)
-  pub noted : IsNoted texts asked answer notes.held notes_after.held notes.counts notes_after.counts
+  pub read_fault : OnReadFault answer (Rose old.files.faults new.files.faults)
+  pub write_fault : OnWriteFault answer (Rose old.out_counts.faults new.out_counts.faults)
+  -- and each failure its answer
+  pub failed_fetch : old.files.faults < new.files.faults → answer ≡ ReadFault
+  pub failed_put : old.out_counts.faults < new.out_counts.faults → answer ≡ WriteFault
+  pub counted : CountsFiles old.files new.files answer
+  pub counted_out : CountsOut old.out_counts new.out_counts answer
+  pub complete : IsComplete texts asked old.files new.files old.out_counts new.out_counts answer
+  -- what an answer leaves
+  pub cut_short : OnWriteFault answer (IsSomeAnd asked (λ a. ByDistinctNames (λ table. WritesPrefix table texts a old.out new.out)))
+  pub untouched : OnNothingWritten answer (new.out ≡ old.out)
+  pub noted : IsNoted texts asked answer old.notes new.notes old.note_counts new.note_counts

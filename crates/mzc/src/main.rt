@@ -54,9 +54,8 @@ fn ended<F: Files, I: Source, S: Sink, E: Sink>(
     notes: &mut E,
 ) -> ExitCode
     ensures promises { EndsWith result (Promises (F.texts files.old) (asked (text_of words.now.items))
-        (F.counts files.old) (F.counts files.new)
-        (record { held = S.held out.old; counts = S.counts out.old }) (record { held = S.held out.new; counts = S.counts out.new })
-        (record { held = E.held notes.old; counts = E.counts notes.old }) (record { held = E.held notes.new; counts = E.counts notes.new })) }
+        (record { files = F.counts files.old; out = S.held out.old; out_counts = S.counts out.old; notes = E.held notes.old; note_counts = E.counts notes.old })
+        (record { files = F.counts files.new; out = S.held out.new; out_counts = S.counts out.new; notes = E.held notes.new; note_counts = E.counts notes.new })) }
     ensures texts { F.texts files.new ≡ F.texts files.old }
     ensures silent { OnCheck (asked (text_of words.now.items)) (out.new ≡ out.old) }
     ensures input { input.new ≡ input.old }
