@@ -253,6 +253,7 @@ never_parted old mid new id t d a none partial b c =
     let h = b.has new c.extends.grew c.arena in
     let there : IsPartialNode new id = record { there = partial.there; stands = g.same id below ∙ partial.stands; partial = partial.partial } in
     record {
+      same = λ w. partial_whole old id partial w;
       cost = λ f there_f. omega (arith, b.cost, c.cost, partial_charge f.node.kind (ap (λ (d : Entry). is_partial d.node.kind) (sym (same_entry (sym partial.stands ∙ there_f))) ∙ partial.partial));
       extends = e;
       arena = c.arena;
