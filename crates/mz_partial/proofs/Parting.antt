@@ -20,7 +20,9 @@ use Rattle.mz_partial.specs.Calls.{Joins, Tests, IsSafe, HasNoValue, IsPlaceIn, 
 use Rattle.mz_partial.proofs.Standing.{node_some, node_later, extends_both, part_later, total_in}
 use Rattle.mz_partial.proofs.ByKind.{HasWhole, cons_kind, access_kind, arith_second}
 use Rattle.mz_partial.proofs.Costing.{group_cost, node_cost}
-use Rattle.mz_partial.proofs.Partial.{number_or, cons_part, extreme_part, extreme_no_value, divides, division_part, division_no_value, access_index, access_part, access_no_value}
+use Rattle.mz_partial.proofs.Elements.{cons_part, extreme_part, extreme_no_value}
+use Rattle.mz_partial.proofs.Quotients.{number_or, divides, division_part, division_no_value}
+use Rattle.mz_partial.proofs.Places.{access_index, access_part, access_no_value}
 use Rattle.mz_partial.proofs.Partwise.{kid_whole, kind_whole}
 use Rattle.mz_partial.proofs.Taking.{takes_one, takes_two, may_two, remade_as, kind_as}
 use Rattle.mz_partial.proofs.Testing.{tested}
