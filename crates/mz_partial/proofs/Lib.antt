@@ -7,7 +7,9 @@ pub mod Making
 pub mod Partwise
 pub mod Taking
 pub mod Readying
-pub mod Partial
+pub mod Elements
+pub mod Quotients
+pub mod Places
 pub mod Testing
 pub mod Parting
 pub mod Filling

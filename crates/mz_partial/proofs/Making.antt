@@ -33,7 +33,7 @@ remade_same es id n is m h = record {
   arena = m.arena;
   node = node_as es id n.kind (children n) (take (arity n.kind) is) (ap (take (arity n.kind)) (sym h)) m.node;
   cost = omega arith;
-  own = λ p. refl;
+  own = λ p. (refl, refl);
 }
 
 pub remade : (old new : List Entry) (id : ℕ) (n : Node) (is : List ℕ) (t : ℕ) → Placed old new n.kind (take (arity n.kind) is) t → is ≢ three n.a n.b n.c → Remade old new id n is t

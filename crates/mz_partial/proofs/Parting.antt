@@ -20,45 +20,12 @@ use Rattle.mz_partial.specs.Calls.{Joins, Tests, IsSafe, HasNoValue, IsPlaceIn, 
 use Rattle.mz_partial.proofs.Standing.{node_some, node_later, extends_both, part_later, total_in}
 use Rattle.mz_partial.proofs.ByKind.{HasWhole, cons_kind, access_kind, arith_second}
 use Rattle.mz_partial.proofs.Costing.{group_cost, node_cost}
-use Rattle.mz_partial.proofs.Partial.{number_or, cons_part, extreme_part, extreme_no_value, divides, division_part, division_no_value, access_index, access_part, access_no_value}
+use Rattle.mz_partial.proofs.Elements.{cons_part, extreme_part, extreme_no_value}
+use Rattle.mz_partial.proofs.Quotients.{number_or, divides, division_part, division_no_value}
+use Rattle.mz_partial.proofs.Places.{access_index, access_part, access_no_value}
+use Rattle.mz_partial.proofs.Partwise.{kid_whole, kind_whole}
 use Rattle.mz_partial.proofs.Taking.{takes_one, takes_two, may_two, remade_as, kind_as}
 use Rattle.mz_partial.proofs.Testing.{tested}
-
--- ---- lists
-
-pub cons_parted : (old mid new : List Entry) (memo : List Part) (id : ℕ) (n : Node) (p q : Part) (f : Option ℕ) (t c : ℕ) → Takes old memo id n group.Cons → slice_get memo n.a ≡ Some p → slice_get memo n.b ≡ Some q → Remade old mid id n (three p.term q.term n.c) t → Joins mid new p.flag q.flag f → c ≡ q.len + 1 → Parted old new id (record { flag = f; term = t; len = c })
-cons_parted old mid new memo id n p q f t c h hp hq m j count =
-    let k = takes_two old memo id n group.Cons h refl refl in
-    let kind = cons_kind n.kind h.kind in
-    let e = extends_both old mid new m.extends j.extends in
-    let g = e.grew in
-    let np = part_later old new n.a p g h.arena k.first (h.parts n.a p hp) in
-    let nq = part_later old new n.b q g h.arena k.second (h.parts n.b q hq) in
-    record {
-      cost = node_cost old id n.kind (n.a ∷ n.b ∷ []) (costs new) (costs old) k.node (omega (arith, m.cost, j.cost, group_cost n.kind group.Cons h.kind));
-      extends = e;
-      arena = j.arena;
-      part = cons_part new id n.a n.b p q f t c j.arena (kind_as new id n.kind Cons (n.a ∷ n.b ∷ []) kind (node_later old new id n.kind (n.a ∷ n.b ∷ []) g k.node))
-          (kind_as new t n.kind Cons (p.term ∷ q.term ∷ []) kind (node_later mid new t n.kind (p.term ∷ q.term ∷ []) j.extends.grew (remade_as old mid id n (three p.term q.term n.c) t 2 group.Cons h.kind refl refl m)))
-          np nq (j.says new (grew_same new) j.arena np.holds nq.holds np.flag nq.flag) j.own (λ x y. m.own (ap (λ i. three i q.term n.c) x ∙ ap (λ i. three n.a i n.c) y)) count;
-    }
-
-pub extreme_parted : (old new : List Entry) (memo : List Part) (id : ℕ) (n : Node) (p : Part) (t : ℕ) → Takes old memo id n group.Extreme → slice_get memo n.a ≡ Some p → Remade old new id n (three p.term n.b n.c) t → 0 < p.len → Parted old new id (record { flag = p.flag; term = t; len = 0 })
-extreme_parted old new memo id n p t h hp m long =
-    let k = takes_one old memo id n group.Extreme h refl refl in
-    let g = m.extends.grew in
-    record {
-      cost = node_cost old id n.kind (n.a ∷ []) (costs new) (costs old) k.node (omega (arith, m.cost, group_cost n.kind group.Extreme h.kind));
-      extends = m.extends;
-      arena = m.arena;
-      part = extreme_part new id n.a n.kind p t m.arena h.kind (node_later old new id n.kind (n.a ∷ []) g k.node) (remade_as old new id n (three p.term n.b n.c) t 1 group.Extreme h.kind refl refl m)
-          (part_later old new n.a p g h.arena k.first (h.parts n.a p hp)) long (λ e. m.own (ap (λ i. three i n.b n.c) e));
-    }
-
-pub extreme_never : (es : List Entry) (memo : List Part) (id : ℕ) (n : Node) (p : Part) → Takes es memo id n group.Extreme → slice_get memo n.a ≡ Some p → p.len ≡ 0 → HasNoValue es id
-extreme_never es memo id n p h hp none =
-    let k = takes_one es memo id n group.Extreme h refl refl in
-    extreme_no_value es id n.a n.kind p h.arena h.kind k.node (h.parts n.a p hp) none
 
 -- ---- partial kinds
 
@@ -87,6 +54,44 @@ division_node es memo id n h = partial_node es id n h.node (division_partial n.k
 
 pub access_node : (es : List Entry) (memo : List Part) (id : ℕ) (n : Node) → Takes es memo id n group.Access → IsPartialNode es id
 access_node es memo id n h = partial_node es id n h.node (access_partial n.kind h.kind)
+
+-- ---- lists
+
+pub cons_parted : (old mid new : List Entry) (memo : List Part) (id : ℕ) (n : Node) (p q : Part) (f : Option ℕ) (t c : ℕ) → Takes old memo id n group.Cons → slice_get memo n.a ≡ Some p → slice_get memo n.b ≡ Some q → Remade old mid id n (three p.term q.term n.c) t → Joins mid new p.flag q.flag f → c ≡ q.len + 1 → Parted old new id (record { flag = f; term = t; len = c })
+cons_parted old mid new memo id n p q f t c h hp hq m j count =
+    let k = takes_two old memo id n group.Cons h refl refl in
+    let kind = cons_kind n.kind h.kind in
+    let e = extends_both old mid new m.extends j.extends in
+    let g = e.grew in
+    let np = part_later old new n.a p g h.arena k.first (h.parts n.a p hp) in
+    let nq = part_later old new n.b q g h.arena k.second (h.parts n.b q hq) in
+    record {
+      same = λ w. let o = (h.parts n.a p hp).own (kid_whole old id n.kind (n.a ∷ n.b ∷ []) k.node w 0 n.a refl) in let r = (h.parts n.b q hq).own (kid_whole old id n.kind (n.a ∷ n.b ∷ []) k.node w 1 n.b refl) in (j.own o.0 r.0).1 ∙ (m.own (ap (λ i. three i q.term n.c) o.1 ∙ ap (λ i. three n.a i n.c) r.1)).1;
+      cost = node_cost old id n.kind (n.a ∷ n.b ∷ []) (costs new) (costs old) k.node (omega (arith, m.cost, j.cost, group_cost n.kind group.Cons h.kind));
+      extends = e;
+      arena = j.arena;
+      part = cons_part new id n.a n.b p q f t c j.arena (kind_as new id n.kind Cons (n.a ∷ n.b ∷ []) kind (node_later old new id n.kind (n.a ∷ n.b ∷ []) g k.node))
+          (kind_as new t n.kind Cons (p.term ∷ q.term ∷ []) kind (node_later mid new t n.kind (p.term ∷ q.term ∷ []) j.extends.grew (remade_as old mid id n (three p.term q.term n.c) t 2 group.Cons h.kind refl refl m)))
+          np nq (j.says new (grew_same new) j.arena np.holds nq.holds np.flag nq.flag) (λ x y. (j.own x y).0) (λ x y. (m.own (ap (λ i. three i q.term n.c) x ∙ ap (λ i. three n.a i n.c) y)).0) count;
+    }
+
+pub extreme_parted : (old new : List Entry) (memo : List Part) (id : ℕ) (n : Node) (p : Part) (t : ℕ) → Takes old memo id n group.Extreme → slice_get memo n.a ≡ Some p → Remade old new id n (three p.term n.b n.c) t → 0 < p.len → Parted old new id (record { flag = p.flag; term = t; len = 0 })
+extreme_parted old new memo id n p t h hp m long =
+    let k = takes_one old memo id n group.Extreme h refl refl in
+    let g = m.extends.grew in
+    record {
+      same = λ w. kind_whole old id n.kind (n.a ∷ []) k.node (extreme_partial n.kind h.kind) w;
+      cost = node_cost old id n.kind (n.a ∷ []) (costs new) (costs old) k.node (omega (arith, m.cost, group_cost n.kind group.Extreme h.kind));
+      extends = m.extends;
+      arena = m.arena;
+      part = extreme_part new id n.a n.kind p t m.arena h.kind (node_later old new id n.kind (n.a ∷ []) g k.node) (remade_as old new id n (three p.term n.b n.c) t 1 group.Extreme h.kind refl refl m)
+          (part_later old new n.a p g h.arena k.first (h.parts n.a p hp)) long (λ e. (m.own (ap (λ i. three i n.b n.c) e)).0);
+    }
+
+pub extreme_never : (es : List Entry) (memo : List Part) (id : ℕ) (n : Node) (p : Part) → Takes es memo id n group.Extreme → slice_get memo n.a ≡ Some p → p.len ≡ 0 → HasNoValue es id
+extreme_never es memo id n p h hp none =
+    let k = takes_one es memo id n group.Extreme h refl refl in
+    extreme_no_value es id n.a n.kind p h.arena h.kind k.node (h.parts n.a p hp) none
 
 -- ---- the bounds of the operand that is tested
 
@@ -138,6 +143,7 @@ division_parted old m1 m2 m3 m4 new memo id n p q test parts flag w t k e h hp h
     let u = tested 2 old m1 m2 new n.b q is_nonzero test k w e h.arena kids.second (h.parts n.b q hq) range enc ts sf x3.grew j2.arena in
     let both = j1.says new j2.extends.grew j2.arena np.holds u.part.holds np.flag u.part.flag in
     record {
+      same = λ w. kind_whole old id n.kind (n.a ∷ n.b ∷ []) kids.node (division_partial n.kind h.kind) w;
       cost = node_cost old id n.kind (n.a ∷ n.b ∷ []) (costs new) (costs old) kids.node (omega (arith, ts.cost, sf.cost, m.cost, j1.cost, j2.cost, group_cost n.kind group.Division h.kind));
       extends = x1;
       arena = j2.arena;
@@ -181,6 +187,7 @@ access_parted old m1 m2 m3 m4 new memo id n p q test parts flag w t k e h hp hq 
     let u = tested 6 old m1 m2 new n.a p (is_place (pos q.len)) test k w e h.arena kids.first (h.parts n.a p hp) range enc ts sf x3.grew j2.arena in
     let both = j1.says new j2.extends.grew j2.arena nq.holds u.part.holds nq.flag u.part.flag in
     record {
+      same = λ w. kind_whole old id n.kind (n.a ∷ n.b ∷ []) kids.node (access_partial n.kind h.kind) w;
       cost = node_cost old id n.kind (n.a ∷ n.b ∷ []) (costs new) (costs old) kids.node (omega (arith, ts.cost, sf.cost, m.cost, j1.cost, j2.cost, group_cost n.kind group.Access h.kind));
       extends = x1;
       arena = j2.arena;

@@ -115,7 +115,7 @@ joins_none es f g a h = record {
   arena = a;
   says = λ fs e ar x y p q. let n = says_by fs f None x h p in says_as fs g y (λ v. x v && y v) (λ v i. ap (λ b. b && y v) (sym (n v i))) q;
   flag = λ p q. q;
-  own = λ p q. q;
+  own = λ p q. (q, refl);
 }
 
 pub joins_first : (es : List Entry) (f g : Option ℕ) → IsArena es → g ≡ None → Joins es es f g f
@@ -125,7 +125,7 @@ joins_first es f g a h = record {
   arena = a;
   says = λ fs e ar x y p q. let n = says_by fs g None y h q in says_as fs f x (λ v. x v && y v) (λ v i. both_true (x v) (y v) (n v i)) p;
   flag = λ p q. p;
-  own = λ p q. p;
+  own = λ p q. (p, refl);
 }
   where
     both_true : (a b : Bool) → b ≡ true → a ≡ a && b
@@ -154,7 +154,7 @@ conjoins_none es f t a h = record {
   arena = a;
   says = λ fs e ar x y p q. let n = says_by fs f None x h p in says_at_as fs t y (λ v. x v && y v) (λ v i. ap (λ b. b && y v) (sym (n v i))) q;
   bounds = λ fs e ar s o. refl;
-  own = λ p. refl;
+  own = λ p. (refl, refl);
 }
 
 pub conjoins_some : (old new : List Entry) (f : Option ℕ) (t d r : ℕ) → f ≡ Some d → IsTruth old d → Placed old new And (d ∷ t ∷ []) r → Conjoins old new f t r
@@ -216,7 +216,7 @@ chooses_none es c g a h = record {
   extends = extends_same es;
   arena = a;
   says = λ fs e ar z x y r p q. let n = says_by fs g None y h q in (λ v i. either (z v) (x v) (y v) (p v i) (n v i));
-  own = λ p q. refl;
+  own = λ p q. (refl, refl);
 }
   where
     either : (z x y : Bool) → x ≡ true → y ≡ true → cond z x y ≡ true

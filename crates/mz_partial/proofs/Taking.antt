@@ -17,7 +17,7 @@ use Rattle.mz_arena.proofs.Growing.{grew_same}
 use Rattle.mz_partial.specs.declared.part.Part.{Part}
 use Rattle.mz_partial.specs.declared.group.Group.{Group}
 use Rattle.mz_partial.specs.declared.group.Group.TheVariants as group
-use Rattle.mz_partial.specs.Groups.{group_of, reads, is_inner_group, is_inner}
+use Rattle.mz_partial.specs.Groups.{group_of, reads, is_inner_group, is_inner, is_partial}
 use Rattle.mz_partial.specs.Costs.{cost_of, costs}
 use Rattle.mz_partial.specs.Totals.{IsTotal, is_total, IsTruth, Tells, Counts, IsPart, Parted}
 use Rattle.mz_partial.specs.Nodes.{IsNode, Placed, MayRemake, Remade, Takes, three}
@@ -26,7 +26,7 @@ use Rattle.mz_partial.proofs.Standing.{inner_by, arity_by, taken, node_as, node_
 use Rattle.mz_partial.proofs.ByKind.{HasTruth, connective_truths, reading_truth, choice_kind, guard_kind, choice_truth, guard_truth, connective_open}
 use Rattle.mz_partial.proofs.Costing.{group_cost, node_cost}
 use Rattle.mz_partial.proofs.Saying.{some_is, and_says, part_says}
-use Rattle.mz_partial.proofs.Partwise.{value_or, some_or, pair_like, one_part, two_part, test_part, connective_part, reading_part, choice_part, guard_part, guard_truth_part}
+use Rattle.mz_partial.proofs.Partwise.{kid_whole, kind_whole, value_or, some_or, pair_like, one_part, two_part, test_part, connective_part, reading_part, choice_part, guard_part, guard_truth_part}
 
 -- ---- the children of a node of a group
 
@@ -220,7 +220,7 @@ leaf_part es id k is a g n =
     }
 
 pub leaf_parted : (es : List Entry) (memo : List Part) (id : ℕ) (n : Node) → Takes es memo id n group.Leaf → Parted es es id (record { flag = None; term = id; len = 0 })
-leaf_parted es memo id n t = record { cost = λ e there. omega arith; extends = extends_same es; arena = t.arena; part = leaf_part es id n.kind (children n) t.arena t.kind t.node }
+leaf_parted es memo id n t = record { same = λ w. refl; cost = λ e there. omega arith; extends = extends_same es; arena = t.arena; part = leaf_part es id n.kind (children n) t.arena t.kind t.node }
 
 -- ---- one child, two children
 
@@ -229,11 +229,12 @@ one_parted old new memo id n p t h hp m =
     let k = takes_one old memo id n group.One h refl refl in
     let g = m.extends.grew in
     record {
+      same = λ w. let o = (h.parts n.a p hp).own (kid_whole old id n.kind (n.a ∷ []) k.node w 0 n.a refl) in (m.own (ap (λ i. three i n.b n.c) o.1)).1;
       cost = node_cost old id n.kind (n.a ∷ []) (costs new) (costs old) k.node (omega (arith, m.cost, group_cost n.kind group.One h.kind));
       extends = m.extends;
       arena = m.arena;
       part = one_part new id n.a n.kind p t m.arena h.kind (node_later old new id n.kind (n.a ∷ []) g k.node) (remade_as old new id n (three p.term n.b n.c) t 1 group.One h.kind refl refl m)
-          (part_later old new n.a p g h.arena k.first (h.parts n.a p hp)) (λ e. m.own (ap (λ i. three i n.b n.c) e));
+          (part_later old new n.a p g h.arena k.first (h.parts n.a p hp)) (λ e. (m.own (ap (λ i. three i n.b n.c) e)).0);
     }
 
 pub two_parted : (old mid new : List Entry) (memo : List Part) (id : ℕ) (n : Node) (p q : Part) (f : Option ℕ) (t : ℕ) → Takes old memo id n group.Two → slice_get memo n.a ≡ Some p → slice_get memo n.b ≡ Some q → Remade old mid id n (three p.term q.term n.c) t → Joins mid new p.flag q.flag f → Parted old new id (record { flag = f; term = t; len = 0 })
@@ -244,12 +245,13 @@ two_parted old mid new memo id n p q f t h hp hq m j =
     let np = part_later old new n.a p g h.arena k.first (h.parts n.a p hp) in
     let nq = part_later old new n.b q g h.arena k.second (h.parts n.b q hq) in
     record {
+      same = λ w. let o = (h.parts n.a p hp).own (kid_whole old id n.kind (n.a ∷ n.b ∷ []) k.node w 0 n.a refl) in let r = (h.parts n.b q hq).own (kid_whole old id n.kind (n.a ∷ n.b ∷ []) k.node w 1 n.b refl) in (j.own o.0 r.0).1 ∙ (m.own (ap (λ i. three i q.term n.c) o.1 ∙ ap (λ i. three n.a i n.c) r.1)).1;
       cost = node_cost old id n.kind (n.a ∷ n.b ∷ []) (costs new) (costs old) k.node (omega (arith, m.cost, j.cost, group_cost n.kind group.Two h.kind));
       extends = e;
       arena = j.arena;
       part = two_part new id n.a n.b n.kind p q f t j.arena h.kind (node_later old new id n.kind (n.a ∷ n.b ∷ []) g k.node)
           (node_later mid new t n.kind (p.term ∷ q.term ∷ []) j.extends.grew (remade_as old mid id n (three p.term q.term n.c) t 2 group.Two h.kind refl refl m))
-          np nq (j.says new (grew_same new) j.arena np.holds nq.holds np.flag nq.flag) j.own (λ x y. m.own (ap (λ i. three i q.term n.c) x ∙ ap (λ i. three n.a i n.c) y));
+          np nq (j.says new (grew_same new) j.arena np.holds nq.holds np.flag nq.flag) (λ x y. (j.own x y).0) (λ x y. (m.own (ap (λ i. three i q.term n.c) x ∙ ap (λ i. three n.a i n.c) y)).0);
     }
 
 -- ---- comparisons, connectives and readings
@@ -263,6 +265,7 @@ test_parted old m1 m2 new memo id n p q f h t x hp hq m j c =
     let np = part_later old new n.a p g x.arena k.first (x.parts n.a p hp) in
     let nq = part_later old new n.b q g x.arena k.second (x.parts n.b q hq) in
     record {
+      same = λ w. let o = (x.parts n.a p hp).own (kid_whole old id n.kind (n.a ∷ n.b ∷ []) k.node w 0 n.a refl) in let r = (x.parts n.b q hq).own (kid_whole old id n.kind (n.a ∷ n.b ∷ []) k.node w 1 n.b refl) in (c.own (j.own o.0 r.0).0).1 ∙ (j.own o.0 r.0).1 ∙ (m.own (ap (λ i. three i q.term n.c) o.1 ∙ ap (λ i. three n.a i n.c) r.1)).1;
       cost = node_cost old id n.kind (n.a ∷ n.b ∷ []) (costs new) (costs old) k.node (omega (arith, m.cost, j.cost, c.cost, group_cost n.kind group.Test x.kind));
       extends = e;
       arena = c.arena;
@@ -271,7 +274,7 @@ test_parted old m1 m2 new memo id n p q f h t x hp hq m j c =
           np nq
           (λ b s. c.says new (grew_same new) c.arena (λ v. np.holds v && nq.holds v) b (j.says new c.extends.grew c.arena np.holds nq.holds np.flag nq.flag) s)
           (λ s o. c.bounds new (grew_same new) c.arena s (λ d y. o))
-          (λ a b. c.own (j.own a b)) (λ a b. m.own (ap (λ i. three i q.term n.c) a ∙ ap (λ i. three n.a i n.c) b));
+          (λ a b. (c.own (j.own a b).0).0) (λ a b. (m.own (ap (λ i. three i q.term n.c) a ∙ ap (λ i. three n.a i n.c) b)).0);
     }
 
 truth_at : (es : List Entry) (i : ℕ) → HasTruth (extent es i) → IsTruth es i
@@ -320,12 +323,13 @@ connective_parted old m1 m2 new memo id n p q c d t x hp hq rc rd m =
     let ta = truth_later old new n.a g kids.first in
     let tb = truth_later old new n.b g kids.second in
     record {
+      same = λ w. let o = (x.parts n.a p hp).own (kid_whole old id n.kind (n.a ∷ n.b ∷ []) k.node w 0 n.a refl) in let r = (x.parts n.b q hq).own (kid_whole old id n.kind (n.a ∷ n.b ∷ []) k.node w 1 n.b refl) in (m.own (ap (λ i. three i d n.c) ((rc.own o.0).0 ∙ o.1) ∙ ap (λ i. three n.a i n.c) ((rd.own r.0).0 ∙ r.1))).1 ∙ (rd.own r.0).1 ∙ (rc.own o.0).1;
       cost = node_cost old id n.kind (n.a ∷ n.b ∷ []) (costs new) (costs old) k.node (omega (arith, rc.cost, rd.cost, m.cost, group_cost n.kind group.Connective x.kind));
       extends = e;
       arena = m.arena;
       part = connective_part new id n.a n.b n.kind p q c d t m.arena x.kind (node_later old new id n.kind (n.a ∷ n.b ∷ []) g k.node)
           (remade_as m2 new id n (three c d n.c) t 2 group.Connective x.kind refl refl m)
-          np nq ta tb (rc.says new late.grew m.arena np ta) (rd.says new m.extends.grew m.arena nq tb) rc.own rd.own (λ a b. m.own (ap (λ i. three i d n.c) a ∙ ap (λ i. three n.a i n.c) b));
+          np nq ta tb (rc.says new late.grew m.arena np ta) (rd.says new m.extends.grew m.arena nq tb) (λ a. (rc.own a).0) (λ a. (rd.own a).0) (λ a b. (m.own (ap (λ i. three i d n.c) a ∙ ap (λ i. three n.a i n.c) b)).0);
     }
 
 pub reading_parted : (old mid new : List Entry) (memo : List Part) (id : ℕ) (n : Node) (p : Part) (c t : ℕ) → Takes old memo id n group.Reading → slice_get memo n.a ≡ Some p → Reads old mid n.a p c → Remade mid new id n (three c n.b n.c) t → Parted old new id (record { flag = None; term = t; len = 0 })
@@ -336,11 +340,12 @@ reading_parted old mid new memo id n p c t x hp rc m =
     let np = part_later old new n.a p g x.arena k.first (x.parts n.a p hp) in
     let ta = truth_later old new n.a g (reading_kid old memo id n x) in
     record {
+      same = λ w. let o = (x.parts n.a p hp).own (kid_whole old id n.kind (n.a ∷ []) k.node w 0 n.a refl) in (m.own (ap (λ i. three i n.b n.c) ((rc.own o.0).0 ∙ o.1))).1 ∙ (rc.own o.0).1;
       cost = node_cost old id n.kind (n.a ∷ []) (costs new) (costs old) k.node (omega (arith, rc.cost, m.cost, group_cost n.kind group.Reading x.kind));
       extends = e;
       arena = m.arena;
       part = reading_part new id n.a n.kind p c t m.arena x.kind (node_later old new id n.kind (n.a ∷ []) g k.node) (remade_as mid new id n (three c n.b n.c) t 1 group.Reading x.kind refl refl m)
-          np (rc.says new m.extends.grew m.arena np ta) (rc.bounds new m.extends.grew m.arena np ta) rc.own (λ a. m.own (ap (λ i. three i n.b n.c) a));
+          np (rc.says new m.extends.grew m.arena np ta) (rc.bounds new m.extends.grew m.arena np ta) (λ a. (rc.own a).0) (λ a. (m.own (ap (λ i. three i n.b n.c) a)).0);
     }
 
 -- ---- branches and guards
@@ -358,6 +363,7 @@ choice_parted old m1 m2 new memo id n p q r f c t x hp hq hr rc m o =
     let ta = truth_later old new n.a g (choice_kid old memo id n x) in
     let sc = rc.says new late.grew o.arena np ta in
     record {
+      same = λ w. let y = (x.parts n.a p hp).own (kid_whole old id n.kind (three n.a n.b n.c) k.node w 0 n.a refl) in let s = (x.parts n.b q hq).own (kid_whole old id n.kind (three n.a n.b n.c) k.node w 1 n.b refl) in let u = (x.parts n.c r hr).own (kid_whole old id n.kind (three n.a n.b n.c) k.node w 2 n.c refl) in (o.own s.0 u.0).1 ∙ (m.own (ap (λ i. three i q.term r.term) ((rc.own y.0).0 ∙ y.1) ∙ ap (λ i. three n.a i r.term) s.1 ∙ ap (λ i. three n.a n.b i) u.1)).1 ∙ (rc.own y.0).1;
       cost = node_cost old id n.kind (three n.a n.b n.c) (costs new) (costs old) k.node (omega (arith, rc.cost, m.cost, o.cost, group_cost n.kind group.Choice x.kind));
       extends = e;
       arena = o.arena;
@@ -366,7 +372,7 @@ choice_parted old m1 m2 new memo id n p q r f c t x hp hq hr rc m o =
           (kind_as new t n.kind If (three c q.term r.term) kind (node_later m2 new t n.kind (three c q.term r.term) o.extends.grew (remade_as m1 m2 id n (three c q.term r.term) t 3 group.Choice x.kind refl refl m)))
           np nq nr sc (rc.bounds new late.grew o.arena np ta)
           (o.says new (grew_same new) o.arena (λ v. is_true (term v new n.a)) nq.holds nr.holds sc nq.flag nr.flag)
-          rc.own o.own (λ a b d. m.own (ap (λ i. three i q.term r.term) a ∙ ap (λ i. three n.a i r.term) b ∙ ap (λ i. three n.a n.b i) d));
+          (λ a. (rc.own a).0) (λ a b. (o.own a b).0) (λ a b d. (m.own (ap (λ i. three i q.term r.term) a ∙ ap (λ i. three n.a i r.term) b ∙ ap (λ i. three n.a n.b i) d)).0);
     }
 
 -- of a sort that is no Boolean
@@ -402,6 +408,7 @@ guard_parted old m1 new memo id n p q f c s x hp hq rc j sort other =
     let nq = part_later old new n.b q g x.arena k.second (x.parts n.b q hq) in
     let ta = truth_later old new n.a g (guard_kid old memo id n x) in
     record {
+      same = λ w. kind_whole old id n.kind (n.a ∷ n.b ∷ []) k.node (ap is_partial (guard_kind n.kind x.kind)) w;
       cost = node_cost old id n.kind (n.a ∷ n.b ∷ []) (costs new) (costs old) k.node (omega (arith, rc.cost, j.cost, group_cost n.kind group.Guard x.kind, ap cost_of (guard_kind n.kind x.kind)));
       extends = e;
       arena = j.arena;
@@ -423,6 +430,7 @@ guard_truth_parted old m1 m2 new memo id n p q f c t x hp hq rc j sort m =
     let sc = rc.says new late.grew m.arena np ta in
     let sq = part_says new n.b q m.arena nq tb in
     record {
+      same = λ w. kind_whole old id n.kind (n.a ∷ n.b ∷ []) k.node (ap is_partial (guard_kind n.kind x.kind)) w;
       cost = node_cost old id n.kind (n.a ∷ n.b ∷ []) (costs new) (costs old) k.node (omega (arith, rc.cost, j.cost, m.cost, group_cost n.kind group.Guard x.kind, ap cost_of (guard_kind n.kind x.kind)));
       extends = e;
       arena = m.arena;

@@ -28,7 +28,7 @@ use Rattle.mz_partial.proofs.ByKind.{Fits, not_open, IsPlain, plain_tells, plain
 use Rattle.mz_partial.proofs.Costing.{costs_by_charges, partial_charge}
 use Rattle.mz_partial.proofs.Asked.{comparison_bounds, wholes_choice}
 use Rattle.mz_partial.proofs.Saying.{some_is, if_bit, not_says, says_by}
-use Rattle.mz_partial.proofs.Partial.{number_or, part_number, has_fits}
+use Rattle.mz_partial.proofs.Quotients.{number_or, part_number, has_fits}
 
 pub whole_later : (old new : List Entry) (u : ℕ) (e : Ends) → Grew old new → extent old u ≡ Some (whole e) → extent new u ≡ Some (whole e)
 whole_later old new u e g h = g.extents u (extent_in old u (Some (whole e)) refl h) ∙ h
@@ -253,6 +253,7 @@ never_parted old mid new id t d a none partial b c =
     let h = b.has new c.extends.grew c.arena in
     let there : IsPartialNode new id = record { there = partial.there; stands = g.same id below ∙ partial.stands; partial = partial.partial } in
     record {
+      same = λ w. partial_whole old id partial w;
       cost = λ f there_f. omega (arith, b.cost, c.cost, partial_charge f.node.kind (ap (λ (d : Entry). is_partial d.node.kind) (sym (same_entry (sym partial.stands ∙ there_f))) ∙ partial.partial));
       extends = e;
       arena = c.arena;

@@ -25,7 +25,7 @@ pub record Joins (old new : List Entry) (f g h : Option ℕ) : Type 0 where
   pub cost : costs new ≤ costs old + 2
   pub says : (es : List Entry) → Grew new es → IsArena es → (a b : Values → Bool) → Says es f a → Says es g b → Says es h (λ v. a v && b v)
   pub flag : IsFlag old f → IsFlag old g → IsFlag new h
-  pub own : f ≡ None → g ≡ None → h ≡ None
+  pub own : f ≡ None → g ≡ None → (h ≡ None) × (new ≡ old)
 
 -- a Boolean under a flag
 pub record Conjoins (old new : List Entry) (f : Option ℕ) (t r : ℕ) : Type 0 where
@@ -34,7 +34,7 @@ pub record Conjoins (old new : List Entry) (f : Option ℕ) (t r : ℕ) : Type 0
   pub cost : costs new ≤ costs old + 2
   pub says : (es : List Entry) → Grew new es → IsArena es → (a b : Values → Bool) → Says es f a → SaysAt es t b → SaysAt es r (λ v. a v && b v)
   pub bounds : (es : List Entry) → Grew new es → IsArena es → IsTruth es t → ((d : ℕ) → f ≡ Some d → extent es t ≡ open_truth) → extent es r ≡ extent es t
-  pub own : f ≡ None → r ≡ t
+  pub own : f ≡ None → (r ≡ t) × (new ≡ old)
 
 -- a Boolean that is true where an id is defined and true
 pub record Reads (old new : List Entry) (id : ℕ) (p : Part) (t : ℕ) : Type 0 where
@@ -43,7 +43,7 @@ pub record Reads (old new : List Entry) (id : ℕ) (p : Part) (t : ℕ) : Type 0
   pub cost : costs new ≤ costs old + 2
   pub says : (es : List Entry) → Grew new es → IsArena es → IsPart es id p → IsTruth es id → SaysAt es t (λ v. is_true (term v es id))
   pub bounds : (es : List Entry) → Grew new es → IsArena es → IsPart es id p → IsTruth es id → extent es t ≡ extent es id
-  pub own : p.flag ≡ None → t ≡ p.term
+  pub own : p.flag ≡ None → (t ≡ p.term) × (new ≡ old)
 
 -- a flag that says the first where a condition holds, and else the second
 pub record Chooses (old new : List Entry) (c : ℕ) (f g h : Option ℕ) : Type 0 where
@@ -51,7 +51,7 @@ pub record Chooses (old new : List Entry) (c : ℕ) (f g h : Option ℕ) : Type 
   pub arena : IsArena new
   pub cost : costs new ≤ costs old + 6
   pub says : (es : List Entry) → Grew new es → IsArena es → (b x y : Values → Bool) → SaysAt es c b → Says es f x → Says es g y → Says es h (λ v. if b v then x v else y v)
-  pub own : f ≡ None → g ≡ None → h ≡ None
+  pub own : f ≡ None → g ≡ None → (h ≡ None) × (new ≡ old)
 
 -- a constant
 pub record IsNumber (old new : List Entry) (n : ℤ) (t : ℕ) : Type 0 where

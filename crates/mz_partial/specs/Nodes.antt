@@ -43,7 +43,7 @@ pub record Remade (old new : List Entry) (id : ℕ) (n : Node) (is : List ℕ) (
   pub arena : IsArena new
   pub node : IsNode new t n.kind (take (arity n.kind) is)
   pub cost : costs new ≤ costs old + cost_of n.kind
-  pub own : is ≡ three n.a n.b n.c → t ≡ id
+  pub own : is ≡ three n.a n.b n.c → (t ≡ id) × (new ≡ old)
 
 -- comparisons of integers
 abbrev pub compares : NodeKind → Bool

@@ -113,10 +113,11 @@ pub record IsPart (es : List Entry) (id : ℕ) (p : Part) : Type 0 where
 abbrev pub AreParts : List Entry → List Part → Type 0
 AreParts es memo = (i : ℕ) (p : Part) → slice_get memo i ≡ Some p → IsPart es i p
 
--- the part of an id, in an arena that goes on
+-- the part of an id, in an arena that goes on. Of what is of no partial kind nothing is made
 pub record Parted (old new : List Entry) (id : ℕ) (p : Part) : Type 0 where
   pub extends : Extends old new
   pub arena : IsArena new
+  pub same : HasNoPartial old id → new ≡ old
   pub cost : (e : Entry) → slice_get old id ≡ Some e → costs new ≤ costs old + charge_of e.node.kind
   pub part : IsPart new id p
 

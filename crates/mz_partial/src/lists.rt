@@ -1,6 +1,6 @@
 // Lists: an element before another list, and the least or the greatest.
 
-ghost use Rattle.std.specs.Prelude.{◌≡◌, IfOk};
+ghost use Rattle.std.specs.Prelude.{IfOk};
 ghost use Rattle.mz_partial.specs.declared.group.Group.TheVariants as group;
 ghost use Rattle.mz_partial.specs.Totals.{Parted};
 ghost use Rattle.mz_partial.specs.Nodes.{Takes};

@@ -1,6 +1,6 @@
 // What never has a value.
 
-ghost use Rattle.std.specs.Prelude.{◌≡◌, [], IfOk, Some};
+ghost use Rattle.std.specs.Prelude.{[], IfOk, Some};
 ghost use Rattle.mz_operations.specs.Bounds.{nothing};
 ghost use Rattle.mz_arena.specs.Arenas.{IsArena};
 ghost use Rattle.mz_arena.specs.Extents.{whole, subset, open_truth, extent};

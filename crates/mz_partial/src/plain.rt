@@ -1,6 +1,6 @@
 // Nodes that have a value where their children have.
 
-ghost use Rattle.std.specs.Prelude.{◌≡◌, IfOk};
+ghost use Rattle.std.specs.Prelude.{IfOk};
 ghost use Rattle.mz_partial.specs.declared.group.Group.TheVariants as group;
 ghost use Rattle.mz_partial.specs.Totals.{Parted};
 ghost use Rattle.mz_partial.specs.Nodes.{Takes};

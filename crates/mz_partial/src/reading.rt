@@ -1,6 +1,6 @@
 // Nodes that read a Boolean, which counts as false where it has no value.
 
-ghost use Rattle.std.specs.Prelude.{◌≡◌, IfOk};
+ghost use Rattle.std.specs.Prelude.{IfOk};
 ghost use Rattle.mz_partial.specs.declared.group.Group.TheVariants as group;
 ghost use Rattle.mz_partial.specs.Totals.{Parted};
 ghost use Rattle.mz_partial.specs.Nodes.{Takes};
