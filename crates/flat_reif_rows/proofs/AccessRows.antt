@@ -63,17 +63,17 @@ whole_plain vs [] (e ∷ es) h = absurd h
 whole_plain vs (p ∷ ps) [] h = absurd h
 whole_plain vs (p ∷ ps) (e ∷ es) h = and_from (is_plain vs Int p) (list_all (is_plain vs Int) ps) h.0.sort (whole_plain vs ps es h.1)
 
-truth_plain : (vs : List Variable) (ps : List Plain) → AllTruth vs ps → AllPlain vs Truth ps
+pub truth_plain : (vs : List Variable) (ps : List Plain) → AllTruth vs ps → AllPlain vs Truth ps
 truth_plain vs [] h = refl
 truth_plain vs (p ∷ ps) h = and_from (is_plain vs Truth p) (list_all (is_plain vs Truth) ps) h.0 (truth_plain vs ps h.1)
 
-subset_plain : (vs : List Variable) (ps : List Plain) (us : List (List Range)) → AllSubset vs ps us → AllPlain vs Set ps
+pub subset_plain : (vs : List Variable) (ps : List Plain) (us : List (List Range)) → AllSubset vs ps us → AllPlain vs Set ps
 subset_plain vs [] [] h = refl
 subset_plain vs [] (u ∷ us) h = absurd h
 subset_plain vs (p ∷ ps) [] h = absurd h
 subset_plain vs (p ∷ ps) (u ∷ us) h = and_from (is_plain vs Set p) (list_all (is_plain vs Set) ps) h.0.sort (subset_plain vs ps us h.1)
 
-access_inputs : (vs : List Variable) (k : Kind) (i : Plain) (ps : List Plain) → is_argument vs Int (one i) ≡ true → is_argument vs k (array ps) ≡ true → are_arguments vs (Int ∷ k ∷ []) (element_inputs (one i) ps) ≡ true
+pub access_inputs : (vs : List Variable) (k : Kind) (i : Plain) (ps : List Plain) → is_argument vs Int (one i) ≡ true → is_argument vs k (array ps) ≡ true → are_arguments vs (Int ∷ k ∷ []) (element_inputs (one i) ps) ≡ true
 unfolding are_arguments
 access_inputs vs k i ps h l = and_from (is_argument vs Int (one i)) (is_argument vs k (array ps) && true) h (and_from (is_argument vs k (array ps)) true l refl)
 

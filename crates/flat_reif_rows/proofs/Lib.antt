@@ -10,6 +10,7 @@ pub mod SumRows
 pub mod Reached
 pub mod ElementValues
 pub mod AccessRows
+pub mod FixedRows
 pub mod Operands
 pub mod SumOperands
 pub mod Accessed

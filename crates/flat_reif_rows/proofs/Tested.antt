@@ -1,17 +1,18 @@
 -- What posting a row leaves of the solutions.
-use Rattle.std.proofs.Common.{◌≡◌, List, [], ◌∷◌, true, Some, refl, sym, ap₂, subst}
+use Rattle.std.proofs.Common.{pos, ◌∙◌, ◌≡◌, List, [], ◌∷◌, true, Some, refl, sym, ap₂, subst, Bool, false, ap}
 use Rattle.std.specs.Prelude.{Result, Ok, Err, OnOk}
 use Rattle.mz_arena.specs.declared.node.NodeKind.{NodeKind}
 use Rattle.fz_program.specs.declared.row_name.RowName.{RowName}
 use Rattle.fz_program.specs.declared.row_name.RowName.TheVariants as rows
 use Rattle.fz_program.specs.declared.row_name.Kind.TheVariants.{Bool as Truth}
 use Rattle.fz_program.specs.Arguments.{Plain, bool, Argument, one, array, plain_of}
-use Rattle.fz_program.specs.Flat.{Variable, Program, IsWellFormedRow, is_plain}
+use Rattle.fz_program.specs.Values as values
+use Rattle.fz_program.specs.Flat.{Variable, Program, IsWellFormedRow, is_plain, plain_value, is_constant, same_kind}
 use Rattle.fz_build.specs.Build.{constraint, with_row}
 use Rattle.fz_build.specs.Growth.{Posts}
 use Rattle.fz_build.specs.History.{Made, adds_row}
 use Rattle.flat_reif_rows.specs.Making.{AreOperands, GoesOnMade}
-use Rattle.flat_reif_rows.specs.RootRows.{test_of, test_inputs, Tests, truth_row, IsForced}
+use Rattle.flat_reif_rows.specs.RootRows.{test_of, test_inputs, Tests, truth_row, IsForced, IsEmptied}
 use Rattle.flat_reif_rows.proofs.Sorts.{of_truth, no_array}
 use Rattle.flat_reif_rows.proofs.Operands.{single_two}
 use Rattle.flat_reif_rows.proofs.TestRows.{fits_test, forced_formed, forced_to, forced_from}
@@ -60,6 +61,16 @@ forced_by old new x h e g =
       up = λ f s is. posts.up f s (forced_from (plain_of x) f is);
       made = made_row old new rows.BoolEq (x ∷ one (bool true) ∷ []) (forced_row old x h) e;
     }
+
+pub truth_constant : (vs : List Variable) (b : Bool) → is_plain vs Truth (bool b) ≡ true
+unfolding is_plain is_constant same_kind
+truth_constant vs b = refl
+
+no_truth : values.number (pos 0) ≡ values.number (pos 1) → ⊥
+no_truth h = absurd (cc)
+
+pub emptied_by : (old new : Program) (x : Argument) → x ≡ one (bool false) → IsForced old new (plain_of x) → IsEmptied old new
+emptied_by old new x e g = record { same = g.same; none = λ f s. no_truth (sym (ap (λ z. plain_value f (plain_of z)) e) ∙ g.holds f s); made = g.made }
 
 -- what two clauses of one result give together
 pub on_ok_both : {X Y : Type 0} (r : Result X Y) (P Q R : Type 0) → (P → Q → R) → OnOk r P → OnOk r Q → OnOk r R

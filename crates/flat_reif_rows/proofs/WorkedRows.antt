@@ -1,15 +1,18 @@
 -- Worked examples of nodes over arguments, and of the inputs of their rows.
 use Rattle.std.proofs.Common.{◌≡◌, pos, negsuc, [], ◌∷◌, true, false, Some, None, refl}
+use Rattle.std.specs.List.{list_all}
 use Rattle.mz_arena.specs.declared.node.NodeKind.TheVariants as kinds
 use Rattle.mz_arena.specs.Values as terms
-use Rattle.mz_arena.specs.Values.{bit, comparison_term, and_term, iff_term, to_int_term, member_term, arith_term}
+use Rattle.mz_arena.specs.Values.{bit, comparison_term, and_term, iff_term, to_int_term, member_term, arith_term, access_term, cons_term}
 use Rattle.mz_operations.specs.Numbers.{computed}
 use Rattle.mz_operations.specs.Sets.{contains}
-use Rattle.mz_arena.specs.Extents.{whole, open_truth, comparison_extent, to_int_extent}
+use Rattle.mz_arena.specs.Extents.{whole, open_truth, comparison_extent, to_int_extent, wholes, access_extent}
+use Rattle.fz_program.specs.declared.row_name.RowName.TheVariants as rows
 use Rattle.fz_program.specs.Arguments.{bool, int, set, var, one, array}
 use Rattle.fz_program.specs.Values.{Values, number}
 use Rattle.flat_reif_rows.specs.Standing.{extent_over, term_over}
 use Rattle.flat_reif_rows.specs.NodeRows.{inputs_of_two, sum_inputs, multiple_inputs}
+use Rattle.flat_reif_rows.specs.Elements.{access_over, chosen_row, is_fixed}
 use Rattle.flat_reif_rows.specs.RootRows.{test_of, test_inputs}
 
 -- no term here reads a variable of the arena
@@ -53,3 +56,14 @@ record Inputs : Type 0 where
 
 inputs_worked : Inputs
 inputs_worked = record { joined = refl; each = refl; clause = refl; sum = refl; multiple = refl; none = refl }
+
+record Accesses : Type 0 where
+  pub second : access_over any (int (pos 2)) (int (pos 7) ∷ var 1 ∷ []) values ≡ Some (terms.number (pos 3))
+  pub outside : access_over any (var 1) (int (pos 7) ∷ var 1 ∷ []) values ≡ None
+  pub bounds : extent_over kinds.Access (Some (whole (pos 1, pos 2)) ∷ Some (wholes ((pos 0, pos 4) ∷ (pos 3, pos 9) ∷ [])) ∷ []) ≡ Some (whole (pos 0, pos 9))
+  pub variable : chosen_row (list_all is_fixed (int (pos 7) ∷ var 1 ∷ [])) rows.ArrayVarIntElement ≡ rows.ArrayVarIntElement
+  pub constant : chosen_row (list_all is_fixed (int (pos 7) ∷ int (pos 8) ∷ [])) rows.ArrayVarIntElement ≡ rows.ArrayIntElement
+
+accesses_worked : Accesses
+unfolding access_term cons_term access_extent
+accesses_worked = record { second = refl; outside = refl; bounds = refl; variable = refl; constant = refl }

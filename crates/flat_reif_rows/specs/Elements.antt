@@ -1,5 +1,5 @@
 -- Accesses to lists: the arguments of a list's elements, and a variable that stands for an access.
-use Rattle.std.specs.Prelude.{◌≡◌, ◌≤ℤ◌, ◌≤◌, ℕ, pos, List, [], ◌∷◌, length, true, Option, Some, None}
+use Rattle.std.specs.Prelude.{◌≡◌, ◌≤ℤ◌, ◌≤◌, ℕ, pos, List, [], ◌∷◌, length, true, Option, Some, None, Bool, false}
 use Rattle.mz_value.specs.Ranges.{Range}
 use Rattle.mz_interval.specs.Ends.{Ends}
 use Rattle.mz_arena.specs.declared.node.NodeKind.TheVariants as kinds
@@ -10,7 +10,7 @@ use Rattle.mz_arena.specs.Extents.{Known, whole, wholes, truths, subsets}
 use Rattle.fz_program.specs.declared.row_name.RowName.{RowName}
 use Rattle.fz_program.specs.declared.row_name.RowName.TheVariants as rows
 use Rattle.fz_program.specs.declared.row_name.Kind.TheVariants.{Int, Bool as Truth}
-use Rattle.fz_program.specs.Arguments.{Plain, Argument, array}
+use Rattle.fz_program.specs.Arguments.{Plain, bool, int, set, var, nested, Argument, array}
 use Rattle.fz_program.specs.Values.{Values}
 use Rattle.fz_program.specs.Flat.{Variable, Program, FlatSolves, is_plain, plain_value}
 use Rattle.fz_build.specs.Build.{IsOver}
@@ -49,6 +49,24 @@ element_row (Some (wholes es)) = Some rows.ArrayVarIntElement
 element_row (Some truths) = Some rows.ArrayVarBoolElement
 element_row (Some (subsets us)) = Some rows.ArrayVarSetElement
 element_row _ = None
+
+-- the row where all elements are constant
+abbrev pub fixed_row : RowName → RowName
+fixed_row rows.ArrayVarIntElement = rows.ArrayIntElement
+fixed_row rows.ArrayVarBoolElement = rows.ArrayBoolElement
+fixed_row rows.ArrayVarSetElement = rows.ArraySetElement
+fixed_row name = name
+
+abbrev pub is_fixed : Plain → Bool
+is_fixed (bool b) = true
+is_fixed (int n) = true
+is_fixed (set s) = true
+is_fixed (var k) = false
+is_fixed nested = false
+
+abbrev pub chosen_row : Bool → RowName → RowName
+chosen_row true name = fixed_row name
+chosen_row false name = name
 
 abbrev pub element_inputs : Argument → List Plain → List Argument
 element_inputs i ps = i ∷ array ps ∷ []

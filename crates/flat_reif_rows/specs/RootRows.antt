@@ -57,3 +57,13 @@ pub record IsForced (old new : Program) (p : Plain) : Type 0 where
   pub holds : (f : Values) → FlatSolves new f → plain_value f p ≡ number (pos 1)
   pub up : (f : Values) → FlatSolves old f → plain_value f p ≡ number (pos 1) → FlatSolves new f
   pub made : GoesOnMade old new
+
+-- the row of what can't be true
+abbrev pub false_row : Row
+false_row = truth_row (one (bool false))
+
+-- the same variables, and no solution
+pub record IsEmptied (old new : Program) : Type 0 where
+  pub same : new.vars ≡ old.vars
+  pub none : (f : Values) → FlatSolves new f → ⊥
+  pub made : GoesOnMade old new

@@ -1,8 +1,9 @@
 // Variables for accesses to lists.
 
 ghost use Rattle.std.specs.Prelude.{◌≡◌, IfOk, OnErr, map};
+ghost use Rattle.std.specs.List.{list_all};
 ghost use Rattle.fz_program.specs.Arguments.{argument, array, plain, plains};
-ghost use Rattle.flat_reif_rows.specs.Elements.{AreAccessed, MakesAccess, element_inputs};
+ghost use Rattle.flat_reif_rows.specs.Elements.{AreAccessed, MakesAccess, chosen_row, element_inputs, fixed_row, is_fixed};
 
 use crate::making::defined;
 use fz_build::Build;
@@ -25,10 +26,50 @@ fn element_inputs(alloc: Global, index: Arg, items: Vec<Arg>) -> Result<Vec<Arg>
     Ok(vec![in alloc; index, list]?)
 }
 
+fn is_fixed(a: &Arg) -> bool
+    ensures { result ≡ is_fixed (plain a.now) }
+{
+    match a {
+        Arg::Bool(_) => true,
+        Arg::Int(_) => true,
+        Arg::Set(_) => true,
+        Arg::Var(_) => false,
+        Arg::Array(_) => false,
+    }
+}
+
+fn are_fixed(items: &[Arg]) -> bool
+    ensures { result ≡ list_all (λ a. is_fixed (plain a)) items.now }
+{
+    items.iter().all(|a| is_fixed(a))
+}
+
+fn fixed_row(name: RowName) -> RowName
+    ensures { result ≡ fixed_row name }
+{
+    match name {
+        RowName::ArrayVarIntElement => RowName::ArrayIntElement,
+        RowName::ArrayVarBoolElement => RowName::ArrayBoolElement,
+        RowName::ArrayVarSetElement => RowName::ArraySetElement,
+        name => name,
+    }
+}
+
+// The row for a list of constants, where these are such.
+fn chosen_row(name: RowName, items: &[Arg]) -> RowName
+    ensures { result ≡ chosen_row (list_all (λ a. is_fixed (plain a)) items.now) name }
+{
+    if are_fixed(items) {
+        fixed_row(name)
+    } else {
+        name
+    }
+}
+
 /// A variable for the element at an index, from 1, of a list that isn't empty.
 ///
 /// The arguments lie within the bounds of an index and of a list of this row's sort, and the index may be
-/// a place of the list.
+/// a place of the list. Where all elements are constant, the row is the one for such lists.
 pub fn made_of_access(
     alloc: Global,
     build: &mut Build,
@@ -40,6 +81,7 @@ pub fn made_of_access(
     ensures makes { IfOk result (λ out. MakesAccess build.old build.new name (plain index) (plains items.items) (plain out)) }
     ensures err { OnErr result (build.new ≡ build.old) }
 {
+    let row = chosen_row(name, items.as_slice());
     let inputs = given!(element_inputs(alloc, index, items));
-    defined(build, name, &inputs)
+    defined(build, row, &inputs)
 }

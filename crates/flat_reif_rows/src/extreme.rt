@@ -1,6 +1,6 @@
 // Variables for the least and the greatest of lists.
 
-ghost use Rattle.std.specs.Prelude.{◌≡◌, ◌∷◌, [], IfOk, OnErr, map};
+ghost use Rattle.std.specs.Prelude.{◌≡◌, ◌∷◌, [], IfOk, OnErr};
 ghost use Rattle.fz_program.specs.Arguments.{argument, plain, plains};
 ghost use Rattle.flat_reif_rows.specs.Extremes.{AreCompared, IsExtreme, side_row};
 ghost use Rattle.flat_reif_rows.specs.Making.{Gives, MayGive};

@@ -1,12 +1,12 @@
 // Rows of roots: what must be true.
 
-ghost use Rattle.std.specs.Prelude.{◌≡◌, ◌∷◌, [], IfOk, OnOk, OnErr, map, Some, true};
+ghost use Rattle.std.specs.Prelude.{◌≡◌, ◌∷◌, [], IfOk, OnOk, OnErr, map, Some, false, true};
 ghost use Rattle.fz_program.specs.declared.row_name.Kind.TheVariants.{Bool as Truth};
 ghost use Rattle.fz_program.specs.Arguments.{argument, bool, one, plain};
 ghost use Rattle.fz_program.specs.Flat.{is_plain};
 ghost use Rattle.fz_build.specs.Build.{constraint, with_row};
 ghost use Rattle.flat_reif_rows.specs.Making.{AreOperands};
-ghost use Rattle.flat_reif_rows.specs.RootRows.{IsForced, Tests, test_inputs, test_inputs_by, test_of, truth_row};
+ghost use Rattle.flat_reif_rows.specs.RootRows.{IsEmptied, IsForced, Tests, false_row, test_inputs, test_inputs_by, test_of, truth_row};
 
 use crate::table::is_clause_kind;
 use fz_build::Build;
@@ -71,4 +71,19 @@ pub fn post_true(build: &mut Build, a: Arg) -> Result<(), Memory>
 {
     let inputs = [a, true_argument()];
     build.post(RowName::BoolEq, &inputs)
+}
+
+fn false_argument() -> Arg
+    ensures { argument result ≡ one (bool false) }
+{
+    Arg::Bool(false)
+}
+
+/// Leaves no solution, by the row that `false` equals `true`.
+pub fn post_false(build: &mut Build) -> Result<(), Memory>
+    ensures added { OnOk result (build.new ≡ with_row build.old false_row) }
+    ensures emptied { OnOk result (IsEmptied build.old build.new) }
+    ensures err { OnErr result (build.new ≡ build.old) }
+{
+    post_true(build, false_argument())
 }
