@@ -1,127 +1,138 @@
 -- Declarations in source order, and their places by slots.
-use Rattle.std.proofs.Common.{◌≡◌, ◌∙◌, ℕ, suc, ◌+◌, ◌<◌, ◌≤◌, ◌⊎◌, inl, inr, ⊎_elim, Bool, true, false, cond, List, [], ◌∷◌, Option, Some, map, length, get_or, set, refl, ap, sym, subst, arith}
+use Rattle.std.proofs.Common.{◌≡◌, ◌∙◌, ℕ, suc, ◌+◌, ◌<◌, ◌≤◌, ◌⊎◌, inl, inr, Bool, true, false, cond, List, [], ◌∷◌, Option, Some, map, length, get_or, set, refl, ap, sym, subst, arith}
 use Rattle.std.specs.Prelude.{nat_eq, nat_lt, ◌&&◌, ◌||◌, slice_get, IsPermutation}
 use Rattle.std.specs.Ordering.{nat_cmp, ordering_then, is_lt}
 use Rattle.std.specs.List.Sorted.{IsSortedByKey}
 use Rattle.std.specs.declared.cmp.Ordering.TheVariants.{Less, Equal, Greater}
-use Rattle.std.proofs.lemmas.Bool.{ltb-false, le-ltb, eqb-true, eq-eqb, ne_eqb}
+use Rattle.std.proofs.lemmas.Bool.{ltb-false, le-ltb, eqb-true, eq-eqb}
 use Rattle.std.proofs.lemmas.List.{length-map, same_lists, get_or-map, get_or_default, length-set, get_or-set_other}
 use Rattle.std.proofs.lemmas.List.Elements.{Contains-get_or}
 use Rattle.std.proofs.lemmas.Option.{slice_get-get_or}
 use Rattle.std.proofs.lemmas.Grind.{get_or-set_at}
 use Rattle.std.proofs.lemmas.List.Sorted.{IsPermutation-sym, Contains-permutation, length_permutation}
-use Rattle.mz_base.specs.declared.fault.Span.{Span}
 use Rattle.mz_core.specs.Tree.{Decl}
-use Rattle.mz_check_meaning.specs.Checks.{stands_before, decl_in, NoneStandsBefore, StandInSourceOrder}
+use Rattle.mz_check_meaning.specs.Checks.{comes_before, decl_in, NoneComesBefore, StandInSourceOrder}
 use Rattle.mz_check.specs.StepsPlacing.{HasSlot, HoldPlaces, ArePlaces}
 use Rattle.mz_check_data.specs.WithData.{AreNumbered}
 
 -- ---- the order of places
 
-by_both : (p q r t : Bool) → is_lt (ordering_then (cond p Less (cond q Equal Greater)) (cond r Less (cond t Equal Greater))) ≡ (p || (q && r))
-by_both true q r t = refl
-by_both false true true t = refl
-by_both false true false true = refl
-by_both false true false false = refl
-by_both false false r t = refl
+by_three : (p q r t u v : Bool)
+    → is_lt (ordering_then (ordering_then (cond p Less (cond q Equal Greater)) (cond r Less (cond t Equal Greater))) (cond u Less (cond v Equal Greater))) ≡ ((p || (q && r)) || ((q && t) && u))
+by_three true q r t u v = refl
+by_three false true true t u v = refl
+by_three false true false true true v = refl
+by_three false true false true false true = refl
+by_three false true false true false false = refl
+by_three false true false false u v = refl
+by_three false false r t u v = refl
 
-pub key_order : (a b : Span) → is_lt (ordering_then (nat_cmp a.file b.file) (nat_cmp a.byte b.byte)) ≡ stands_before a b
-key_order a b = by_both (nat_lt a.file b.file) (nat_eq a.file b.file) (nat_lt a.byte b.byte) (nat_eq a.byte b.byte)
-
--- the first doesn't come after the second
-abbrev IsUpTo : Span → Span → Type 0
-IsUpTo a b = (a.file < b.file) ⊎ ((a.file ≡ b.file) × (a.byte ≤ b.byte))
-
-neither : (a b : Bool) → (a || b) ≡ false → (a ≡ false) × (b ≡ false)
-neither true b e = absurd (cc)
-neither false b e = (refl, e)
+key_order : (d e : Decl) → is_lt (ordering_then (ordering_then (nat_cmp d.span.file e.span.file) (nat_cmp d.span.byte e.span.byte)) (nat_cmp d.slot e.slot)) ≡ comes_before d e
+key_order d e = by_three (nat_lt d.span.file e.span.file) (nat_eq d.span.file e.span.file) (nat_lt d.span.byte e.span.byte) (nat_eq d.span.byte e.span.byte) (nat_lt d.slot e.slot) (nat_eq d.slot e.slot)
 
 second_false : (a b : Bool) → (a && b) ≡ false → a ≡ true → b ≡ false
 second_false true b e h = e
 second_false false b e h = absurd (cc)
 
-both_false : (a b : Bool) → a ≡ false → b ≡ false → (a || b) ≡ false
-both_false true b e h = absurd (cc)
-both_false false b e h = h
+-- none of the three holds, each where those before it leave it open
+abbrev NoneHolds : Bool → Bool → Bool → Bool → Bool → Type 0
+NoneHolds p q r t u = (p ≡ false) × (q ≡ true → (r ≡ false) × (t ≡ true → u ≡ false))
 
-and_false : (a b : Bool) → b ≡ false → (a && b) ≡ false
-and_false true b e = e
-and_false false b e = refl
+apart : (p q r t u : Bool) → ((p || (q && r)) || ((q && t) && u)) ≡ false → NoneHolds p q r t u
+apart true q r t u e = absurd (cc)
+apart false true true t u e = absurd (cc)
+apart false true false t u e = (refl, λ h. (refl, second_false t u e))
+apart false false r t u e = (refl, λ h. absurd (cc))
 
-same_case : (a b : ℕ) (t : Bool) → nat_eq a b ≡ t → b ≤ a → ((b ≡ a) × (nat_eq a b ≡ true)) ⊎ ((b < a) × (nat_eq a b ≡ false))
-same_case a b true e h = inl (sym (eqb-true a b e), e)
-same_case a b false e h = inr (less (λ i. let t = eq-eqb a b i in absurd (cc)), e)
+and_false : (a b : Bool) → (a ≡ true → b ≡ false) → (a && b) ≡ false
+and_false true b h = h refl
+and_false false b h = refl
+
+joined : (p q r t u : Bool) → NoneHolds p q r t u → ((p || (q && r)) || ((q && t) && u)) ≡ false
+joined true q r t u h = let none = h.0 in absurd (cc)
+joined false true true t u h = let none = (h.1 refl).0 in absurd (cc)
+joined false true false t u h = and_false t u (h.1 refl).1
+joined false false r t u h = refl
+
+-- of two numbers the first is less, or they are equal and this holds
+abbrev IsUpTo : ℕ → ℕ → Type 0 → Type 0
+IsUpTo a b P = (a < b) ⊎ ((a ≡ b) × P)
+
+same_case : (a b : ℕ) (t : Bool) {P : Type 0} → nat_eq b a ≡ t → a ≤ b → (nat_eq b a ≡ true → P) → IsUpTo a b P
+same_case a b true e h go = inr (sym (eqb-true b a e), go e)
+same_case a b false e h go = inl (less (λ i. let t = eq-eqb b a i in absurd (cc)))
   where
-    less : (a ≡ b → ⊥) → b < a
-    less other = omega (arith, other)
+    less : (b ≡ a → ⊥) → a < b
+    less other = omega (arith, h, other)
 
-same_or_below : (a b : ℕ) → b ≤ a → ((b ≡ a) × (nat_eq a b ≡ true)) ⊎ ((b < a) × (nat_eq a b ≡ false))
-same_or_below a b h = same_case a b (nat_eq a b) refl h
+up_to : (a b : ℕ) {P : Type 0} → nat_lt b a ≡ false → (nat_eq b a ≡ true → P) → IsUpTo a b P
+up_to a b h go = same_case a b (nat_eq b a) refl (ltb-false b a h) go
 
-up_to : (a b : Span) → stands_before b a ≡ false → IsUpTo a b
-up_to a b e =
-    let parts = neither (nat_lt b.file a.file) (nat_eq b.file a.file && nat_lt b.byte a.byte) e in
-    let files : a.file ≤ b.file = ltb-false b.file a.file parts.0 in
-    ⊎_elim
-    (λ same. inr (same.0, ltb-false b.byte a.byte (second_false (nat_eq b.file a.file) (nat_lt b.byte a.byte) parts.1 same.1)))
-    (λ below. inl below.0)
-    (same_or_below b.file a.file files)
+not_less : (a b : ℕ) {P : Type 0} → IsUpTo a b P → nat_lt b a ≡ false
+not_less a b (inl below) = le-ltb b a (omega (arith, below))
+not_less a b (inr same) = let e = same.0 in le-ltb b a (omega (arith, e))
 
-false_first : (p q : Bool) → p ≡ false → (p && q) ≡ false
-false_first true q e = absurd (cc)
-false_first false q e = refl
+where_same : (a b : ℕ) {P : Type 0} → IsUpTo a b P → nat_eq b a ≡ true → P
+where_same a b (inl below) is = let e = eqb-true b a is in absurd (omega (arith, below, e))
+where_same a b (inr same) is = same.1
 
-other_file : (a b : Span) → a.file < b.file → (nat_eq b.file a.file && nat_lt b.byte a.byte) ≡ false
-other_file a b below = false_first (nat_eq b.file a.file) (nat_lt b.byte a.byte) (ne_eqb b.file a.file (λ e. absurd (omega (arith, e, below))))
+onward : (a b c : ℕ) {P Q R : Type 0} → (P → Q → R) → IsUpTo a b P → IsUpTo b c Q → IsUpTo a c R
+onward a b c go (inl p) (inl q) = inl (omega (arith, p, q))
+onward a b c go (inl p) (inr q) = let e = q.0 in inl (omega (arith, p, e))
+onward a b c go (inr p) (inl q) = let e = p.0 in inl (omega (arith, e, q))
+onward a b c go (inr p) (inr q) = inr (p.0 ∙ q.0, go p.1 q.1)
 
-not_before : (a b : Span) → IsUpTo a b → stands_before b a ≡ false
-not_before a b h = ⊎_elim
-    (λ below. both_false (nat_lt b.file a.file) (nat_eq b.file a.file && nat_lt b.byte a.byte)
-    (le-ltb b.file a.file (omega (arith, below)))
-    (other_file a b below))
-    (λ same. both_false (nat_lt b.file a.file) (nat_eq b.file a.file && nat_lt b.byte a.byte)
-    (let s = same.0 in le-ltb b.file a.file (omega (arith, s)))
-    (and_false (nat_eq b.file a.file) (nat_lt b.byte a.byte) (le-ltb b.byte a.byte same.1)))
-    h
+-- the second doesn't come before the first
+abbrev IsFirst : Decl → Decl → Type 0
+IsFirst d e = IsUpTo d.span.file e.span.file (IsUpTo d.span.byte e.span.byte (d.slot ≤ e.slot))
 
-onward : (a b c : Span) → IsUpTo a b → IsUpTo b c → IsUpTo a c
-onward a b c h k = ⊎_elim
-    (λ p. ⊎_elim (λ q. inl (omega (arith, p, q))) (λ q. let f = q.0 in inl (omega (arith, p, f))) k)
-    (λ p. ⊎_elim (λ q. let f = p.0 in inl (omega (arith, f, q))) (λ q. let f = p.0 in let g = q.0 in let m = p.1 in let n = q.1 in inr (f ∙ g, omega (arith, m, n))) k)
-    h
+is_first : (d e : Decl) → comes_before e d ≡ false → IsFirst d e
+is_first d e h =
+    let parts = apart (nat_lt e.span.file d.span.file) (nat_eq e.span.file d.span.file) (nat_lt e.span.byte d.span.byte) (nat_eq e.span.byte d.span.byte) (nat_lt e.slot d.slot) h in
+    up_to d.span.file e.span.file parts.0 (λ same. up_to d.span.byte e.span.byte (parts.1 same).0 (λ too. ltb-false e.slot d.slot ((parts.1 same).1 too)))
+
+not_before : (d e : Decl) → IsFirst d e → comes_before e d ≡ false
+not_before d e h =
+    joined (nat_lt e.span.file d.span.file) (nat_eq e.span.file d.span.file) (nat_lt e.span.byte d.span.byte) (nat_eq e.span.byte d.span.byte) (nat_lt e.slot d.slot)
+    (not_less d.span.file e.span.file h, λ same. (not_less d.span.byte e.span.byte (where_same d.span.file e.span.file h same), λ too. le-ltb e.slot d.slot (where_same d.span.byte e.span.byte (where_same d.span.file e.span.file h same) too)))
+
+far_first : (d e f : Decl) → IsFirst d e → IsFirst e f → IsFirst d f
+far_first d e f h k =
+    onward d.span.file e.span.file f.span.file (λ p q. onward d.span.byte e.span.byte f.span.byte (λ m n. omega (arith, m, n)) p q) h k
 
 -- none comes before the one before it
 abbrev pub Rise : List Decl → Type 0
-Rise ds = (k : ℕ) (d : Decl) → k + 1 < length ds → stands_before (get_or ds (k + 1) d).span (get_or ds k d).span ≡ false
+Rise ds = (k : ℕ) (d : Decl) → k + 1 < length ds → comes_before (get_or ds (k + 1) d) (get_or ds k d) ≡ false
 
 rest_rises : (d : Decl) (ds : List Decl) → Rise (d ∷ ds) → Rise ds
 rest_rises d ds h k e low =
     let later : suc k + 1 ≡ suc (k + 1) = omega arith in
-    subst (λ (n : ℕ). stands_before (get_or (d ∷ ds) n e).span (get_or ds k e).span ≡ false) later (h (suc k) e (omega (arith, low)))
+    subst (λ (n : ℕ). comes_before (get_or (d ∷ ds) n e) (get_or ds k e) ≡ false) later (h (suc k) e (omega (arith, low)))
 
-none_after : (d e : Decl) (ds : List Decl) → IsUpTo d.span e.span → Rise (e ∷ ds) → NoneStandsBefore d ds
+none_after : (d e : Decl) (ds : List Decl) → IsFirst d e → Rise (e ∷ ds) → NoneComesBefore d ds
 none_after d e [] h r = tt
 none_after d e (f ∷ ds) h r =
-    let next = onward d.span e.span f.span h (up_to e.span f.span (r 0 d (omega arith))) in
-    (not_before d.span f.span next, none_after d f ds next (rest_rises e (f ∷ ds) r))
+    let next = far_first d e f h (is_first e f (r 0 d (omega arith))) in
+    (not_before d f next, none_after d f ds next (rest_rises e (f ∷ ds) r))
 
-itself : (a : Span) → IsUpTo a a
-itself a = inr (refl, omega arith)
+itself : (d : Decl) → IsFirst d d
+itself d = inr (refl, inr (refl, omega arith))
 
 pub in_order : (ds : List Decl) → Rise ds → StandInSourceOrder ds
 in_order [] r = tt
-in_order (d ∷ ds) r = (none_after d d ds (itself d.span) r, in_order ds (rest_rises d ds r))
+in_order (d ∷ ds) r = (none_after d d ds (itself d) r, in_order ds (rest_rises d ds r))
 
--- what is sorted by file and place rises
-pub rises : {A : Type 0} (see : A → Decl) (xs : List A) → IsSortedByKey {K = ℕ × ℕ} (λ x. ((see x).span.file, (see x).span.byte)) (λ p q. ordering_then (nat_cmp p.0 q.0) (nat_cmp p.1 q.1)) xs → Rise (map see xs)
+-- what is sorted by file, place and slot rises
+pub rises : {A : Type 0} (see : A → Decl) (xs : List A)
+    → IsSortedByKey {K = ℕ × ℕ × ℕ} (λ x. ((see x).span.file, (see x).span.byte, (see x).slot)) (λ p q. ordering_then (ordering_then (nat_cmp p.0 q.0) (nat_cmp p.1 q.1)) (nat_cmp p.2 q.2)) xs → Rise (map see xs)
 rises see [] h k d low = absurd (omega (arith, low))
 rises see (x ∷ xs) h k d low =
     let l = length-map (x ∷ xs) see in
     let next = get_or-map see (x ∷ xs) (k + 1) x d (omega (arith, low, l)) in
     let this = get_or-map see (x ∷ xs) k x d (omega (arith, low, l)) in
-    ap (λ (e : Decl). stands_before e.span (get_or (map see (x ∷ xs)) k d).span) next
-    ∙ ap (λ (e : Decl). stands_before (see (get_or (x ∷ xs) (k + 1) x)).span e.span) this
-    ∙ sym (key_order (see (get_or (x ∷ xs) (k + 1) x)).span (see (get_or (x ∷ xs) k x)).span)
+    ap (λ (e : Decl). comes_before e (get_or (map see (x ∷ xs)) k d)) next
+    ∙ ap (λ (e : Decl). comes_before (see (get_or (x ∷ xs) (k + 1) x)) e) this
+    ∙ sym (key_order (see (get_or (x ∷ xs) (k + 1) x)) (see (get_or (x ∷ xs) k x)))
     ∙ h k x (omega arith) (omega (arith, low, l))
 
 -- ---- places by slots

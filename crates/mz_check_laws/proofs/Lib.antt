@@ -3,3 +3,4 @@ pub mod Sound
 pub mod Programs
 pub mod Laws
 pub mod Examples
+pub mod OneProgram
