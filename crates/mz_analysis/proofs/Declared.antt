@@ -1,5 +1,5 @@
 -- The declarations of a typed program in the order of evaluation: they are numbered, and have the names of the scoped model.
-use Rattle.std.proofs.Common.{◌≡◌, ◌∙◌, ℕ, suc, ◌+◌, ◌<◌, Bool, true, false, ◌||◌, List, [], ◌∷◌, ◌++◌, Option, Some, Ok, Err, map, length, get_or, refl, sym, ap, subst, arith}
+use Rattle.std.proofs.Common.{◌≡◌, ◌∙◌, ℕ, suc, ◌+◌, ◌<◌, Bool, true, false, ◌||◌, List, [], ◌∷◌, ◌++◌, Option, Some, Ok, Err, map, refl, sym, ap, subst, arith}
 use Rattle.std.specs.Prelude.{slice_get, All, nat_eq}
 use Rattle.std.specs.List.{enumerate_from, flat_map, list_any}
 use Rattle.std.proofs.lemmas.List.Elements.{All-weaker, All-map}

@@ -14,7 +14,7 @@ use Rattle.mz_tree.specs.Items.{FunctionTree, GoalTree}
 use Rattle.mz_scope_uses.specs.declared.name_use.NameUse.{NameUse}
 use Rattle.mz_scope_uses.specs.Uses.{in_tree}
 use Rattle.mz_scope_uses.specs.Sketches.{decl_sketch, function_sketch}
-use Rattle.mz_scope_order.specs.Parts.{decl_at, function_at}
+use Rattle.mz_scope_order.specs.Parts.{place_of, decl_at, function_at}
 use Rattle.mz_scope_order.specs.Scoped.{ScopedTree}
 use Rattle.mz_check_meaning.specs.Tests.{Test, ◌>>=◌, ◌>>◌, each}
 use Rattle.mz_check_meaning.specs.Models.{Model, Env, outermost, in_output, entry_of, typed_so_far, type_of_decl, heading_of}

@@ -1,10 +1,10 @@
 -- Declarations in source order, and their places by slots.
-use Rattle.std.proofs.Common.{◌≡◌, ◌∙◌, ℕ, suc, ◌+◌, ◌<◌, ◌≤◌, ◌⊎◌, inl, inr, Bool, true, false, cond, List, [], ◌∷◌, Option, Some, map, length, get_or, set, refl, ap, sym, subst, arith}
+use Rattle.std.proofs.Common.{◌≡◌, ◌∙◌, ℕ, suc, ◌+◌, ◌<◌, Bool, true, false, cond, List, [], ◌∷◌, Option, Some, map, length, get_or, set, refl, ap, sym, subst, arith}
 use Rattle.std.specs.Prelude.{nat_eq, nat_lt, ◌&&◌, ◌||◌, slice_get, IsPermutation}
 use Rattle.std.specs.Ordering.{nat_cmp, ordering_then, is_lt}
 use Rattle.std.specs.List.Sorted.{IsSortedByKey}
 use Rattle.std.specs.declared.cmp.Ordering.TheVariants.{Less, Equal, Greater}
-use Rattle.std.proofs.lemmas.Bool.{ltb-false, le-ltb, eqb-true, eq-eqb}
+use Rattle.std.proofs.lemmas.Bool.{eqb-true, eq-eqb}
 use Rattle.std.proofs.lemmas.List.{length-map, same_lists, get_or-map, get_or_default, length-set, get_or-set_other}
 use Rattle.std.proofs.lemmas.List.Elements.{Contains-get_or}
 use Rattle.std.proofs.lemmas.Option.{slice_get-get_or}
@@ -12,6 +12,7 @@ use Rattle.std.proofs.lemmas.Grind.{get_or-set_at}
 use Rattle.std.proofs.lemmas.List.Sorted.{IsPermutation-sym, Contains-permutation, length_permutation}
 use Rattle.mz_core.specs.Tree.{Decl}
 use Rattle.mz_check_meaning.specs.Checks.{comes_before, decl_in, NoneComesBefore, StandInSourceOrder}
+use Rattle.mz_check_meaning.proofs.SourceOrder.{IsFirst, is_first, not_before, far_first, itself}
 use Rattle.mz_check.specs.StepsPlacing.{HasSlot, HoldPlaces, ArePlaces}
 use Rattle.mz_check_data.specs.WithData.{AreNumbered}
 
@@ -30,76 +31,6 @@ by_three false false r t u v = refl
 key_order : (d e : Decl) → is_lt (ordering_then (ordering_then (nat_cmp d.span.file e.span.file) (nat_cmp d.span.byte e.span.byte)) (nat_cmp d.slot e.slot)) ≡ comes_before d e
 key_order d e = by_three (nat_lt d.span.file e.span.file) (nat_eq d.span.file e.span.file) (nat_lt d.span.byte e.span.byte) (nat_eq d.span.byte e.span.byte) (nat_lt d.slot e.slot) (nat_eq d.slot e.slot)
 
-second_false : (a b : Bool) → (a && b) ≡ false → a ≡ true → b ≡ false
-second_false true b e h = e
-second_false false b e h = absurd (cc)
-
--- none of the three holds, each where those before it leave it open
-abbrev NoneHolds : Bool → Bool → Bool → Bool → Bool → Type 0
-NoneHolds p q r t u = (p ≡ false) × (q ≡ true → (r ≡ false) × (t ≡ true → u ≡ false))
-
-apart : (p q r t u : Bool) → ((p || (q && r)) || ((q && t) && u)) ≡ false → NoneHolds p q r t u
-apart true q r t u e = absurd (cc)
-apart false true true t u e = absurd (cc)
-apart false true false t u e = (refl, λ h. (refl, second_false t u e))
-apart false false r t u e = (refl, λ h. absurd (cc))
-
-and_false : (a b : Bool) → (a ≡ true → b ≡ false) → (a && b) ≡ false
-and_false true b h = h refl
-and_false false b h = refl
-
-joined : (p q r t u : Bool) → NoneHolds p q r t u → ((p || (q && r)) || ((q && t) && u)) ≡ false
-joined true q r t u h = let none = h.0 in absurd (cc)
-joined false true true t u h = let none = (h.1 refl).0 in absurd (cc)
-joined false true false t u h = and_false t u (h.1 refl).1
-joined false false r t u h = refl
-
--- of two numbers the first is less, or they are equal and this holds
-abbrev IsUpTo : ℕ → ℕ → Type 0 → Type 0
-IsUpTo a b P = (a < b) ⊎ ((a ≡ b) × P)
-
-same_case : (a b : ℕ) (t : Bool) {P : Type 0} → nat_eq b a ≡ t → a ≤ b → (nat_eq b a ≡ true → P) → IsUpTo a b P
-same_case a b true e h go = inr (sym (eqb-true b a e), go e)
-same_case a b false e h go = inl (less (λ i. let t = eq-eqb b a i in absurd (cc)))
-  where
-    less : (b ≡ a → ⊥) → a < b
-    less other = omega (arith, h, other)
-
-up_to : (a b : ℕ) {P : Type 0} → nat_lt b a ≡ false → (nat_eq b a ≡ true → P) → IsUpTo a b P
-up_to a b h go = same_case a b (nat_eq b a) refl (ltb-false b a h) go
-
-not_less : (a b : ℕ) {P : Type 0} → IsUpTo a b P → nat_lt b a ≡ false
-not_less a b (inl below) = le-ltb b a (omega (arith, below))
-not_less a b (inr same) = let e = same.0 in le-ltb b a (omega (arith, e))
-
-where_same : (a b : ℕ) {P : Type 0} → IsUpTo a b P → nat_eq b a ≡ true → P
-where_same a b (inl below) is = let e = eqb-true b a is in absurd (omega (arith, below, e))
-where_same a b (inr same) is = same.1
-
-onward : (a b c : ℕ) {P Q R : Type 0} → (P → Q → R) → IsUpTo a b P → IsUpTo b c Q → IsUpTo a c R
-onward a b c go (inl p) (inl q) = inl (omega (arith, p, q))
-onward a b c go (inl p) (inr q) = let e = q.0 in inl (omega (arith, p, e))
-onward a b c go (inr p) (inl q) = let e = p.0 in inl (omega (arith, e, q))
-onward a b c go (inr p) (inr q) = inr (p.0 ∙ q.0, go p.1 q.1)
-
--- the second doesn't come before the first
-abbrev IsFirst : Decl → Decl → Type 0
-IsFirst d e = IsUpTo d.span.file e.span.file (IsUpTo d.span.byte e.span.byte (d.slot ≤ e.slot))
-
-is_first : (d e : Decl) → comes_before e d ≡ false → IsFirst d e
-is_first d e h =
-    let parts = apart (nat_lt e.span.file d.span.file) (nat_eq e.span.file d.span.file) (nat_lt e.span.byte d.span.byte) (nat_eq e.span.byte d.span.byte) (nat_lt e.slot d.slot) h in
-    up_to d.span.file e.span.file parts.0 (λ same. up_to d.span.byte e.span.byte (parts.1 same).0 (λ too. ltb-false e.slot d.slot ((parts.1 same).1 too)))
-
-not_before : (d e : Decl) → IsFirst d e → comes_before e d ≡ false
-not_before d e h =
-    joined (nat_lt e.span.file d.span.file) (nat_eq e.span.file d.span.file) (nat_lt e.span.byte d.span.byte) (nat_eq e.span.byte d.span.byte) (nat_lt e.slot d.slot)
-    (not_less d.span.file e.span.file h, λ same. (not_less d.span.byte e.span.byte (where_same d.span.file e.span.file h same), λ too. le-ltb e.slot d.slot (where_same d.span.byte e.span.byte (where_same d.span.file e.span.file h same) too)))
-
-far_first : (d e f : Decl) → IsFirst d e → IsFirst e f → IsFirst d f
-far_first d e f h k =
-    onward d.span.file e.span.file f.span.file (λ p q. onward d.span.byte e.span.byte f.span.byte (λ m n. omega (arith, m, n)) p q) h k
-
 -- none comes before the one before it
 abbrev pub Rise : List Decl → Type 0
 Rise ds = (k : ℕ) (d : Decl) → k + 1 < length ds → comes_before (get_or ds (k + 1) d) (get_or ds k d) ≡ false
@@ -114,9 +45,6 @@ none_after d e [] h r = tt
 none_after d e (f ∷ ds) h r =
     let next = far_first d e f h (is_first e f (r 0 d (omega arith))) in
     (not_before d f next, none_after d f ds next (rest_rises e (f ∷ ds) r))
-
-itself : (d : Decl) → IsFirst d d
-itself d = inr (refl, inr (refl, omega arith))
 
 pub in_order : (ds : List Decl) → Rise ds → StandInSourceOrder ds
 in_order [] r = tt

@@ -13,19 +13,34 @@ ghost use Rattle.mz_check.specs.StepsMeeting.{met_of, after, IsTested};
 
 use crate::faults::{Met, note, passed};
 use mz_base::{Memory, Span, Stop};
-use mz_check_context::Context;
+use mz_check_context::{Context, Heading};
 use mz_check_exprs::duplicate;
+use mz_core::CoreType;
 use mz_scope_order::{Scoped, ScopedDecl};
 use mz_tree::Function;
 use std::alloc::Global;
 
-/// Notes why a type is refused, at its place.
-fn note_refused<T>(
+/// Notes why the type of a declaration is refused, at its place.
+fn note_type(
     first: &mut Option<Met>,
     at: Span,
-    typed: Result<&T, Stop>,
+    typed: Result<&CoreType, Stop>,
 ) -> Result<(), Memory>
-    ensures { OnOk result (IsTested typed at (option_map met_of first.old) (option_map met_of first.new)) }
+    ensures { OnOk result (IsTested typed.entry at (option_map met_of first.old) (option_map met_of first.new)) }
+{
+    match typed {
+        Ok(_) => Ok(()),
+        Err(stop) => note(first, at, stop),
+    }
+}
+
+/// Notes why the types of a function are refused, at its place.
+fn note_heading(
+    first: &mut Option<Met>,
+    at: Span,
+    typed: Result<&Heading, Stop>,
+) -> Result<(), Memory>
+    ensures { OnOk result (IsTested typed.entry at (option_map met_of first.old) (option_map met_of first.new)) }
 {
     match typed {
         Ok(_) => Ok(()),
@@ -43,7 +58,7 @@ fn test_decls(
 {
     for (k, d) in decls.iter().enumerate() {
         let t = context.type_of_decl(d.decl.span, k as u64);
-        note_refused(first, d.decl.span, t)?;
+        note_type(first, d.decl.span, t)?;
     }
     Ok(())
 }
@@ -58,7 +73,7 @@ fn test_functions(
 {
     for (k, f) in functions.iter().enumerate() {
         let h = context.heading_of(f.span, k as u64);
-        note_refused(first, f.span, h)?;
+        note_heading(first, f.span, h)?;
     }
     Ok(())
 }

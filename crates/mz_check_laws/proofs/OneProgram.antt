@@ -8,7 +8,7 @@ use Rattle.mz_scope_order.specs.Scoped.{ScopedTree}
 use Rattle.mz_check_meaning.specs.Texts.{all_texts, text_names}
 use Rattle.mz_check_meaning.specs.Checks.{Sections, comes_before, StandInSourceOrder, text_entry, IsProgramOf}
 use Rattle.mz_check_meaning.proofs.SourceOrder.{same_slot, later}
-use Rattle.mz_check_data.specs.WithData as data
+use Rattle.mz_check_data.specs.WithData as given
 use Rattle.mz_check_laws.proofs.Programs.{AreNumbered, numbered_from, slot_at, placed, by_slot}
 
 pub less_or_not : (a b : ℕ) → (a < b) ⊎ ((a ≡ b) ⊎ (b < a))
@@ -95,7 +95,7 @@ module _ (ds : List Decl) (numbered : AreNumbered 0 ds) (es fs : List Decl) (o u
       ap (λ i. get_or o i 0) (sym slot) ∙ (by_slot es ds o first.found first.as_many numbered (get_or u k 0) d inside).2
 
   some_place : (xs : List Decl) (k n : ℕ) → xs ≡ ds → k < length ds → get_or o k n ≡ get_or u k n
-  some_place [] k n e low = absurd (let long = ap (λ (ys : List Decl). length ys) e in omega (arith, low, long))
+  some_place [] k n e low = absurd (let none = ap (λ (ys : List Decl). length ys) e in omega (arith, low, none))
   some_place (x ∷ xs) k n e low =
       let left = long es o first.found in
       let right = long fs u second.found in
@@ -135,7 +135,7 @@ module _ (table : List (List ℕ)) (s : ScopedTree) (all : Sections) where
   are_all : (p : PlainProgram) → IsProgramOf table s all p → AreAll all.decls p.decls p.order
   are_all p h = record { found = h.ordered; as_many = h.counted; ascending = h.ascending }
 
-  pub one_program : (p q : PlainProgram) → data.AreNumbered all.decls → IsProgramOf table s all p → IsProgramOf table s all q → p ≡ q
+  pub one_program : (p q : PlainProgram) → given.AreNumbered all.decls → IsProgramOf table s all p → IsProgramOf table s all q → p ≡ q
   one_program p q numbers h k =
       let numbered : AreNumbered 0 all.decls = numbered_from 0 all.decls (λ i d low. numbers i d low ∙ (let z : i ≡ 0 + i = omega arith in z)) in
       let decls = same_decls all.decls numbered p.decls q.decls p.order q.order (are_all p h) (are_all q k) in

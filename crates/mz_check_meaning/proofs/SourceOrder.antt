@@ -30,7 +30,7 @@ three_false false true false t u h = and_false t u (h.1 refl).1
 three_false false false r t u h = refl
 
 -- of two numbers the first is less, or they are equal and this holds
-abbrev IsUpTo : ℕ → ℕ → Type 0 → Type 0
+abbrev pub IsUpTo : ℕ → ℕ → Type 0 → Type 0
 IsUpTo a b P = (a < b) ⊎ ((a ≡ b) × P)
 
 up_to_case : (a b : ℕ) (t : Bool) (P : Type 0) → nat_eq b a ≡ t → a ≤ b → (nat_eq b a ≡ true → P) → IsUpTo a b P
@@ -65,7 +65,7 @@ both_ways a b P Q (inr p) (inr q) = (p.1, q.1)
 
 -- ---- the second doesn't come before the first
 
-abbrev InPlace : Decl → Decl → Type 0
+abbrev pub InPlace : Decl → Decl → Type 0
 InPlace d e = IsUpTo d.span.byte e.span.byte (d.slot ≤ e.slot)
 
 abbrev pub IsFirst : Decl → Decl → Type 0
@@ -78,10 +78,12 @@ is_first d e h =
 
 pub not_before : (d e : Decl) → IsFirst d e → comes_before e d ≡ false
 not_before d e h =
-    three_false (nat_lt e.span.file d.span.file) (nat_eq e.span.file d.span.file) (nat_lt e.span.byte d.span.byte) (nat_eq e.span.byte d.span.byte) (nat_lt e.slot d.slot)
-    (not_less d.span.file e.span.file (InPlace d e) h, λ same.
-    let here = where_same d.span.file e.span.file (InPlace d e) h same in
-    (not_less d.span.byte e.span.byte (d.slot ≤ e.slot) here, λ too. le-ltb e.slot d.slot (where_same d.span.byte e.span.byte (d.slot ≤ e.slot) here too)))
+    three_false (nat_lt e.span.file d.span.file) (nat_eq e.span.file d.span.file) (nat_lt e.span.byte d.span.byte) (nat_eq e.span.byte d.span.byte) (nat_lt e.slot d.slot) (
+      not_less d.span.file e.span.file (InPlace d e) h,
+      λ same.
+          let here = where_same d.span.file e.span.file (InPlace d e) h same in
+          (not_less d.span.byte e.span.byte (d.slot ≤ e.slot) here, λ too. le-ltb e.slot d.slot (where_same d.span.byte e.span.byte (d.slot ≤ e.slot) here too)),
+    )
 
 pub far_first : (d e f : Decl) → IsFirst d e → IsFirst e f → IsFirst d f
 far_first d e f h k =

@@ -5,7 +5,7 @@ use Rattle.std.specs.List.{flat_map, enumerate_from}
 use Rattle.mz_base.specs.declared.fault.Span.{Span}
 use Rattle.mz_base.specs.declared.fault.Fault.{Fault}
 use Rattle.mz_base.specs.Names.{text_of}
-use Rattle.mz_core.specs.Tree.{Tree, Decl, DeclaredType}
+use Rattle.mz_core.specs.Tree.{Tree, Decl}
 use Rattle.mz_core.specs.Program.{Function, Goal, PlainProgram}
 use Rattle.mz_tree.specs.Tree as source
 use Rattle.mz_tree.specs.Tree.{Name, Declaration}

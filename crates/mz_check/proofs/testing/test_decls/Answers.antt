@@ -16,9 +16,9 @@ loop-k-preserved c =
     let m = known c.args.context.now in
     let d = scoped_decl c.index-decls-k.result in
     let first = option_map met_of c.loop-k.first in
-    let next = option_map met_of c.note_refused.new.first in
+    let next = option_map met_of c.note_type.new.first in
     next_met (type_met m) scoped_decl c.args.decls.now c.loop-k.k c.index-decls-k.result _ first next c.loop-k.invariant c.loop-k-test.true c.index-decls-k.is
-    (one_met (λ (t : Bor CoreType). declared_type t.now) c.type_of_decl-t.result (type_of_decl m (place_of d) c.loop-k.k) (place_of d) first next c.type_of_decl-t.ensures c.in_ok-note_refused.ensures)
+    (one_met (λ (t : Bor CoreType). declared_type t.now) c.type_of_decl-t.result (type_of_decl m (place_of d) c.loop-k.k) (place_of d) first next c.type_of_decl-t.ensures c.in_ok-note_type.ensures)
 
 pub returns : goal.returns
 returns c = all_met (type_met (known c.args.context.now)) scoped_decl c.args.decls.now c.loop-k.k _ (option_map met_of c.loop-k.first) c.loop-k.invariant c.loop-k-test.false

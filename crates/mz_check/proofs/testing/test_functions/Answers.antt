@@ -15,9 +15,9 @@ loop-k-preserved c =
     let m = known c.args.context.now in
     let f = lent_function c.index-functions-k.result in
     let first = option_map met_of c.loop-k.first in
-    let next = option_map met_of c.note_refused.new.first in
+    let next = option_map met_of c.note_heading.new.first in
     next_met (heading_met m) lent_function c.args.functions.now c.loop-k.k c.index-functions-k.result _ first next c.loop-k.invariant c.loop-k-test.true c.index-functions-k.is
-    (one_met (λ (h : Bor Heading). heading h.now) c.heading_of-h.result (heading_of m f.span c.loop-k.k) f.span first next c.heading_of-h.ensures c.in_ok-note_refused.ensures)
+    (one_met (λ (h : Bor Heading). heading h.now) c.heading_of-h.result (heading_of m f.span c.loop-k.k) f.span first next c.heading_of-h.ensures c.in_ok-note_heading.ensures)
 
 pub returns : goal.returns
 returns c = all_met (heading_met (known c.args.context.now)) lent_function c.args.functions.now c.loop-k.k _ (option_map met_of c.loop-k.first) c.loop-k.invariant c.loop-k-test.false
