@@ -1,5 +1,5 @@
 -- The declarations of a typed program in the order of evaluation: they are numbered, and have the names of the scoped model.
-use Rattle.std.proofs.Common.{◌≡◌, ◌∙◌, ℕ, suc, ◌+◌, ◌<◌, Bool, true, false, ◌||◌, List, [], ◌∷◌, ◌++◌, Option, Some, Ok, Err, map, length, get_or, refl, sym, ap, subst, arith}
+use Rattle.std.proofs.Common.{◌≡◌, ◌∙◌, ℕ, suc, ◌+◌, ◌<◌, Bool, true, false, ◌||◌, List, [], ◌∷◌, ◌++◌, Option, Some, Ok, Err, map, refl, sym, ap, subst, arith}
 use Rattle.std.specs.Prelude.{slice_get, All, nat_eq}
 use Rattle.std.specs.List.{enumerate_from, flat_map, list_any}
 use Rattle.std.proofs.lemmas.List.Elements.{All-weaker, All-map}
@@ -20,8 +20,7 @@ use Rattle.mz_check_meaning.specs.Checks.{numbered, untyped, Sections, sections,
 use Rattle.mz_check_data.specs.WithData.{AreNumbered, with_value, with_values, checked_given, checked_with_data}
 use Rattle.mz_check_data.proofs.Parted.{parted}
 use Rattle.mz_check_meaning.proofs.Giving.{AllBy, all_indexed, all_mapped, Gives, gives_then, gives_after}
-use Rattle.mz_check_laws.proofs.Programs as par
-use Rattle.mz_check_laws.proofs.Programs.{all_hold}
+use Rattle.mz_check_laws.proofs.Programs.{all_hold, numbered_from}
 use Rattle.mz_check.proofs.Assembling.{EachGives, each_given}
 use Rattle.mz_check.proofs.Contexts.{checked_numbered}
 use Rattle.mz_include.specs.Naming.{File}
@@ -148,10 +147,6 @@ pub typed_within : (table : List (List ℕ)) (files : List File) (items : List G
 typed_within table files items p names places h within = subst (All (λ n. n < names)) (sym (names_are h)) (names_within names places h.scoped.decls within.decls)
 
 -- ---- in source order: the same declarations, each once
-
-numbered_from : (k : ℕ) (ds : List Decl) → ((i : ℕ) (d : Decl) → i < length ds → (get_or ds i d).slot ≡ k + i) → par.AreNumbered k ds
-numbered_from k [] h = tt
-numbered_from k (d ∷ ds) h = (h 0 d (omega arith) ∙ (let z : k + 0 ≡ k = omega arith in z), numbered_from (k + 1) ds (λ i e low. h (suc i) e (omega (arith, low)) ∙ (let z : k + suc i ≡ k + 1 + i = omega arith in z)))
 
 by_each : (Q : ℕ → Type 0) (ds : List Decl) → All Q (names_of ds) → AllBy (λ d. Q d.name) ds
 by_each Q [] h = tt

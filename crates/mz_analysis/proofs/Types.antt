@@ -144,12 +144,12 @@ module _ (N : Name → Type 0) (P : Span → Type 0) (start : P (start_of 0)) (f
   none_stops [] h = tt
   none_stops (x ∷ xs) h = first_placed x xs h.0 h.1
 
-  types_stop : (s : ScopedTree) (m : Model) → IsKnown P m → AllByRecursion Placed (types_met s m)
+  types_stop : (s : ScopedTree) (m : Model) → Parts s → IsKnown P m → AllByRecursion Placed (types_met s m)
   unfolding types_met
-  types_stop s m known =
-      both_all Placed (flat_map (type_met s) m.types) (flat_map (heading_met s) m.headings)
-      (flat_all (λ (t : ℕ × Test DeclaredType). Stops P (Any P) t.1) Placed (type_met s) (λ t k. is_met (Any P) (place_of (decl_at s.decls t.0)) t.1 k) m.types known.types)
-      (flat_all (λ (t : ℕ × Test Heading). Stops P (Any P) t.1) Placed (heading_met s) (λ t k. is_met (Any P) (function_at s.functions t.0).span t.1 k) m.headings known.headings)
+  types_stop s m h known =
+      both_all Placed (flat_map (type_met m) (numbered s.decls)) (flat_map (heading_met m) (numbered s.functions))
+      (flat_all (λ (d : ℕ × Declaration). DeclOf d.1) Placed (type_met m) (λ d k. is_met (Any P) (place_of d.1) (type_of_decl m (place_of d.1) d.0) (type_stops P m (place_of d.1) d.0 known (placed d.1 k))) (numbered s.decls) (numbered_from DeclOf 0 s.decls h.decls))
+      (flat_all (λ (f : ℕ × FunctionTree). FunctionOf f.1) Placed (heading_met m) (λ f k. is_met (Any P) f.1.span (heading_of m f.1.span f.0) (heading_stops P m f.1.span f.0 known k.1)) (numbered s.functions) (numbered_from FunctionOf 0 s.functions h.functions))
 
   -- ---- functions declared twice
 
@@ -274,7 +274,7 @@ module _ (N : Name → Type 0) (P : Span → Type 0) (start : P (start_of 0)) (f
   checked_stops : (s : ScopedTree) (m : Model) → Parts s → IsKnown P m → Stops P (Any P) (checked_given s m)
   unfolding checked_given
   checked_stops s m h known =
-      next P (Any P) (Any P) (none_met (types_met s m)) _ (none_stops (types_met s m) (types_stop s m known))
+      next P (Any P) (Any P) (none_met (types_met s m)) _ (none_stops (types_met s m) (types_stop s m h known))
       (λ a u. next P (Any P) (Any P) (no_fault (duplicate_after m.texts [] (signed s m))) _ (duplicates_stop m.texts [] (signed s m) (signed_placed s m h))
       (λ b v. next P (AllByRecursion (Any P)) (Any P) (given_values m s.given) _ (all_given_stop m s.given known h.given)
       (λ vs w. next P (Any P) (Any P) (none_met (items_met s m)) _ (none_stops (items_met s m) (items_stop s m h known))

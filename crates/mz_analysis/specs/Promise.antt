@@ -1,11 +1,10 @@
 -- What holds of every model with its data.
-use Rattle.std.specs.Prelude.{◌≡◌, ◌<◌, ℕ, List, Ok}
+use Rattle.std.specs.Prelude.{◌≡◌, ◌<◌, ℕ, List}
 use Rattle.mz_base.specs.declared.fault.Fault.{Fault}
 use Rattle.mz_tree.specs.Data.{Given}
 use Rattle.mz_include.specs.Naming.{File}
 use Rattle.mz_scope_order.specs.Scoped.{ScopedTree, AreDistinct}
 use Rattle.mz_check_meaning.specs.Headings.{Subject, IsTypeOrder}
-use Rattle.mz_check_meaning.specs.Checks.{Sections}
 use Rattle.mz_check_data.specs.WithData.{AreNumbered, checked_with_data, IsRefusedWithData}
 use Rattle.mz_analysis.specs.Known.{IsWithin}
 use Rattle.mz_core.specs.Program.{PlainProgram}
@@ -23,9 +22,17 @@ ScopedOrRefused = (table : List (List ℕ)) (files : List File) (items : List Gi
 abbrev pub TypedOrRefused : Type 0
 TypedOrRefused = (table : List (List ℕ)) (files : List File) (items : List Given) (f : Fault) → HasTypedModel table files items → IsRefused table files items f → ⊥
 
--- A scoped model that is typed in one order of its types is typed in every other, to the same.
+-- A scoped model is typed in every order of its types to the same, or refused with the same fault.
 abbrev pub OrderMakesNoDifference : Type 0
-OrderMakesNoDifference = (table : List (List ℕ)) (s : ScopedTree) (order other : List Subject) (all : Sections) → IsTypeOrder s order → IsTypeOrder s other → checked_with_data table s order ≡ Ok all → checked_with_data table s other ≡ Ok all
+OrderMakesNoDifference = (table : List (List ℕ)) (s : ScopedTree) (order other : List Subject) → IsTypeOrder s order → IsTypeOrder s other → checked_with_data table s order ≡ checked_with_data table s other
+
+-- files and items of data have at most one typed program
+abbrev pub HaveOneTypedProgram : Type 0
+HaveOneTypedProgram = (table : List (List ℕ)) (files : List File) (items : List Given) (p q : PlainProgram) → IsTypedModel table files items p → IsTypedModel table files items q → p ≡ q
+
+-- and at most one fault of names, types and data
+abbrev pub HaveOneFault : Type 0
+HaveOneFault = (table : List (List ℕ)) (files : List File) (items : List Given) (f g : Fault) → IsRefused table files items f → IsRefused table files items g → f ≡ g
 
 -- A model's types, and its data, are refused with a kind of the tests, at a place in one of its files, where all its places are in this many
 -- files.

@@ -1,6 +1,6 @@
 // What holds of every model's names.
 
-ghost use Rattle.mz_analysis.specs.Promise.{HaveOneScopedModel, ScopedOrRefused, TypedOrRefused, TypesAreRefusedInFiles, OrderMakesNoDifference, DeclarationsAreNumbered};
+ghost use Rattle.mz_analysis.specs.Promise.{HaveOneScopedModel, ScopedOrRefused, TypedOrRefused, TypesAreRefusedInFiles, OrderMakesNoDifference, HaveOneTypedProgram, HaveOneFault, DeclarationsAreNumbered};
 
 /// Files have at most one scoped model.
 pub fn one_scoped_model()
@@ -20,6 +20,16 @@ pub fn typed_or_refused()
 /// The types of a model are refused at a place in one of its files.
 pub fn types_refused_in_files()
     ensures { TypesAreRefusedInFiles }
+{}
+
+/// Files have at most one typed program.
+pub fn typed_programs_are_one()
+    ensures { HaveOneTypedProgram }
+{}
+
+/// Files have at most one first fault of names, types and data.
+pub fn faults_are_one()
+    ensures { HaveOneFault }
 {}
 
 /// The order in which the types of a model are typed makes no difference.

@@ -7,8 +7,8 @@ mod scoping;
 mod typing;
 
 pub use law::{
-    any_order_of_types, declarations_are_numbered, one_scoped_model, scoped_or_refused,
-    typed_or_refused, types_refused_in_files,
+    any_order_of_types, declarations_are_numbered, faults_are_one, one_scoped_model,
+    scoped_or_refused, typed_or_refused, typed_programs_are_one, types_refused_in_files,
 };
 pub use owner::file_name;
 pub use scoping::scoped_model;

@@ -1,127 +1,66 @@
 -- Declarations in source order, and their places by slots.
-use Rattle.std.proofs.Common.{◌≡◌, ◌∙◌, ℕ, suc, ◌+◌, ◌<◌, ◌≤◌, ◌⊎◌, inl, inr, ⊎_elim, Bool, true, false, cond, List, [], ◌∷◌, Option, Some, map, length, get_or, set, refl, ap, sym, subst, arith}
+use Rattle.std.proofs.Common.{◌≡◌, ◌∙◌, ℕ, suc, ◌+◌, ◌<◌, Bool, true, false, cond, List, [], ◌∷◌, Option, Some, map, length, get_or, set, refl, ap, sym, subst, arith}
 use Rattle.std.specs.Prelude.{nat_eq, nat_lt, ◌&&◌, ◌||◌, slice_get, IsPermutation}
 use Rattle.std.specs.Ordering.{nat_cmp, ordering_then, is_lt}
 use Rattle.std.specs.List.Sorted.{IsSortedByKey}
 use Rattle.std.specs.declared.cmp.Ordering.TheVariants.{Less, Equal, Greater}
-use Rattle.std.proofs.lemmas.Bool.{ltb-false, le-ltb, eqb-true, eq-eqb, ne_eqb}
+use Rattle.std.proofs.lemmas.Bool.{eqb-true, eq-eqb}
 use Rattle.std.proofs.lemmas.List.{length-map, same_lists, get_or-map, get_or_default, length-set, get_or-set_other}
 use Rattle.std.proofs.lemmas.List.Elements.{Contains-get_or}
 use Rattle.std.proofs.lemmas.Option.{slice_get-get_or}
 use Rattle.std.proofs.lemmas.Grind.{get_or-set_at}
 use Rattle.std.proofs.lemmas.List.Sorted.{IsPermutation-sym, Contains-permutation, length_permutation}
-use Rattle.mz_base.specs.declared.fault.Span.{Span}
 use Rattle.mz_core.specs.Tree.{Decl}
-use Rattle.mz_check_meaning.specs.Checks.{stands_before, decl_in, NoneStandsBefore, StandInSourceOrder}
+use Rattle.mz_check_meaning.specs.Checks.{comes_before, decl_in, NoneComesBefore, StandInSourceOrder}
+use Rattle.mz_check_meaning.proofs.SourceOrder.{IsFirst, is_first, not_before, far_first, itself}
 use Rattle.mz_check.specs.StepsPlacing.{HasSlot, HoldPlaces, ArePlaces}
 use Rattle.mz_check_data.specs.WithData.{AreNumbered}
 
 -- ---- the order of places
 
-by_both : (p q r t : Bool) → is_lt (ordering_then (cond p Less (cond q Equal Greater)) (cond r Less (cond t Equal Greater))) ≡ (p || (q && r))
-by_both true q r t = refl
-by_both false true true t = refl
-by_both false true false true = refl
-by_both false true false false = refl
-by_both false false r t = refl
+by_three : (p q r t u v : Bool)
+    → is_lt (ordering_then (ordering_then (cond p Less (cond q Equal Greater)) (cond r Less (cond t Equal Greater))) (cond u Less (cond v Equal Greater))) ≡ ((p || (q && r)) || ((q && t) && u))
+by_three true q r t u v = refl
+by_three false true true t u v = refl
+by_three false true false true true v = refl
+by_three false true false true false true = refl
+by_three false true false true false false = refl
+by_three false true false false u v = refl
+by_three false false r t u v = refl
 
-pub key_order : (a b : Span) → is_lt (ordering_then (nat_cmp a.file b.file) (nat_cmp a.byte b.byte)) ≡ stands_before a b
-key_order a b = by_both (nat_lt a.file b.file) (nat_eq a.file b.file) (nat_lt a.byte b.byte) (nat_eq a.byte b.byte)
-
--- the first doesn't come after the second
-abbrev IsUpTo : Span → Span → Type 0
-IsUpTo a b = (a.file < b.file) ⊎ ((a.file ≡ b.file) × (a.byte ≤ b.byte))
-
-neither : (a b : Bool) → (a || b) ≡ false → (a ≡ false) × (b ≡ false)
-neither true b e = absurd (cc)
-neither false b e = (refl, e)
-
-second_false : (a b : Bool) → (a && b) ≡ false → a ≡ true → b ≡ false
-second_false true b e h = e
-second_false false b e h = absurd (cc)
-
-both_false : (a b : Bool) → a ≡ false → b ≡ false → (a || b) ≡ false
-both_false true b e h = absurd (cc)
-both_false false b e h = h
-
-and_false : (a b : Bool) → b ≡ false → (a && b) ≡ false
-and_false true b e = e
-and_false false b e = refl
-
-same_case : (a b : ℕ) (t : Bool) → nat_eq a b ≡ t → b ≤ a → ((b ≡ a) × (nat_eq a b ≡ true)) ⊎ ((b < a) × (nat_eq a b ≡ false))
-same_case a b true e h = inl (sym (eqb-true a b e), e)
-same_case a b false e h = inr (less (λ i. let t = eq-eqb a b i in absurd (cc)), e)
-  where
-    less : (a ≡ b → ⊥) → b < a
-    less other = omega (arith, other)
-
-same_or_below : (a b : ℕ) → b ≤ a → ((b ≡ a) × (nat_eq a b ≡ true)) ⊎ ((b < a) × (nat_eq a b ≡ false))
-same_or_below a b h = same_case a b (nat_eq a b) refl h
-
-up_to : (a b : Span) → stands_before b a ≡ false → IsUpTo a b
-up_to a b e =
-    let parts = neither (nat_lt b.file a.file) (nat_eq b.file a.file && nat_lt b.byte a.byte) e in
-    let files : a.file ≤ b.file = ltb-false b.file a.file parts.0 in
-    ⊎_elim
-    (λ same. inr (same.0, ltb-false b.byte a.byte (second_false (nat_eq b.file a.file) (nat_lt b.byte a.byte) parts.1 same.1)))
-    (λ below. inl below.0)
-    (same_or_below b.file a.file files)
-
-false_first : (p q : Bool) → p ≡ false → (p && q) ≡ false
-false_first true q e = absurd (cc)
-false_first false q e = refl
-
-other_file : (a b : Span) → a.file < b.file → (nat_eq b.file a.file && nat_lt b.byte a.byte) ≡ false
-other_file a b below = false_first (nat_eq b.file a.file) (nat_lt b.byte a.byte) (ne_eqb b.file a.file (λ e. absurd (omega (arith, e, below))))
-
-not_before : (a b : Span) → IsUpTo a b → stands_before b a ≡ false
-not_before a b h = ⊎_elim
-    (λ below. both_false (nat_lt b.file a.file) (nat_eq b.file a.file && nat_lt b.byte a.byte)
-    (le-ltb b.file a.file (omega (arith, below)))
-    (other_file a b below))
-    (λ same. both_false (nat_lt b.file a.file) (nat_eq b.file a.file && nat_lt b.byte a.byte)
-    (let s = same.0 in le-ltb b.file a.file (omega (arith, s)))
-    (and_false (nat_eq b.file a.file) (nat_lt b.byte a.byte) (le-ltb b.byte a.byte same.1)))
-    h
-
-onward : (a b c : Span) → IsUpTo a b → IsUpTo b c → IsUpTo a c
-onward a b c h k = ⊎_elim
-    (λ p. ⊎_elim (λ q. inl (omega (arith, p, q))) (λ q. let f = q.0 in inl (omega (arith, p, f))) k)
-    (λ p. ⊎_elim (λ q. let f = p.0 in inl (omega (arith, f, q))) (λ q. let f = p.0 in let g = q.0 in let m = p.1 in let n = q.1 in inr (f ∙ g, omega (arith, m, n))) k)
-    h
+key_order : (d e : Decl) → is_lt (ordering_then (ordering_then (nat_cmp d.span.file e.span.file) (nat_cmp d.span.byte e.span.byte)) (nat_cmp d.slot e.slot)) ≡ comes_before d e
+key_order d e = by_three (nat_lt d.span.file e.span.file) (nat_eq d.span.file e.span.file) (nat_lt d.span.byte e.span.byte) (nat_eq d.span.byte e.span.byte) (nat_lt d.slot e.slot) (nat_eq d.slot e.slot)
 
 -- none comes before the one before it
 abbrev pub Rise : List Decl → Type 0
-Rise ds = (k : ℕ) (d : Decl) → k + 1 < length ds → stands_before (get_or ds (k + 1) d).span (get_or ds k d).span ≡ false
+Rise ds = (k : ℕ) (d : Decl) → k + 1 < length ds → comes_before (get_or ds (k + 1) d) (get_or ds k d) ≡ false
 
 rest_rises : (d : Decl) (ds : List Decl) → Rise (d ∷ ds) → Rise ds
 rest_rises d ds h k e low =
     let later : suc k + 1 ≡ suc (k + 1) = omega arith in
-    subst (λ (n : ℕ). stands_before (get_or (d ∷ ds) n e).span (get_or ds k e).span ≡ false) later (h (suc k) e (omega (arith, low)))
+    subst (λ (n : ℕ). comes_before (get_or (d ∷ ds) n e) (get_or ds k e) ≡ false) later (h (suc k) e (omega (arith, low)))
 
-none_after : (d e : Decl) (ds : List Decl) → IsUpTo d.span e.span → Rise (e ∷ ds) → NoneStandsBefore d ds
+none_after : (d e : Decl) (ds : List Decl) → IsFirst d e → Rise (e ∷ ds) → NoneComesBefore d ds
 none_after d e [] h r = tt
 none_after d e (f ∷ ds) h r =
-    let next = onward d.span e.span f.span h (up_to e.span f.span (r 0 d (omega arith))) in
-    (not_before d.span f.span next, none_after d f ds next (rest_rises e (f ∷ ds) r))
-
-itself : (a : Span) → IsUpTo a a
-itself a = inr (refl, omega arith)
+    let next = far_first d e f h (is_first e f (r 0 d (omega arith))) in
+    (not_before d f next, none_after d f ds next (rest_rises e (f ∷ ds) r))
 
 pub in_order : (ds : List Decl) → Rise ds → StandInSourceOrder ds
 in_order [] r = tt
-in_order (d ∷ ds) r = (none_after d d ds (itself d.span) r, in_order ds (rest_rises d ds r))
+in_order (d ∷ ds) r = (none_after d d ds (itself d) r, in_order ds (rest_rises d ds r))
 
--- what is sorted by file and place rises
-pub rises : {A : Type 0} (see : A → Decl) (xs : List A) → IsSortedByKey {K = ℕ × ℕ} (λ x. ((see x).span.file, (see x).span.byte)) (λ p q. ordering_then (nat_cmp p.0 q.0) (nat_cmp p.1 q.1)) xs → Rise (map see xs)
+-- what is sorted by file, place and slot rises
+pub rises : {A : Type 0} (see : A → Decl) (xs : List A)
+    → IsSortedByKey {K = ℕ × ℕ × ℕ} (λ x. ((see x).span.file, (see x).span.byte, (see x).slot)) (λ p q. ordering_then (ordering_then (nat_cmp p.0 q.0) (nat_cmp p.1 q.1)) (nat_cmp p.2 q.2)) xs → Rise (map see xs)
 rises see [] h k d low = absurd (omega (arith, low))
 rises see (x ∷ xs) h k d low =
     let l = length-map (x ∷ xs) see in
     let next = get_or-map see (x ∷ xs) (k + 1) x d (omega (arith, low, l)) in
     let this = get_or-map see (x ∷ xs) k x d (omega (arith, low, l)) in
-    ap (λ (e : Decl). stands_before e.span (get_or (map see (x ∷ xs)) k d).span) next
-    ∙ ap (λ (e : Decl). stands_before (see (get_or (x ∷ xs) (k + 1) x)).span e.span) this
-    ∙ sym (key_order (see (get_or (x ∷ xs) (k + 1) x)).span (see (get_or (x ∷ xs) k x)).span)
+    ap (λ (e : Decl). comes_before e (get_or (map see (x ∷ xs)) k d)) next
+    ∙ ap (λ (e : Decl). comes_before (see (get_or (x ∷ xs) (k + 1) x)) e) this
+    ∙ sym (key_order (see (get_or (x ∷ xs) (k + 1) x)) (see (get_or (x ∷ xs) k x)))
     ∙ h k x (omega arith) (omega (arith, low, l))
 
 -- ---- places by slots

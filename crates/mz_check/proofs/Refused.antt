@@ -1,32 +1,42 @@
 -- The faults of types that are met first.
-use Rattle.std.proofs.Common.{◌≡◌, ◌∙◌, ℕ, List, [], ◌∷◌, ◌++◌, Option, None, Ok, Err, map, refl, ap, sym}
-use Rattle.std.specs.List.{flat_map}
-use Rattle.mz_base.specs.declared.fault.Fault.{Fault}
-use Rattle.mz_core.specs.Tree.{DeclaredType}
+use Rattle.std.proofs.Common.{◌≡◌, ◌∙◌, ℕ, ◌+◌, ◌<◌, ◌≤◌, List, ◌++◌, Option, None, Result, Ok, Err, map, drop, length, get_or, ap, sym}
+use Rattle.std.specs.List.{flat_map, enumerate_from}
+use Rattle.std.proofs.Math.ListN.{drop_of_length-le}
+use Rattle.mz_base.specs.declared.fault.Span.{Span}
+use Rattle.mz_base.specs.declared.stop.Stop.{Stop}
+use Rattle.mz_base.specs.declared.stop.Stop.TheVariants.{Refused, Memory}
 use Rattle.mz_scope_order.specs.Scoped.{ScopedTree}
 use Rattle.mz_check_meaning.specs.Tests.{Test}
-use Rattle.mz_check_meaning.specs.Models.{Model, Heading}
-use Rattle.mz_check_meaning.specs.Checks.{Met, type_met, heading_met, types_met, none_met}
-use Rattle.mz_check_context.specs.Headings.{refused}
-use Rattle.mz_check.specs.StepsMeeting.{after, test_of}
-use Rattle.mz_check.specs.StepsTesting.{decl_met_at, function_met_at}
+use Rattle.mz_check_meaning.specs.Models.{Model}
+use Rattle.mz_check_meaning.specs.Passes.{Passes}
+use Rattle.mz_check_meaning.specs.Checks.{Met, met, numbered, type_met, heading_met, types_met, none_met}
+use Rattle.mz_check.specs.StepsMeeting.{after, IsTested, test_of}
 use Rattle.mz_check.proofs.Meeting.{after_both, none_met_is}
+use Rattle.mz_check.proofs.Keeping.{split}
 
-types_refused : (s : ScopedTree) (ts : List (ℕ × Test DeclaredType)) → map (decl_met_at s) (flat_map refused ts) ≡ flat_map (type_met s) ts
-types_refused s [] = refl
-types_refused s ((n, Ok t) ∷ ts) = types_refused s ts
-types_refused s ((n, Err f) ∷ ts) = ap (λ (ms : List Met). decl_met_at s (n, f) ∷ ms) (types_refused s ts)
+-- one test more
+pub one_met : {A B : Type 0} (see : A → B) (r : Result A Stop) (t : Test B) (at : Span) (first next : Option Met) → Passes see r t → IsTested r at first next → next ≡ after first (met at t)
+unfolding after
+one_met see (Ok x) t at first next p n = n ∙ ap (λ (o : Test _). after first (met at o)) (sym p)
+one_met see (Err (Refused f)) t at first next p n = n ∙ ap (λ (o : Test _). after first (met at o)) (sym p)
+one_met see (Err Memory) t at first next p n = absurd n
 
-headings_refused : (s : ScopedTree) (hs : List (ℕ × Test Heading)) → map (function_met_at s) (flat_map refused hs) ≡ flat_map (heading_met s) hs
-headings_refused s [] = refl
-headings_refused s ((n, Ok h) ∷ hs) = headings_refused s hs
-headings_refused s ((n, Err f) ∷ hs) = ap (λ (ms : List Met). function_met_at s (n, f) ∷ ms) (headings_refused s hs)
+-- one more of a numbered list is tested
+pub next_met : {S X : Type 0} (go : ℕ × X → List Met) (view : S → X) (xs : List S) (i : ℕ) (x : S) (whole first next : Option Met)
+    → whole ≡ after first (flat_map go (enumerate_from i (map view (drop i xs)))) → i < length xs → x ≡ get_or xs i x → next ≡ after first (go (i, view x)) → whole ≡ after next (flat_map go (enumerate_from (i + 1) (map view (drop (i + 1) xs))))
+next_met go view xs i x whole first next h low is e =
+    h ∙ ap (λ ys. after first (flat_map go (enumerate_from i (map view ys)))) (split xs i x low is)
+    ∙ after_both first (go (i, view x)) (flat_map go (enumerate_from (i + 1) (map view (drop (i + 1) xs))))
+    ∙ ap (λ (o : Option Met). after o (flat_map go (enumerate_from (i + 1) (map view (drop (i + 1) xs))))) (sym e)
 
--- the test of what is met first among the types that are refused
-pub types_tested : (s : ScopedTree) (m : Model) (ts hs : List (ℕ × Fault)) (first last : Option Met) → ts ≡ flat_map refused m.types → hs ≡ flat_map refused m.headings → first ≡ after None (map (decl_met_at s) ts) → last ≡ after first (map (function_met_at s) hs) → test_of last ≡ none_met (types_met s m)
+pub all_met : {S X : Type 0} (go : ℕ × X → List Met) (view : S → X) (xs : List S) (i : ℕ) (whole first : Option Met) → whole ≡ after first (flat_map go (enumerate_from i (map view (drop i xs)))) → length xs ≤ i → first ≡ whole
+unfolding after
+all_met go view xs i whole first h past = sym (h ∙ ap (λ ys. after first (flat_map go (enumerate_from i (map view ys)))) (drop_of_length-le xs past))
+
+-- the test of what is met first among the types
+pub types_tested : (s : ScopedTree) (m : Model) (first last : Option Met) → first ≡ after None (flat_map (type_met m) (numbered s.decls)) → last ≡ after first (flat_map (heading_met m) (numbered s.functions)) → test_of last ≡ none_met (types_met s m)
 unfolding types_met
-types_tested s m ts hs first last t h f l =
-    let as_types = ap (map (decl_met_at s)) t ∙ types_refused s m.types in
-    let as_headings = ap (map (function_met_at s)) h ∙ headings_refused s m.headings in
-    ap test_of (l ∙ ap (λ o. after o (map (function_met_at s) hs)) (f ∙ ap (after None) as_types) ∙ ap (after (after None (flat_map (type_met s) m.types))) as_headings ∙ sym (after_both None (flat_map (type_met s) m.types) (flat_map (heading_met s) m.headings)))
-    ∙ sym (none_met_is (flat_map (type_met s) m.types ++ flat_map (heading_met s) m.headings))
+types_tested s m first last f l =
+    let types = flat_map (type_met m) (numbered s.decls) in
+    let headings = flat_map (heading_met m) (numbered s.functions) in
+    ap test_of (l ∙ ap (λ (o : Option Met). after o headings) f ∙ sym (after_both None types headings)) ∙ sym (none_met_is (types ++ headings))

@@ -1,4 +1,4 @@
--- Faults as they are met, the first of which counts. Mirror of src/faults.rt and src/kept.rt; private clauses only.
+-- Faults as they are met, the first of which counts. Mirror of src/faults.rt, src/testing.rt and src/kept.rt; private clauses only.
 use Rattle.std.specs.Prelude.{◌≡◌, List, [], ◌∷◌, ◌++◌, Option, Some, None, Result, Ok, Err, if◌then◌else◌}
 use Rattle.std.specs.List.{flat_map}
 use Rattle.mz_base.specs.declared.fault.Span.{Span}
@@ -28,6 +28,11 @@ after first (y ∷ ys) = after (Some (sooner first y)) ys
 abbrev pub IsNoted : Span → Stop → Option Met → Option Met → Type 0
 IsNoted at (Refused f) old new = new ≡ Some (sooner old (at, f))
 IsNoted at Memory old new = ⊥
+
+-- a refusal is noted, and what is typed changes nothing
+abbrev pub IsTested : {A : Type 0} → Result A Stop → Span → Option Met → Option Met → Type 0
+IsTested (Ok x) at first next = next ≡ first
+IsTested (Err s) at first next = IsNoted at s first next
 
 abbrev pub test_of : Option Met → Test (Unit {0})
 test_of None = Ok tt

@@ -10,11 +10,11 @@ use mz_base::Memory;
 use mz_core::CoreDecl;
 use std::alloc::Global;
 
-/// Where a declaration stands in the source: its file, and its place in the file.
-fn source_place(d: &CoreDecl) -> (u64, u64)
-    ensures { result ≡ ((decl d.now).span.file, (decl d.now).span.byte) }
+/// Where a declaration stands in the source: its file, and its place in the file; at one place by its slot.
+fn source_place(d: &CoreDecl) -> (u64, u64, u64)
+    ensures { result ≡ ((decl d.now).span.file, (decl d.now).span.byte, (decl d.now).slot) }
 {
-    (d.span.file, d.span.byte)
+    (d.span.file, d.span.byte, d.slot)
 }
 
 /// Declarations in source order.
@@ -22,7 +22,7 @@ pub(crate) fn in_source_order(mut decls: Vec<CoreDecl>) -> Vec<CoreDecl>
     ensures sorted { StandInSourceOrder (map decl result.items) }
     ensures same { IsPermutation decls.items result.items }
 {
-    decls.sort_unstable_by_key(|d: &CoreDecl| -> (u64, u64) { source_place(d) });
+    decls.sort_unstable_by_key(|d: &CoreDecl| -> (u64, u64, u64) { source_place(d) });
     decls
 }
 

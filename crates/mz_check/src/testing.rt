@@ -1,74 +1,91 @@
 // The tests of types, before values, bodies and items are typed.
 
-ghost use Rattle.std.specs.Prelude.{◌≡◌, [], length, map};
+ghost use Rattle.std.specs.Prelude.{◌≡◌, [], length, map, OnOk};
 ghost use Rattle.std.specs.List.{flat_map};
 ghost use Rattle.std.specs.Option.{option_map};
-ghost use Rattle.mz_scope_order.specs.Parts.{place_of, decl_at};
-ghost use Rattle.mz_scope_order.specs.Scoped.{scoped_tree};
-ghost use Rattle.mz_check_meaning.specs.Checks.{numbered, with_parameters, none_met, types_met, no_fault, signed};
+ghost use Rattle.mz_scope_order.specs.Scoped.{scoped_decl, lent_function, scoped_tree};
+ghost use Rattle.mz_check_meaning.specs.Checks.{numbered, with_parameters, none_met, type_met, heading_met, types_met, no_fault, signed};
 ghost use Rattle.mz_check_meaning.specs.Duplicates.{duplicate_after};
 ghost use Rattle.mz_check_meaning.specs.Passes.{Passes};
 ghost use Rattle.mz_check_context.specs.Known.{known};
 ghost use Rattle.mz_check_exprs.specs.NamedModels.{AreNamed};
-ghost use Rattle.mz_check.specs.StepsMeeting.{met_of, after};
-ghost use Rattle.mz_check.specs.StepsTesting.{decl_met_at, function_met_at};
+ghost use Rattle.mz_check.specs.StepsMeeting.{met_of, after, IsTested};
 
-use crate::faults::{Met, passed, sooner};
-use mz_base::{Fault, Span, Stop};
-use mz_check_context::Context;
-use mz_check_exprs::{duplicate, function_place};
-use mz_scope_order::Scoped;
+use crate::faults::{Met, note, passed};
+use mz_base::{Memory, Span, Stop};
+use mz_check_context::{Context, Heading};
+use mz_check_exprs::duplicate;
+use mz_core::CoreType;
+use mz_scope_order::{Scoped, ScopedDecl};
+use mz_tree::Function;
 use std::alloc::Global;
 
-/// The place of a declaration.
-fn decl_place(scoped: &Scoped<'_>, d: u64) -> Span
-    ensures { result ≡ place_of (decl_at (scoped_tree scoped.now).decls d) }
+/// Notes why the type of a declaration is refused, at its place.
+fn note_type(
+    first: &mut Option<Met>,
+    at: Span,
+    typed: Result<&CoreType, Stop>,
+) -> Result<(), Memory>
+    ensures { OnOk result (IsTested typed.entry at (option_map met_of first.old) (option_map met_of first.new)) }
 {
-    match scoped.decls.get(d as usize) {
-        Some(d) => d.decl.span,
-        None => Span::start(0),
+    match typed {
+        Ok(_) => Ok(()),
+        Err(stop) => note(first, at, stop),
     }
 }
 
-/// The fault that is met first, among these of the types of declarations too.
-#[tactic(auto, unfolding(crate::specs::StepsMeeting::after))]
-fn of_decls(scoped: &Scoped<'_>, refused: &[(u64, Fault)], first: Option<Met>) -> Option<Met>
-    ensures { option_map met_of result ≡ after (option_map met_of first) (map (decl_met_at (scoped_tree scoped.now)) refused.now) }
+/// Notes why the types of a function are refused, at its place.
+fn note_heading(
+    first: &mut Option<Met>,
+    at: Span,
+    typed: Result<&Heading, Stop>,
+) -> Result<(), Memory>
+    ensures { OnOk result (IsTested typed.entry at (option_map met_of first.old) (option_map met_of first.new)) }
 {
-    let mut found = first;
-    for r in refused {
-        let at = decl_place(scoped, r.0);
-        found = Some(sooner(found, Met { at, fault: r.1 }));
+    match typed {
+        Ok(_) => Ok(()),
+        Err(stop) => note(first, at, stop),
     }
-    found
 }
 
-/// The fault that is met first, among these of the types of functions too.
-#[tactic(auto, unfolding(crate::specs::StepsMeeting::after))]
-fn of_functions(scoped: &Scoped<'_>, refused: &[(u64, Fault)], first: Option<Met>) -> Option<Met>
-    ensures { option_map met_of result ≡ after (option_map met_of first) (map (function_met_at (scoped_tree scoped.now)) refused.now) }
+/// The fault that is met first, among those of the types of declarations too.
+fn test_decls(
+    context: &Context<'_>,
+    decls: &[ScopedDecl<'_>],
+    first: &mut Option<Met>,
+) -> Result<(), Memory>
+    ensures { OnOk result (option_map met_of first.new ≡ after (option_map met_of first.old) (flat_map (type_met (known context.now)) (numbered (map scoped_decl decls.now)))) }
 {
-    let mut found = first;
-    for r in refused {
-        let at = function_place(scoped, r.0);
-        found = Some(sooner(found, Met { at, fault: r.1 }));
+    for (k, d) in decls.iter().enumerate() {
+        let t = context.type_of_decl(d.decl.span, k as u64);
+        note_type(first, d.decl.span, t)?;
     }
-    found
+    Ok(())
+}
+
+/// The fault that is met first, among those of the types of functions too.
+fn test_functions(
+    context: &Context<'_>,
+    functions: &[&Function],
+    first: &mut Option<Met>,
+) -> Result<(), Memory>
+    ensures { OnOk result (option_map met_of first.new ≡ after (option_map met_of first.old) (flat_map (heading_met (known context.now)) (numbered (map lent_function functions.now)))) }
+{
+    for (k, f) in functions.iter().enumerate() {
+        let h = context.heading_of(f.span, k as u64);
+        note_heading(first, f.span, h)?;
+    }
+    Ok(())
 }
 
 /// The fault of a type that is met first, if there is one.
-pub(crate) fn test_types(
-    alloc: Global,
-    scoped: &Scoped<'_>,
-    context: &Context<'_>,
-) -> Result<(), Stop>
+pub(crate) fn test_types(scoped: &Scoped<'_>, context: &Context<'_>) -> Result<(), Stop>
     ensures { Passes (λ _. tt) result (none_met (types_met (scoped_tree scoped.now) (known context.now))) }
 {
-    let types = context.refused_types(alloc)?;
-    let headings = context.refused_headings(alloc)?;
-    let first = of_decls(scoped, types.as_slice(), None);
-    let all = of_functions(scoped, headings.as_slice(), first);
-    passed(all)
+    let mut first = None;
+    test_decls(context, scoped.decls.as_slice(), &mut first)?;
+    test_functions(context, scoped.functions.as_slice(), &mut first)?;
+    passed(first)
 }
 
 /// The fault of the first function that is declared twice, if there is one.

@@ -61,7 +61,7 @@ fn checked_sections(
     requires functions { (known context).functions ≡ flat_map with_parameters (numbered (scoped_tree scoped.now).functions) }
     ensures { Passes sections_of result (checked_given (scoped_tree scoped.now) (known context.entry)) }
 {
-    test_types(alloc, scoped, &context)?;
+    test_types(scoped, &context)?;
     test_duplicates(alloc, scoped, &context)?;
     let values = given_values(alloc, &context, scoped.given.as_slice())?;
     let items = typed_items(alloc, scoped, &context)?;

@@ -1,5 +1,5 @@
 -- The types of functions, and what a table of types holds, without where they lie in memory.
-use Rattle.std.specs.Prelude.{ℕ, List, [], ◌∷◌, map, Result, Ok, Err}
+use Rattle.std.specs.Prelude.{map, Result, Ok, Err}
 use Rattle.mz_base.specs.declared.fault.Fault.{Fault}
 use Rattle.mz_core.specs.TreeViews.{decl, declared_type}
 use Rattle.mz_check_meaning.specs.Tests.{Test}
@@ -12,8 +12,3 @@ heading h = record { params = map decl h.params.items; result = declared_type h.
 abbrev pub tested : {A B : Type 0} → (A → B) → Result A Fault → Test B
 tested see (Ok x) = Ok (see x)
 tested see (Err f) = Err f
-
--- the number and the fault of what is refused
-abbrev pub refused : {A : Type 0} → ℕ × Test A → List (ℕ × Fault)
-refused (n, Ok x) = []
-refused (n, Err f) = (n, f) ∷ []

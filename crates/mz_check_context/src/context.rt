@@ -1,13 +1,12 @@
 // What is known of the model.
 
-ghost use Rattle.std.specs.Prelude.{◌≡◌, ◌∷◌, [], ◌++◌, ◌<◌, ◌^◌, None, length, IfOk, OnOk};
-ghost use Rattle.std.specs.List.{flat_map};
+ghost use Rattle.std.specs.Prelude.{◌≡◌, ◌∷◌, [], ◌++◌, ◌<◌, ◌^◌, None, length, OnOk};
 ghost use Rattle.mz_base.specs.Names.{text_of};
 ghost use Rattle.mz_core.specs.TreeViews.{declared_type};
 ghost use Rattle.mz_scope_names.specs.Sets.{holds};
 ghost use Rattle.mz_check_meaning.specs.Models.{entry_of, entries_of, type_of_decl, heading_of, outermost, in_output};
 ghost use Rattle.mz_check_meaning.specs.Passes.{Passes};
-ghost use Rattle.mz_check_context.specs.Headings.{heading, tested, refused};
+ghost use Rattle.mz_check_context.specs.Headings.{heading, tested};
 
 use crate::functions::{FunctionNames, Overloads};
 use crate::heading::{Heading, declared_or_fault, heading_or_fault};
@@ -139,32 +138,6 @@ impl<'a> Context<'a> {
     {
         self.headings.insert(function, h)?;
         Ok(())
-    }
-
-    /// The declarations whose types are refused, with their faults, in the order in which they were typed.
-    pub fn refused_types(&self, alloc: Global) -> Result<Vec<(u64, Fault)>, Memory>
-        ensures { IfOk result (λ v. v.items ≡ flat_map refused (known self.now).types) }
-    {
-        let mut all = Vec::new(alloc);
-        for (decl, t) in self.types.iter() {
-            if let Err(f) = t {
-                all.push((*decl, *f))?;
-            }
-        }
-        Ok(all)
-    }
-
-    /// The functions whose types are refused, with their faults, in the order in which they were typed.
-    pub fn refused_headings(&self, alloc: Global) -> Result<Vec<(u64, Fault)>, Memory>
-        ensures { IfOk result (λ v. v.items ≡ flat_map refused (known self.now).headings) }
-    {
-        let mut all = Vec::new(alloc);
-        for (function, h) in self.headings.iter() {
-            if let Err(f) = h {
-                all.push((*function, *f))?;
-            }
-        }
-        Ok(all)
     }
 
     /// The types alone, when nothing more is typed.

@@ -21,7 +21,6 @@ pub use cycle::check;
 pub use duplicates::duplicate;
 pub use model_names::untyped;
 pub use order::type_order;
-pub use places::function_place;
 pub use subject::Subject;
 pub use types::with_types;
 pub use written::check_written;

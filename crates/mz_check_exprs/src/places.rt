@@ -8,7 +8,7 @@ use mz_base::Span;
 use mz_scope_order::Scoped;
 
 /// The place of a function.
-pub fn function_place(scoped: &Scoped<'_>, f: u64) -> Span
+pub(crate) fn function_place(scoped: &Scoped<'_>, f: u64) -> Span
     ensures { result ≡ (function_at (scoped_tree scoped.now).functions f).span }
 {
     match scoped.functions.get(f as usize) {

@@ -4,3 +4,4 @@ pub mod Programs
 pub mod Laws
 pub mod Examples
 pub mod Levels
+pub mod OneProgram

@@ -42,7 +42,11 @@ module _ (m : Model) where
   pub decls_numbered : (ds : List Declaration) → Gives (each (λ d. decl m d.0 d.1) (enumerate_from 0 ds)) (AreNumbered 0)
   decls_numbered ds = gives_more (Adds [] 0) (AreNumbered 0) (each (λ d. decl m d.0 d.1) (enumerate_from 0 ds)) (λ out a. subst (AreNumbered 0) (sym a.1) a.2) (all_add [] 0 ds)
 
-slot_at : (k : ℕ) (ds : List Decl) (i : ℕ) (d : Decl) → AreNumbered k ds → i < length ds → (get_or ds i d).slot ≡ k + i
+pub numbered_from : (k : ℕ) (ds : List Decl) → ((i : ℕ) (d : Decl) → i < length ds → (get_or ds i d).slot ≡ k + i) → AreNumbered k ds
+numbered_from k [] h = tt
+numbered_from k (d ∷ ds) h = (h 0 d (omega arith) ∙ (let z : k + 0 ≡ k = omega arith in z), numbered_from (k + 1) ds (λ i e low. h (suc i) e (omega (arith, low)) ∙ (let z : k + suc i ≡ k + 1 + i = omega arith in z)))
+
+pub slot_at : (k : ℕ) (ds : List Decl) (i : ℕ) (d : Decl) → AreNumbered k ds → i < length ds → (get_or ds i d).slot ≡ k + i
 slot_at k [] i d h low = absurd (omega (arith, low))
 slot_at k (x ∷ xs) zero d h low = h.0 ∙ omega arith
 slot_at k (x ∷ xs) (suc i) d h low = slot_at (k + 1) xs i d h.1 (omega (arith, low)) ∙ omega arith
@@ -148,10 +152,10 @@ at_place Q (x ∷ xs) zero d h low = h.0
 at_place Q (x ∷ xs) (suc k) d h low = at_place Q xs k d h.1 (omega (arith, low))
 
 module _ (es ds : List Decl) (order : List ℕ) (found : map (slice_get es) order ≡ map Some ds) (as_many : length es ≡ length ds) (numbered : AreNumbered 0 ds) where
-  abbrev place : ℕ → ℕ
+  abbrev pub place : ℕ → ℕ
   place i = get_or order i 0
 
-  placed : (i : ℕ) (d : Decl) → i < length ds → (place i < length es) × (get_or es (place i) d ≡ get_or ds i d)
+  pub placed : (i : ℕ) (d : Decl) → i < length ds → (place i < length es) × (get_or es (place i) d ≡ get_or ds i d)
   placed i d low = at_some es (get_or order i 0) (get_or ds i d) d (there es order ds i d found low)
 
   apart : (d : Decl) (i j : ℕ) → i < length ds → j < length ds → place i ≡ place j → i ≡ j
@@ -161,6 +165,15 @@ module _ (es ds : List Decl) (order : List ℕ) (found : map (slice_get es) orde
       let b = slot_at 0 ds j d numbered q in
       let c : (get_or ds i d).slot ≡ (get_or ds j d).slot = ap (λ (x : Decl). x.slot) same_decl in
       omega (arith, a, b, c)
+
+  -- the slot of a declaration tells its place
+  pub by_slot : (k : ℕ) (d : Decl) → k < length es → ((get_or es k d).slot < length ds) × (get_or es k d ≡ get_or ds (get_or es k d).slot d) × (place (get_or es k d).slot ≡ k)
+  by_slot k d low =
+      let r = hit place (length ds) k (λ j p. omega (arith, (placed j d p).0, as_many)) (apart d) (omega (arith, low, as_many)) in
+      let is : get_or es k d ≡ get_or ds r.0 d = ap (λ i. get_or es i d) (sym r.2) ∙ (placed r.0 d r.1).1 in
+      let numbers : (get_or ds r.0 d).slot ≡ r.0 = slot_at 0 ds r.0 d numbered r.1 ∙ omega arith in
+      let slot : (get_or es k d).slot ≡ r.0 = ap (λ (x : Decl). x.slot) is ∙ numbers in
+      (subst (λ i. i < length ds) (sym slot) r.1, is ∙ ap (λ i. get_or ds i d) (sym slot), ap place slot ∙ r.2)
 
   one_holds : (Q : Decl → Type 0) → AllBy Q ds → (k : ℕ) (d : Decl) → k < length es → Q (get_or es k d)
   one_holds Q h k d low =

@@ -2,3 +2,4 @@ pub mod Giving
 pub mod Rules
 pub mod Leaves
 pub mod Typed
+pub mod SourceOrder

@@ -5,19 +5,19 @@ use Rattle.std.specs.List.{flat_map, enumerate_from}
 use Rattle.mz_base.specs.declared.fault.Span.{Span}
 use Rattle.mz_base.specs.declared.fault.Fault.{Fault}
 use Rattle.mz_base.specs.Names.{text_of}
-use Rattle.mz_core.specs.Tree.{Tree, Decl, DeclaredType}
+use Rattle.mz_core.specs.Tree.{Tree, Decl}
 use Rattle.mz_core.specs.Program.{Function, Goal, PlainProgram}
 use Rattle.mz_tree.specs.Tree as source
 use Rattle.mz_tree.specs.Tree.{Name, Declaration}
 use Rattle.mz_tree.specs.Items as item
 use Rattle.mz_tree.specs.Items.{FunctionTree, GoalTree}
 use Rattle.mz_scope_uses.specs.Sketches.{has_parameters}
-use Rattle.mz_scope_order.specs.Parts.{EnumTree, name_of, place_of, decl_at, function_at}
+use Rattle.mz_scope_order.specs.Parts.{EnumTree, name_of, place_of, function_at}
 use Rattle.mz_scope_order.specs.Scoped.{ScopedTree}
 use Rattle.mz_check_meaning.specs.declared.meaning.Meaning.{Meaning}
 use Rattle.mz_check_meaning.specs.declared.meaning.Meaning.TheVariants as meaning
 use Rattle.mz_check_meaning.specs.Tests.{Test, ◌>>=◌, ◌>>◌, each}
-use Rattle.mz_check_meaning.specs.Models.{Model, Heading, signature_of, entry_of}
+use Rattle.mz_check_meaning.specs.Models.{Model, Heading, signature_of, entry_of, type_of_decl, heading_of}
 use Rattle.mz_check_meaning.specs.Headings.{Subject, with_types}
 use Rattle.mz_check_meaning.specs.Duplicates.{Signed, duplicate_after}
 use Rattle.mz_check_meaning.specs.Texts.{text_names}
@@ -63,7 +63,8 @@ untyped texts s = record {
   headings = [];
 }
 
--- SOURCE ORDER: the files in their order, then the place in the file
+-- SOURCE ORDER: the files in their order, then the place in the file. What stands at one place goes by numbers: declarations first, each
+-- kind by its own, which for a declaration is its slot.
 
 abbrev pub stands_before : Span → Span → Bool
 stands_before a b = nat_lt a.file b.file || (nat_eq a.file b.file && nat_lt a.byte b.byte)
@@ -87,14 +88,14 @@ none_met (x ∷ xs) = Err (first_from x xs).1
 
 -- TYPES
 
-abbrev pub type_met : ScopedTree → ℕ × Test DeclaredType → List Met
-type_met s t = met (place_of (decl_at s.decls t.0)) t.1
+abbrev pub type_met : Model → ℕ × Declaration → List Met
+type_met m d = met (place_of d.1) (type_of_decl m (place_of d.1) d.0)
 
-abbrev pub heading_met : ScopedTree → ℕ × Test Heading → List Met
-heading_met s h = met (function_at s.functions h.0).span h.1
+abbrev pub heading_met : Model → ℕ × FunctionTree → List Met
+heading_met m f = met f.1.span (heading_of m f.1.span f.0)
 
 unfoldable pub types_met : ScopedTree → Model → List Met
-types_met s m = flat_map (type_met s) m.types ++ flat_map (heading_met s) m.headings
+types_met s m = flat_map (type_met m) (numbered s.decls) ++ flat_map (heading_met m) (numbered s.functions)
 
 -- FUNCTIONS DECLARED TWICE
 
@@ -175,14 +176,20 @@ checked texts s order = checked_with s (with_types s (untyped texts s) order)
 abbrev pub decl_in : List Decl → List ℕ → List (Option Decl)
 decl_in ds ks = map (slice_get ds) ks
 
--- none of these stands before the declaration
-abbrev pub NoneStandsBefore : Decl → List Decl → Type 0
-NoneStandsBefore d [] = Unit {0}
-NoneStandsBefore d (e ∷ es) = (stands_before e.span d.span ≡ false) × NoneStandsBefore d es
+abbrev pub same_place : Span → Span → Bool
+same_place a b = nat_eq a.file b.file && nat_eq a.byte b.byte
+
+abbrev pub comes_before : Decl → Decl → Bool
+comes_before d e = stands_before d.span e.span || (same_place d.span e.span && nat_lt d.slot e.slot)
+
+-- none of these comes before the declaration
+abbrev pub NoneComesBefore : Decl → List Decl → Type 0
+NoneComesBefore d [] = Unit {0}
+NoneComesBefore d (e ∷ es) = (comes_before e d ≡ false) × NoneComesBefore d es
 
 abbrev pub StandInSourceOrder : List Decl → Type 0
 StandInSourceOrder [] = Unit {0}
-StandInSourceOrder (d ∷ ds) = NoneStandsBefore d ds × StandInSourceOrder ds
+StandInSourceOrder (d ∷ ds) = NoneComesBefore d ds × StandInSourceOrder ds
 
 abbrev pub text_entry : List (List ℕ) → ℕ → ℕ × List ℕ
 text_entry table n = (n, text_of table n)

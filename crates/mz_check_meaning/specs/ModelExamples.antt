@@ -93,6 +93,8 @@ orders =
     ∷ refused (modelled [] (fun 5 15 (written 10 false source.base_int) (param (written 17 false (source.base_of (bin 17 (num 17) o.Range (call 6 20 ((num 22) ∷ []))))) 0 26 ∷ param (written 29 false (source.base_of (bin 29 (num 29) o.Range (bad 32)))) 1 43 ∷ []) (num 48) ∷ fun 6 73 (written 60 false (source.base_of (bin 60 (num 60) o.Range (bad 65)))) (param (written 75 false source.base_int) 3 80 ∷ []) (name 3 85) ∷ []) [] satisfy [] (of_function 1 ∷ of_function 0 ∷ [])) NoOverload 65
     ∷ refused (modelled [] (fun 6 24 (written 10 false (source.base_of (bin 10 (num 10) o.Range (bad 14)))) (param (written 26 false (source.base_of (bin 26 (num 26) o.Range (bad 30)))) 3 40 ∷ []) (name 3 45) ∷ []) [] satisfy [] (of_function 0 ∷ [])) NoOverload 30
     ∷ passes (modelled (declaration (written 1 false source.base_int) 0 6 (Some (num 10)) ∷ declaration (written 20 true (source.base_of (bin 24 (num 24) o.Range (name 0 27)))) 3 30 None ∷ []) [] [] satisfy [] (of_decl 0 ∷ of_decl 1 ∷ [])) (n ∷ va n ∷ [])
+    ∷ refused (modelled (declaration (written 1 false (source.base_of (bin 1 (num 1) o.Range (bad 4)))) 0 6 None ∷ declaration (written 20 false (source.base_of (bin 20 (num 20) o.Range (bad 24)))) 1 6 None ∷ []) [] [] satisfy [] (of_decl 0 ∷ of_decl 1 ∷ [])) NoOverload 4
+    ∷ refused (modelled (declaration (written 1 false (source.base_of (bin 1 (num 1) o.Range (bad 4)))) 0 6 None ∷ declaration (written 20 false (source.base_of (bin 20 (num 20) o.Range (bad 24)))) 1 6 None ∷ []) [] [] satisfy [] (of_decl 1 ∷ of_decl 0 ∷ [])) NoOverload 4
     ∷ []
 
 pub orders_are_typed : map ending orders ≡ map wanted orders

@@ -46,14 +46,14 @@ use Rattle.mz_first_rows.specs.Headline.{AreNumberedAndNamed, IsEmitted}
 use Rattle.mz_first_rows.proofs.Laws.{headline, ends, kinds}
 use Rattle.mz_first_post.specs.Names.{no_values}
 use Rattle.mz_analysis.specs.Analysis.{FailsTest, IsOfTests, IsRefused, IsTypedModel, IsRead, evaluated, file_name, files_read, items_read}
-use Rattle.mz_analysis.proofs.Single.{not_refused}
+use Rattle.mz_analysis.proofs.Single.{not_refused, one_typed}
 use Rattle.mz_tool.specs.declared.compile.End.{End}
 use Rattle.mz_tool.specs.declared.compile.End.TheVariants as end
 use Rattle.mz_tool.specs.declared.status.Status.{Status}
 use Rattle.mz_tool.specs.declared.status.Status.TheVariants as status
 use Rattle.mz_tool.specs.Words.{settings_in, IsUsage}
 use Rattle.mz_tool.specs.Headline.{limits_of, Compiled, Compiles, Writes, WritesPrefix}
-use Rattle.mz_tool.specs.Status.{not_built_at, GoesThrough, IsStopped, not_built, by_evaluation, IsRefusal, a_file_fails, a_test_fails, not_compiled, ByDistinctNames, IsOwner, OnDone, OnWriteFault, IfRefused, CountsFiles, CountsOut, IsToldModel, AreToldFiles, Completes, IsDoneOrMemory}
+use Rattle.mz_tool.specs.Status.{not_built_at, GoesThrough, IsStopped, not_built, by_evaluation, AreAskedFiles, owner_of, IsRefusal, a_file_fails, a_test_fails, not_compiled, ByDistinctNames, IsOwner, OnDone, OnWriteFault, IfRefused, CountsFiles, CountsOut, IsToldModel, AreToldFiles, Completes, IsDoneOrMemory}
 use Rattle.mz_tool.specs.StepsCompiling.{status_of, file_of, IsWritten, IsFinished, Stops, IsRefusedAs, by_a_test, as_stopped, IsLeft, unread, Ends, IsNamedEnd}
 
 -- what is left of a program that is written, or that could be
@@ -212,15 +212,15 @@ all_read table texts name data_files read sources known = record {
 module _ (table : List Name) (texts : Texts) (a : Asked) where
   -- how it ends where a file fails
   pub unread_ends : (s : Settings) (h : Held) (e : GatherEnd) → s ≡ settings_in a → gather_end.IfRefused {X = SourcesWithData} (Err e) (λ f n. FailsWithData table texts s.model s.data_files f (text_of table n)) → Ends table texts a h h (unread e)
-  unread_ends s h (gathered.Refused f n) same fails = (refl, subst (λ t. IsRefusal table texts t f (text_of table n)) same (a_file_fails fails))
+  unread_ends s h (gathered.Refused f n) same fails = (refl, a_file_fails (subst (λ t. FailsWithData table texts t.model t.data_files f (text_of table n)) same fails))
   unread_ends s h gathered.ReadFault same fails = refl
   unread_ends s h gathered.Memory same fails = refl
 
-  module _ (s : Settings) (files : List File) (items : List Given) (sources : IsSourcesWithData table texts s.model s.data_files files items) where
-    refusal : (f : Fault) → IsRefusedAs (limits_of s) table files s.data_files items f → IsRefusal table texts s f (file_name files s.data_files f.span.file)
-    refusal f (by_a_test refused) = a_test_fails files items sources refused
-    refusal f (as_stopped p typed is) = not_compiled files items p sources typed is
+  refusal : (files : List File) (items : List Given) (f : Fault) → AreAskedFiles table texts a files items → IsRefusedAs (limits_of (settings_in a)) table files (settings_in a).data_files items f → IsRefusal table texts a f (owner_of a files f.span.file)
+  refusal files items f sources (by_a_test refused) = a_test_fails files items sources refused
+  refusal files items f sources (as_stopped p typed is) = not_compiled files items p sources typed is
 
+  module _ (s : Settings) (files : List File) (items : List Given) (sources : IsSourcesWithData table texts s.model s.data_files files items) where
     compiles : (written : List ℕ) → Compiled (limits_of s) table files items written → Compiles table texts s written
     compiles written is = record { files = files; items = items; sources = sources; compiled = is }
 
@@ -228,13 +228,15 @@ module _ (table : List Name) (texts : Texts) (a : Asked) where
     its_settings : (written : List ℕ) → s ≡ settings_in a → Compiled (limits_of (settings_in a)) table files items written → Compiles table texts (settings_in a) written
     its_settings written same is = subst (λ t. Compiles table texts t written) same (compiles written (subst (λ t. Compiled (limits_of t) table files items written) (sym same) is))
 
-    its_refusal : (f : Fault) → s ≡ settings_in a → IsRefusedAs (limits_of (settings_in a)) table files s.data_files items f → IsRefusal table texts (settings_in a) f (file_name files s.data_files f.span.file)
-    its_refusal f same is = subst (λ t. IsRefusal table texts t f (file_name files s.data_files f.span.file)) same (refusal f (subst (λ t. IsRefusedAs (limits_of t) table files s.data_files items f) (sym same) is))
+    its_refusal : (f : Fault) → s ≡ settings_in a → IsRefusedAs (limits_of (settings_in a)) table files s.data_files items f → IsRefusal table texts a f (file_name files s.data_files f.span.file)
+    its_refusal f same is =
+        subst (λ t. IsRefusal table texts a f (file_name files t.data_files f.span.file)) (sym same)
+        (refusal files items f (subst (λ t. IsSourcesWithData table texts t.model t.data_files files items) same sources) (subst (λ t. IsRefusedAs (limits_of (settings_in a)) table files t.data_files items f) same is))
 
     -- how it ends where all files were read
     pub read_ends : (old new : Held) (e : End) → s ≡ settings_in a → IsLeft a table files s.data_files items old new e → Ends table texts a old new e
     read_ends old new end.Done same left = record { written = left.0; compiles = its_settings left.0 same left.1; leaves = left.2 }
-    read_ends old new (end.Refused f n) same left = (left.0, subst (IsRefusal table texts (settings_in a) f) (sym left.2) (its_refusal f same left.1))
+    read_ends old new (end.Refused f n) same left = (left.0, subst (IsRefusal table texts a f) (sym left.2) (its_refusal f same left.1))
     read_ends old new end.ReadFault same left = absurd left
     read_ends old new end.WriteFault same left = record { written = left.0; compiles = its_settings left.0 same left.1; leaves = left.2 }
     read_ends old new end.Memory same left = left
@@ -259,7 +261,7 @@ module _ (table : List Name) (distinct : AreDistinct table) (texts : Texts) (a :
   cut_short end.WriteFault ended = record { table = table; distinct = distinct; holds = ended }
   cut_short end.Memory ended = tt
 
-  pub refused : (e : End) → Ends table texts a old new e → IfRefused (status_of e) (λ f. ByDistinctNames (λ t. (owner : Name) × IsRefusal t texts (settings_in a) f owner))
+  pub refused : (e : End) → Ends table texts a old new e → IfRefused (status_of e) (λ f. ByDistinctNames (λ t. (owner : Name) × IsRefusal t texts a f owner))
   refused end.Done ended = tt
   refused (end.Refused f n) ended = record { table = table; distinct = distinct; holds = (text_of table n, ended.1) }
   refused end.ReadFault ended = tt
@@ -299,66 +301,67 @@ failed_put old new status.Usage counted rose = absurd (not_risen old.faults new.
 failed_put old new status.ReadFault counted rose = absurd (not_risen old.faults new.faults (ap (λ (c : SinkCounts). c.faults) counted) rose)
 
 -- files that are read by a later table are read by this one, unless a file fails
-module _ (known table : List Name) (texts : Texts) (s : Settings) (files : List File) (items : List Given) (grows : Grows known table) (are : AreToldFiles table texts s files items) where
+module _ (known table : List Name) (texts : Texts) (a : Asked) (files : List File) (items : List Given) (grows : Grows known table) (are : AreToldFiles table texts a files items) where
   abbrev Told : Texts
   Told = Some are.told
 
   abbrev AreSources : List Name → Texts → List File → List Given → Type 0
-  AreSources names ts fs gs = IsSourcesWithData names ts s.model s.data_files fs gs
+  AreSources names ts fs gs = IsSourcesWithData names ts (settings_in a).model (settings_in a).data_files fs gs
 
   its_sources : AreSources table Told files items
   its_sources = subst (λ t. AreSources table t files items) are.is_told are.sources
 
   same_files : (others : List File) (more : List Given) → AreSources known texts others more → AreSources known texts files items
   same_files others more sources =
-      let later : AreSources table Told others more = subst (λ t. AreSources table t others more) are.is_told (sources_later known table grows texts s.model s.data_files others more sources) in
-      let same : (others ≡ files) × (more ≡ items) = one_sources table are.distinct are.told s.model s.data_files others files more items later its_sources in
+      let later : AreSources table Told others more = subst (λ t. AreSources table t others more) are.is_told (sources_later known table grows texts (settings_in a).model (settings_in a).data_files others more sources) in
+      let same : (others ≡ files) × (more ≡ items) = one_sources table are.distinct are.told (settings_in a).model (settings_in a).data_files others files more items later its_sources in
       subst (λ gs. AreSources known texts files gs) same.1 (subst (λ fs. AreSources known texts fs more) same.0 sources)
 
-  its_files : (f : Fault) (owner : Name) → IsRefusal known texts s f owner → AreSources known texts files items
+  its_files : (f : Fault) (owner : Name) → IsRefusal known texts a f owner → AreSources known texts files items
   its_files f owner (a_file_fails h) =
-      absurd (sources_or_failure table are.distinct are.told s.model s.data_files files items f owner its_sources (subst (λ t. FailsWithData table t s.model s.data_files f owner) are.is_told (failure_later known table grows texts s.model s.data_files f owner h)))
+      absurd (sources_or_failure table are.distinct are.told (settings_in a).model (settings_in a).data_files files items f owner its_sources (subst (λ t. FailsWithData table t (settings_in a).model (settings_in a).data_files f owner) are.is_told (failure_later known table grows texts (settings_in a).model (settings_in a).data_files f owner h)))
   its_files f _ (a_test_fails others more sources refused) = same_files others more sources
   its_files f _ (not_compiled others more p sources typed is) = same_files others more sources
 
 -- a told model isn't refused
-module _ (known : List Name) (distinct : AreDistinct known) (texts : Texts) (s : Settings) (told : IsToldModel known texts s) where
+module _ (known : List Name) (distinct : AreDistinct known) (texts : Texts) (a : Asked) (told : IsToldModel known texts a) where
   abbrev AreFiles : List File → List Given → Type 0
-  AreFiles files items = IsSourcesWithData known texts s.model s.data_files files items
+  AreFiles files items = AreAskedFiles known texts a files items
 
-  of_told : (files : List File) (items : List Given) → AreFiles files items → IsSourcesWithData known (Some told.told) s.model s.data_files files items
-  of_told files items sources = subst (λ t. IsSourcesWithData known t s.model s.data_files files items) told.is_told sources
+  of_told : (files : List File) (items : List Given) → AreFiles files items → IsSourcesWithData known (Some told.told) (settings_in a).model (settings_in a).data_files files items
+  of_told files items sources = subst (λ t. IsSourcesWithData known t (settings_in a).model (settings_in a).data_files files items) told.is_told sources
 
-  its_own : (files : List File) (items : List Given) → AreFiles files items → (files ≡ told.files) × (items ≡ told.values)
-  its_own files items sources = one_sources known distinct told.told s.model s.data_files files told.files items told.values (of_told files items sources) (of_told told.files told.values told.sources)
+  its_own : (files : List File) (items : List Given) → AreFiles files items → (files ≡ told.files) × (items ≡ told.items)
+  its_own files items sources = one_sources known distinct told.told (settings_in a).model (settings_in a).data_files files told.files items told.items (of_told files items sources) (of_told told.files told.items told.sources)
 
-  its_program : (files : List File) (items : List Given) (p : PlainProgram) → (files ≡ told.files) × (items ≡ told.values) → IsTypedModel known files items p → IsTypedModel known told.files told.values p
+  its_program : (files : List File) (items : List Given) (p : PlainProgram) → (files ≡ told.files) × (items ≡ told.items) → IsTypedModel known files items p → IsTypedModel known told.files told.items p
   its_program files items p same typed = subst (λ gs. IsTypedModel known told.files gs p) same.1 (subst (λ fs. IsTypedModel known fs items p) same.0 typed)
 
   not_through : {A : Type 0} (x : Answer A) (f : Fault) → GoesThrough x → x ≡ Stopped f → ⊥
   not_through (Out v t) f through stops = cc
   not_through (Stopped g) f through stops = through
 
-  -- all of it is built, and it goes through
-  not_stopped : (p : PlainProgram) (f : Fault) → IsTypedModel known told.files told.values p → IsStopped (limits_of s) known p f → ⊥
-  not_stopped p _ typed (not_built first) = let none = told.built p typed in cc
-  not_stopped p f typed (by_evaluation none is) =
-      not_through (walk Positive (limits_of s) (cells.Given (λ k. absent)) no_values p start) f (told.evaluates p typed no_values (λ k. absent)) (is.stops no_values (λ k. absent))
+  -- all of its program is built, and it goes through
+  not_stopped : (f : Fault) → IsStopped (limits_of (settings_in a)) known told.program f → ⊥
+  not_stopped _ (not_built first) = let none = told.built in cc
+  not_stopped f (by_evaluation none is) =
+      not_through (walk Positive (limits_of (settings_in a)) (cells.Given (λ k. absent)) no_values told.program start) f (told.evaluates no_values (λ k. absent)) (is.stops no_values (λ k. absent))
 
-  not_refused_here : (files : List File) (items : List Given) (f : Fault) → (files ≡ told.files) × (items ≡ told.values) → IsRefused known files items f → ⊥
+  not_refused_here : (files : List File) (items : List Given) (f : Fault) → (files ≡ told.files) × (items ≡ told.items) → IsRefused known files items f → ⊥
   not_refused_here files items f same refused =
-      not_refused known told.files told.values f told.typed (subst (λ gs. IsRefused known told.files gs f) same.1 (subst (λ fs. IsRefused known fs items f) same.0 refused))
+      not_refused known told.files told.items f (told.program, told.typed) (subst (λ gs. IsRefused known told.files gs f) same.1 (subst (λ fs. IsRefused known fs items f) same.0 refused))
 
-  model_is_not_refused : (f : Fault) (owner : Name) → IsRefusal known texts s f owner → ⊥
+  model_is_not_refused : (f : Fault) (owner : Name) → IsRefusal known texts a f owner → ⊥
   model_is_not_refused f owner (a_file_fails h) =
-      sources_or_failure known distinct told.told s.model s.data_files told.files told.values f owner (of_told told.files told.values told.sources) (subst (λ t. FailsWithData known t s.model s.data_files f owner) told.is_told h)
+      sources_or_failure known distinct told.told (settings_in a).model (settings_in a).data_files told.files told.items f owner (of_told told.files told.items told.sources) (subst (λ t. FailsWithData known t (settings_in a).model (settings_in a).data_files f owner) told.is_told h)
   model_is_not_refused f _ (a_test_fails files items sources refused) = not_refused_here files items f (its_own files items sources) refused.refused
-  model_is_not_refused f _ (not_compiled files items p sources typed is) = not_stopped p f (its_program files items p (its_own files items sources) typed) is
+  model_is_not_refused f _ (not_compiled files items p sources typed is) =
+      not_stopped f (subst (λ q. IsStopped (limits_of (settings_in a)) known q f) (one_typed known told.files told.items p told.program (its_program files items p (its_own files items sources) typed) told.typed) is)
 
 -- where no count of faults rose, a run ends with Done, with Memory or refused
 module _ (known : List Name) (texts : Texts) (a : Asked) (P : Type 0) where
   unless_refused : (held left : Held) (old new : FileCounts) (before after : SinkCounts) (e : End) → (Rose old.faults new.faults → ⊥) → (Rose before.faults after.faults → ⊥)
-      → Ends known texts a held left e → CountsFiles old new (status_of e) → CountsOut before after (status_of e) → ((f : Fault) (owner : Name) → IsRefusal known texts (settings_in a) f owner → P) → P ⊎ IsDoneOrMemory (status_of e)
+      → Ends known texts a held left e → CountsFiles old new (status_of e) → CountsOut before after (status_of e) → ((f : Fault) (owner : Name) → IsRefusal known texts a f owner → P) → P ⊎ IsDoneOrMemory (status_of e)
   unless_refused held left old new before after end.Done read write ended files out then = inr tt
   unless_refused held left old new before after (end.Refused f n) read write ended files out then = inl (then f (text_of known n) ended.1)
   unless_refused held left old new before after end.ReadFault read write ended files out then = absurd (read files.0)
@@ -370,12 +373,12 @@ not_left (inl no_way) = absurd no_way
 not_left (inr p) = p
 
 pub completes : (known : List Name) (texts : Texts) (a : Asked) (held left : Held) (old new : FileCounts) (before after : SinkCounts) (e : End) → AreDistinct known → (Rose old.faults new.faults → ⊥) → (Rose before.faults after.faults → ⊥)
-    → Ends known texts a held left e → CountsFiles old new (status_of e) → CountsOut before after (status_of e) → Completes known texts (settings_in a) (status_of e)
+    → Ends known texts a held left e → CountsFiles old new (status_of e) → CountsOut before after (status_of e) → Completes known texts a (status_of e)
 completes known texts a held left old new before after e distinct read write ended counted counted_out = record {
   distinct = distinct;
   whole = λ table files items grows are.
-      unless_refused known texts a (IsSourcesWithData known texts (settings_in a).model (settings_in a).data_files files items) held left old new before after e read write ended counted counted_out (its_files known table texts (settings_in a) files items grows are);
-  compiled = λ told. not_left (unless_refused known texts a ⊥ held left old new before after e read write ended counted counted_out (model_is_not_refused known distinct texts (settings_in a) told));
+      unless_refused known texts a (AreAskedFiles known texts a files items) held left old new before after e read write ended counted counted_out (its_files known table texts a files items grows are);
+  compiled = λ told. not_left (unless_refused known texts a ⊥ held left old new before after e read write ended counted counted_out (model_is_not_refused known distinct texts a told));
 }
 
 some_or_none : (x : Asked) → Some x ≡ None → ⊥

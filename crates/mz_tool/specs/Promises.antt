@@ -6,7 +6,7 @@ use Rattle.mz_io.specs.Sink.{Held, SinkCounts}
 use Rattle.mz_words.specs.Requests.{Asked}
 use Rattle.mz_tool.specs.Words.{IsUsage}
 use Rattle.mz_tool.specs.Headline.{Writes, WritesPrefix}
-use Rattle.mz_tool.specs.Status.{OnDone, IfRefused, OnReadFault, OnWriteFault, OnNothingWritten, IsRefusalOf, ByDistinctNames, CountsFiles, CountsOut, IsComplete, IsNoted}
+use Rattle.mz_tool.specs.Status.{OnDone, IfRefused, OnReadFault, OnWriteFault, OnNothingWritten, IsRefusal, ByDistinctNames, CountsFiles, CountsOut, IsComplete, IsNoted}
 use Rattle.mz_tool.specs.declared.status.Status.{Status}
 use Rattle.mz_tool.specs.declared.status.Status.TheVariants.{ReadFault, WriteFault}
 
@@ -22,7 +22,7 @@ pub record Promises (texts : Texts) (asked : Option Asked) (old new : Outside) (
   pub headline : OnDone answer (IsSomeAnd asked (λ a. ByDistinctNames (λ table. Writes table texts a old.out new.out)))
   -- each other answer has its cause
   pub usage : IsUsage asked answer
-  pub refused : IfRefused answer (λ fault. IsSomeAnd asked (λ a. ByDistinctNames (λ table. (file : List ℕ) × IsRefusalOf table texts a fault file)))
+  pub refused : IfRefused answer (λ fault. IsSomeAnd asked (λ a. ByDistinctNames (λ table. (file : List ℕ) × IsRefusal table texts a fault file)))
   pub read_fault : OnReadFault answer (Rose old.files.faults new.files.faults)
   pub write_fault : OnWriteFault answer (Rose old.out_counts.faults new.out_counts.faults)
   -- and each failure its answer

@@ -15,7 +15,7 @@ use Rattle.mz_io.specs.Sink.{Held, SinkCounts, Adds}
 use Rattle.mz_tree.specs.Data as datum
 use Rattle.mz_include.specs.Naming.{File}
 use Rattle.mz_data.specs.WithData.{IsSourcesWithData, FailsWithData}
-use Rattle.mz_words.specs.Requests.{Settings, Asked}
+use Rattle.mz_words.specs.Requests.{Asked}
 use Rattle.mz_include.specs.Ends.{CountsRefusal}
 use Rattle.fz_program.specs.Names.{Name}
 use Rattle.mz_value.specs.Contents.{Content}
@@ -26,7 +26,7 @@ use Rattle.mz_meaning.specs.Contexts.{Positive}
 use Rattle.mz_meaning.specs.Walk.{Limits, Assignment, walk}
 use Rattle.mz_first_unbuilt.specs.Unbuilt.{first_unbuilt}
 use Rattle.mz_first_meaning.specs.Ends.{is_walk_kind}
-use Rattle.mz_analysis.specs.Analysis.{FailsTest, IsTypedModel, HasTypedModel, file_name}
+use Rattle.mz_analysis.specs.Analysis.{FailsTest, IsTypedModel, file_name}
 use Rattle.mz_tool.specs.Words.{settings_in}
 use Rattle.mz_tool.specs.Headline.{limits_of}
 use Rattle.mz_tool.specs.declared.status.Status.{Status}
@@ -78,16 +78,20 @@ pub data IsStopped (l : Limits) (table : List Name) (p : PlainProgram) : Fault �
   not_built : {place : Span} → first_unbuilt table p ≡ Some place → IsStopped l table p (not_built_at place)
   by_evaluation : {f : Fault} → first_unbuilt table p ≡ None → EvaluationStops l p f → IsStopped l table p f
 
--- Why the model of these settings is refused, and the name of the file of the fault's place: a file of the model or of its data fails;
--- or a test of names, of types or of data fails; or the model is typed, and isn't compiled.
-pub data IsRefusal (table : List Name) (texts : Texts) (s : Settings) : Fault → Name → Type 0 where
-  a_file_fails : {f : Fault} {file : Name} → FailsWithData table texts s.model s.data_files f file → IsRefusal table texts s f file
-  a_test_fails : {f : Fault} (files : List File) (items : List datum.Given) → IsSourcesWithData table texts s.model s.data_files files items → FailsTest table files (length s.data_files) items f → IsRefusal table texts s f (file_name files s.data_files f.span.file)
-  not_compiled : {f : Fault} (files : List File) (items : List datum.Given) (p : PlainProgram) → IsSourcesWithData table texts s.model s.data_files files items → IsTypedModel table files items p → IsStopped (limits_of s) table p f → IsRefusal table texts s f (file_name files s.data_files f.span.file)
+-- the told texts are these files of the model that is asked for, and these items of its data
+abbrev pub AreAskedFiles : List Name → Texts → Asked → List File → List datum.Given → Type 0
+AreAskedFiles table texts a files items = IsSourcesWithData table texts (settings_in a).model (settings_in a).data_files files items
 
--- Why what is asked for is refused. Today both commands are refused alike.
-abbrev pub IsRefusalOf : List Name → Texts → Asked → Fault → Name → Type 0
-IsRefusalOf table texts a f file = IsRefusal table texts (settings_in a) f file
+-- the name of the file of this number, among these files and the data files that are asked for
+abbrev pub owner_of : Asked → List File → ℕ → Name
+owner_of a files k = file_name files (settings_in a).data_files k
+
+-- Why what is asked for is refused, and the name of the file of the fault's place: a file of the model or of its data fails; or a test
+-- of names, of types or of data fails; or the model is typed, and isn't compiled.
+pub data IsRefusal (table : List Name) (texts : Texts) (a : Asked) : Fault → Name → Type 0 where
+  a_file_fails : {f : Fault} {file : Name} → FailsWithData table texts (settings_in a).model (settings_in a).data_files f file → IsRefusal table texts a f file
+  a_test_fails : {f : Fault} (files : List File) (items : List datum.Given) → AreAskedFiles table texts a files items → FailsTest table files (length (settings_in a).data_files) items f → IsRefusal table texts a f (owner_of a files f.span.file)
+  not_compiled : {f : Fault} (files : List File) (items : List datum.Given) (p : PlainProgram) → AreAskedFiles table texts a files items → IsTypedModel table files items p → IsStopped (limits_of (settings_in a)) table p f → IsRefusal table texts a f (owner_of a files f.span.file)
 
 -- by some table of names, whose texts are distinct, this holds
 pub record ByDistinctNames (P : List Name → Type 0) : Type 0 where
@@ -98,7 +102,7 @@ pub record ByDistinctNames (P : List Name → Type 0) : Type 0 where
 -- the file that the line of a refusal names
 abbrev pub IsOwnerOf : Texts → Option Asked → Fault → Name → Type 0
 IsOwnerOf texts None f file = ⊥
-IsOwnerOf texts (Some a) f file = ByDistinctNames (λ table. IsRefusalOf table texts a f file)
+IsOwnerOf texts (Some a) f file = ByDistinctNames (λ table. IsRefusal table texts a f file)
 
 -- the file that an answer's line names
 abbrev pub IsOwner : Texts → Option Asked → Status → Name → Type 0
@@ -156,40 +160,37 @@ abbrev pub GoesThrough : {A : Type 0} → Answer A → Type 0
 GoesThrough (Out x t) = Unit {0}
 GoesThrough (Stopped f) = ⊥
 
--- The told texts are a model with its data that has a typed program, by this table; and all is built of what it is typed to, and
--- evaluating it goes through.
-pub record IsToldModel (table : List Name) (texts : Texts) (s : Settings) : Type 0 where
+-- The told texts are a model with its data that is typed to a program, by this table; and all of the program is built, and evaluating it
+-- goes through. Files with their data have at most one typed program.
+pub record IsToldModel (table : List Name) (texts : Texts) (a : Asked) : Type 0 where
   pub told : List ℕ → Option (List ℕ)
   pub is_told : texts ≡ Some told
   pub files : List File
-  pub values : List datum.Given
-  pub sources : IsSourcesWithData table texts s.model s.data_files files values
-  pub typed : HasTypedModel table files values
-  pub built : (p : PlainProgram) → IsTypedModel table files values p → first_unbuilt table p ≡ None
-  pub evaluates : (p : PlainProgram) → IsTypedModel table files values p → (a : Assignment) (choices : ℕ → Content) → GoesThrough (walk Positive (limits_of s) (Given choices) a p start)
+  pub items : List datum.Given
+  pub sources : AreAskedFiles table texts a files items
+  pub program : PlainProgram
+  pub typed : IsTypedModel table files items program
+  pub built : first_unbuilt table program ≡ None
+  pub evaluates : (values : Assignment) (choices : ℕ → Content) → GoesThrough (walk Positive (limits_of (settings_in a)) (Given choices) values program start)
 
 -- the told texts are files of a model and items of its data, by this table
-pub record AreToldFiles (table : List Name) (texts : Texts) (s : Settings) (files : List File) (values : List datum.Given) : Type 0 where
+pub record AreToldFiles (table : List Name) (texts : Texts) (a : Asked) (files : List File) (items : List datum.Given) : Type 0 where
   pub told : List ℕ → Option (List ℕ)
   pub is_told : texts ≡ Some told
   pub distinct : AreDistinct table
-  pub sources : IsSourcesWithData table texts s.model s.data_files files values
+  pub sources : AreAskedFiles table texts a files items
 
 -- What a run makes of a told model, by its own table of names: it is compiled. Which name has which number is nothing to the model:
 -- the files that are read by some table that goes on from this one are read by this one too.
-pub record Completes (known : List Name) (texts : Texts) (s : Settings) (status : Status) : Type 0 where
+pub record Completes (known : List Name) (texts : Texts) (a : Asked) (status : Status) : Type 0 where
   pub distinct : AreDistinct known
-  pub whole : (table : List Name) (files : List File) (values : List datum.Given) → Grows known table → AreToldFiles table texts s files values → IsSourcesWithData known texts s.model s.data_files files values ⊎ IsDoneOrMemory status
-  pub compiled : IsToldModel known texts s → IsDoneOrMemory status
-
--- of what is asked for
-abbrev pub CompletesAsked : List Name → Texts → Asked → Status → Type 0
-CompletesAsked known texts a status = Completes known texts (settings_in a) status
+  pub whole : (table : List Name) (files : List File) (items : List datum.Given) → Grows known table → AreToldFiles table texts a files items → AreAskedFiles known texts a files items ⊎ IsDoneOrMemory status
+  pub compiled : IsToldModel known texts a → IsDoneOrMemory status
 
 -- A told model is compiled, unless a count of faults rose or memory ran out.
 abbrev pub IsComplete : Texts → Option Asked → FileCounts → FileCounts → SinkCounts → SinkCounts → Status → Type 0
 IsComplete texts asked old new before after status =
-    (a : Asked) → asked ≡ Some a → (Rose old.faults new.faults → ⊥) → (Rose before.faults after.faults → ⊥) → (known : List Name) × CompletesAsked known texts a status
+    (a : Asked) → asked ≡ Some a → (Rose old.faults new.faults → ⊥) → (Rose before.faults after.faults → ⊥) → (known : List Name) × Completes known texts a status
 
 -- what a reference to bytes points to
 abbrev pub now : Bor (List ℕ) → List ℕ

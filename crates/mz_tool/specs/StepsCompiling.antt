@@ -83,7 +83,7 @@ unread gathered.Memory = end.Memory
 -- what is left of what is asked for
 abbrev pub Ends : List Name → Texts → Asked → Held → Held → End → Type 0
 Ends table texts a old new end.Done = Writes table texts a old new
-Ends table texts a old new (end.Refused f n) = (new ≡ old) × IsRefusal table texts (settings_in a) f (text_of table n)
+Ends table texts a old new (end.Refused f n) = (new ≡ old) × IsRefusal table texts a f (text_of table n)
 Ends table texts a old new end.ReadFault = new ≡ old
 Ends table texts a old new end.WriteFault = WritesPrefix table texts a old new
 Ends table texts a old new end.Memory = new ≡ old

@@ -7,7 +7,7 @@ ghost use Rattle.mz_words.specs.Requests.{AskedWithinLimits, asked, request_of};
 ghost use Rattle.mz_tool.specs.Words.{IsUsage, OnCheck};
 ghost use Rattle.mz_tool.specs.Headline.{Writes, WritesPrefix};
 ghost use Rattle.mz_tool.specs.StepsCompiling.{file_of, IsNamedEnd};
-ghost use Rattle.mz_tool.specs.Status.{OnDone, IfRefused, OnReadFault, OnWriteFault, OnNothingWritten, IsRefusalOf, ByDistinctNames, CountsFiles, CountsOut, IsComplete, IsNoted};
+ghost use Rattle.mz_tool.specs.Status.{OnDone, IfRefused, OnReadFault, OnWriteFault, OnNothingWritten, IsRefusal, ByDistinctNames, CountsFiles, CountsOut, IsComplete, IsNoted};
 
 use crate::compile::{End, compile};
 use crate::note::note;
@@ -41,7 +41,7 @@ fn answer<F: Files, S: Sink, E: Sink>(
         Writes table (F.texts files.old) (request_of request.now) (S.held out.old) (S.held out.new))) }
     ensures usage { IsUsage (Some (request_of request.now)) result }
     ensures refused { IfRefused result (λ fault. ByDistinctNames (λ table.
-        (file : List ℕ) × IsRefusalOf table (F.texts files.old) (request_of request.now) fault file)) }
+        (file : List ℕ) × IsRefusal table (F.texts files.old) (request_of request.now) fault file)) }
     ensures counted { CountsFiles (F.counts files.old) (F.counts files.new) result }
     ensures counted_out { CountsOut (S.counts out.old) (S.counts out.new) result }
     ensures complete { IsComplete (F.texts files.old) (Some (request_of request.now))
@@ -99,7 +99,7 @@ pub fn run<F: Files, I: Source, S: Sink, E: Sink>(
     // Each other answer has its cause; out of memory alone is free.
     ensures usage { IsUsage (asked (text_of words.now.items)) result }
     ensures refused { IfRefused result (λ fault. IsSomeAnd (asked (text_of words.now.items)) (λ a. ByDistinctNames (λ table.
-        (file : List ℕ) × IsRefusalOf table (F.texts files.old) a fault file))) }
+        (file : List ℕ) × IsRefusal table (F.texts files.old) a fault file))) }
     ensures read_fault { OnReadFault result (Rose (F.counts files.old).faults (F.counts files.new).faults) }
     ensures write_fault { OnWriteFault result (Rose (S.counts out.old).faults (S.counts out.new).faults) }
 

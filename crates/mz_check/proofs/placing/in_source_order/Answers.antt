@@ -7,5 +7,5 @@ use Rattle.mz_check.proofs.placing.in_source_order.Goals as goal
 
 pub returns-clause-sorted : goal.returns-clause-sorted
 returns-clause-sorted c =
-    let key : CoreDecl → ℕ × ℕ = λ d. ((decl d).span.file, (decl d).span.byte) in
+    let key : CoreDecl → ℕ × ℕ × ℕ = λ d. ((decl d).span.file, (decl d).span.byte, (decl d).slot) in
     in_order _ (rises decl _ (c.sort_unstable_by_key.ensures.sorted key (answers_always _ _ _ (λ f a r g h. search rules))))

@@ -1,7 +1,6 @@
 use Rattle.std.proofs.Common.{◌≡◌, subst, refl, Some}
 use Rattle.mz_base.specs.Names.{AreDistinct}
 use Rattle.mz_words.specs.Requests.{request_of}
-use Rattle.mz_tool.specs.Words.{settings_in}
 use Rattle.mz_tool.specs.Status.{Completes}
 use Rattle.mz_tool.proofs.Endings.{done_writes, cut_short, refused, owner, completes, is_usage, same_asked}
 use Rattle.mz_tool.proofs.top_call.answer.Goals as goal
@@ -30,7 +29,7 @@ returns-clause-complete g c = λ a is read write.
     let known = c.compile-end.new.names in
     let same : request_of c.args.request.now ≡ a = same_asked (request_of c.args.request.now) a is in (
       known,
-      subst (λ b. Completes known texts (settings_in b) c.status-status.result) same
+      subst (λ b. Completes known texts b c.status-status.result) same
           (rw c.status-status.ensures
           (completes known texts (request_of c.args.request.now) _ _ _ _ _ _ c.compile-end.result (subst AreDistinct c.names.view_is c.names.invariant) read write c.compile-end.ensures.ended c.compile-end.ensures.files c.compile-end.ensures.output)),
     )
