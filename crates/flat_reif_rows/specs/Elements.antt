@@ -1,5 +1,5 @@
 -- Accesses to lists: the arguments of a list's elements, and a variable that stands for an access.
-use Rattle.std.specs.Prelude.{◌≡◌, ◌≤ℤ◌, ◌≤◌, ℕ, pos, List, [], ◌∷◌, length, true, Option, Some, None, Bool, false}
+use Rattle.std.specs.Prelude.{ℤ, ◌≡◌, ◌≤ℤ◌, ◌≤◌, ℕ, pos, List, [], ◌∷◌, length, true, Option, Some, None, Bool, false}
 use Rattle.mz_value.specs.Ranges.{Range}
 use Rattle.mz_interval.specs.Ends.{Ends}
 use Rattle.mz_arena.specs.declared.node.NodeKind.TheVariants as kinds
@@ -76,6 +76,10 @@ pub record Reaches (e : Ends) (n : ℕ) : Type 0 where
   pub from : e.0 ≤ℤ pos n
   pub to : pos 1 ≤ℤ e.1
   pub some : 1 ≤ n
+
+-- no index between these ends is a place
+pub record ReachesNone (e : Ends) (n : ℕ) : Type 0 where
+  pub none : (i : ℤ) → e.0 ≤ℤ i → i ≤ℤ e.1 → pos 1 ≤ℤ i → i ≤ℤ pos n → ⊥
 
 -- an index and elements of this row, which lie within the bounds of an index and a list
 pub record AreAccessed (vs : List Variable) (name : RowName) (i : Plain) (ps : List Plain) : Type 0 where

@@ -17,6 +17,7 @@ mod extreme;
 mod law;
 mod making;
 mod posting;
+mod range;
 mod table;
 
 pub use access::made_of_access;
@@ -25,4 +26,5 @@ pub use extreme::made_of_extreme;
 pub use law::nodes_are_told_by_kind;
 pub use making::{defined, made_of_multiple, made_of_one, made_of_sum, made_of_two};
 pub use posting::{post_false, post_test, post_true};
+pub use range::{may_divide, may_reach};
 pub use table::{row_of_one, row_of_two, test_of};
