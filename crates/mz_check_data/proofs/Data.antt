@@ -15,7 +15,7 @@ use Rattle.mz_check_meaning.specs.Models.{Model, entry_of, type_of_decl}
 use Rattle.mz_check_meaning.specs.Coerced.{fitted, list_of}
 use Rattle.mz_check_meaning.specs.Arrays.{listed, tabled, set_literal}
 use Rattle.mz_check_meaning.specs.Calls.{par, row_node}
-use Rattle.mz_check_data.specs.Datum.{Meanings, list_in, lines_in, name_tree, one_tree, range_tree, set_tree, plain_tree, list_tree, are_level, rows_tree, index_set_type, index_set_tree, array_call, shaped_tree, shaped_type, value_tree, wanted, as_data_form, typed_value}
+use Rattle.mz_check_data.specs.Datum.{Meanings, list_in, lines_in, name_tree, one_tree, range_tree, set_tree, plain_tree, list_tree, are_level, rows_tree, index_set_type, index_set_tree, array_call, shaped_tree, value_tree, wanted, as_data_form, typed_value}
 use Rattle.mz_check_data.specs.WithData.{declared_as, given_value, given_values, or_given, with_value}
 use Rattle.mz_check_meaning.proofs.Giving.{AllBy, all_both, all_mapped, Gives, gives_then, gives_after, each_gives}
 use Rattle.mz_core.specs.Nodes.{nodes_in}
@@ -128,7 +128,7 @@ module _ (rules : Rules) where
     value_kept u (pure.set vs) = plain_kept (pure.set vs)
     value_kept u (pure.array vs) = list_kept vs
     value_kept u (pure.rows ls) = rows_kept ls
-    value_kept u (pure.array_nd ss vs) = shaped_kept (shaped_type u ss) ss vs
+    value_kept u (pure.array_nd ss vs) = shaped_kept u ss vs
 
   as_data_kept : (at : Span) (t : Test Tree) → Gives t (IsKept rules) → Gives (as_data_form at t) (IsKept rules)
   as_data_kept at (Ok e) h = h

@@ -1,7 +1,7 @@
 -- WHAT A VALUE OF A DATA FILE IS TYPED TO, against a declared type. It is typed as the expression that it reads as, all of whose nodes
 -- have the value's place, and it fits where its type is below the declared one; but a list fits arrays of every shape, rows fit arrays
--- of two dimensions, and each index set of an array fits its index; an empty range alone fits every index. What doesn't fit is DataForm at the value.
-use Rattle.std.specs.Prelude.{ℕ, ℤ, int_lt, Bool, true, false, ◌&&◌, List, [], ◌∷◌, ◌++◌, length, Option, Some, nat_eq, codes, if◌then◌else◌, Ok, Err}
+-- of two dimensions, and each index set of an array fits its index. What doesn't fit is DataForm at the value.
+use Rattle.std.specs.Prelude.{ℕ, Bool, true, List, [], ◌∷◌, ◌++◌, length, Option, Some, nat_eq, codes, if◌then◌else◌, Ok, Err}
 use Rattle.std.specs.List.{list_all, zip}
 use Rattle.mz_base.specs.declared.fault.Span.{Span}
 use Rattle.mz_base.specs.declared.kind.Kind.TheVariants as kind
@@ -116,41 +116,19 @@ shaped_tree ms at u ss vs = do
   fit ← fitted elements (list_of (par u))
   row_node at (array_call (length u.dims)) (sets ++ fit ∷ [])
 
--- A range of integers without a member. Where it is the one index set, the array takes no index type, as a list takes none: so it fits with any index
-abbrev pub ends_before : ℤ → Value → Bool
-ends_before m (pure.int n) = int_lt n m
-ends_before m v = false
-
-abbrev pub descends : Value → Value → Bool
-descends (pure.int m) w = ends_before m w
-descends v w = false
-
-abbrev pub is_empty_range : Value → Bool
-is_empty_range (pure.range v w) = descends v w
-is_empty_range v = false
-
-abbrev pub takes_any_index : Values → Bool
-takes_any_index (pure.a_value v pure.no_values) = is_empty_range v
-takes_any_index vs = false
-
--- the type for an array with these index sets
-abbrev pub shaped_type : PlainType → Values → PlainType
-shaped_type u ss = if takes_any_index ss && nat_eq (length u.dims) 1 then list_of u else u
-
 -- ---- all values
 
 -- a value for a declaration of this type, before it is coerced
 unfoldable pub value_tree : Meanings → Span → PlainType → Value → Test Tree
 value_tree ms at u (pure.array vs) = list_tree ms at vs
 value_tree ms at u (pure.rows ls) = rows_tree ms at ls
-value_tree ms at u (pure.array_nd ss vs) = shaped_tree ms at (shaped_type u ss) ss vs
+value_tree ms at u (pure.array_nd ss vs) = shaped_tree ms at u ss vs
 value_tree ms at u v = plain_tree ms at v
 
 -- what its type is to be below: a list and rows take no index types here, since an array takes its declared index sets in evaluation
 unfoldable pub wanted : PlainType → Value → PlainType
 wanted u (pure.array vs) = if is_scalar u then u else list_of u
 wanted u (pure.rows ls) = if nat_eq (length u.dims) 2 then table_of u else u
-wanted u (pure.array_nd ss vs) = shaped_type u ss
 wanted u v = u
 
 -- whatever stops it

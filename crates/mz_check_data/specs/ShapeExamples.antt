@@ -90,8 +90,6 @@ shaped_by_cases =
     ∷ fit (ar (by_e ∷ []) n) (shaped (set (name A ∷ name B ∷ []) ∷ []) (num 1 ∷ num 2 ∷ []))
     ∷ fit (ar (by_e ∷ []) n) (shaped (range (name A) (name B) ∷ []) (num 1 ∷ num 2 ∷ []))
     ∷ fit (ar (by_e ∷ []) n) (shaped (set [] ∷ []) [])
-    ∷ gives (ar (by_e ∷ []) n) (shaped (range (num 1) (num 0) ∷ []) []) (li n)
-    ∷ gives (ar (by_e ∷ []) (va n)) (shaped (range (num 1) (num 0) ∷ []) []) (li (va n))
     ∷ misfit (ar (by_e ∷ []) n) (shaped (range (num 1) (num 2) ∷ []) (num 1 ∷ num 2 ∷ []))
     ∷ misfit (ar (by_e ∷ []) n) (shaped (name F ∷ []) (num 1 ∷ []))
     ∷ misfit (ar (by_e ∷ []) n) (shaped (set (name A ∷ num 1 ∷ []) ∷ []) (num 1 ∷ num 2 ∷ []))
@@ -113,8 +111,6 @@ shaped_tables =
     ∷ misfit (square n) (shaped (range (num 1) (num 1) ∷ range (num 1) (num 1) ∷ range (num 1) (num 1) ∷ []) (num 1 ∷ []))
     ∷ fit (ar (by_e ∷ by_int ∷ []) n) (shaped (name E ∷ range (num 1) (num 2) ∷ []) (num 1 ∷ num 2 ∷ []))
     ∷ misfit (ar (by_e ∷ by_int ∷ []) n) (shaped (range (num 1) (num 2) ∷ name E ∷ []) (num 1 ∷ num 2 ∷ []))
-    ∷ misfit (ar (by_e ∷ by_int ∷ []) n) (shaped (range (num 1) (num 0) ∷ range (num 1) (num 0) ∷ []) [])
-    ∷ misfit (square n) (shaped (range (num 1) (num 0) ∷ []) [])
     ∷ fit (ar (by_e ∷ by_int ∷ []) n) (shaped (set [] ∷ set [] ∷ []) [])
     ∷ fit (ar (by_e ∷ by_e ∷ []) (va (op n))) (shaped (name E ∷ set (name A ∷ []) ∷ []) (num 1 ∷ gone ∷ []))
     ∷ []

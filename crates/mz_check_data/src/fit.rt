@@ -1,14 +1,14 @@
 // A value of a data file for a declaration of some type.
 
-ghost use Rattle.std.specs.Prelude.{◌≡◌, IfOk, map};
+ghost use Rattle.std.specs.Prelude.{◌≡◌, IfOk};
 ghost use Rattle.mz_core.specs.Types.{plain_type};
 ghost use Rattle.mz_core.specs.Tree.{Tree};
 ghost use Rattle.mz_core.specs.TreeViews.{tree};
-ghost use Rattle.mz_tree.specs.Data.{value, values, given};
+ghost use Rattle.mz_tree.specs.Data.{value, given};
 ghost use Rattle.mz_check_meaning.specs.Tests.{Test};
 ghost use Rattle.mz_check_meaning.specs.Passes.{Passes};
 ghost use Rattle.mz_check_context.specs.Known.{known};
-ghost use Rattle.mz_check_data.specs.Datum.{shaped_tree, ends_before, descends, is_empty_range, takes_any_index, shaped_type, value_tree, wanted, as_data_form, typed_value};
+ghost use Rattle.mz_check_data.specs.Datum.{value_tree, wanted, as_data_form, typed_value};
 ghost use Rattle.mz_check_data.specs.StepsFit.{list_wanted, rows_wanted, coerced_value};
 
 use crate::arrays::{list_tree, rows_tree, shaped_tree};
@@ -19,98 +19,6 @@ use mz_check_forms::{fitted, is_scalar, list_of};
 use mz_core::{Core, Ix, TypeInst, copy_type, make_type};
 use mz_tree::{DataItem, Datum};
 use std::alloc::Global;
-
-/// Whether the integer is greater than this.
-#[tactic(auto, unfolding(mz_tree::specs::Data::value))]
-fn ends_before(m: i64, d: &Datum) -> bool
-    ensures { result ≡ ends_before m (value d.now) }
-{
-    match d {
-        Datum::Int(n) => *n < m,
-        Datum::Bool(_) => false,
-        Datum::Ident(_) => false,
-        Datum::Absent => false,
-        Datum::Range(_, _) => false,
-        Datum::Set(_) => false,
-        Datum::Array(_) => false,
-        Datum::Rows(_) => false,
-        Datum::ArrayNd(_, _) => false,
-    }
-}
-
-/// Whether these are integers, the second less than the first.
-#[tactic(auto, unfolding(mz_tree::specs::Data::value))]
-fn descends(low: &Datum, high: &Datum) -> bool
-    ensures { result ≡ descends (value low.now) (value high.now) }
-{
-    match low {
-        Datum::Int(m) => ends_before(*m, high),
-        Datum::Bool(_) => false,
-        Datum::Ident(_) => false,
-        Datum::Absent => false,
-        Datum::Range(_, _) => false,
-        Datum::Set(_) => false,
-        Datum::Array(_) => false,
-        Datum::Rows(_) => false,
-        Datum::ArrayNd(_, _) => false,
-    }
-}
-
-/// Whether this is a range of integers without a member.
-#[tactic(auto, unfolding(mz_tree::specs::Data::value))]
-fn is_empty_range(d: &Datum) -> bool
-    ensures { result ≡ is_empty_range (value d.now) }
-{
-    match d {
-        Datum::Range(low, high) => descends(low, high),
-        Datum::Bool(_) => false,
-        Datum::Int(_) => false,
-        Datum::Ident(_) => false,
-        Datum::Absent => false,
-        Datum::Set(_) => false,
-        Datum::Array(_) => false,
-        Datum::Rows(_) => false,
-        Datum::ArrayNd(_, _) => false,
-    }
-}
-
-/// Whether these index sets are one empty range.
-#[tactic(auto, using(crate::proofs::Reading::one_set, crate::proofs::Reading::other_sets))]
-fn takes_any_index(sets: &[Datum]) -> bool
-    ensures { result ≡ takes_any_index (values (map value sets.now)) }
-{
-    if sets.len() != 1 {
-        return false;
-    }
-    is_empty_range(&sets[0])
-}
-
-/// The type for an array with these index sets, for a declaration of this type.
-#[tactic(auto, unfolding(mz_core::specs::Types::plain_type))]
-fn shaped_type(alloc: Global, t: &TypeInst, sets: &[Datum]) -> Result<TypeInst, Memory>
-    ensures { IfOk result (λ x. plain_type x ≡ shaped_type (plain_type t.now) (values (map value sets.now))) }
-{
-    if takes_any_index(sets) && t.dims.len() == 1 {
-        list_of(alloc, t)
-    } else {
-        copy_type(alloc, t)
-    }
-}
-
-/// An array with index sets, for a declaration of this type.
-fn shaped_value(
-    alloc: Global,
-    context: &Context<'_>,
-    span: Span,
-    t: &TypeInst,
-    sets: &[Datum],
-    ds: &[Datum],
-) -> Result<Core, Stop>
-    ensures { Passes tree result (shaped_tree (known context.now).names span (shaped_type (plain_type t.now) (values (map value sets.now))) (values (map value sets.now)) (values (map value ds.now))) }
-{
-    let u = shaped_type(alloc, t, sets)?;
-    shaped_tree(alloc, context, span, &u, sets, ds)
-}
 
 /// A value for a declaration of this type, before it is coerced.
 #[tactic(auto, unfolding(crate::specs::Datum::value_tree, mz_tree::specs::Data::value))]
@@ -126,7 +34,7 @@ fn value_tree(
     match d {
         Datum::Array(es) => list_tree(alloc, context, span, es.as_slice()),
         Datum::Rows(rows) => rows_tree(alloc, context, span, rows.as_slice()),
-        Datum::ArrayNd(sets, es) => shaped_value(
+        Datum::ArrayNd(sets, es) => shaped_tree(
             alloc,
             context,
             span,
@@ -174,7 +82,7 @@ fn wanted(alloc: Global, t: &TypeInst, d: &Datum) -> Result<TypeInst, Memory>
     match d {
         Datum::Array(_) => list_wanted(alloc, t),
         Datum::Rows(_) => rows_wanted(alloc, t),
-        Datum::ArrayNd(sets, _) => shaped_type(alloc, t, sets.as_slice()),
+        Datum::ArrayNd(_, _) => copy_type(alloc, t),
         Datum::Bool(_) => copy_type(alloc, t),
         Datum::Int(_) => copy_type(alloc, t),
         Datum::Ident(_) => copy_type(alloc, t),
