@@ -22,8 +22,8 @@ use Rattle.mz_arena.specs.Values.{Values, comparison_term}
 use Rattle.mz_arena.specs.Terms.{terms}
 use Rattle.mz_arena.specs.Numbering.{by_id}
 use Rattle.mz_meaning.specs.Domains.{Domain, lies_in, all_lie_in}
-use Rattle.mz_meaning.specs.Operations.{row_table}
-use Rattle.mz_meaning.specs.Chains.{level_table, innermost_of, innermost_in, back_of, back_in, backed}
+use Rattle.mz_operations.specs.Lines.{lines, line_at, place_in}
+use Rattle.mz_meaning.specs.Chains.{innermost_of, innermost_in, back_of, back_in, backed}
 use Rattle.mz_meaning.specs.Evaluation.{eval}
 use Rattle.mz_meaning.specs.Unbounded.{unbounded_in, in_form, in_maybe, in_trees, in_maybes, in_rows, in_branches, in_steps, in_gens, in_items, first_unbounded}
 use Rattle.mz_meaning.specs.Walk.{Limits, Assignment}
@@ -82,10 +82,10 @@ chosen = (refl, tt)
 
 -- the choice is 2: the constraint is met, and the root is true
 met : IsWalked limits model sample (choice ∷ []) (a (i (pos 2))) (c (pos 2)) (x (pos 1)) (y (pos 2))
-unfolding eval row_table level_table innermost_of innermost_in back_of back_in backed scalar_value made_value bounding_value equality is_bounded is_fixable as_bool as_int as_case as_set as_text as_items as_index as_row as_ordinal as_element as_pair as_option is_single enum_of at bool_at int_at case_at ordinal_at element_at option_at set_at enum_at text_at items_at row_at index_at pair connected ordered computed contains end_of up_to same_set place_count is_mismatched negative is_failed limited scalar_counts made_counts bounding_counts counts_from cost bound_of bounds_of is_settled combined_upper bounds_at each ends_at upper_at elements_at scalar_bounds made_bounds range_elements union intersection complement missing_from first_unbounded unbounded_in in_form in_maybe in_trees in_maybes in_rows in_branches in_steps in_gens in_items lies_in all_lie_in terms over_nodes by_id comparison_term
+unfolding eval lines line_at place_in innermost_of innermost_in back_of back_in backed scalar_value made_value bounding_value equality is_bounded is_fixable as_bool as_int as_case as_set as_text as_items as_index as_row as_ordinal as_element as_pair as_option is_single enum_of at bool_at int_at case_at ordinal_at element_at option_at set_at enum_at text_at items_at row_at index_at pair connected ordered computed contains end_of up_to same_set place_count is_mismatched negative is_failed limited scalar_counts made_counts bounding_counts counts_from cost bound_of bounds_of is_settled combined_upper bounds_at each ends_at upper_at elements_at scalar_bounds made_bounds range_elements union intersection complement missing_from first_unbounded unbounded_in in_form in_maybe in_trees in_maybes in_rows in_branches in_steps in_gens in_items lies_in all_lie_in terms over_nodes by_id comparison_term
 met = record { out = _; end = _; runs = refl; names = refl; pars = refl; takes = refl; sound = λ n fits chosen holds. record { declared = (tt, (tt, (tt, tt))); constraints = (refl, tt); objective = holds.goal }; complete = λ n fits chosen is. record { roots = (refl, tt); goal = is.objective } }
 
 -- it is 1: neither holds, and o may be absent
 unmet : IsWalked limits model sample (choice ∷ []) (a values.absent) (c (pos 1)) (x (pos 0)) (y (pos 1))
-unfolding eval row_table level_table innermost_of innermost_in back_of back_in backed scalar_value made_value bounding_value equality is_bounded is_fixable as_bool as_int as_case as_set as_text as_items as_index as_row as_ordinal as_element as_pair as_option is_single enum_of at bool_at int_at case_at ordinal_at element_at option_at set_at enum_at text_at items_at row_at index_at pair connected ordered computed contains end_of up_to same_set place_count is_mismatched negative is_failed limited scalar_counts made_counts bounding_counts counts_from cost bound_of bounds_of is_settled combined_upper bounds_at each ends_at upper_at elements_at scalar_bounds made_bounds range_elements union intersection complement missing_from first_unbounded unbounded_in in_form in_maybe in_trees in_maybes in_rows in_branches in_steps in_gens in_items lies_in all_lie_in terms over_nodes by_id comparison_term
+unfolding eval lines line_at place_in innermost_of innermost_in back_of back_in backed scalar_value made_value bounding_value equality is_bounded is_fixable as_bool as_int as_case as_set as_text as_items as_index as_row as_ordinal as_element as_pair as_option is_single enum_of at bool_at int_at case_at ordinal_at element_at option_at set_at enum_at text_at items_at row_at index_at pair connected ordered computed contains end_of up_to same_set place_count is_mismatched negative is_failed limited scalar_counts made_counts bounding_counts counts_from cost bound_of bounds_of is_settled combined_upper bounds_at each ends_at upper_at elements_at scalar_bounds made_bounds range_elements union intersection complement missing_from first_unbounded unbounded_in in_form in_maybe in_trees in_maybes in_rows in_branches in_steps in_gens in_items lies_in all_lie_in terms over_nodes by_id comparison_term
 unmet = record { out = _; end = _; runs = refl; names = refl; pars = refl; takes = refl; sound = λ n fits chosen holds. absurd (let e = holds.roots.0 in cc); complete = λ n fits chosen is. absurd (let e = is.constraints.0 in cc) }
