@@ -25,6 +25,7 @@ use mz_eval_scopes::{Scope, done, spend};
 
 // A comprehension.
 #[cycle(forms)]
+#[tactic(auto, unfolding(mz_core::specs::Types::plain_type))]
 pub(crate) fn eval_comprehension(
     level: &Level,
     node: &Core,
