@@ -5,4 +5,8 @@ pub mod Readings
 pub mod Makes
 pub mod StepsNodes
 pub mod StepsChoices
+pub mod Lines
+pub mod StepsConstants
+pub mod StepsLines
 pub mod Laws
+mod SymbolExamples
