@@ -111,12 +111,12 @@ record IsValue (v : Option Content) : Type 0 where
   is : v ≡ Some value
 
 value_there : (v : Option Content) → IsSome v → IsValue v
-value_there None h = absurd h
+value_there None h = absurd (cc)
 value_there (Some x) h = record { value = x; is = refl }
 
 either_there : (b : Bool) (v : Option Content) → IsSome v → IsSome (if b then v else Some values.absent)
 either_there true v h = h
-either_there false v h = tt
+either_there false v h = refl
 
 item_there : (t : ℕ → Term) (b : Base) (o : Option ℕ) (id : ℕ) → IsSome (value_by b (t id)) → IsSome (value_at t b o id)
 item_there t b None id h = h

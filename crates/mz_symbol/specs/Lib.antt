@@ -1,4 +1,4 @@
-pub mod Parts
+pub mod Choices
 pub mod Symbols
 pub mod Runs
 pub mod Readings

@@ -6,7 +6,8 @@ use Rattle.mz_arena.specs.Entries.{at}
 use Rattle.mz_arena.specs.Values.{Term, Values, number, set, numbers, cons_term}
 use Rattle.mz_meaning.specs.Domains.{Domain}
 use Rattle.mz_symbol.specs.declared.types.Symbol.{Symbol}
-use Rattle.mz_symbol.specs.Parts.{all_parts, cell_content, occurrence, Whole, Subset}
+use Rattle.mz_instance.specs.Parts.{occurrence, Whole, Subset}
+use Rattle.mz_symbol.specs.Choices.{all_parts, cell_content}
 use Rattle.mz_symbol.specs.Symbols.{symbol_value, elements_value, list_term, occurs_list}
 
 -- the terms of the ids 0, 1, 2, ..

@@ -1,5 +1,7 @@
 // The elements of var arrays, beside the nodes that they are.
 
+ghost use Rattle.std.specs.Prelude.{◌≡◌, slice_get};
+
 use crate::run::Run;
 use crate::types::{Line, Listing, Symbol};
 use mz_arena::Id;
@@ -63,9 +65,18 @@ impl Run {
         let Some(l) = self.line(line) else {
             return None;
         };
-        match l.items.get(place as usize) {
+        match item(&l.items, place) {
             None => None,
-            Some(s) => Some(*s),
+            Some(s) => Some(s),
         }
+    }
+}
+
+fn item(items: &[Symbol], place: u64) -> Option<Symbol>
+    ensures { result ≡ slice_get items.now place }
+{
+    match items.get(place as usize) {
+        None => None,
+        Some(s) => Some(*s),
     }
 }
