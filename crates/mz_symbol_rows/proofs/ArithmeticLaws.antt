@@ -1,5 +1,5 @@
 -- Operations on integers: their nodes mean what the rows give.
-use Rattle.std.proofs.Common.{rules, ◌≡◌, ◌∙◌, ℕ, ℤ, pos, negsuc, ◌+ℤ◌, ◌-ℤ◌, ◌*ℤ◌, neg_ℤ, Bool, true, false, List, [], ◌∷◌, Option, Some, None, refl, sym, ap, arith}
+use Rattle.std.proofs.Common.{◌≡◌, ◌∙◌, ℕ, ℤ, negsuc, ◌+ℤ◌, ◌-ℤ◌, ◌*ℤ◌, neg_ℤ, Bool, true, [], ◌∷◌, Option, Some, None, refl, sym, ap, arith}
 use Rattle.std.proofs.lemmas.Int.{ints}
 use Rattle.std.specs.Option.{option_map}
 use Rattle.mz_value.specs.Contents.{Content}
@@ -12,18 +12,18 @@ use Rattle.mz_operations.specs.declared.row.Sign.{Sign}
 use Rattle.mz_operations.specs.declared.row.Sign.TheVariants.{Plus, Minus, Abs}
 use Rattle.mz_operations.specs.declared.row.Side.TheVariants.{Least, Greatest}
 use Rattle.mz_operations.specs.declared.row.ScalarRow.TheVariants as row
-use Rattle.mz_operations.specs.Views.{◌>>=◌, as_int, as_ordinal, number_of_bool}
+use Rattle.mz_operations.specs.Views.{◌>>=◌, as_int, as_ordinal}
 use Rattle.mz_operations.specs.Arguments.{at, int_at, ordinal_at}
 use Rattle.mz_operations.specs.Numbers.{computed, signed, toward}
 use Rattle.mz_operations.specs.Values.{scalar_value}
-use Rattle.mz_arena.specs.Values.{Term, Val, number, set, numbers, sets, empty, as_number, bit, arith_term, sign_term, extreme_term, cons_term, to_int_term}
+use Rattle.mz_arena.specs.Values.{Term, number, set, as_number, bit, arith_term, sign_term, extreme_term, cons_term, to_int_term}
 use Rattle.mz_arena.specs.Values as terms
 use Rattle.mz_meaning.specs.Cells.{held}
 use Rattle.mz_symbol.specs.declared.types.Symbol.{Symbol}
 use Rattle.mz_symbol.specs.Symbols.{value_by}
 use Rattle.mz_symbol.specs.Readings.{Reading, symbol_seen}
 use Rattle.mz_symbol_rows.specs.RowValues.{row_value}
-use Rattle.mz_symbol_rows.specs.StepsNodes.{IsOf, symbol_of, minus_one, negative_term, extreme_of_two, made_arith, made_sign, number_term, is_ordinal}
+use Rattle.mz_symbol_rows.specs.StepsNodes.{IsOf, symbol_of, negative_term, extreme_of_two, made_arith, made_sign, number_term, is_ordinal}
 use Rattle.mz_symbol_rows.proofs.RowLaws.{argument_by, row_of_one, row_of_two, truth_is}
 
 -- ---- two integers

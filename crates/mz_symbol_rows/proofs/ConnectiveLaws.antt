@@ -1,6 +1,5 @@
 -- Connectives: their nodes mean what the rows give.
-use Rattle.std.proofs.Common.{◌≡◌, ◌∙◌, ℕ, Bool, true, false, not, ◌&&◌, ◌||◌, List, [], ◌∷◌, Option, Some, None, refl, sym, ap}
-use Rattle.mz_value.specs.Contents.{Content}
+use Rattle.std.proofs.Common.{◌≡◌, ◌∙◌, ℕ, Bool, not, ◌||◌, [], ◌∷◌, Some, refl, sym, ap}
 use Rattle.mz_value.specs.Contents as values
 use Rattle.mz_core.specs.declared.types.Base.TheVariants as base
 use Rattle.mz_operations.specs.declared.row.Connective.{Connective}

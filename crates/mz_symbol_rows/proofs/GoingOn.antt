@@ -1,7 +1,6 @@
 -- Runs that go on, one after the other.
-use Rattle.std.proofs.Common.{◌≡◌, ℕ, ◌+◌, ◌*◌, ◌≤◌, arith}
+use Rattle.std.proofs.Common.{ℕ, ◌+◌, ◌≤◌, arith}
 use Rattle.mz_symbol.specs.Runs.{Run}
-use Rattle.mz_symbol.specs.Readings.{Reading, Reads}
 use Rattle.mz_symbol.specs.Makes.{GoesOnBy, owed, earned}
 
 pub goes_both : (n m : ℕ) (old mid new : Run) → GoesOnBy n old mid → GoesOnBy m mid new → GoesOnBy (n + m) old new

@@ -1,5 +1,5 @@
 -- A row over symbols, as one over what their nodes stand for.
-use Rattle.std.proofs.Common.{◌≡◌, ◌∙◌, ℕ, ℤ, Bool, true, false, List, [], ◌∷◌, Option, Some, None, refl, sym, ap}
+use Rattle.std.proofs.Common.{◌≡◌, ◌∙◌, ℕ, ℤ, Bool, true, false, [], ◌∷◌, Option, Some, None, refl, ap}
 use Rattle.std.specs.Option.{option_map}
 use Rattle.mz_value.specs.Contents.{Content}
 use Rattle.mz_value.specs.Contents as values
@@ -13,8 +13,8 @@ use Rattle.mz_instance.specs.Contents.{content_by}
 use Rattle.mz_meaning.specs.Runs.{State, Out}
 use Rattle.mz_meaning.specs.Cells.{Mode, Blank, Given, held, is_true}
 use Rattle.mz_symbol.specs.declared.types.Symbol.{Symbol}
-use Rattle.mz_symbol.specs.Symbols.{value_by, value_at}
-use Rattle.mz_symbol.specs.Readings.{Reading}
+use Rattle.mz_symbol.specs.Symbols.{value_by, value_at, symbol_value}
+use Rattle.mz_symbol.specs.Readings.{Reading, symbol_seen}
 use Rattle.mz_symbol_rows.specs.RowValues.{as_argument, argument, row_value}
 use Rattle.mz_symbol_rows.specs.StepsNodes.{IsOf}
 
@@ -67,3 +67,16 @@ truth_is t = by (as_number t)
     by : (o : Option ℤ) → is_true (option_map (λ n. content_by base.Bool n []) o) ≡ terms.is_one o
     by None = refl
     by (Some n) = refl
+
+-- ---- an argument that has a value
+
+truth_kept : (o : Option ℤ) (x : Content) → option_map (λ n. content_by base.Bool n []) o ≡ Some x → Some (values.bool (is_true (option_map (λ n. content_by base.Bool n []) o))) ≡ option_map (λ n. content_by base.Bool n []) o
+truth_kept None x h = absurd (cc)
+truth_kept (Some n) x h = refl
+
+value_kept : (t : ℕ → Term) (b : Base) (o : Option ℕ) (id : ℕ) (x : Content) → value_at t b o id ≡ Some x → as_argument b o (value_at t b o id) ≡ value_at t b o id
+value_kept t base.Bool None id x h = truth_kept (as_number (t id)) x h
+value_kept t b o id x h = refl
+
+pub argument_kept : (r : Reading) (s : Symbol) (x : Content) → symbol_value r.term s ≡ Some x → argument r s ≡ symbol_seen r s
+argument_kept r s x h = ap (held r.mode) (value_kept r.term s.base s.occurs s.term x h)

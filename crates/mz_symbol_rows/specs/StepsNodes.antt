@@ -1,5 +1,5 @@
 -- Mirror of src/nodes.rt and src/sorts.rt; private clauses only.
-use Rattle.std.specs.Prelude.{◌≡◌, ℕ, pos, negsuc, Bool, true, false, Option, Some, None}
+use Rattle.std.specs.Prelude.{◌≡◌, ℕ, pos, negsuc, Bool, true, false, Some, None}
 use Rattle.std.specs.Prelude.{int_le, int_lt, not}
 use Rattle.std.specs.Ordering.{int_eq}
 use Rattle.mz_core.specs.declared.types.Base.{Base}
@@ -14,7 +14,6 @@ use Rattle.mz_operations.specs.declared.row.Connective.{Connective}
 use Rattle.mz_operations.specs.declared.row.Connective.TheVariants.{Iff, Implies, IsImplied, Or, Xor, And}
 use Rattle.mz_operations.specs.declared.row.Side.{Side}
 use Rattle.mz_operations.specs.declared.row.Side.TheVariants.{Least, Greatest}
-use Rattle.mz_arena.specs.declared.node.Node.{Node}
 use Rattle.mz_arena.specs.declared.node.NodeKind.{NodeKind}
 use Rattle.mz_arena.specs.Values.{Term, number, empty, arith_term, sign_term, extreme_term, cons_term, comparison_term, and_term, or_term, not_term, iff_term, to_int_term}
 use Rattle.mz_symbol.specs.declared.types.Symbol.{Symbol}

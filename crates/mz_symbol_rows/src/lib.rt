@@ -4,9 +4,11 @@
 mod arithmetic;
 mod comparisons;
 mod connectives;
+mod law;
 mod nodes;
 mod sorts;
 
 pub use arithmetic::{arith, ordinal, sign};
 pub use comparisons::{equal, order, unequal};
 pub use connectives::{logic, negation};
+pub use law::arguments_are_values;
