@@ -17,7 +17,8 @@ use Rattle.mz_meaning.specs.Domains.{Domain}
 use Rattle.mz_symbol.specs.declared.types.Symbol.{Symbol}
 use Rattle.mz_symbol.specs.declared.types.Free.{Free}
 use Rattle.mz_symbol.specs.declared.types.Line.{Line}
-use Rattle.mz_symbol.specs.Parts.{Part, Truth, truths, is_shape, is_subset_sort, sort_of, IsNode, AreNodes, domain_parts, all_parts, IsChoosable, AreChoosable}
+use Rattle.mz_instance.specs.Parts.{Part, Truth, truths, is_subset_sort, sort_of, IsNode, AreNodes}
+use Rattle.mz_symbol.specs.Choices.{is_shape, domain_parts, all_parts, IsChoosable, AreChoosable}
 use Rattle.mz_symbol.specs.Symbols.{symbol_ids, symbol_value, domain_of, free_ids, waiting}
 use Rattle.mz_symbol.specs.Runs.{Run, IsSound, IsCounted}
 use Rattle.mz_symbol.specs.Readings.{Reading, Reads, ReadsChoices, symbol_seen, taken_in, weight_in, state_of}

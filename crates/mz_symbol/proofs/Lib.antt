@@ -1,3 +1,5 @@
 pub mod RunLaws
 pub mod ChoiceLaws
 pub mod ReadingLaws
+pub mod ConstantLaws
+pub mod LineLaws

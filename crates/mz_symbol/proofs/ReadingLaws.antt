@@ -17,7 +17,10 @@ use Rattle.mz_arena.proofs.Growing.{made, grew_same}
 use Rattle.mz_meaning.specs.Runs as runs
 use Rattle.mz_meaning.specs.Cells.{Mode, Given, Bare}
 use Rattle.mz_symbol.specs.declared.types.Free.{Free}
-use Rattle.mz_symbol.specs.Parts.{Part, parts_of, occurrence, sort_of, next, is_set_kind, is_subset_sort, IsNode, AreNodes, is_one, content_by, content_at, cell_content, all_parts, domain_parts, Chooses, IsChoosable}
+use Rattle.mz_arena.specs.FreeNodes.{is_set_kind}
+use Rattle.mz_instance.specs.Parts.{Part, parts_of, occurrence, sort_of, next, is_subset_sort, IsNode, AreNodes}
+use Rattle.mz_instance.specs.Contents.{is_one, content_by}
+use Rattle.mz_symbol.specs.Choices.{content_at, cell_content, all_parts, domain_parts, Chooses, IsChoosable}
 use Rattle.mz_symbol.specs.Symbols.{with_id, symbol_ids, value_by, value_at, symbol_value, domain_of, free_ids}
 use Rattle.mz_symbol.specs.Runs.{Run, taken, IsRun}
 use Rattle.mz_symbol.specs.Readings.{Reading, Reads, ReadsChoices, no_values, line_in, reading_in, reading, bare}

@@ -9,7 +9,8 @@ use Rattle.mz_arena.proofs.Folds.{get-below}
 use Rattle.mz_arena.proofs.Growing.{arena_empty}
 use Rattle.mz_symbol.specs.declared.types.Free.{Free}
 use Rattle.mz_symbol.specs.declared.types.Line.{Line}
-use Rattle.mz_symbol.specs.Parts.{Part, IsNode, AreNodes, all_parts}
+use Rattle.mz_instance.specs.Parts.{Part, IsNode, AreNodes}
+use Rattle.mz_symbol.specs.Choices.{all_parts}
 use Rattle.mz_symbol.specs.Symbols.{domain_of, free_ids, waiting}
 use Rattle.mz_symbol.specs.Runs.{Run, ReadsNodes, AreLines, IsSound, IsCounted}
 use Rattle.mz_symbol.specs.Readings.{Reading, Reads, no_values, node_meaning}

@@ -10,7 +10,8 @@ use Rattle.mz_meaning.specs.Runs as runs
 use Rattle.mz_meaning.specs.Cells.{Mode}
 use Rattle.mz_symbol.specs.declared.types.Free.{Free}
 use Rattle.mz_symbol.specs.declared.types.Symbol.{Symbol}
-use Rattle.mz_symbol.specs.Parts.{AreNodes, domain_parts, Chooses, IsChoosable}
+use Rattle.mz_instance.specs.Parts.{AreNodes}
+use Rattle.mz_symbol.specs.Choices.{domain_parts, Chooses, IsChoosable}
 use Rattle.mz_symbol.specs.Symbols.{symbol_ids, domain_of, free_ids}
 use Rattle.mz_symbol.specs.Runs.{Run, taken, IsRun}
 use Rattle.mz_symbol.specs.Readings.{Reading, ReadsChoices, Reads, symbol_seen, reading_in, reading, bare}

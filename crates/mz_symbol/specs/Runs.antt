@@ -7,7 +7,8 @@ use Rattle.mz_arena.specs.Arenas.{IsArena}
 use Rattle.mz_meaning.specs.Domains.{Domain}
 use Rattle.mz_symbol.specs.declared.types.Free.{Free}
 use Rattle.mz_symbol.specs.declared.types.Line.{Line}
-use Rattle.mz_symbol.specs.Parts.{AreNodes, all_parts, AreChoosable}
+use Rattle.mz_instance.specs.Parts.{AreNodes}
+use Rattle.mz_symbol.specs.Choices.{all_parts, AreChoosable}
 use Rattle.mz_symbol.specs.Symbols.{domain_of, free_ids, IsLine}
 
 pub record Run : Type 0 where

@@ -8,7 +8,9 @@ use Rattle.mz_arena.specs.Entries.{Entry, is_free, is_local}
 use Rattle.mz_meaning.specs.Domains.{Domain}
 use Rattle.mz_symbol.specs.declared.types.Symbol.{Symbol}
 use Rattle.mz_symbol.specs.declared.types.Free.{Free}
-use Rattle.mz_symbol.specs.Parts.{Part, Subset, is_subset_sort, sort_of, is_set_kind, truth_mark, AreNodes, domain_parts}
+use Rattle.mz_arena.specs.FreeNodes.{is_set_kind}
+use Rattle.mz_instance.specs.Parts.{Part, Subset, is_subset_sort, sort_of, truth_mark, AreNodes}
+use Rattle.mz_symbol.specs.Choices.{domain_parts}
 use Rattle.mz_symbol.specs.Symbols.{symbol_ids}
 use Rattle.mz_symbol.specs.Runs.{Run}
 

@@ -14,7 +14,7 @@ use Rattle.mz_symbol.specs.declared.types.Lists.{Lists}
 use Rattle.mz_symbol.specs.declared.types.Listing.{Listing}
 use Rattle.mz_symbol.specs.declared.types.Listing.TheVariants as listing
 use Rattle.mz_symbol.specs.declared.types.Line.{Line}
-use Rattle.mz_symbol.specs.Parts.{content_by}
+use Rattle.mz_instance.specs.Contents.{content_by}
 
 -- the node of an occurrence stands before that of the value
 abbrev pub with_id : Option ℕ → List ℕ → List ℕ

@@ -2,7 +2,8 @@
 
 ghost use Rattle.std.specs.Prelude.{◌≡◌, ◌≢◌, ◌≤ℤ◌, [], true, false, pos, nat_abs, length};
 ghost use Rattle.mz_symbol.specs.Symbols.{symbol_ids};
-ghost use Rattle.mz_symbol.specs.Parts.{is_shape, is_subset_sort, sort_of, truths, Truth, IsChoosable};
+ghost use Rattle.mz_instance.specs.Parts.{is_subset_sort, sort_of, truths, Truth};
+ghost use Rattle.mz_symbol.specs.Choices.{is_shape, IsChoosable};
 ghost use Rattle.mz_symbol.specs.StepsChoices.{choice_domain, IsLocalNode};
 
 use crate::run::Run;
@@ -111,7 +112,8 @@ impl Run {
     ghost use Rattle.mz_meaning.specs.Lets.{choice_at};
     ghost use Rattle.mz_meaning.specs.Runs as runs;
     ghost use Rattle.mz_meaning.specs.Runs.{noted};
-    ghost use Rattle.mz_symbol.specs.Parts.{IsNode, AreNodes, domain_parts, IsChoosable};
+    ghost use Rattle.mz_instance.specs.Parts.{IsNode, AreNodes};
+    ghost use Rattle.mz_symbol.specs.Choices.{domain_parts, IsChoosable};
     ghost use Rattle.mz_symbol.specs.Symbols.{domain_of, free_ids, symbol_ids};
     ghost use Rattle.mz_symbol.specs.Readings.{symbol_seen};
     ghost use Rattle.mz_symbol.specs.Makes.{GoesOnBy, Means};

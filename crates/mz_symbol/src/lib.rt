@@ -2,7 +2,9 @@
 #![tactic(auto)]
 
 mod choices;
+mod constants;
 mod law;
+mod lines;
 mod run;
 mod types;
 

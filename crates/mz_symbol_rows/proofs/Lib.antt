@@ -1,0 +1,5 @@
+pub mod GoingOn
+pub mod RowLaws
+pub mod ArithmeticLaws
+pub mod ConnectiveLaws
+pub mod ComparisonLaws

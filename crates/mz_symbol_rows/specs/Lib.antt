@@ -1,0 +1,3 @@
+pub mod RowValues
+pub mod StepsNodes
+pub mod Laws
