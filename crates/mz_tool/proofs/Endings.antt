@@ -1,5 +1,5 @@
 -- What the ends of the parts of a compilation say of its end.
-use Rattle.std.proofs.Common.{◌≡◌, ℕ, ◌<◌, true, List, [], ◌∷◌, length, map, refl, sym, ap, subst, inl, inr, arith}
+use Rattle.std.proofs.Common.{◌≡◌, ℕ, ◌+◌, ◌<◌, true, List, [], ◌∷◌, length, map, refl, sym, ap, subst, inl, inr, arith}
 use Rattle.std.specs.Prelude.{◌⊎◌, Option, Some, None, Err}
 use Rattle.std.proofs.lemmas.List.{length-map}
 use Rattle.mz_base.specs.declared.fault.Fault.{Fault}
@@ -47,14 +47,16 @@ use Rattle.mz_first_rows.proofs.Laws.{headline, ends, kinds}
 use Rattle.mz_first_post.specs.Names.{no_values}
 use Rattle.mz_analysis.specs.Analysis.{FailsTest, IsOfTests, IsRefused, IsTypedModel, IsRead, evaluated, file_name, files_read, items_read}
 use Rattle.mz_analysis.proofs.Single.{not_refused, one_typed}
+use Rattle.mz_analysis_places.specs.Promise.{LiesIn}
 use Rattle.mz_tool.specs.declared.compile.End.{End}
 use Rattle.mz_tool.specs.declared.compile.End.TheVariants as end
 use Rattle.mz_tool.specs.declared.status.Status.{Status}
 use Rattle.mz_tool.specs.declared.status.Status.TheVariants as status
 use Rattle.mz_tool.specs.Words.{settings_in, IsUsage}
 use Rattle.mz_tool.specs.Headline.{limits_of, Compiled, Compiles, Writes, WritesPrefix}
-use Rattle.mz_tool.specs.Status.{not_built_at, GoesThrough, IsStopped, not_built, by_evaluation, AreAskedFiles, owner_of, IsRefusal, a_file_fails, a_test_fails, not_compiled, ByDistinctNames, IsOwner, OnDone, OnWriteFault, IfRefused, CountsFiles, CountsOut, IsToldModel, AreToldFiles, Completes, IsDoneOrMemory}
+use Rattle.mz_tool.specs.Status.{not_built_at, GoesThrough, EvaluationStops, IsStopped, not_built, by_evaluation, AreAskedFiles, owner_of, IsRefusal, a_file_fails, a_test_fails, not_compiled, ByDistinctNames, IsOwner, OnDone, OnWriteFault, IfRefused, CountsFiles, CountsOut, IsToldModel, AreToldFiles, Completes, IsDoneOrMemory}
 use Rattle.mz_tool.specs.StepsCompiling.{status_of, file_of, IsWritten, IsFinished, Stops, IsRefusedAs, by_a_test, as_stopped, IsLeft, unread, Ends, IsNamedEnd}
+use Rattle.mz_tool.proofs.Places.{in_its_own, unbuilt_placed, evaluation_placed}
 
 -- what is left of a program that is written, or that could be
 module _ (table : List Name) (files : List File) (data_files : List Name) (items : List Given) where
@@ -98,13 +100,13 @@ ends_stopped (Stopped g) (Out w t) f alike is = absurd alike
 ends_stopped (Stopped g) (Stopped h) f alike is = cc
 
 -- evaluating a program stops where the walk that writes does
-evaluation_stops : (l : Limits) (table : List Name) (p : PlainProgram) (f : Fault) → first_unbuilt table p ≡ None → writing_walk Untested l Bare no_values table p start ≡ Stopped f → IsStopped l table p f
-evaluation_stops l table p f none stops = by_evaluation none (record {
+evaluation_stops : (l : Limits) (table : List Name) (p : PlainProgram) (f : Fault) → first_unbuilt table p ≡ None → writing_walk Untested l Bare no_values table p start ≡ Stopped f → EvaluationStops l p f
+evaluation_stops l table p f none stops = record {
   kind = kinds l table p (nothing_unbuilt table p none) Bare no_values start f stops;
   stops = λ a choices.
       ends_stopped (writing_walk Untested l Bare no_values table p start) (walk Positive l (cells.Given choices) a p start) f
       (ends l table p (nothing_unbuilt table p none) a no_values choices) stops;
-})
+}
 
 -- a kind of the tests raises no count of the files
 raises_none : (k : Kind) (counts : FileCounts) → IsOfTests k → CountsRefusal k counts counts
@@ -153,12 +155,14 @@ module _ (a : Asked) (table : List Name) (files : List File) (data_files : List 
   test_stopped h (stop.Refused f) e fails made = stopped h (stop.Refused f) e (by_a_test fails) made
   test_stopped h stop.Memory e fails made = stopped h stop.Memory e tt made
 
-  pub unbuilt_stopped : (h : Held) (p : PlainProgram) (place : Span) (e : End) → IsTypedModel table files items p → first_unbuilt table p ≡ Some place → Stops table files data_files (stop.Refused (not_built_at place)) e → IsLeft a table files data_files items h h e
-  unbuilt_stopped h p place e typed first made = stopped h (stop.Refused (not_built_at place)) e (as_stopped p typed (not_built first)) made
+  pub unbuilt_stopped : (h : Held) (p : PlainProgram) (place : Span) (e : End) → IsTypedModel table files items p → LiesIn (length files + length data_files) p → first_unbuilt table p ≡ Some place → Stops table files data_files (stop.Refused (not_built_at place)) e → IsLeft a table files data_files items h h e
+  unbuilt_stopped h p place e typed lies first made = stopped h (stop.Refused (not_built_at place)) e (as_stopped p typed (not_built first) (unbuilt_placed table p (length files + length data_files) place lies first)) made
 
-  pub evaluation_stopped : (h : Held) (p : PlainProgram) (s : Stop) (e : End) → IsTypedModel table files items p → first_unbuilt table p ≡ None → stops.IfRefused s (λ f. writing_walk Untested TheLimits Bare no_values table p start ≡ Stopped f) → Stops table files data_files s e → IsLeft a table files data_files items h h e
-  evaluation_stopped h p (stop.Refused f) e typed none runs made = stopped h (stop.Refused f) e (as_stopped p typed (evaluation_stops TheLimits table p f none runs)) made
-  evaluation_stopped h p stop.Memory e typed none runs made = stopped h stop.Memory e tt made
+  pub evaluation_stopped : (h : Held) (p : PlainProgram) (s : Stop) (e : End) → IsTypedModel table files items p → LiesIn (length files + length data_files) p → first_unbuilt table p ≡ None → stops.IfRefused s (λ f. writing_walk Untested TheLimits Bare no_values table p start ≡ Stopped f) → Stops table files data_files s e → IsLeft a table files data_files items h h e
+  evaluation_stopped h p (stop.Refused f) e typed lies none runs made =
+      let why = evaluation_stops TheLimits table p f none runs in
+      stopped h (stop.Refused f) e (as_stopped p typed (by_evaluation none why) (evaluation_placed TheLimits p (length files + length data_files) f lies why)) made
+  evaluation_stopped h p stop.Memory e typed lies none runs made = stopped h stop.Memory e tt made
 
   pub counts_out : (counts : SinkCounts) (s : Stop) (e : End) → Stops table files data_files s e → CountsOut counts counts (status_of e)
   counts_out counts (stop.Refused f) (end.Refused g n) made = refl
@@ -178,7 +182,7 @@ module _ (a : Asked) (table : List Name) (files : List File) (data_files : List 
 
   refusal_counts : (counts : FileCounts) (f : Fault) → IsRefusedAs TheLimits table files data_files items f → CountsRefusal f.kind counts counts
   refusal_counts counts f (by_a_test fails) = raises_none f.kind counts fails.kind
-  refusal_counts counts f (as_stopped p typed is) = stopped_counts counts p f is
+  refusal_counts counts f (as_stopped p typed is placed) = stopped_counts counts p f is
 
   pub counts_files : (counts : FileCounts) (old new : Held) (e : End) → IsLeft a table files data_files items old new e → CountsFiles counts counts (status_of e)
   counts_files counts old new end.Done left = refl
@@ -212,13 +216,15 @@ all_read table texts name data_files read sources known = record {
 module _ (table : List Name) (texts : Texts) (a : Asked) where
   -- how it ends where a file fails
   pub unread_ends : (s : Settings) (h : Held) (e : GatherEnd) → s ≡ settings_in a → gather_end.IfRefused {X = SourcesWithData} (Err e) (λ f n. FailsWithData table texts s.model s.data_files f (text_of table n)) → Ends table texts a h h (unread e)
-  unread_ends s h (gathered.Refused f n) same fails = (refl, a_file_fails (subst (λ t. FailsWithData table texts t.model t.data_files f (text_of table n)) same fails))
+  unread_ends s h (gathered.Refused f n) same fails =
+      let its = subst (λ t. FailsWithData table texts t.model t.data_files f (text_of table n)) same fails in
+      (refl, a_file_fails its (in_its_own table texts a f (text_of table n) its))
   unread_ends s h gathered.ReadFault same fails = refl
   unread_ends s h gathered.Memory same fails = refl
 
   refusal : (files : List File) (items : List Given) (f : Fault) → AreAskedFiles table texts a files items → IsRefusedAs (limits_of (settings_in a)) table files (settings_in a).data_files items f → IsRefusal table texts a f (owner_of a files f.span.file)
   refusal files items f sources (by_a_test refused) = a_test_fails files items sources refused
-  refusal files items f sources (as_stopped p typed is) = not_compiled files items p sources typed is
+  refusal files items f sources (as_stopped p typed is placed) = not_compiled files items p sources typed is placed
 
   module _ (s : Settings) (files : List File) (items : List Given) (sources : IsSourcesWithData table texts s.model s.data_files files items) where
     compiles : (written : List ℕ) → Compiled (limits_of s) table files items written → Compiles table texts s written
@@ -318,10 +324,10 @@ module _ (known table : List Name) (texts : Texts) (a : Asked) (files : List Fil
       subst (λ gs. AreSources known texts files gs) same.1 (subst (λ fs. AreSources known texts fs more) same.0 sources)
 
   its_files : (f : Fault) (owner : Name) → IsRefusal known texts a f owner → AreSources known texts files items
-  its_files f owner (a_file_fails h) =
+  its_files f owner (a_file_fails h placed) =
       absurd (sources_or_failure table are.distinct are.told (settings_in a).model (settings_in a).data_files files items f owner its_sources (subst (λ t. FailsWithData table t (settings_in a).model (settings_in a).data_files f owner) are.is_told (failure_later known table grows texts (settings_in a).model (settings_in a).data_files f owner h)))
   its_files f _ (a_test_fails others more sources refused) = same_files others more sources
-  its_files f _ (not_compiled others more p sources typed is) = same_files others more sources
+  its_files f _ (not_compiled others more p sources typed is placed) = same_files others more sources
 
 -- a told model isn't refused
 module _ (known : List Name) (distinct : AreDistinct known) (texts : Texts) (a : Asked) (told : IsToldModel known texts a) where
@@ -352,10 +358,10 @@ module _ (known : List Name) (distinct : AreDistinct known) (texts : Texts) (a :
       not_refused known told.files told.items f (told.program, told.typed) (subst (λ gs. IsRefused known told.files gs f) same.1 (subst (λ fs. IsRefused known fs items f) same.0 refused))
 
   model_is_not_refused : (f : Fault) (owner : Name) → IsRefusal known texts a f owner → ⊥
-  model_is_not_refused f owner (a_file_fails h) =
+  model_is_not_refused f owner (a_file_fails h placed) =
       sources_or_failure known distinct told.told (settings_in a).model (settings_in a).data_files told.files told.items f owner (of_told told.files told.items told.sources) (subst (λ t. FailsWithData known t (settings_in a).model (settings_in a).data_files f owner) told.is_told h)
   model_is_not_refused f _ (a_test_fails files items sources refused) = not_refused_here files items f (its_own files items sources) refused.refused
-  model_is_not_refused f _ (not_compiled files items p sources typed is) =
+  model_is_not_refused f _ (not_compiled files items p sources typed is placed) =
       not_stopped f (subst (λ q. IsStopped (limits_of (settings_in a)) known q f) (one_typed known told.files told.items p told.program (its_program files items p (its_own files items sources) typed) told.typed) is)
 
 -- where no count of faults rose, a run ends with Done, with Memory or refused

@@ -1,4 +1,5 @@
 pub mod Asked
 pub mod Endings
 pub mod Named
+pub mod Places
 pub mod Sinks

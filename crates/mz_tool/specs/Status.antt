@@ -1,5 +1,5 @@
 -- What a run answers, and the line that it writes of it.
-use Rattle.std.specs.Prelude.{◌≡◌, ◌≤◌, ◌⊎◌, ℕ, ℤ, true, List, [], ◌++◌, length, Option, Some, None, codes, decimal, if◌then◌else◌}
+use Rattle.std.specs.Prelude.{◌≡◌, ◌<◌, ◌≤◌, ◌+◌, ◌⊎◌, ℕ, ℤ, true, List, [], ◌++◌, length, Option, Some, None, codes, decimal, if◌then◌else◌}
 use Rattle.std.specs.Fmt.{signed_decimal}
 use Rattle.std.specs.Borrow.{Bor}
 use Rattle.mz_base.specs.declared.fault.Fault.{Fault}
@@ -14,7 +14,9 @@ use Rattle.mz_io.specs.Files.{Texts, FileCounts}
 use Rattle.mz_io.specs.Sink.{Held, SinkCounts, Adds}
 use Rattle.mz_tree.specs.Data as datum
 use Rattle.mz_include.specs.Naming.{File}
-use Rattle.mz_data.specs.WithData.{IsSourcesWithData, FailsWithData}
+use Rattle.mz_include.specs.Sources.{IsInItsFile}
+use Rattle.mz_data.specs.DataFiles.{HasDataNumber}
+use Rattle.mz_data.specs.WithData.{IsSourcesWithData, FailsWithData, in_the_model, in_the_data}
 use Rattle.mz_words.specs.Requests.{Asked}
 use Rattle.mz_include.specs.Ends.{CountsRefusal}
 use Rattle.fz_program.specs.Names.{Name}
@@ -86,12 +88,23 @@ AreAskedFiles table texts a files items = IsSourcesWithData table texts (setting
 abbrev pub owner_of : Asked → List File → ℕ → Name
 owner_of a files k = file_name files (settings_in a).data_files k
 
+-- The number in the place of a failure is that of the file with the owner's name: among the model's files, in the order in which they are
+-- first named, or among the data files, which are numbered after all of the model.
+abbrev pub IsInItsOwn : (table : List Name) (texts : Texts) (a : Asked) (f : Fault) (file : Name) → FailsWithData table texts (settings_in a).model (settings_in a).data_files f file → Type 0
+IsInItsOwn table texts a f file (in_the_model h) = IsInItsFile table texts (settings_in a).model f file h
+IsInItsOwn table texts a f file (in_the_data files sources h) = HasDataNumber (length files) (settings_in a).data_files f.span.file file
+
+-- a fault's place is in one of these files, or in one of the data files that are asked for, which are numbered after them
+abbrev pub IsInTheFiles : Asked → List File → Fault → Type 0
+IsInTheFiles a files f = f.span.file < length files + length (settings_in a).data_files
+
 -- Why what is asked for is refused, and the name of the file of the fault's place: a file of the model or of its data fails; or a test
 -- of names, of types or of data fails; or the model is typed, and isn't compiled.
 pub data IsRefusal (table : List Name) (texts : Texts) (a : Asked) : Fault → Name → Type 0 where
-  a_file_fails : {f : Fault} {file : Name} → FailsWithData table texts (settings_in a).model (settings_in a).data_files f file → IsRefusal table texts a f file
+  a_file_fails : {f : Fault} {file : Name} (fails : FailsWithData table texts (settings_in a).model (settings_in a).data_files f file) → IsInItsOwn table texts a f file fails → IsRefusal table texts a f file
   a_test_fails : {f : Fault} (files : List File) (items : List datum.Given) → AreAskedFiles table texts a files items → FailsTest table files (length (settings_in a).data_files) items f → IsRefusal table texts a f (owner_of a files f.span.file)
-  not_compiled : {f : Fault} (files : List File) (items : List datum.Given) (p : PlainProgram) → AreAskedFiles table texts a files items → IsTypedModel table files items p → IsStopped (limits_of (settings_in a)) table p f → IsRefusal table texts a f (owner_of a files f.span.file)
+  not_compiled : {f : Fault} (files : List File) (items : List datum.Given) (p : PlainProgram) → AreAskedFiles table texts a files items → IsTypedModel table files items p → IsStopped (limits_of (settings_in a)) table p f → IsInTheFiles a files f
+      → IsRefusal table texts a f (owner_of a files f.span.file)
 
 -- by some table of names, whose texts are distinct, this holds
 pub record ByDistinctNames (P : List Name → Type 0) : Type 0 where

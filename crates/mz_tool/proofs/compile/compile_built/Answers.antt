@@ -11,6 +11,7 @@ use Rattle.mz_tool.specs.StepsCompiling.{data_names}
 use Rattle.mz_meaning.specs.Runs.{Out}
 use Rattle.mz_tool.proofs.Asked.{range_fits, in_limits, stops_in_limits}
 use Rattle.mz_tool.proofs.Named.{numbered_and_named}
+use Rattle.mz_tool.proofs.Places.{program_lies}
 use Rattle.mz_tool.proofs.Endings.{writes, finished_named, evaluation_stopped, counts_out}
 use Rattle.mz_tool.proofs.compile.compile_built.Goals as goal
 
@@ -48,7 +49,7 @@ pub returns-in-Err-clause-left : goal.returns-in-Err-clause-left
 returns-in-Err-clause-left g c =
     let table = c.args.names.now in
     let p = plain_program c.args.program.now in
-    evaluation_stopped (request_of c.args.request.now) table (files_read table c.args.read.now) (data_names table c.args.read.now) (items_read c.args.read.now) _ p c.in-Err.stop c.stopped.result c.requires.typed c.requires.built
+    evaluation_stopped (request_of c.args.request.now) table (files_read table c.args.read.now) (data_names table c.args.read.now) (items_read c.args.read.now) _ p c.in-Err.stop c.stopped.result c.requires.typed (program_lies table c.args.read.now p c.requires.read c.requires.typed) c.requires.built
     (stops_in_limits table p c.budget_of-budget.result (to_z w64 (of_z w64 c.int_range_of-int_range.result)) (request_of c.args.request.now) c.in-Err.stop c.in-Err.ensures.answer.work c.budget_of-budget.ensures.is (to_z-of_z w64 c.int_range_of-int_range.result (range_fits c.int_range_of-int_range.result c.int_range_of-int_range.ensures.from_zero c.int_range_of-int_range.ensures.in_limit) ∙ c.int_range_of-int_range.ensures.is) c.in-Err.ensures.answer.meets)
     (c.stopped.ensures.stops table)
 

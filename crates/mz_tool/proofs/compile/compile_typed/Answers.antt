@@ -5,13 +5,14 @@ use Rattle.mz_analysis.specs.Analysis.{files_read, items_read}
 use Rattle.mz_words.specs.Requests.{request_of}
 use Rattle.mz_tool.specs.StepsCompiling.{data_names}
 use Rattle.mz_tool.specs.Status.{not_built_at}
+use Rattle.mz_tool.proofs.Places.{program_lies}
 use Rattle.mz_tool.proofs.Endings.{unbuilt_stopped, counts_out}
 use Rattle.mz_tool.proofs.compile.compile_typed.Goals as goal
 
 pub returns-in-Ok-Some-clause-left : goal.returns-in-Ok-Some-clause-left
 returns-in-Ok-Some-clause-left g c =
     unbuilt_stopped (request_of c.args.request.now) c.args.names.now (files_read c.args.names.now c.args.read.now) (data_names c.args.names.now c.args.read.now) (items_read c.args.read.now) _ (plain_program c.args.program.now) c.in-Ok-Some.place c.not_built.result
-    c.requires.typed (sym c.in-Ok-Some.ensures ∙ c.in-Ok-Some.field-0-is) (c.not_built.ensures.stops c.args.names.now)
+    c.requires.typed (program_lies c.args.names.now c.args.read.now (plain_program c.args.program.now) c.requires.read c.requires.typed) (sym c.in-Ok-Some.ensures ∙ c.in-Ok-Some.field-0-is) (c.not_built.ensures.stops c.args.names.now)
 
 pub returns-in-Ok-Some-clause-counted : goal.returns-in-Ok-Some-clause-counted
 returns-in-Ok-Some-clause-counted g c =
