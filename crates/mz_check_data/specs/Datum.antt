@@ -1,7 +1,8 @@
 -- WHAT A VALUE OF A DATA FILE IS TYPED TO, against a declared type. It is typed as the expression that it reads as, all of whose nodes
 -- have the value's place, and it fits where its type is below the declared one; but a list fits arrays of every shape, rows fit arrays
--- of two dimensions, and each index set of an array fits its index. What doesn't fit is DataForm at the value.
-use Rattle.std.specs.Prelude.{ℕ, Bool, true, List, [], ◌∷◌, ◌++◌, length, Option, Some, nat_eq, codes, if◌then◌else◌, Ok, Err}
+-- of two dimensions, and each index set of an array fits its index; `array1d(1..0, [])` fits each index, as `[]` does. What doesn't fit is
+-- DataForm at the value.
+use Rattle.std.specs.Prelude.{ℕ, ℤ, Bool, true, false, ◌&&◌, List, [], ◌∷◌, ◌++◌, length, Option, None, Some, nat_eq, int_lt, codes, if◌then◌else◌, Ok, Err}
 use Rattle.std.specs.List.{list_all, zip}
 use Rattle.mz_base.specs.declared.fault.Span.{Span}
 use Rattle.mz_base.specs.declared.kind.Kind.TheVariants as kind
@@ -131,6 +132,39 @@ wanted u (pure.array vs) = if is_scalar u then u else list_of u
 wanted u (pure.rows ls) = if nat_eq (length u.dims) 2 then table_of u else u
 wanted u v = u
 
+-- an integer
+abbrev pub integer : Value → Option ℤ
+integer (pure.int n) = Some n
+integer v = None
+
+abbrev pub descends : Option ℤ → Option ℤ → Bool
+descends (Some m) (Some n) = int_lt n m
+descends (Some m) None = false
+descends None o = false
+
+-- a range of integers without a member
+abbrev pub is_empty_range : Value → Bool
+is_empty_range (pure.range v w) = descends (integer v) (integer w)
+is_empty_range v = false
+
+-- these index sets and elements: such a range alone, and none
+abbrev pub are_nothing : Values → Values → Bool
+are_nothing (pure.a_value v pure.no_values) pure.no_values = is_empty_range v
+are_nothing ss vs = false
+
+-- `array1d(1..0, [])`
+abbrev pub is_empty_list : Value → Bool
+is_empty_list (pure.array_nd ss vs) = are_nothing ss vs
+is_empty_list v = false
+
+-- the declared type, for this value: one that fits each index takes no index type
+abbrev pub type_for : PlainType → Value → PlainType
+type_for u v = if is_empty_list v && nat_eq (length u.dims) 1 then list_of u else u
+
+-- coerced to a type
+abbrev pub fitted_value : Meanings → Span → PlainType → Value → Test Tree
+fitted_value ms at u v = value_tree ms at u v >>= λ e. fitted e (wanted u v)
+
 -- whatever stops it
 abbrev pub as_data_form : {A : Type 0} → Span → Test A → Test A
 as_data_form at (Ok x) = Ok x
@@ -138,4 +172,4 @@ as_data_form at (Err f) = refuse kind.DataForm at
 
 -- an item's value for a declaration of this type, coerced to it
 unfoldable pub typed_value : Meanings → PlainType → Given → Test Tree
-typed_value ms u g = as_data_form g.at (value_tree ms g.at u g.value >>= λ e. fitted e (wanted u g.value))
+typed_value ms u g = as_data_form g.at (fitted_value ms g.at (type_for u g.value) g.value)

@@ -1,15 +1,15 @@
 // A value of a data file for a declaration of some type.
 
-ghost use Rattle.std.specs.Prelude.{◌≡◌, IfOk};
+ghost use Rattle.std.specs.Prelude.{◌≡◌, map, IfOk};
 ghost use Rattle.mz_core.specs.Types.{plain_type};
 ghost use Rattle.mz_core.specs.Tree.{Tree};
 ghost use Rattle.mz_core.specs.TreeViews.{tree};
-ghost use Rattle.mz_tree.specs.Data.{value, given};
+ghost use Rattle.mz_tree.specs.Data.{value, values, given};
 ghost use Rattle.mz_check_meaning.specs.Tests.{Test};
 ghost use Rattle.mz_check_meaning.specs.Passes.{Passes};
 ghost use Rattle.mz_check_context.specs.Known.{known};
-ghost use Rattle.mz_check_data.specs.Datum.{value_tree, wanted, as_data_form, typed_value};
-ghost use Rattle.mz_check_data.specs.StepsFit.{list_wanted, rows_wanted, coerced_value};
+ghost use Rattle.mz_check_data.specs.Datum.{value_tree, wanted, integer, is_empty_range, are_nothing, is_empty_list, type_for, fitted_value, as_data_form, typed_value};
+ghost use Rattle.mz_check_data.specs.StepsFit.{list_wanted, rows_wanted};
 
 use crate::arrays::{list_tree, rows_tree, shaped_tree};
 use crate::plain::{misfit, plain_tree};
@@ -92,15 +92,78 @@ fn wanted(alloc: Global, t: &TypeInst, d: &Datum) -> Result<TypeInst, Memory>
     }
 }
 
-/// A value, coerced to the type of its declaration, or the fault that stops its typing.
-fn coerced_value(
+/// The integer that this is.
+#[tactic(auto, unfolding(mz_tree::specs::Data::value))]
+fn integer(d: &Datum) -> Option<i64>
+    ensures { result ≡ integer (value d.now) }
+{
+    if let Datum::Int(n) = d {
+        Some(*n)
+    } else {
+        None
+    }
+}
+
+/// Whether this is a range of integers without a member.
+#[tactic(auto, unfolding(mz_tree::specs::Data::value))]
+fn is_empty_range(d: &Datum) -> bool
+    ensures { result ≡ is_empty_range (value d.now) }
+{
+    let Datum::Range(low, high) = d else {
+        return false;
+    };
+    match (integer(low), integer(high)) {
+        (Some(m), Some(n)) => n < m,
+        _ => false,
+    }
+}
+
+/// Whether these index sets are such a range alone, and there are no elements.
+#[tactic(auto, using(crate::proofs::Reading::other_sets, crate::proofs::Reading::some_elements))]
+fn are_nothing(sets: &[Datum], es: &[Datum]) -> bool
+    ensures { result ≡ are_nothing (values (map value sets.now)) (values (map value es.now)) }
+{
+    if sets.len() != 1 {
+        return false;
+    }
+    if !es.is_empty() {
+        return false;
+    }
+    is_empty_range(&sets[0])
+}
+
+/// Whether this is `array1d(1..0, [])`.
+#[tactic(auto, unfolding(mz_tree::specs::Data::value))]
+fn is_empty_list(d: &Datum) -> bool
+    ensures { result ≡ is_empty_list (value d.now) }
+{
+    let Datum::ArrayNd(sets, es) = d else {
+        return false;
+    };
+    are_nothing(sets.as_slice(), es.as_slice())
+}
+
+/// The declared type, for this value.
+#[tactic(auto, unfolding(mz_core::specs::Types::plain_type))]
+fn type_for(alloc: Global, t: &TypeInst, d: &Datum) -> Result<TypeInst, Memory>
+    ensures { IfOk result (λ x. plain_type x ≡ type_for (plain_type t.now) (value d.now)) }
+{
+    if is_empty_list(d) && t.dims.len() == 1 {
+        list_of(alloc, t)
+    } else {
+        copy_type(alloc, t)
+    }
+}
+
+/// A value, coerced to a type, or the fault that stops its typing.
+fn fitted_value(
     alloc: Global,
     context: &Context<'_>,
     span: Span,
     t: &TypeInst,
     d: &Datum,
 ) -> Result<Core, Stop>
-    ensures { Passes tree result (coerced_value (known context.now).names span (plain_type t.now) (value d.now)) }
+    ensures { Passes tree result (fitted_value (known context.now).names span (plain_type t.now) (value d.now)) }
 {
     let e = value_tree(alloc, context, span, t, d)?;
     let u = wanted(alloc, t, d)?;
@@ -118,9 +181,23 @@ fn as_data_form(span: Span, r: Result<Core, Stop>) -> Result<Core, Stop>
     }
 }
 
+/// A value, coerced to the type of its declaration, or the fault that stops its typing.
+fn declared_value(
+    alloc: Global,
+    context: &Context<'_>,
+    span: Span,
+    t: &TypeInst,
+    d: &Datum,
+) -> Result<Core, Stop>
+    ensures { Passes tree result (fitted_value (known context.now).names span (type_for (plain_type t.now) (value d.now)) (value d.now)) }
+{
+    let u = type_for(alloc, t, d)?;
+    fitted_value(alloc, context, span, &u, d)
+}
+
 /// The value that an item of the data gives a declaration of this type: the typed tree of what the data writes, all of whose nodes have
 /// the value's place, coerced to the type. DataForm at the value, where it doesn't fit the type. A list fits arrays of every shape, so
-/// its own type is one of lists.
+/// its own type is one of lists; so is that of `array1d(1..0, [])`, which fits arrays of one dimension.
 ///
 /// The time and the memory are those of the value's length.
 #[tactic(auto, unfolding(crate::specs::Datum::typed_value))]
@@ -132,6 +209,6 @@ pub fn typed_value(
 ) -> Result<Core, Stop>
     ensures { Passes tree result (typed_value (known context.now).names (plain_type t.now) (given item.now)) }
 {
-    let v = coerced_value(alloc, context, item.at, t, &item.datum);
+    let v = declared_value(alloc, context, item.at, t, &item.datum);
     as_data_form(item.at, v)
 }
