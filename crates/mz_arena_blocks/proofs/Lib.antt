@@ -1,0 +1,4 @@
+pub mod Joined
+pub mod Placed
+pub mod Walked
+pub mod Instances
