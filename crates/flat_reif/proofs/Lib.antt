@@ -1,1 +1,4 @@
 pub mod Marks
+pub mod Longer
+pub mod Puts
+pub mod Steps
