@@ -56,6 +56,7 @@ no_choice_put (d ∷ es) [] zero e p h k = ap₂ (λ x n. x + n) (none_here (is_
     none_here : (b : Bool) (a : Option Plain) → b ≡ false → one_choice b a ≡ 0
     none_here true a f = absurd (cc)
     none_here false a f = refl
+
     same : (x y : Entry) → Some x ≡ Some y → is_local y.node.kind ≡ false → is_local x.node.kind ≡ false
     same x y q f = subst (λ (z : Entry). is_local z.node.kind ≡ false) (sym (into x y q)) f
       where
@@ -67,8 +68,10 @@ no_choice_put (d ∷ es) (a ∷ args) zero e p h k = ap (λ x. x + given_choices
     both : (b : Bool) → b ≡ false → one_choice b (Some p) ≡ one_choice b a
     both true f = absurd (cc)
     both false f = refl
+
     into : (x y : Entry) → Some x ≡ Some y → x ≡ y
     into x y q = cc
+
     same : (x y : Entry) → Some x ≡ Some y → is_local y.node.kind ≡ false → is_local x.node.kind ≡ false
     same x y q f = subst (λ (z : Entry). is_local z.node.kind ≡ false) (sym (into x y q)) f
 no_choice_put (d ∷ es) (a ∷ args) (suc id) e p h k = ap (λ n. one_choice (is_local d.node.kind) a + n) (no_choice_put es args id e p h k)
@@ -85,3 +88,9 @@ pub set_put : (args : List (Option Arg)) (id : ℕ) (a : Arg) → id < length ar
 set_put [] id a l = absurd (omega (arith, l))
 set_put (b ∷ args) zero a l = refl
 set_put (b ∷ args) (suc id) a l = ap (λ xs. option_map plain b ∷ xs) (set_put args id a (omega (arith, l)))
+
+pub push_put : (args : List (Option Arg)) (id : ℕ) (p : Plain) → length args ≤ id → put_at (plain_args (args ++ None ∷ [])) id p ≡ put_at (plain_args args) id p
+push_put [] zero p l = refl
+push_put [] (suc id) p l = refl
+push_put (a ∷ args) zero p l = absurd (omega (arith, l))
+push_put (a ∷ args) (suc id) p l = ap (λ xs. option_map plain a ∷ xs) (push_put args id p (omega (arith, l)))

@@ -21,6 +21,7 @@ use Rattle.fz_program.specs.Flat.{Program, FlatSolves, IsInDomain, plain_value}
 use Rattle.fz_build.specs.Build.{IsOver}
 use Rattle.fz_build.specs.History.{Made}
 use Rattle.flat_reif_rows.specs.Standing.{seen, Suits}
+use Rattle.flat_reif.specs.declared.flat.Flat.{Flat}
 
 -- the nodes, the program so far, and the argument of each id that has one
 pub record State : Type 0 where
@@ -31,6 +32,9 @@ pub record State : Type 0 where
 -- the code's arguments
 abbrev pub plain_args : List (Option Arg) → List (Option Plain)
 plain_args args = map (option_map plain) args
+
+abbrev pub state : Flat → State
+state s = record { es = s.arena; prog = s.build; args = plain_args s.args.items }
 
 -- the arguments with one more
 abbrev pub put_at : List (Option Plain) → ℕ → Plain → List (Option Plain)

@@ -1,0 +1,143 @@
+-- A variable for two branches under a condition.
+use Rattle.std.proofs.Common.{◌≡◌, ℕ, pos, ◌≤ℤ◌, Bool, true, false, List, [], ◌∷◌, length, map, take, Option, Some, None, IsSome, slice_get, refl, sym, ap, ap₂, subst, ◌∙◌, arith}
+use Rattle.std.specs.List.{AllByRecursion}
+use Rattle.std.proofs.lemmas.Int.{ints}
+use Rattle.mz_operations.specs.Views.{◌>>=◌}
+use Rattle.mz_operations.specs.Bounds as bounds
+use Rattle.mz_arena.specs.declared.node.Node.{Node}
+use Rattle.mz_arena.specs.declared.node.NodeKind.{NodeKind}
+use Rattle.mz_arena.specs.declared.node.NodeKind.TheVariants as kinds
+use Rattle.mz_arena.specs.Entries.{Entry, at, arity, children}
+use Rattle.mz_arena.specs.Values as terms
+use Rattle.mz_arena.specs.Terms.{kind_term}
+use Rattle.mz_arena.specs.Extents.{Known, whole, truth, subset, wholes, truths, subsets, empty, as_whole, as_truth, as_subset, as_single, branch_extent, extent}
+use Rattle.mz_arena.specs.InBounds.{AreInDomains}
+use Rattle.mz_arena_laws.proofs.Terms as laws
+use Rattle.mz_partial.specs.Totals.{IsTotal}
+use Rattle.fz_program.specs.declared.program.Domain.{Domain}
+use Rattle.fz_program.specs.declared.program.Domain.TheVariants.{Bool as Truths, Ints as Integers, SetOf}
+use Rattle.fz_program.specs.declared.row_name.RowName.{RowName}
+use Rattle.fz_program.specs.declared.row_name.Kind.TheVariants.{Bool as Truth}
+use Rattle.fz_program.specs.Arguments.{Plain, bool, int, set, var, nested}
+use Rattle.fz_program.specs.Values.{Values}
+use Rattle.fz_program.specs.Flat.{Variable, Program, plain_value, same_kind, kind_of_domain, is_kind, is_plain}
+use Rattle.fz_build_domains.specs.Bounds.{ends_of, variable_ends}
+use Rattle.flat_reif_rows.specs.Standing.{seen, LiesWithin, Suits, of_kind, extent_over, term_over}
+use Rattle.flat_reif_rows.specs.Elements.{AreElements, element_row}
+use Rattle.flat_reif_rows.specs.Branches.{branch_row, AreBranches, MakesBranch}
+use Rattle.flat_reif_rows.specs.Making.{HasValue}
+use Rattle.flat_reif_rows.proofs.Sorts.{whole_of, truth_of, subset_of, first_there}
+use Rattle.flat_reif.specs.States.{State, Meets, IsState, put_at}
+use Rattle.flat_reif.specs.Lists.{HasArg, IsGiven, IsReady, Gives}
+use Rattle.flat_reif.proofs.Steps.{Stands}
+use Rattle.flat_reif.proofs.Nodes.{AllHave, all_taken, all_values, total_value, term_told, extent_told}
+use Rattle.flat_reif.proofs.Kids.{Single, truth_single, if_kids, AreBranchKids}
+use Rattle.flat_reif.proofs.Given.{has_arg, known_at, gives_at}
+
+-- ---- the elements of the list of both
+
+pub record HaveElements (vs : List Variable) (name : RowName) (ps : List Plain) : Type 0 where
+  pub list : Known
+  pub elements : AreElements vs ps list
+  pub row : element_row list ≡ Some name
+
+pub branch_elements : (vs : List Variable) (y z : Plain) (e f : Known) (name : RowName) → Suits vs y e → Suits vs z f → branch_row e ≡ Some name → IsSome (as_single e >>= λ b. branch_extent b f) → HaveElements vs name (z ∷ y ∷ [])
+branch_elements vs y z None f name sy sz row h = absurd sy
+branch_elements vs y z (Some (whole a)) f name sy sz row h =
+    let o = whole_of f (first_there (as_whole f) _ h) in
+    record { list = Some (wholes (o.ends ∷ a ∷ [])); elements = (subst (Suits vs z) o.is sz, (sy, tt)); row = row }
+branch_elements vs y z (Some (truth a)) f name sy sz row h =
+    let o = truth_of f (first_there (as_truth f) _ h) in
+    record { list = Some truths; elements = ((subst (Suits vs z) o.is sz).sort, (sy.sort, tt)); row = row }
+branch_elements vs y z (Some (subset u)) f name sy sz row h =
+    let o = subset_of f (first_there (as_subset f) _ h) in
+    record { list = Some (subsets (o.upper ∷ u ∷ [])); elements = (subst (Suits vs z) o.is sz, (sy, tt)); row = row }
+branch_elements vs y z (Some (wholes es)) f name sy sz row h = absurd sy
+branch_elements vs y z (Some truths) f name sy sz row h = absurd sy
+branch_elements vs y z (Some (subsets us)) f name sy sz row h = absurd sy
+branch_elements vs y z (Some empty) f name sy sz row h = absurd sy
+
+pub branch_known : (x y z : Known) → IsSome (extent_over kinds.If (x ∷ y ∷ z ∷ [])) → IsSome (as_single y >>= λ b. branch_extent b z)
+unfolding Rattle.mz_arena.specs.Extents.if_extent
+branch_known x y z h = then_known (as_truth x) (as_single y >>= λ b. branch_extent b z) h
+  where
+    then_known : {A B : Type 0} (o : Option A) (p : Option B) → IsSome (o >>= λ a. p) → IsSome p
+    then_known None p h = absurd (cc)
+    then_known (Some a) p h = h
+
+-- ---- a truth value lies in 0..1
+
+truth_domain : (d : Domain) (v : Variable) → v.domain ≡ d → same_kind Truth (kind_of_domain d) ≡ true → variable_ends (Some v) ≡ bounds.truth
+unfolding same_kind kind_of_domain
+truth_domain Truths v e h = ap Rattle.fz_build_domains.specs.Bounds.domain_ends e
+truth_domain (Integers s) v e h = absurd (cc)
+truth_domain (SetOf s) v e h = absurd (cc)
+
+truth_variable : (o : Option Variable) → is_kind o Truth ≡ true → variable_ends o ≡ bounds.truth
+truth_variable None h = absurd (cc)
+truth_variable (Some v) h = truth_domain v.domain v refl h
+
+module _ (vs : List Variable) where
+  open_within : (p : Plain) → is_plain vs Truth p ≡ true → ends_of vs p ≡ bounds.truth → LiesWithin Truth vs p bounds.truth
+  open_within p h e = record { sort = h; interval = ap Rattle.mz_interval.specs.Ends.if_interval e ∙ sym (ap Some e); from = subst (λ (g : Rattle.mz_interval.specs.Ends.Ends). bounds.truth.0 ≤ℤ g.0) (sym e) (omega (arith, ints)); to = subst (λ (g : Rattle.mz_interval.specs.Ends.Ends). g.1 ≤ℤ bounds.truth.1) (sym e) (omega (arith, ints)) }
+
+  pub truth_within : (p : Plain) → is_plain vs Truth p ≡ true → LiesWithin Truth vs p bounds.truth
+  unfolding is_plain
+  truth_within (var k) h = open_within (var k) h (truth_variable (slice_get vs k) h)
+  truth_within (bool true) h = record { sort = h; interval = refl; from = omega (arith, ints); to = omega (arith, ints) }
+  truth_within (bool false) h = record { sort = h; interval = refl; from = omega (arith, ints); to = omega (arith, ints) }
+  truth_within (int n) h = not_truth (int n) h
+    where
+      not_truth : (p : Plain) → is_plain vs Truth (int n) ≡ true → LiesWithin Truth vs (int n) bounds.truth
+      unfolding is_plain Rattle.fz_program.specs.Flat.is_constant same_kind
+      not_truth p h = absurd (cc)
+  truth_within (set t) h = not_truth (set t) h
+    where
+      not_truth : (p : Plain) → is_plain vs Truth (set t) ≡ true → LiesWithin Truth vs (set t) bounds.truth
+      unfolding is_plain Rattle.fz_program.specs.Flat.is_constant same_kind
+      not_truth p h = absurd (cc)
+  truth_within nested h = not_truth nested h
+    where
+      not_truth : (p : Plain) → is_plain vs Truth nested ≡ true → LiesWithin Truth vs nested bounds.truth
+      unfolding is_plain Rattle.fz_program.specs.Flat.is_constant same_kind
+      not_truth p h = absurd (cc)
+
+-- ---- the node
+
+children_three : (n : Node) → n.kind ≡ kinds.If → children n ≡ n.a ∷ n.b ∷ n.c ∷ []
+children_three n h = ap (λ k. take (arity k) (n.a ∷ n.b ∷ n.c ∷ [])) h
+
+pub record HaveThree (s : State) (n : Node) : Type 0 where
+  pub a : HasArg s n.a
+  pub b : HasArg s n.b
+  pub c : HasArg s n.c
+
+module _ (s : State) (id : ℕ) (n : Node) (g : IsState s) (r : IsReady s id n) (kind : n.kind ≡ kinds.If) where
+  abbrev x : Known
+  x = extent s.es n.a
+
+  abbrev y : Known
+  y = extent s.es n.b
+
+  abbrev z : Known
+  z = extent s.es n.c
+
+  known : IsSome (extent_over kinds.If (x ∷ y ∷ z ∷ []))
+  known =
+      subst (λ is. IsSome (extent_over kinds.If (map (extent s.es) is))) (children_three n kind)
+      (subst (λ k. IsSome (extent_over k (map (extent s.es) (children n)))) kind (known_at s id n g (ap Rattle.flat_reif_rows.specs.Laws.is_own kind) r.at_id))
+
+  pub have_three : HaveThree s n
+  have_three =
+      let given = subst (AllByRecursion (IsGiven s)) (children_three n kind) r.given in
+      let kids = if_kids x y z known in
+      record { a = has_arg s g n.a given.0 (truth_single x kids.condition); b = has_arg s g n.b given.1.0 kids.yes; c = has_arg s g n.c given.1.1.0 kids.no }
+
+  module _ (name : RowName) (p q t : Plain) (hp : at s.args n.a ≡ Some p) (hq : at s.args n.b ≡ Some q) (ht : at s.args n.c ≡ Some t) (row : branch_row y ≡ Some name) where
+    condition_sort : is_plain s.prog.vars Truth p ≡ true
+    condition_sort = let o = truth_of x (if_kids x y z known).condition in (subst (Suits s.prog.vars p) o.is (g.suits n.a p hp)).sort
+
+    pub branches : AreBranches s.prog.vars name p q t
+    branches =
+        let e = branch_elements s.prog.vars q t y z name (g.suits n.b q hq) (g.suits n.c t ht) row (branch_known x y z known) in
+        record { condition = truth_within s.prog.vars p condition_sort; list = e.list; elements = e.elements; row = e.row }

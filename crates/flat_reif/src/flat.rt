@@ -1,0 +1,81 @@
+// The state of a flattening, and arguments for its nodes.
+
+ghost use Rattle.std.specs.Prelude.{◌≡◌, IfOk, Some, false};
+ghost use Rattle.mz_arena.specs.declared.node.NodeKind.TheVariants.{Add};
+ghost use Rattle.mz_arena.specs.Entries.{at};
+ghost use Rattle.fz_program.specs.Arguments.{plain};
+ghost use Rattle.flat_reif_rows.specs.NodeRows.{row_of_one, row_of_two};
+ghost use Rattle.flat_reif.specs.States.{IsState, state};
+ghost use Rattle.flat_reif.specs.Dividing.{divides};
+ghost use Rattle.flat_reif.specs.Lists.{Gives, HasArg, IsReady};
+
+use crate::table::{copied, put};
+use flat_reif_rows::{made_of_one, made_of_sum, made_of_two};
+use fz_build::Build;
+use fz_program::{Arg, RowName};
+use mz_arena::{Arena, Id, Node};
+use mz_base::Memory;
+use std::alloc::Global;
+
+/// A FlatZinc program that is being made of an arena: by ids, the arguments that stand for the nodes.
+///
+/// After `Memory` of any call what it holds isn't told.
+#[derive(Drop)]
+pub struct Flat {
+    arena: Arena,
+    build: Build,
+    args: Vec<Option<Arg>>,
+    alloc: Global,
+}
+
+impl Flat {
+    // The argument of an id that has one.
+    fn argument(&self, id: Id) -> Result<Arg, Memory>
+        requires { HasArg (state self.now) id }
+        ensures { IfOk result (λ a. at (state self.now).args id ≡ Some (plain a)) }
+    {
+        match self.args.get(id as usize) {
+            Some(Some(a)) => copied(self.alloc, a),
+            _ => unreachable!(),
+        }
+    }
+
+    // An argument for a node that has one child, by this row.
+    fn flatten_one(&mut self, id: Id, n: &Node, name: RowName) -> Result<(), Memory>
+        requires state { IsState (state self.old) }
+        requires ready { IsReady (state self.old) id n.now }
+        requires row { row_of_one n.now.kind ≡ Some name }
+        ensures { IfOk result (λ _. Gives (state self.old) (state self.new) id) }
+    {
+        let a = given!(self.argument(n.a));
+        let out = given!(made_of_one(&mut self.build, n.kind, name, a));
+        put(&mut self.args, id, out)
+    }
+
+    // An argument for a sum.
+    fn flatten_sum(&mut self, id: Id, n: &Node) -> Result<(), Memory>
+        requires state { IsState (state self.old) }
+        requires ready { IsReady (state self.old) id n.now }
+        requires kind { n.now.kind ≡ Add }
+        ensures { IfOk result (λ _. Gives (state self.old) (state self.new) id) }
+    {
+        let x = given!(self.argument(n.a));
+        let y = given!(self.argument(n.b));
+        let out = given!(made_of_sum(self.alloc, &mut self.build, x, y));
+        put(&mut self.args, id, out)
+    }
+
+    // An argument for a node that has two children and doesn't divide, by this row.
+    fn flatten_two(&mut self, id: Id, n: &Node, name: RowName) -> Result<(), Memory>
+        requires state { IsState (state self.old) }
+        requires ready { IsReady (state self.old) id n.now }
+        requires row { row_of_two n.now.kind ≡ Some name }
+        requires whole { divides n.now.kind ≡ false }
+        ensures { IfOk result (λ _. Gives (state self.old) (state self.new) id) }
+    {
+        let x = given!(self.argument(n.a));
+        let y = given!(self.argument(n.b));
+        let out = given!(made_of_two(self.alloc, &mut self.build, n.kind, name, x, y));
+        put(&mut self.args, id, out)
+    }
+}
