@@ -19,7 +19,7 @@ use Rattle.mz_partial.specs.Totals.{IsTotal}
 use Rattle.mz_interval.specs.Ends.{Ends}
 use Rattle.fz_build_domains.specs.Bounds.{ends_of}
 use Rattle.flat_reif.specs.Dividing.{divides}
-use Rattle.flat_reif.specs.States.{State, IsState, put_at}
+use Rattle.flat_reif.specs.States.{State, IsState, Flattened, put_at}
 use Rattle.flat_reif.specs.Lists.{IsNode, ListArgs, nil, cons, IsListed, HasArg, IsGiven, IsReady, Gives}
 use Rattle.flat_reif.proofs.Puts.{put_here}
 use Rattle.flat_reif.proofs.Steps.{Stands, with_arg, put_step}
@@ -102,12 +102,15 @@ module _ (s : State) (id : ℕ) (n : Node) (g : IsState s) (own : is_own n.kind 
       (subst (λ (m : Node). Makes s.prog q m.kind ps out) (sym h.node) makes)
 
 -- the step, with the code's list of arguments
-pub gives_at : (s : State) (q : Program) (id : ℕ) (out : Plain) (args : List (Option Plain)) → IsState s → Stands s q id out → args ≡ put_at s.args id out → Gives s (record { es = s.es; prog = q; args = args }) id
-gives_at s q id out args g h is = subst (λ xs. Gives s (record { es = s.es; prog = q; args = xs }) id) (sym is) (record { flattened = put_step s q id out g h; given = inl (there (at (put_at s.args id out) id) (put_here s.args id out)) })
+pub gives_flat : (s : State) (q : Program) (id : ℕ) (out : Plain) (args : List (Option Plain)) → Flattened s (with_arg s q id out) → args ≡ put_at s.args id out → Gives s (record { es = s.es; prog = q; args = args }) id
+gives_flat s q id out args h is = subst (λ xs. Gives s (record { es = s.es; prog = q; args = xs }) id) (sym is) (record { flattened = h; given = inl (there (at (put_at s.args id out) id) (put_here s.args id out)) })
   where
     there : (o : Option Plain) → o ≡ Some out → IsSome o
     there None k = absurd (cc)
     there (Some p) k = refl
+
+pub gives_at : (s : State) (q : Program) (id : ℕ) (out : Plain) (args : List (Option Plain)) → IsState s → Stands s q id out → args ≡ put_at s.args id out → Gives s (record { es = s.es; prog = q; args = args }) id
+gives_at s q id out args g h is = gives_flat s q id out args (put_step s q id out g h) is
 
 -- ---- rows of one child and of two
 

@@ -6,3 +6,6 @@ pub mod Nodes
 pub mod Kids
 pub mod Given
 pub mod Branching
+pub mod Choices
+pub mod Choosing
+pub mod Fixed

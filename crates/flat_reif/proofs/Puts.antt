@@ -94,3 +94,27 @@ push_put [] zero p l = refl
 push_put [] (suc id) p l = refl
 push_put (a ∷ args) zero p l = absurd (omega (arith, l))
 push_put (a ∷ args) (suc id) p l = ap (λ xs. option_map plain a ∷ xs) (push_put args id p (omega (arith, l)))
+
+add_one : (m : ℕ) → 1 + m ≡ suc (0 + m)
+add_one m = omega arith
+
+-- a choice that had none
+pub choice_put : (es : List Entry) (args : List (Option Plain)) (id : ℕ) (e : Entry) (p : Plain) → slice_get es id ≡ Some e → is_local e.node.kind ≡ true → at args id ≡ None → given_choices es (put_at args id p) ≡ suc (given_choices es args)
+choice_put [] args id e p h k none = absurd (cc)
+choice_put (d ∷ es) [] zero e p h k none = ap₂ (λ x n. x + n) (one_more (is_local d.node.kind) (local_here d e h k)) (no_args es)
+  where
+    local_here : (x y : Entry) → Some x ≡ Some y → is_local y.node.kind ≡ true → is_local x.node.kind ≡ true
+    local_here x y q f = cc
+    one_more : (b : Bool) → b ≡ true → one_choice b (Some p) ≡ 1
+    one_more true f = refl
+    one_more false f = absurd (cc)
+choice_put (d ∷ es) [] (suc id) e p h k none = ap₂ (λ x n. x + n) (no_choice (is_local d.node.kind)) (choice_put es [] id e p h k refl ∙ ap suc (no_args es))
+choice_put (d ∷ es) (a ∷ args) zero e p h k none = both (is_local d.node.kind) a (local_here d e h k) none
+  where
+    local_here : (x y : Entry) → Some x ≡ Some y → is_local y.node.kind ≡ true → is_local x.node.kind ≡ true
+    local_here x y q f = cc
+    both : (b : Bool) (o : Option Plain) → b ≡ true → o ≡ None → one_choice b (Some p) + given_choices es args ≡ suc (one_choice b o + given_choices es args)
+    both true None f n = add_one (given_choices es args)
+    both true (Some q) f n = absurd (cc)
+    both false o f n = absurd (cc)
+choice_put (d ∷ es) (a ∷ args) (suc id) e p h k none = ap (λ n. one_choice (is_local d.node.kind) a + n) (choice_put es args id e p h k none) ∙ omega arith

@@ -103,7 +103,7 @@ not_local kinds.Local h = absurd (cc)
 not_local kinds.SetLocal h = absurd (cc)
 not_local _ h = refl
 
-same_entry : (es : List Entry) (i j : ℕ) (d e : Entry) → j ≡ i → slice_get es i ≡ Some e → slice_get es j ≡ Some d → d ≡ e
+pub same_entry : (es : List Entry) (i j : ℕ) (d e : Entry) → j ≡ i → slice_get es i ≡ Some e → slice_get es j ≡ Some d → d ≡ e
 same_entry es i j d e p h k = let q : slice_get es j ≡ slice_get es i = ap (slice_get es) p in cc
 
 not_both : {A : Type 0} (b : Bool) → b ≡ true → b ≡ false → A

@@ -2,3 +2,4 @@ pub mod Needs
 pub mod States
 pub mod Lists
 pub mod Dividing
+pub mod Constants

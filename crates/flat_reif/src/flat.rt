@@ -1,16 +1,21 @@
 // The state of a flattening, and arguments for its nodes.
 
-ghost use Rattle.std.specs.Prelude.{◌≡◌, IfOk, Some, false};
-ghost use Rattle.mz_arena.specs.declared.node.NodeKind.TheVariants.{Add};
-ghost use Rattle.mz_arena.specs.Entries.{at};
+ghost use Rattle.std.specs.Prelude.{◌≡◌, IfOk, None, Some, false, true};
+ghost use Rattle.mz_arena.specs.declared.node.NodeKind.TheVariants.{Add, Guard, If, SetConst};
+ghost use Rattle.mz_arena.specs.Entries.{at, is_local};
+ghost use Rattle.mz_arena.specs.Extents.{extent};
+ghost use Rattle.flat_reif_rows.specs.Branches.{branch_row};
 ghost use Rattle.fz_program.specs.Arguments.{plain};
 ghost use Rattle.flat_reif_rows.specs.NodeRows.{row_of_one, row_of_two};
 ghost use Rattle.flat_reif.specs.States.{IsState, state};
+ghost use Rattle.flat_reif.specs.Constants.{is_scalar};
 ghost use Rattle.flat_reif.specs.Dividing.{divides};
-ghost use Rattle.flat_reif.specs.Lists.{Gives, HasArg, IsReady};
+ghost use Rattle.flat_reif.specs.Lists.{Gives, HasArg, IsNode, IsReady};
 
+use crate::constant::{scalar, set_argument};
+use crate::domain::free_domain;
 use crate::table::{copied, put};
-use flat_reif_rows::{made_of_one, made_of_sum, made_of_two};
+use flat_reif_rows::{made_of_branches, made_of_one, made_of_sum, made_of_two};
 use fz_build::Build;
 use fz_program::{Arg, RowName};
 use mz_arena::{Arena, Id, Node};
@@ -76,6 +81,66 @@ impl Flat {
         let x = given!(self.argument(n.a));
         let y = given!(self.argument(n.b));
         let out = given!(made_of_two(self.alloc, &mut self.build, n.kind, name, x, y));
+        put(&mut self.args, id, out)
+    }
+
+    // An argument for branches, by the row of an access to a list of such.
+    fn flatten_branches(&mut self, id: Id, n: &Node, name: RowName) -> Result<(), Memory>
+        requires state { IsState (state self.old) }
+        requires ready { IsReady (state self.old) id n.now }
+        requires kind { n.now.kind ≡ If }
+        requires row { branch_row (extent (state self.old).es n.now.b) ≡ Some name }
+        ensures { IfOk result (λ _. Gives (state self.old) (state self.new) id) }
+    {
+        let x = given!(self.argument(n.a));
+        let y = given!(self.argument(n.b));
+        let z = given!(self.argument(n.c));
+        let out = given!(made_of_branches(self.alloc, &mut self.build, name, x, y, z));
+        put(&mut self.args, id, out)
+    }
+
+    // An introduced variable for a choice.
+    fn flatten_choice(&mut self, id: Id, n: &Node) -> Result<(), Memory>
+        requires state { IsState (state self.old) }
+        requires node { IsNode (state self.old).es id n.now }
+        requires none { at (state self.old).args id ≡ None }
+        requires choice { is_local n.now.kind ≡ true }
+        ensures { IfOk result (λ _. Gives (state self.old) (state self.new) id) }
+    {
+        let domain = given!(free_domain(self.alloc, n, self.arena.set(n.a)));
+        let out = given!(self.build.introduce(domain));
+        put(&mut self.args, id, out)
+    }
+
+    // The argument of what is guarded: where the guard has a value, it is the other's.
+    fn flatten_guard(&mut self, id: Id, n: &Node) -> Result<(), Memory>
+        requires state { IsState (state self.old) }
+        requires ready { IsReady (state self.old) id n.now }
+        requires kind { n.now.kind ≡ Guard }
+        ensures { IfOk result (λ _. Gives (state self.old) (state self.new) id) }
+    {
+        let out = given!(self.argument(n.b));
+        put(&mut self.args, id, out)
+    }
+
+    // A number or a truth value, as itself.
+    fn flatten_scalar(&mut self, id: Id, n: &Node) -> Result<(), Memory>
+        requires state { IsState (state self.old) }
+        requires ready { IsReady (state self.old) id n.now }
+        requires kind { is_scalar n.now.kind ≡ true }
+        ensures { IfOk result (λ _. Gives (state self.old) (state self.new) id) }
+    {
+        put(&mut self.args, id, scalar(n.kind, n.number))
+    }
+
+    // A set, as itself.
+    fn flatten_set(&mut self, id: Id, n: &Node) -> Result<(), Memory>
+        requires state { IsState (state self.old) }
+        requires ready { IsReady (state self.old) id n.now }
+        requires kind { n.now.kind ≡ SetConst }
+        ensures { IfOk result (λ _. Gives (state self.old) (state self.new) id) }
+    {
+        let out = given!(set_argument(self.alloc, self.arena.set(id)));
         put(&mut self.args, id, out)
     }
 }

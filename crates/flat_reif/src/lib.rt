@@ -11,6 +11,8 @@ macro_rules! given {
     };
 }
 
+mod constant;
+mod domain;
 mod flat;
 mod law;
 mod needed;
