@@ -1,7 +1,8 @@
 -- Constants, and what is guarded: no variable is needed.
-use Rattle.std.proofs.Common.{◌≡◌, ℕ, zero, suc, ℤ, pos, negsuc, ◌≤ℤ◌, Bool, true, false, ◌&&◌, List, [], ◌∷◌, length, map, take, Option, Some, None, IsSome, option_map, cond, slice_get, refl, sym, ap, ap₂, subst, ◌∙◌, arith}
+use Rattle.std.proofs.Common.{◌≡◌, ℕ, zero, suc, ℤ, pos, negsuc, ◌≤ℤ◌, int_le, Bool, true, false, ◌&&◌, List, [], ◌∷◌, length, map, take, Option, Some, None, IsSome, option_map, cond, slice_get, refl, sym, ap, ap₂, subst, ◌∙◌, arith}
 use Rattle.std.specs.Ordering.{int_eq}
 use Rattle.std.specs.List.{AllByRecursion}
+use Rattle.std.proofs.lemmas.Bool.{and_parts}
 use Rattle.std.proofs.lemmas.Int.{ints}
 use Rattle.mz_value.specs.Ranges.{Range}
 use Rattle.mz_value.proofs.Comparisons.{int_le_true}
@@ -39,12 +40,26 @@ use Rattle.flat_reif.proofs.Choosing.{limit_is}
 
 -- ---- bounds of constants
 
+number_both : (e : Ends) (b : Bool) → cond (b && b) (Some e) None ≡ Some e → b ≡ true
+number_both e true h = refl
+number_both e false h = absurd (cc)
+
 number_of : (n : ℤ) → if_in_limit (n, n) ≡ Some (n, n) → is_number n ≡ true
-number_of n h = by (is_number n) h
+number_of n h = number_both (n, n) (is_number n) h
+
+bit_ends : (n : ℤ) → is_bit n ≡ true → (pos 0 ≤ℤ n) × (n ≤ℤ pos 1)
+bit_ends n h = let p = and_parts (int_le (pos 0) n) (int_le n (pos 1)) h in (above (pos 0) n p.0, above n (pos 1) p.1)
   where
-    by : (b : Bool) → cond (b && b) (Some (n, n)) None ≡ Some (n, n) → b ≡ true
-    by true h = refl
-    by false h = absurd (cc)
+    above : (a b : ℤ) → int_le a b ≡ true → a ≤ℤ b
+    above a b h = grind (arith, ints)
+
+bit_known : (n : ℤ) (b : Bool) (x : Known) → IsSome (cond b x None) → b ≡ true
+bit_known n true x h = refl
+bit_known n false x h = absurd (cc)
+
+bool_bit : (n : ℤ) → IsSome (bool_extent n) → (pos 0 ≤ℤ n) × (n ≤ℤ pos 1)
+unfolding bool_extent
+bool_bit n h = bit_ends n (bit_known n (is_bit n) _ h)
 
 int_sort : (vs : List Variable) (n : ℤ) → is_literal n ≡ true → is_plain vs Int (int n) ≡ true
 unfolding is_plain is_constant same_kind
@@ -69,15 +84,15 @@ pub bool_suits : (vs : List Variable) (n : ℤ) → IsSome (bool_extent n) → S
 unfolding bool_extent
 bool_suits vs (pos zero) h = record { sort = bool_sort vs false; interval = refl; from = omega (arith, ints); to = omega (arith, ints) }
 bool_suits vs (pos (suc zero)) h = record { sort = bool_sort vs true; interval = refl; from = omega (arith, ints); to = omega (arith, ints) }
-bool_suits vs (pos (suc (suc k))) h = absurd (cc)
-bool_suits vs (negsuc k) h = absurd (cc)
+bool_suits vs (pos (suc (suc k))) h = let b = bool_bit (pos (suc (suc k))) h in absurd (omega (arith, ints, b.1))
+bool_suits vs (negsuc k) h = let b = bool_bit (negsuc k) h in absurd (omega (arith, ints, b.0))
 
 bool_value : (n : ℤ) → IsSome (bool_extent n) → number_of_truth (int_eq n (pos 1)) ≡ n
 unfolding bool_extent
 bool_value (pos zero) h = refl
 bool_value (pos (suc zero)) h = refl
-bool_value (pos (suc (suc k))) h = absurd (cc)
-bool_value (negsuc k) h = absurd (cc)
+bool_value (pos (suc (suc k))) h = let b = bool_bit (pos (suc (suc k))) h in absurd (omega (arith, ints, b.1))
+bool_value (negsuc k) h = let b = bool_bit (negsuc k) h in absurd (omega (arith, ints, b.0))
 
 set_sort : (vs : List Variable) (u : List Range) → IsSet u → is_plain vs Set (set u) ≡ true
 unfolding is_plain is_constant same_kind

@@ -9,3 +9,4 @@ pub mod Branching
 pub mod Choices
 pub mod Choosing
 pub mod Fixed
+pub mod Gathering

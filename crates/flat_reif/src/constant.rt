@@ -5,18 +5,18 @@ ghost use Rattle.fz_program.specs.Arguments.{plain, set};
 ghost use Rattle.flat_reif.specs.Constants.{scalar};
 
 use fz_program::Arg;
-use mz_arena::NodeKind;
+use mz_arena::{Node, NodeKind};
 use mz_base::Memory;
 use mz_value::RangeSet;
 use std::alloc::Global;
 
 // A number, or a truth value where the kind is that of Booleans.
-pub(crate) fn scalar(kind: NodeKind, number: i64) -> Arg
-    ensures { plain result ≡ scalar kind number }
+pub(crate) fn scalar(n: &Node) -> Arg
+    ensures { plain result ≡ scalar n.now.kind n.now.number }
 {
-    match kind {
-        NodeKind::Bool => Arg::Bool(number == 1),
-        _ => Arg::Int(number),
+    match n.kind {
+        NodeKind::Bool => Arg::Bool(n.number == 1),
+        _ => Arg::Int(n.number),
     }
 }
 

@@ -5,12 +5,12 @@ ghost use Rattle.mz_arena.specs.declared.node.NodeKind.TheVariants.{Add, Guard, 
 ghost use Rattle.mz_arena.specs.Entries.{at, is_local};
 ghost use Rattle.mz_arena.specs.Extents.{extent};
 ghost use Rattle.flat_reif_rows.specs.Branches.{branch_row};
-ghost use Rattle.fz_program.specs.Arguments.{plain};
+ghost use Rattle.fz_program.specs.Arguments.{plain, plains};
 ghost use Rattle.flat_reif_rows.specs.NodeRows.{row_of_one, row_of_two};
 ghost use Rattle.flat_reif.specs.States.{IsState, state};
 ghost use Rattle.flat_reif.specs.Constants.{is_scalar};
 ghost use Rattle.flat_reif.specs.Dividing.{divides};
-ghost use Rattle.flat_reif.specs.Lists.{Gives, HasArg, IsNode, IsReady};
+ghost use Rattle.flat_reif.specs.Lists.{Gives, HasArg, IsListed, IsNode, IsReady, ListArgs};
 
 use crate::constant::{scalar, set_argument};
 use crate::domain::free_domain;
@@ -18,7 +18,7 @@ use crate::table::{copied, put};
 use flat_reif_rows::{made_of_branches, made_of_one, made_of_sum, made_of_two};
 use fz_build::Build;
 use fz_program::{Arg, RowName};
-use mz_arena::{Arena, Id, Node};
+use mz_arena::{Arena, Id, Node, NodeKind};
 use mz_base::Memory;
 use std::alloc::Global;
 
@@ -130,7 +130,7 @@ impl Flat {
         requires kind { is_scalar n.now.kind ≡ true }
         ensures { IfOk result (λ _. Gives (state self.old) (state self.new) id) }
     {
-        put(&mut self.args, id, scalar(n.kind, n.number))
+        put(&mut self.args, id, scalar(n))
     }
 
     // A set, as itself.
@@ -142,5 +142,26 @@ impl Flat {
     {
         let out = given!(set_argument(self.alloc, self.arena.set(id)));
         put(&mut self.args, id, out)
+    }
+
+    // The arguments of a list's elements, from the first to the last.
+    fn gather(&self, list: Id) -> Result<Vec<Arg>, Memory>
+        requires state { IsState (state self.now) }
+        requires listed { IsListed (state self.now) list }
+        ensures { IfOk result (λ all. ListArgs (state self.now).es (state self.now).args list (plains all.items)) }
+    {
+        let mut items = Vec::new(self.alloc);
+        let mut here = list;
+        'down: loop {
+            let n = self.arena.node(here);
+            match n.kind {
+                NodeKind::Cons => {
+                    let a = given!(self.argument(n.a));
+                    items.push(a)?;
+                    here = n.b;
+                }
+                _ => return Ok(items),
+            }
+        }
     }
 }
