@@ -166,9 +166,9 @@ module _ (s : State) (id : ℕ) (e : Entry) (g : IsState s) (is : slice_get s.es
       same_stands s id e p g is (ap is_free kind) none (g.places e.node.b p h)
       (subst (Suits vs p) (sym (kind_here kinds.Guard kind)) (guard_suits vs p (extent s.es e.node.a) (extent s.es e.node.b) (g.suits e.node.b p h) (there (kind_here kinds.Guard kind))))
       (λ v f d m.
-          let x = total_value s.es id v total (laws.domains_lie s.es g.arena v d) in
-          let here = term_kind v kinds.Guard kind in
-          here ∙ guard_value (term v s.es e.node.a) (term v s.es e.node.b) (some_of (guard_term (term v s.es e.node.a) (term v s.es e.node.b)) x.value (sym here ∙ x.is)) ∙ g.right v f d m e.node.b p h)
+      let x = total_value s.es id v total (laws.domains_lie s.es g.arena v d) in
+      let here = term_kind v kinds.Guard kind in
+      here ∙ guard_value (term v s.es e.node.a) (term v s.es e.node.b) (some_of (guard_term (term v s.es e.node.a) (term v s.es e.node.b)) x.value (sym here ∙ x.is)) ∙ g.right v f d m e.node.b p h)
 
 -- in the words of the node
 

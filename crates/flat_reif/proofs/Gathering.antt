@@ -52,8 +52,8 @@ module _ (s : State) where
       subst (λ (z : Entry). IsSplit s z.node) (same_entry s.es id id d e refl is at_id) (record { here = some_is (at s.args d.node.a) p here; rest = record { items = ps; args = rest } })
 
   end_entry : (id : ℕ) (ps : List Plain) → ListArgs s.es s.args id ps → ((e : Entry) → slice_get s.es id ≡ Some e → e.node.kind ≡ kinds.Cons → ⊥) → ListArgs s.es s.args id []
-  end_entry id [] (nil d at_id k) no = nil d at_id k
-  end_entry id (p ∷ ps) (cons d at_id k here rest) no = absurd (no d at_id k)
+  end_entry id [] (nil d at_id k) apart = nil d at_id k
+  end_entry id (p ∷ ps) (cons d at_id k here rest) apart = absurd (apart d at_id k)
 
   list_place : (id : ℕ) (ps : List Plain) → ListArgs s.es s.args id ps → id < length s.es
   list_place id [] (nil d at_id k) = get-below s.es id d at_id
@@ -72,8 +72,8 @@ module _ (s : State) where
 
   -- ---- the loop
 
-  pub gather_begin : (list : ℕ) → IsListed s list → GatheredSoFar s list list []
-  gather_begin list l = record { listed = l; joins = λ rest r. r }
+  pub gather_begin : (list : ℕ) (items : List Arg) → items ≡ [] → IsListed s list → GatheredSoFar s list list (plains items)
+  gather_begin list items e l = record { listed = l; joins = λ rest r. subst (λ xs. ListArgs s.es s.args list (plains xs ++ rest)) (sym e) r }
 
   pub gather_next : (list here : ℕ) (n : Node) (items new : List Arg) (a : Arg) → GatheredSoFar s list here (plains items) → IsNode s.es here n → n.kind ≡ kinds.Cons → at s.args n.a ≡ Some (plain a) → new ≡ items ++ a ∷ [] → GatheredSoFar s list n.b (plains new)
   gather_next list here n items new a so h kind is push = record {
@@ -84,9 +84,9 @@ module _ (s : State) where
   }
 
   pub gather_end : (list here : ℕ) (n : Node) (items : List Arg) → GatheredSoFar s list here (plains items) → IsNode s.es here n → (n.kind ≡ kinds.Cons → ⊥) → ListArgs s.es s.args list (plains items)
-  gather_end list here n items so h no =
+  gather_end list here n items so h apart =
       subst (ListArgs s.es s.args list) (nothing_more (plains items))
-      (so.joins [] (end_entry here so.listed.items so.listed.args (λ e is kind. no (sym (ap (λ (m : Node). m.kind) h.node) ∙ ap (λ (z : Entry). z.node.kind) (same_entry s.es here here h.entry e refl is h.is) ∙ kind))))
+      (so.joins [] (end_entry here so.listed.items so.listed.args (λ e is kind. apart (sym (ap (λ (m : Node). m.kind) h.node) ∙ ap (λ (z : Entry). z.node.kind) (same_entry s.es here here h.entry e refl is h.is) ∙ kind))))
 
   -- ---- what a list means
 

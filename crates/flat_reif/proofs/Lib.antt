@@ -10,3 +10,4 @@ pub mod Choices
 pub mod Choosing
 pub mod Fixed
 pub mod Gathering
+pub mod Extremes

@@ -105,6 +105,7 @@ choice_put (d ∷ es) [] zero e p h k none = ap₂ (λ x n. x + n) (one_more (is
   where
     local_here : (x y : Entry) → Some x ≡ Some y → is_local y.node.kind ≡ true → is_local x.node.kind ≡ true
     local_here x y q f = cc
+
     one_more : (b : Bool) → b ≡ true → one_choice b (Some p) ≡ 1
     one_more true f = refl
     one_more false f = absurd (cc)
@@ -113,6 +114,7 @@ choice_put (d ∷ es) (a ∷ args) zero e p h k none = both (is_local d.node.kin
   where
     local_here : (x y : Entry) → Some x ≡ Some y → is_local y.node.kind ≡ true → is_local x.node.kind ≡ true
     local_here x y q f = cc
+
     both : (b : Bool) (o : Option Plain) → b ≡ true → o ≡ None → one_choice b (Some p) + given_choices es args ≡ suc (one_choice b o + given_choices es args)
     both true None f n = add_one (given_choices es args)
     both true (Some q) f n = absurd (cc)

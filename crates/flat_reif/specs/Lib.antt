@@ -3,3 +3,4 @@ pub mod States
 pub mod Lists
 pub mod Dividing
 pub mod Constants
+pub mod Sides

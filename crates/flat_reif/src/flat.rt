@@ -1,6 +1,6 @@
 // The state of a flattening, and arguments for its nodes.
 
-ghost use Rattle.std.specs.Prelude.{◌≡◌, IfOk, None, Some, false, true};
+ghost use Rattle.std.specs.Prelude.{◌≡◌, ◌≢◌, [], IfOk, None, Some, false, true};
 ghost use Rattle.mz_arena.specs.declared.node.NodeKind.TheVariants.{Add, Guard, If, SetConst};
 ghost use Rattle.mz_arena.specs.Entries.{at, is_local};
 ghost use Rattle.mz_arena.specs.Extents.{extent};
@@ -10,16 +10,18 @@ ghost use Rattle.flat_reif_rows.specs.NodeRows.{row_of_one, row_of_two};
 ghost use Rattle.flat_reif.specs.States.{IsState, state};
 ghost use Rattle.flat_reif.specs.Constants.{is_scalar};
 ghost use Rattle.flat_reif.specs.Dividing.{divides};
+ghost use Rattle.flat_reif.specs.Sides.{extreme_kind};
 ghost use Rattle.flat_reif.specs.Lists.{Gives, HasArg, IsListed, IsNode, IsReady, ListArgs};
 
 use crate::constant::{scalar, set_argument};
 use crate::domain::free_domain;
 use crate::table::{copied, put};
-use flat_reif_rows::{made_of_branches, made_of_one, made_of_sum, made_of_two};
+use flat_reif_rows::{made_of_branches, made_of_extreme, made_of_one, made_of_sum, made_of_two};
 use fz_build::Build;
 use fz_program::{Arg, RowName};
 use mz_arena::{Arena, Id, Node, NodeKind};
 use mz_base::Memory;
+use mz_operations::Side;
 use std::alloc::Global;
 
 /// A FlatZinc program that is being made of an arena: by ids, the arguments that stand for the nodes.
@@ -163,5 +165,19 @@ impl Flat {
                 _ => return Ok(items),
             }
         }
+    }
+
+    // An argument for the least or the greatest of a list, from the arguments of its elements, of which
+    // there is one.
+    fn give_extreme(&mut self, id: Id, n: &Node, side: Side, items: Vec<Arg>) -> Result<(), Memory>
+        requires state { IsState (state self.old) }
+        requires ready { IsReady (state self.old) id n.now }
+        requires kind { n.now.kind ≡ extreme_kind side }
+        requires items { ListArgs (state self.old).es (state self.old).args n.now.a (plains items.items) }
+        requires some { plains items.items ≢ [] }
+        ensures { IfOk result (λ _. Gives (state self.old) (state self.new) id) }
+    {
+        let out = given!(made_of_extreme(&mut self.build, side, items));
+        put(&mut self.args, id, out)
     }
 }
