@@ -1,5 +1,5 @@
 -- A variable for two branches under a condition.
-use Rattle.std.proofs.Common.{◌≡◌, ℕ, ℤ, pos, ◌≤ℤ◌, Bool, true, false, List, [], ◌∷◌, length, map, take, Option, Some, None, IsSome, slice_get, refl, sym, ap, ap₂, subst, ◌∙◌, arith}
+use Rattle.std.proofs.Common.{◌≡◌, ℕ, ℤ, ◌≤ℤ◌, true, false, List, [], ◌∷◌, length, map, take, Option, Some, None, IsSome, slice_get, refl, sym, ap, ap₂, subst, ◌∙◌, arith}
 use Rattle.std.specs.List.{AllByRecursion}
 use Rattle.std.proofs.lemmas.Int.{ints}
 use Rattle.mz_value.specs.Ranges.{Range}
@@ -7,7 +7,6 @@ use Rattle.mz_interval.specs.Ends.{Ends, if_interval}
 use Rattle.mz_operations.specs.Views.{◌>>=◌}
 use Rattle.mz_operations.specs.Bounds as bounds
 use Rattle.mz_arena.specs.declared.node.Node.{Node}
-use Rattle.mz_arena.specs.declared.node.NodeKind.{NodeKind}
 use Rattle.mz_arena.specs.declared.node.NodeKind.TheVariants as kinds
 use Rattle.mz_arena.specs.Entries.{Entry, at, arity, children, is_free}
 use Rattle.mz_arena.specs.Values as terms
@@ -22,9 +21,9 @@ use Rattle.fz_program.specs.declared.row_name.RowName.{RowName}
 use Rattle.fz_program.specs.declared.row_name.Kind.TheVariants.{Bool as Truth}
 use Rattle.fz_program.specs.Arguments.{Plain, bool, int, set, var, nested}
 use Rattle.fz_program.specs.Values.{Values}
-use Rattle.fz_program.specs.Flat.{Variable, Program, plain_value, same_kind, kind_of_domain, is_kind, is_constant, is_plain}
+use Rattle.fz_program.specs.Flat.{Variable, Program, same_kind, kind_of_domain, is_kind, is_constant, is_plain}
 use Rattle.fz_build_domains.specs.Bounds.{ends_of, variable_ends, domain_ends}
-use Rattle.flat_reif_rows.specs.Standing.{seen, LiesWithin, Suits, of_kind, extent_over, term_over}
+use Rattle.flat_reif_rows.specs.Standing.{LiesWithin, Suits, of_kind, extent_over, term_over}
 use Rattle.flat_reif_rows.specs.Elements.{AreElements, element_row}
 use Rattle.flat_reif_rows.specs.Branches.{branch_row, AreBranches, MakesBranch}
 use Rattle.flat_reif_rows.specs.Making.{HasValue}
@@ -33,8 +32,8 @@ use Rattle.flat_reif_rows.proofs.Sorts.{whole_of, truth_of, subset_of, first_the
 use Rattle.flat_reif.specs.States.{State, Meets, IsState, put_at}
 use Rattle.flat_reif.specs.Lists.{HasArg, IsGiven, IsReady, Gives}
 use Rattle.flat_reif.proofs.Steps.{Stands}
-use Rattle.flat_reif.proofs.Nodes.{AllHave, all_taken, all_values, total_value, term_told, extent_told}
-use Rattle.flat_reif.proofs.Kids.{Single, truth_single, if_kids, AreBranchKids}
+use Rattle.flat_reif.proofs.Nodes.{AllHave, all_taken, total_value, term_told, extent_told}
+use Rattle.flat_reif.proofs.Kids.{truth_single, if_kids}
 use Rattle.flat_reif.proofs.Given.{has_arg, known_at, gives_at}
 
 -- ---- the elements of the list of both

@@ -1,10 +1,8 @@
 -- A variable for a variable or a choice of the arena.
-use Rattle.std.proofs.Common.{◌≡◌, ◌≢◌, ℕ, zero, suc, ◌<◌, ◌≤◌, ℤ, pos, ◌≤ℤ◌, Bool, true, false, List, [], ◌∷◌, ◌++◌, length, take, Option, Some, None, IsSome, slice_get, ◌⊎◌, inl, inr, refl, sym, ap, subst, ◌∙◌, arith}
-use Rattle.mz_value.specs.Ranges.{Range, Has}
-use Rattle.mz_arena.specs.declared.node.Node.{Node}
+use Rattle.std.proofs.Common.{◌≡◌, ℕ, ◌≤◌, true, List, [], ◌∷◌, ◌++◌, length, take, Some, None, slice_get, inl, inr, refl, sym, ap, subst, ◌∙◌, arith}
 use Rattle.mz_arena.specs.declared.node.NodeKind.{NodeKind}
 use Rattle.mz_arena.specs.declared.node.NodeKind.TheVariants as kinds
-use Rattle.mz_arena.specs.Entries.{Entry, at, is_free, children}
+use Rattle.mz_arena.specs.Entries.{Entry, at, is_free}
 use Rattle.mz_arena.specs.Values as terms
 use Rattle.mz_arena.specs.Values.{Term}
 use Rattle.mz_arena.specs.Terms.{term, kind_term}
@@ -12,7 +10,7 @@ use Rattle.mz_arena.specs.Extents.{extent}
 use Rattle.mz_arena.specs.InBounds.{AreInDomains}
 use Rattle.fz_program.specs.Arguments.{Plain, one}
 use Rattle.fz_program.specs.Values.{Value, Values}
-use Rattle.fz_program.specs.Flat.{Program, FlatSolves, IsInDomain, plain_value}
+use Rattle.fz_program.specs.Flat.{Program, IsInDomain, plain_value}
 use Rattle.fz_build.specs.Build.{IsOver}
 use Rattle.fz_build.specs.Growth.{Declares}
 use Rattle.fz_build.specs.History.{Made}

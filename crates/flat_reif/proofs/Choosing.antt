@@ -1,5 +1,5 @@
 -- The domains of variables and choices, and their bounds.
-use Rattle.std.proofs.Common.{◌≡◌, ◌≢◌, ℕ, zero, suc, ◌+◌, ℤ, pos, ◌≤ℤ◌, int_le, Bool, true, false, ◌&&◌, List, [], ◌∷◌, map, take, Option, Some, None, IsSome, option_map, cond, slice_get, ◌⊎◌, inl, inr, refl, sym, ap, ap₂, subst, ◌∙◌, arith}
+use Rattle.std.proofs.Common.{◌≡◌, ℕ, zero, suc, ℤ, pos, ◌≤ℤ◌, Bool, true, false, ◌&&◌, List, [], ◌∷◌, map, take, Option, Some, None, IsSome, option_map, cond, slice_get, inl, inr, refl, sym, ap, ap₂, subst, ◌∙◌, arith}
 use Rattle.std.specs.Ordering.{int_eq}
 use Rattle.std.proofs.lemmas.Int.{ints}
 use Rattle.mz_value.specs.Ranges.{Range, Has, AreCanonical}
@@ -13,12 +13,12 @@ use Rattle.mz_operations.proofs.SetBounds.{hull_of_set-has}
 use Rattle.mz_arena.specs.declared.node.Node.{Node}
 use Rattle.mz_arena.specs.declared.node.NodeKind.{NodeKind}
 use Rattle.mz_arena.specs.declared.node.NodeKind.TheVariants as kinds
-use Rattle.mz_arena.specs.Entries.{Entry, at, arity, children, is_free, is_local}
+use Rattle.mz_arena.specs.Entries.{Entry, at, arity, is_free, is_local}
 use Rattle.mz_arena.specs.Values as terms
 use Rattle.mz_arena.specs.Terms.{own_id}
 use Rattle.mz_arena.specs.Extents.{Known, whole, truth, subset, extent, kind_extent, in_limit, both_truths, marked, variable_extent, set_variable_extent}
 use Rattle.mz_arena.specs.Arenas.{IsSetConst, both_truth_values, has_mark}
-use Rattle.mz_arena.specs.InBounds.{AreInDomains, IsOfDomain}
+use Rattle.mz_arena.specs.InBounds.{IsOfDomain}
 use Rattle.mz_arena.proofs.Growing.{const_extent}
 use Rattle.mz_arena.proofs.Kept.{variable_extent_of}
 use Rattle.fz_program.specs.declared.program.Domain.{Domain}
@@ -26,16 +26,16 @@ use Rattle.fz_program.specs.declared.program.Domain.TheVariants.{Bool as Truths,
 use Rattle.fz_program.specs.declared.row_name.Kind.TheVariants.{Int, Bool as Truth, Set}
 use Rattle.fz_program.specs.Arguments.{Plain, var, one, array, Argument, plain_of}
 use Rattle.fz_program.specs.Values as values
-use Rattle.fz_program.specs.Flat.{Variable, Program, IsInDomain, same_kind, kind_of_domain, is_plain}
+use Rattle.fz_program.specs.Flat.{Variable, Program, IsInDomain, same_kind, kind_of_domain}
 use Rattle.fz_build_domains.specs.Bounds.{ends_of, upper_of}
 use Rattle.fz_build.specs.Build.{with_variable, introduced_variable}
 use Rattle.fz_build.specs.Growth.{HasDomain, Declares}
 use Rattle.fz_build.specs.History.{Made, adds_choice}
 use Rattle.flat_reif_rows.specs.Standing.{LiesWithin, Suits}
 use Rattle.flat_reif_rows.proofs.TruthRows.{domain_kind, ends_out, upper_out}
-use Rattle.flat_reif.specs.States.{State, IsState, put_at, given_choices, one_choice, own_value, written, number_domain, free_domain}
+use Rattle.flat_reif.specs.States.{State, IsState, put_at, given_choices, own_value, written, number_domain, free_domain}
 use Rattle.flat_reif.specs.Lists.{IsNode, Gives}
-use Rattle.flat_reif.proofs.Puts.{put_here, choice_put}
+use Rattle.flat_reif.proofs.Puts.{choice_put}
 use Rattle.flat_reif.proofs.Nodes.{extent_here}
 use Rattle.flat_reif.proofs.Given.{gives_flat}
 use Rattle.flat_reif.proofs.Choices.{IsOwn, own_step}

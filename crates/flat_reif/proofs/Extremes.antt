@@ -1,5 +1,5 @@
 -- The least and the greatest of lists.
-use Rattle.std.proofs.Common.{◌≡◌, ◌≢◌, ℕ, pos, Bool, true, false, List, [], ◌∷◌, length, map, take, Option, Some, None, IsSome, option_map, slice_get, if◌then◌else◌, inl, inr, refl, sym, ap, ap₂, subst, ◌∙◌}
+use Rattle.std.proofs.Common.{◌≡◌, ◌≢◌, ℕ, Bool, true, false, List, [], ◌∷◌, length, map, take, Option, Some, None, IsSome, option_map, slice_get, if◌then◌else◌, inl, inr, refl, sym, ap, ap₂, subst, ◌∙◌}
 use Rattle.std.specs.List.{AllByRecursion}
 use Rattle.mz_value.specs.Ranges.{Range}
 use Rattle.mz_interval.specs.Ends.{Ends}
@@ -15,20 +15,16 @@ use Rattle.mz_arena.specs.Values as terms
 use Rattle.mz_arena.specs.Values.{Term, extreme_term}
 use Rattle.mz_arena.specs.Terms.{term, kind_term}
 use Rattle.mz_arena.specs.Extents.{Known, whole, truth, subset, wholes, truths, subsets, empty, as_single, as_wholes, is_truths, as_subsets, before_extent, cons_extent, extreme_extent, extent, kind_extent}
-use Rattle.mz_arena.specs.InBounds.{AreInDomains}
-use Rattle.mz_arena_laws.proofs.Terms as laws
-use Rattle.mz_partial.specs.Totals.{IsTotal}
 use Rattle.fz_program.specs.Arguments.{Plain}
-use Rattle.fz_program.specs.Values.{Values}
-use Rattle.fz_program.specs.Flat.{Program, plain_value}
-use Rattle.flat_reif_rows.specs.Standing.{seen, Suits}
-use Rattle.flat_reif_rows.specs.Elements.{AllWhole, list_term}
+use Rattle.fz_program.specs.Flat.{Program}
+use Rattle.flat_reif_rows.specs.Standing.{Suits}
+use Rattle.flat_reif_rows.specs.Elements.{AllWhole}
 use Rattle.flat_reif_rows.specs.Extremes.{Ever, IsExtreme, AreCompared}
-use Rattle.flat_reif.specs.States.{State, Meets, IsState, put_at}
-use Rattle.flat_reif.specs.Lists.{IsNode, ListArgs, nil, cons, IsListed, HasArg, IsGiven, IsReady, Gives}
+use Rattle.flat_reif.specs.States.{State, IsState, put_at}
+use Rattle.flat_reif.specs.Lists.{IsNode, ListArgs, nil, cons, IsListed, IsGiven, IsReady, Gives}
 use Rattle.flat_reif.specs.Sides.{extreme_kind}
 use Rattle.flat_reif.proofs.Steps.{Stands}
-use Rattle.flat_reif.proofs.Nodes.{term_here, extent_here, total_value}
+use Rattle.flat_reif.proofs.Nodes.{term_here, extent_here}
 use Rattle.flat_reif.proofs.Given.{gives_at}
 use Rattle.flat_reif.proofs.Gathering.{list_value, list_taken}
 

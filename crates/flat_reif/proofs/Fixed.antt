@@ -1,13 +1,13 @@
 -- Constants, and what is guarded: no variable is needed.
-use Rattle.std.proofs.Common.{◌≡◌, ℕ, zero, suc, ℤ, pos, negsuc, ◌≤ℤ◌, int_le, Bool, true, false, ◌&&◌, List, [], ◌∷◌, length, map, take, Option, Some, None, IsSome, option_map, cond, slice_get, refl, sym, ap, ap₂, subst, ◌∙◌, arith}
+use Rattle.std.proofs.Common.{◌≡◌, ℕ, zero, suc, ℤ, pos, negsuc, ◌≤ℤ◌, int_le, Bool, true, false, ◌&&◌, List, [], ◌∷◌, map, take, Option, Some, None, IsSome, option_map, cond, slice_get, refl, sym, ap, subst, ◌∙◌, arith}
 use Rattle.std.specs.Ordering.{int_eq}
 use Rattle.std.specs.List.{AllByRecursion}
 use Rattle.std.proofs.lemmas.Bool.{and_parts}
 use Rattle.std.proofs.lemmas.Int.{ints}
 use Rattle.mz_value.specs.Ranges.{Range}
 use Rattle.mz_value.proofs.Comparisons.{int_le_true}
-use Rattle.mz_interval.specs.Ends.{Ends, is_number, if_in_limit, if_interval}
-use Rattle.mz_operations.specs.Laws.{IsSet, IsPart}
+use Rattle.mz_interval.specs.Ends.{Ends, is_number, if_in_limit}
+use Rattle.mz_operations.specs.Laws.{IsSet}
 use Rattle.mz_operations.specs.Views.{◌>>=◌}
 use Rattle.mz_arena.specs.declared.node.Node.{Node}
 use Rattle.mz_arena.specs.declared.node.NodeKind.{NodeKind}
@@ -18,21 +18,18 @@ use Rattle.mz_arena.specs.Values.{Term, guard_term, is_true}
 use Rattle.mz_arena.specs.Terms.{term, kind_term}
 use Rattle.mz_arena.specs.Extents.{Known, whole, truth, subset, wholes, truths, subsets, empty, as_truth, as_single, extent, kind_extent, in_limit, is_bit, bool_extent, guard_extent, guarded_extent}
 use Rattle.mz_arena.specs.Arenas.{IsSetConst}
-use Rattle.mz_arena.specs.InBounds.{AreInDomains}
 use Rattle.mz_arena_laws.proofs.Terms as laws
 use Rattle.mz_partial.specs.Totals.{IsTotal}
 use Rattle.fz_program.specs.declared.row_name.Kind.TheVariants.{Int, Bool as Truth, Set}
 use Rattle.fz_program.specs.Arguments.{Plain, bool, int, set}
-use Rattle.fz_program.specs.Values as values
-use Rattle.fz_program.specs.Values.{Values}
-use Rattle.fz_program.specs.Flat.{Variable, Program, number_of_truth, plain_value, same_kind, is_literal, is_set, is_constant, is_plain}
+use Rattle.fz_program.specs.Flat.{Variable, number_of_truth, same_kind, is_literal, is_constant, is_plain}
 use Rattle.fz_program.proofs.Sets.{set_is}
-use Rattle.flat_reif_rows.specs.Standing.{seen, LiesWithin, Suits}
-use Rattle.flat_reif.specs.States.{State, Meets, IsState, put_at}
-use Rattle.flat_reif.specs.Lists.{IsNode, HasArg, IsGiven, IsReady, Gives}
+use Rattle.flat_reif_rows.specs.Standing.{LiesWithin, Suits}
+use Rattle.flat_reif.specs.States.{State, IsState, put_at}
+use Rattle.flat_reif.specs.Lists.{HasArg, IsGiven, IsReady, Gives}
 use Rattle.flat_reif.specs.Constants.{is_scalar, scalar}
 use Rattle.flat_reif.proofs.Steps.{Stands}
-use Rattle.flat_reif.proofs.Nodes.{term_here, extent_here, total_value, HasVal, same_stands}
+use Rattle.flat_reif.proofs.Nodes.{term_here, extent_here, total_value, same_stands}
 use Rattle.flat_reif.proofs.Kids.{guard_kids}
 use Rattle.flat_reif.proofs.Given.{has_arg, gives_at}
 use Rattle.flat_reif.proofs.Branching.{truth_within}

@@ -1,5 +1,5 @@
 -- The arguments of a list's elements, from the first to the last.
-use Rattle.std.proofs.Common.{◌≡◌, ℕ, zero, suc, ◌<◌, ◌≤◌, Bool, true, false, List, [], ◌∷◌, ◌++◌, length, map, take, Option, Some, None, IsSome, option_map, slice_get, refl, sym, ap, ap₂, subst, ◌∙◌, arith}
+use Rattle.std.proofs.Common.{◌≡◌, ℕ, ◌<◌, List, [], ◌∷◌, ◌++◌, length, map, take, Option, Some, None, IsSome, option_map, slice_get, refl, sym, ap, ap₂, subst, ◌∙◌}
 use Rattle.mz_arena.specs.declared.node.Node.{Node}
 use Rattle.mz_arena.specs.declared.node.NodeKind.{NodeKind}
 use Rattle.mz_arena.specs.declared.node.NodeKind.TheVariants as kinds
@@ -12,8 +12,7 @@ use Rattle.mz_arena.proofs.Folds.{get-below}
 use Rattle.fz_program.specs.declared.program.Arg.{Arg}
 use Rattle.fz_program.specs.Arguments.{Plain, plain, plains}
 use Rattle.fz_program.specs.Values.{Values}
-use Rattle.fz_program.specs.Flat.{plain_value}
-use Rattle.fz_build_domains.proofs.Copies.{pushed_plains, plains_are}
+use Rattle.fz_build_domains.proofs.Copies.{pushed_plains}
 use Rattle.flat_reif_rows.specs.Standing.{seen}
 use Rattle.flat_reif_rows.specs.Elements.{list_term}
 use Rattle.flat_reif_rows.proofs.Chains.{plain_taken, all_in_turn}

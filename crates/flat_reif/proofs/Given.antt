@@ -1,5 +1,5 @@
 -- Which nodes have an argument of their own.
-use Rattle.std.proofs.Common.{◌≡◌, ℕ, Bool, true, false, List, [], ◌∷◌, map, take, Option, Some, None, IsSome, slice_get, option_map, inl, inr, if◌then◌else◌, refl, sym, ap, subst, ◌∙◌}
+use Rattle.std.proofs.Common.{◌≡◌, ℕ, Bool, true, false, List, [], ◌∷◌, map, take, Option, Some, None, IsSome, slice_get, inl, inr, if◌then◌else◌, refl, sym, ap, subst, ◌∙◌}
 use Rattle.std.specs.Prelude.{Result, Ok, Err, IfOk, OnOk}
 use Rattle.std.specs.List.{AllByRecursion}
 use Rattle.mz_operations.specs.Views.{◌>>=◌}
@@ -7,7 +7,7 @@ use Rattle.mz_arena.specs.declared.node.Node.{Node}
 use Rattle.mz_arena.specs.declared.node.NodeKind.{NodeKind}
 use Rattle.mz_arena.specs.declared.node.NodeKind.TheVariants as kinds
 use Rattle.mz_arena.specs.Entries.{Entry, at, arity, children}
-use Rattle.mz_arena.specs.Extents.{Known, whole, truth, subset, wholes, truths, subsets, empty, as_whole, as_single, as_wholes, as_subsets, is_truths, before_extent, cons_extent, extent, kind_extent}
+use Rattle.mz_arena.specs.Extents.{Known, whole, truth, subset, wholes, truths, subsets, empty, as_single, as_wholes, as_subsets, is_truths, before_extent, cons_extent, extent, kind_extent}
 use Rattle.fz_program.specs.declared.row_name.RowName.{RowName}
 use Rattle.fz_program.specs.Arguments.{Plain}
 use Rattle.fz_program.specs.Flat.{Program, Variable}
@@ -15,12 +15,11 @@ use Rattle.flat_reif_rows.specs.Standing.{extent_over}
 use Rattle.flat_reif_rows.specs.NodeRows.{row_of_one, row_of_two, HasDivisor}
 use Rattle.flat_reif_rows.specs.Laws.{is_own}
 use Rattle.flat_reif_rows.specs.Making.{AreOperands, Makes}
-use Rattle.mz_partial.specs.Totals.{IsTotal}
 use Rattle.mz_interval.specs.Ends.{Ends}
 use Rattle.fz_build_domains.specs.Bounds.{ends_of}
 use Rattle.flat_reif.specs.Dividing.{divides}
 use Rattle.flat_reif.specs.States.{State, IsState, Flattened, put_at}
-use Rattle.flat_reif.specs.Lists.{IsNode, ListArgs, nil, cons, IsListed, HasArg, IsGiven, IsReady, Gives}
+use Rattle.flat_reif.specs.Lists.{IsNode, ListArgs, nil, cons, HasArg, IsGiven, IsReady, Gives}
 use Rattle.flat_reif.proofs.Puts.{put_here}
 use Rattle.flat_reif.proofs.Steps.{Stands, with_arg, put_step}
 use Rattle.flat_reif.proofs.Nodes.{extent_here, AllHave, known_told, operands, made_stands}

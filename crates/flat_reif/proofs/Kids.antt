@@ -1,5 +1,5 @@
 -- The children of a node that is no list are no lists, but that of an extreme and the second of an access.
-use Rattle.std.proofs.Common.{◌≡◌, List, [], ◌∷◌, Option, Some, None, IsSome, option_map, refl, sym, subst}
+use Rattle.std.proofs.Common.{◌≡◌, [], ◌∷◌, Option, Some, None, IsSome, option_map, refl, sym, subst}
 use Rattle.mz_operations.specs.declared.row.Arith.{Arith}
 use Rattle.mz_operations.specs.declared.row.SetOp.{SetOp}
 use Rattle.mz_operations.specs.declared.row.Arith.TheVariants as arith_row

@@ -1,6 +1,5 @@
 -- A node over the arguments of its children.
-use Rattle.std.proofs.Common.{◌≡◌, ℕ, zero, suc, ◌<◌, ◌≤◌, Bool, true, false, List, [], ◌∷◌, length, map, take, Option, Some, None, IsSome, slice_get, refl, sym, ap, ap₂, subst, ◌∙◌, arith}
-use Rattle.mz_arena.specs.declared.node.Node.{Node}
+use Rattle.std.proofs.Common.{◌≡◌, ℕ, false, List, [], ◌∷◌, length, map, take, Some, None, IsSome, slice_get, refl, sym, ap, ap₂, subst, ◌∙◌, arith}
 use Rattle.mz_arena.specs.declared.node.NodeKind.{NodeKind}
 use Rattle.mz_arena.specs.declared.node.NodeKind.TheVariants as kinds
 use Rattle.mz_arena.specs.Entries.{Entry, at, is_free, children}
@@ -26,7 +25,6 @@ use Rattle.flat_reif_rows.specs.Laws.{is_own}
 use Rattle.flat_reif_rows.proofs.Chains.{plain_taken}
 use Rattle.flat_reif_rows.proofs.ToldByKind.{by_kind}
 use Rattle.flat_reif.specs.States.{State, Meets, IsState}
-use Rattle.flat_reif.specs.Lists.{IsNode}
 use Rattle.flat_reif.proofs.Longer.{whole_taken, nothing_more}
 use Rattle.flat_reif.proofs.Steps.{Stands}
 

@@ -1,5 +1,5 @@
 -- A step of the flattening: one argument more.
-use Rattle.std.proofs.Common.{◌≡◌, ℕ, zero, suc, ◌<◌, ◌≤◌, pos, Bool, true, false, List, [], ◌∷◌, ◌++◌, length, take, Option, Some, None, slice_get, ◌⊎◌, inl, inr, refl, sym, ap, subst, ◌∙◌, arith}
+use Rattle.std.proofs.Common.{◌≡◌, ℕ, ◌≤◌, pos, Bool, true, false, List, [], ◌++◌, length, take, Some, None, slice_get, inl, inr, refl, sym, ap, subst, ◌∙◌, arith}
 use Rattle.mz_arena.specs.declared.node.NodeKind.{NodeKind}
 use Rattle.mz_arena.specs.declared.node.NodeKind.TheVariants as kinds
 use Rattle.mz_arena.specs.Entries.{Entry, at, is_free, is_local}
@@ -7,7 +7,7 @@ use Rattle.mz_arena.specs.Values as terms
 use Rattle.mz_arena.specs.Terms.{term}
 use Rattle.mz_arena.specs.Extents.{extent}
 use Rattle.mz_arena.specs.InBounds.{AreInDomains}
-use Rattle.fz_program.specs.Arguments.{Plain, bool, int, set, var, nested}
+use Rattle.fz_program.specs.Arguments.{Plain}
 use Rattle.fz_program.specs.Values.{Values}
 use Rattle.fz_program.specs.Flat.{Program, FlatSolves, plain_value}
 use Rattle.fz_build.specs.Build.{IsOver}
@@ -18,9 +18,9 @@ use Rattle.flat_reif_rows.specs.Standing.{seen, Suits}
 use Rattle.flat_reif_rows.specs.Making.{GoesOnMade}
 use Rattle.flat_reif_rows.proofs.Chains.{plain_taken, over_more, all_in_turn}
 use Rattle.flat_reif_rows.proofs.Keeping.{suits_kept}
-use Rattle.flat_reif.specs.States.{State, put_at, given_choices, own_value, Meets, IsState, MeetsOn, Spreads, Always, Flattened}
+use Rattle.flat_reif.specs.States.{State, put_at, given_choices, Meets, IsState, MeetsOn, Spreads, Always, Flattened}
 use Rattle.flat_reif.proofs.Longer.{nothing_more, whole_taken, fewer_taken, plain_before}
-use Rattle.flat_reif.proofs.Puts.{put_here, put_keeps, put_was, no_choice_put}
+use Rattle.flat_reif.proofs.Puts.{put_keeps, put_was, no_choice_put}
 
 abbrev pub with_arg : State → Program → ℕ → Plain → State
 with_arg s q id p = record { es = s.es; prog = q; args = put_at s.args id p }

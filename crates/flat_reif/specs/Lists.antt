@@ -1,5 +1,5 @@
 -- Nodes that have their arguments: a list has those of its elements.
-use Rattle.std.specs.Prelude.{◌≡◌, ◌⊎◌, ℕ, ◌<◌, List, [], ◌∷◌, true, Option, Some, None, IsSome as IsThere, slice_get, Bool, false}
+use Rattle.std.specs.Prelude.{◌≡◌, ◌⊎◌, ℕ, List, [], ◌∷◌, true, Option, Some, None, IsSome as IsThere, slice_get, Bool, false}
 use Rattle.std.specs.List.{AllByRecursion}
 use Rattle.mz_arena.specs.declared.node.Node.{Node}
 use Rattle.mz_arena.specs.declared.node.NodeKind.{NodeKind}

@@ -1,4 +1,3 @@
-use Rattle.flat_reif.proofs.Given.{two_given}
 use Rattle.flat_reif.proofs.Steps.{flattened_twice}
 use Rattle.flat_reif.proofs.law.steps_follow_each_other.Goals as goal
 
