@@ -22,7 +22,7 @@ use Rattle.flat_reif_rows.specs.Elements.{AllWhole}
 use Rattle.flat_reif_rows.specs.Extremes.{Ever, IsExtreme, AreCompared}
 use Rattle.flat_reif.specs.States.{State, IsState, put_at}
 use Rattle.flat_reif.specs.Lists.{IsNode, ListArgs, nil, cons, IsListed, IsGiven, IsReady, Gives}
-use Rattle.flat_reif.specs.Sides.{extreme_kind}
+use Rattle.flat_reif.specs.NodeKinds.{extreme_kind}
 use Rattle.flat_reif.proofs.Steps.{Stands}
 use Rattle.flat_reif.proofs.Nodes.{term_here, extent_here}
 use Rattle.flat_reif.proofs.Given.{gives_at}

@@ -27,7 +27,7 @@ use Rattle.fz_program.proofs.Sets.{set_is}
 use Rattle.flat_reif_rows.specs.Standing.{LiesWithin, Suits}
 use Rattle.flat_reif.specs.States.{State, IsState, put_at}
 use Rattle.flat_reif.specs.Lists.{HasArg, IsGiven, IsReady, Gives}
-use Rattle.flat_reif.specs.Constants.{is_scalar, scalar}
+use Rattle.flat_reif.specs.NodeKinds.{is_scalar, scalar}
 use Rattle.flat_reif.proofs.Steps.{Stands}
 use Rattle.flat_reif.proofs.Nodes.{term_here, extent_here, total_value, same_stands}
 use Rattle.flat_reif.proofs.Kids.{guard_kids}

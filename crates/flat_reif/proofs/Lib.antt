@@ -11,3 +11,4 @@ pub mod Choosing
 pub mod Fixed
 pub mod Gathering
 pub mod Extremes
+pub mod Accesses

@@ -1,6 +1,4 @@
 pub mod Needs
 pub mod States
 pub mod Lists
-pub mod Dividing
-pub mod Constants
-pub mod Sides
+pub mod NodeKinds

@@ -2,7 +2,7 @@
 
 ghost use Rattle.std.specs.Prelude.{◌≡◌, IfOk};
 ghost use Rattle.fz_program.specs.Arguments.{plain, set};
-ghost use Rattle.flat_reif.specs.Constants.{scalar};
+ghost use Rattle.flat_reif.specs.NodeKinds.{scalar};
 
 use fz_program::Arg;
 use mz_arena::{Node, NodeKind};

@@ -1,22 +1,24 @@
 // The state of a flattening, and arguments for its nodes.
 
-ghost use Rattle.std.specs.Prelude.{◌≡◌, ◌≢◌, [], IfOk, None, Some, false, true};
-ghost use Rattle.mz_arena.specs.declared.node.NodeKind.TheVariants.{Add, Guard, If, SetConst};
+ghost use Rattle.std.specs.Prelude.{◌≡◌, ◌≢◌, [], IfOk, None, Some, false, length, true};
+ghost use Rattle.mz_arena.specs.declared.node.NodeKind.TheVariants.{Access, Add, Guard, If, SetConst};
 ghost use Rattle.mz_arena.specs.Entries.{at, is_local};
 ghost use Rattle.mz_arena.specs.Extents.{extent};
+ghost use Rattle.fz_build_domains.specs.Bounds.{ends_of};
 ghost use Rattle.flat_reif_rows.specs.Branches.{branch_row};
+ghost use Rattle.flat_reif_rows.specs.Elements.{Reaches, element_row};
 ghost use Rattle.fz_program.specs.Arguments.{plain, plains};
 ghost use Rattle.flat_reif_rows.specs.NodeRows.{row_of_one, row_of_two};
 ghost use Rattle.flat_reif.specs.States.{IsState, state};
-ghost use Rattle.flat_reif.specs.Constants.{is_scalar};
-ghost use Rattle.flat_reif.specs.Dividing.{divides};
-ghost use Rattle.flat_reif.specs.Sides.{extreme_kind};
+ghost use Rattle.flat_reif.specs.NodeKinds.{divides, extreme_kind, is_scalar};
 ghost use Rattle.flat_reif.specs.Lists.{Gives, HasArg, IsListed, IsNode, IsReady, ListArgs};
 
 use crate::constant::{scalar, set_argument};
 use crate::domain::free_domain;
 use crate::table::{copied, put};
-use flat_reif_rows::{made_of_branches, made_of_extreme, made_of_one, made_of_sum, made_of_two};
+use flat_reif_rows::{
+    made_of_access, made_of_branches, made_of_extreme, made_of_one, made_of_sum, made_of_two,
+};
 use fz_build::Build;
 use fz_program::{Arg, RowName};
 use mz_arena::{Arena, Id, Node, NodeKind};
@@ -178,6 +180,29 @@ impl Flat {
         ensures { IfOk result (λ _. Gives (state self.old) (state self.new) id) }
     {
         let out = given!(made_of_extreme(&mut self.build, side, items));
+        put(&mut self.args, id, out)
+    }
+
+    // An argument for an access, from the arguments of its index, which may be a place, and of the
+    // elements of its list.
+    fn give_access(
+        &mut self,
+        id: Id,
+        n: &Node,
+        name: RowName,
+        index: Arg,
+        items: Vec<Arg>,
+    ) -> Result<(), Memory>
+        requires state { IsState (state self.old) }
+        requires ready { IsReady (state self.old) id n.now }
+        requires kind { n.now.kind ≡ Access }
+        requires index { at (state self.old).args n.now.a ≡ Some (plain index) }
+        requires items { ListArgs (state self.old).es (state self.old).args n.now.b (plains items.items) }
+        requires row { element_row (extent (state self.old).es n.now.b) ≡ Some name }
+        requires reaches { Reaches (ends_of (state self.old).prog.vars (plain index)) (length (plains items.items)) }
+        ensures { IfOk result (λ _. Gives (state self.old) (state self.new) id) }
+    {
+        let out = given!(made_of_access(self.alloc, &mut self.build, name, index, items));
         put(&mut self.args, id, out)
     }
 }
