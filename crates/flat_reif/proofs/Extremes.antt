@@ -1,5 +1,6 @@
 -- The least and the greatest of lists.
-use Rattle.std.proofs.Common.{◌≡◌, ◌≢◌, ℕ, Bool, true, false, List, [], ◌∷◌, length, map, take, Option, Some, None, IsSome, option_map, slice_get, if◌then◌else◌, inl, inr, refl, sym, ap, ap₂, subst, ◌∙◌}
+use Rattle.std.proofs.Common.{◌≡◌, ◌≢◌, ℕ, Bool, true, false, List, [], ◌∷◌, length, map, take, Option, Some, None, IsSome, option_map, slice_get, if◌then◌else◌, inl, inr, refl, sym, ap, ap₂, subst, ◌∙◌, pos, nat_eq, arith}
+use Rattle.std.proofs.lemmas.Bool.Decides.{nat_tests}
 use Rattle.std.specs.List.{AllByRecursion}
 use Rattle.mz_value.specs.Ranges.{Range}
 use Rattle.mz_interval.specs.Ends.{Ends}
@@ -15,8 +16,10 @@ use Rattle.mz_arena.specs.Values as terms
 use Rattle.mz_arena.specs.Values.{Term, extreme_term}
 use Rattle.mz_arena.specs.Terms.{term, kind_term}
 use Rattle.mz_arena.specs.Extents.{Known, whole, truth, subset, wholes, truths, subsets, empty, as_single, as_wholes, is_truths, as_subsets, before_extent, cons_extent, extreme_extent, extent, kind_extent}
-use Rattle.fz_program.specs.Arguments.{Plain}
-use Rattle.fz_program.specs.Flat.{Program}
+use Rattle.mz_partial.specs.Totals.{IsTotal}
+use Rattle.fz_program.specs.declared.program.Arg.{Arg}
+use Rattle.fz_program.specs.Arguments.{Plain, int, plains}
+use Rattle.fz_program.specs.Flat.{Variable, Program}
 use Rattle.flat_reif_rows.specs.Standing.{Suits}
 use Rattle.flat_reif_rows.specs.Elements.{AllWhole}
 use Rattle.flat_reif_rows.specs.Extremes.{Ever, IsExtreme, AreCompared}
@@ -26,6 +29,9 @@ use Rattle.flat_reif.specs.NodeKinds.{extreme_kind}
 use Rattle.flat_reif.proofs.Steps.{Stands}
 use Rattle.flat_reif.proofs.Nodes.{term_here, extent_here}
 use Rattle.flat_reif.proofs.Given.{gives_at}
+use Rattle.flat_reif.proofs.Nodes.{same_stands, total_value}
+use Rattle.mz_arena_laws.proofs.Terms as laws
+use Rattle.flat_reif.proofs.Fixed.{int_suits}
 use Rattle.flat_reif.proofs.Gathering.{list_value, list_taken}
 
 -- ---- the bounds of a list of integers
@@ -174,3 +180,42 @@ extreme_listed s id n g r side kind =
     no_single : (x : Known) (es : List Ends) (o : Option Plain) → ((p : Plain) → o ≡ Some p → Suits s.prog.vars p x) → as_wholes x ≡ Some es → IsSome o → IsListed s n.a
     no_single x es None u h k = absurd (cc)
     no_single x es (Some p) u h k = suits_no p x es h (u p refl)
+
+-- ---- a list that has no element: its extreme has no value
+
+no_extreme : (side : Side) (x : terms.Val) → extreme_term side (Some terms.empty) ≡ Some x → ⊥
+unfolding extreme_term
+no_extreme side x h = cc
+
+no_ends : (vs : List Variable) (es : List Ends) → AllWhole vs [] es → es ≡ []
+no_ends vs [] h = refl
+no_ends vs (e ∷ es) h = absurd h
+
+module _ (s : State) (id : ℕ) (e : Entry) (g : IsState s) (is : slice_get s.es id ≡ Some e) (side : Side) (kind : e.node.kind ≡ extreme_kind side) where
+  empty_stands : at s.args id ≡ None → IsTotal s.es id → ListArgs s.es s.args e.node.a [] → Stands s s.prog id (int (pos 0))
+  empty_stands none total l =
+      let o = ends s id e g is side kind in
+      let no_end : o.ends ≡ [] = no_ends s.prog.vars o.ends (list_wholes s g e.node.a [] o.ends l o.is) in
+      let bounds : extent s.es id ≡ Some (whole (extreme_ends side [])) = bounds_are s id e g is side kind ∙ ap (option_map (λ es. whole (extreme_ends side es))) (o.is ∙ ap Some no_end) in
+      same_stands s id e (int (pos 0)) g is (ap is_free kind ∙ side_free side) none tt (subst (Suits s.prog.vars (int (pos 0))) (sym bounds) (int_suits s.prog.vars (pos 0) refl))
+      (λ v f d m.
+      let x = total_value s.es id v total (laws.domains_lie s.es g.arena v d) in
+      absurd (no_extreme side x.value (sym (term_is s id e g is side kind v ∙ ap (extreme_term side) (list_value s g v f d m e.node.a [] l)) ∙ x.is)))
+
+pub empty_given : (s : State) (id : ℕ) (n : Node) → IsState s → IsReady s id n → (side : Side) → n.kind ≡ extreme_kind side → (ps : List Plain) (args : List (Option Plain)) → ListArgs s.es s.args n.a ps → ps ≡ [] → args ≡ put_at s.args id (int (pos 0)) → Gives s (record { es = s.es; prog = s.prog; args = args }) id
+empty_given s id n g r side kind ps args l none put =
+    let h = r.at_id in
+    gives_at s s.prog id (int (pos 0)) args g (empty_stands s id h.entry g h.is side (ap (λ (m : Node). m.kind) h.node ∙ kind) r.none r.total (subst (λ (m : Node). ListArgs s.es s.args m.a []) (sym h.node) (subst (ListArgs s.es s.args n.a) none l))) put
+
+pub no_plains : (items : List Arg) → items ≡ [] → plains items ≡ []
+no_plains items h = ap plains h
+
+pub some_plains : (items : List Arg) → length items ≢ 0 → plains items ≢ []
+some_plains [] h = λ e. h refl
+some_plains (a ∷ items) h = λ e. no_cons e
+  where
+    no_cons : plains (a ∷ items) ≡ [] → ⊥
+    no_cons e = cc
+
+pub no_length : (n : ℕ) → nat_eq n 0 ≡ true → n ≡ 0
+no_length n h = grind (arith, nat_tests)

@@ -1,7 +1,7 @@
 // Constants as arguments.
 
-ghost use Rattle.std.specs.Prelude.{◌≡◌, IfOk};
-ghost use Rattle.fz_program.specs.Arguments.{plain, set};
+ghost use Rattle.std.specs.Prelude.{◌≡◌, IfOk, pos};
+ghost use Rattle.fz_program.specs.Arguments.{int, plain, set};
 ghost use Rattle.flat_reif.specs.NodeKinds.{scalar};
 
 use fz_program::Arg;
@@ -24,4 +24,10 @@ pub(crate) fn set_argument(alloc: Global, u: &RangeSet) -> Result<Arg, Memory>
     ensures { IfOk result (λ a. plain a ≡ set u.now) }
 {
     Ok(Arg::Set(u.copy(alloc)?))
+}
+
+pub(crate) fn zero() -> Arg
+    ensures { plain result ≡ int (pos 0) }
+{
+    Arg::Int(0)
 }

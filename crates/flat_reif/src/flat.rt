@@ -13,7 +13,7 @@ ghost use Rattle.flat_reif.specs.States.{IsState, state};
 ghost use Rattle.flat_reif.specs.NodeKinds.{divides, extreme_kind, is_scalar};
 ghost use Rattle.flat_reif.specs.Lists.{Gives, HasArg, IsListed, IsNode, IsReady, ListArgs};
 
-use crate::constant::{scalar, set_argument};
+use crate::constant::{scalar, set_argument, zero};
 use crate::domain::free_domain;
 use crate::table::{copied, put};
 use flat_reif_rows::{
@@ -181,6 +181,22 @@ impl Flat {
     {
         let out = given!(made_of_extreme(&mut self.build, side, items));
         put(&mut self.args, id, out)
+    }
+
+    // An argument for the least or the greatest of a list. Of no element there is none, and any integer
+    // will do where the node has a value.
+    fn flatten_extreme(&mut self, id: Id, n: &Node, side: Side) -> Result<(), Memory>
+        requires state { IsState (state self.old) }
+        requires ready { IsReady (state self.old) id n.now }
+        requires kind { n.now.kind ≡ extreme_kind side }
+        ensures { IfOk result (λ _. Gives (state self.old) (state self.new) id) }
+    {
+        let items = given!(self.gather(n.a));
+        if items.is_empty() {
+            put(&mut self.args, id, zero())
+        } else {
+            self.give_extreme(id, n, side, items)
+        }
     }
 
     // An argument for an access, from the arguments of its index, which may be a place, and of the
