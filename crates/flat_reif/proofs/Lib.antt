@@ -1,1 +1,14 @@
 pub mod Marks
+pub mod Longer
+pub mod Puts
+pub mod Steps
+pub mod Nodes
+pub mod Kids
+pub mod Given
+pub mod Branching
+pub mod Choices
+pub mod Choosing
+pub mod Fixed
+pub mod Gathering
+pub mod Extremes
+pub mod Accesses

@@ -1,1 +1,4 @@
 pub mod Needs
+pub mod States
+pub mod Lists
+pub mod NodeKinds

@@ -1,0 +1,30 @@
+-- Kinds of nodes, by what a flattening does with them.
+use Rattle.std.specs.Prelude.{ℤ, pos, Bool, true, false}
+use Rattle.std.specs.Ordering.{int_eq}
+use Rattle.mz_operations.specs.declared.row.Side.{Side}
+use Rattle.mz_operations.specs.declared.row.Side.TheVariants.{Least, Greatest}
+use Rattle.mz_arena.specs.declared.node.NodeKind.{NodeKind}
+use Rattle.mz_arena.specs.declared.node.NodeKind.TheVariants as kinds
+use Rattle.fz_program.specs.Arguments.{Plain, bool, int}
+
+-- a constant number or truth value
+abbrev pub is_scalar : NodeKind → Bool
+is_scalar kinds.Int = true
+is_scalar kinds.Bool = true
+is_scalar _ = false
+
+-- its argument: a truth value where the kind is that of Booleans
+abbrev pub scalar : NodeKind → ℤ → Plain
+scalar kinds.Bool n = bool (int_eq n (pos 1))
+scalar _ n = int n
+
+-- the node has no value where its second child is 0
+abbrev pub divides : NodeKind → Bool
+divides kinds.Div = true
+divides kinds.Mod = true
+divides _ = false
+
+-- the node of the least or the greatest of a list
+abbrev pub extreme_kind : Side → NodeKind
+extreme_kind Least = kinds.Min
+extreme_kind Greatest = kinds.Max

@@ -1,0 +1,33 @@
+// Constants as arguments.
+
+ghost use Rattle.std.specs.Prelude.{◌≡◌, IfOk, pos};
+ghost use Rattle.fz_program.specs.Arguments.{int, plain, set};
+ghost use Rattle.flat_reif.specs.NodeKinds.{scalar};
+
+use fz_program::Arg;
+use mz_arena::{Node, NodeKind};
+use mz_base::Memory;
+use mz_value::RangeSet;
+use std::alloc::Global;
+
+// A number, or a truth value where the kind is that of Booleans.
+pub(crate) fn scalar(n: &Node) -> Arg
+    ensures { plain result ≡ scalar n.now.kind n.now.number }
+{
+    match n.kind {
+        NodeKind::Bool => Arg::Bool(n.number == 1),
+        _ => Arg::Int(n.number),
+    }
+}
+
+pub(crate) fn set_argument(alloc: Global, u: &RangeSet) -> Result<Arg, Memory>
+    ensures { IfOk result (λ a. plain a ≡ set u.now) }
+{
+    Ok(Arg::Set(u.copy(alloc)?))
+}
+
+pub(crate) fn zero() -> Arg
+    ensures { plain result ≡ int (pos 0) }
+{
+    Arg::Int(0)
+}
