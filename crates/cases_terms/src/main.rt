@@ -5,7 +5,9 @@ ghost use Rattle.std.specs.Prelude.{◌<◌, IfOk, IfSome, length};
 
 use cases::Page;
 use mz_arena::{Arena, Id, Node, NodeKind, charge};
+use mz_arena_blocks::Blocks;
 use mz_base::Memory;
+use mz_interval::Interval;
 use mz_partial::{Memo, total};
 use mz_value::RangeSet;
 use std::alloc::Global;
@@ -75,6 +77,42 @@ fn totals(alloc: Global, arena: &mut Arena, page: &mut Page) -> Result<(), Memor
     Ok(())
 }
 
+/// The hull of a part of a list of five intervals.
+fn hulls(alloc: Global, page: &mut Page) -> Result<(), Memory> {
+    let mut lists = Blocks::new(alloc);
+    let mut list = 0;
+    for n in 0..5u64 {
+        let lo = n as i64;
+        if list < lists.len() {
+            list = lists.push(Interval { lo, hi: 10 }, list)?;
+        }
+    }
+    page.case("lists of intervals", lists.len());
+    if list < lists.len() {
+        let hull = lists.hull_between(list, 1, 2)?;
+        page.case("the least of the second and the third", hull.lo);
+    }
+    Ok(())
+}
+
+/// The union of a part of a list of two sets.
+fn unions(alloc: Global, page: &mut Page) -> Result<(), Memory> {
+    let mut lists = Blocks::new(alloc);
+    let last = RangeSet::range(alloc, 1, 3)?;
+    let first = RangeSet::range(alloc, 7, 8)?;
+    let _last_ranges = last.ranges();
+    let _first_ranges = first.ranges();
+    let list = lists.push(last, 0)?;
+    if list < lists.len() {
+        let list = lists.push(first, list)?;
+        if list < lists.len() {
+            let union = lists.union_between(alloc, list, 0, 2)?;
+            page.case("elements of the union of two sets", union.card());
+        }
+    }
+    Ok(())
+}
+
 fn all(alloc: Global) -> Result<String, Memory> {
     let mut page = Page::new(alloc);
     let mut arena = Arena::new(alloc);
@@ -85,6 +123,8 @@ fn all(alloc: Global) -> Result<String, Memory> {
     totals(alloc, &mut arena, &mut page)?;
     page.case("nodes", arena.len());
     page.case("charge of a quotient", charge(NodeKind::Div));
+    hulls(alloc, &mut page)?;
+    unions(alloc, &mut page)?;
     Ok(page.into_text()?)
 }
 

@@ -1,5 +1,5 @@
 -- A set that was put into the table, and sets that are made.
-use Rattle.std.proofs.Common.{◌≡◌, ℕ, zero, suc, ◌<◌, List, [], ◌∷◌, ◌++◌, length, Bool, true, false, cond, Some, None, slice_get, get_or, refl, sym, ap, subst, ◌∙◌, inl, ⊎_elim, arith, length-append, Result, Ok, Err, IfOk}
+use Rattle.std.proofs.Common.{◌≡◌, ℕ, zero, suc, ◌<◌, ◌≤◌, List, [], ◌∷◌, ◌++◌, length, Bool, true, false, cond, Some, None, slice_get, get_or, refl, sym, ap, subst, ◌∙◌, inl, ⊎_elim, arith, length-append, Result, Ok, Err, IfOk}
 use Rattle.std.proofs.lemmas.Option.{slice_get-get_or}
 use Rattle.mz_value.specs.Ranges.{Range, AreCanonical, IsUnion, IsIntersection}
 use Rattle.std.specs.Option.{option_and_then}
@@ -8,6 +8,7 @@ use Rattle.mz_operations.specs.Bounds.{combined_upper, hull_of_set}
 use Rattle.mz_operations.specs.Sets.{union, intersection}
 use Rattle.mz_operations.proofs.SetMembers.{union_is, intersection_is}
 use Rattle.mz_operations.specs.Laws.{IsSet}
+use Rattle.mz_arena_blocks.specs.Lists.{list_at}
 use Rattle.mz_arena.specs.declared.table.Reach.{Reach}
 use Rattle.mz_arena.specs.declared.table.Reach.TheVariants.{Whole, Truth, Subset, Wholes, Truths, Subsets, Empty}
 use Rattle.mz_arena.specs.declared.table.Stored.{Stored}
@@ -15,7 +16,7 @@ use Rattle.mz_arena.specs.declared.table.Table.{Table}
 use Rattle.mz_arena.specs.Entries.{Entry, is_set_const}
 use Rattle.mz_arena.specs.Extents.{Known, subset, as_subset, marked, variable_extent, set_variable_extent, set_extent, extent}
 use Rattle.mz_arena.specs.Arenas.{IsArena}
-use Rattle.mz_arena.specs.Tables.{Sets, set_at, set_place, seen, entries, Tells, IsSubset, IsSound, IsSoundTable, IsKept, IsPut}
+use Rattle.mz_arena.specs.Tables.{Sets, set_at, set_place, seen, entries, Tells, IsSubset, IsSound, IsSoundTable, HasLists, IsKept, IsPut}
 
 -- ---- sets by their members
 
@@ -100,8 +101,13 @@ if_intersection (Ok s) sets stored k m a b h l n p q u c =
     let sb = set_read sets m b n q in
     intersection_is (set_at sets k) (set_at sets m) s (set_there sets stored k h l) (set_there sets stored m h n) (subst (λ y. IsIntersection (set_at sets k) y s) sb (subst (λ y. IsIntersection y b s) sa u)) c
 
-pub is_kept : (old new : Table) (s : List Range) → new.stored.items ≡ old.stored.items → new.sets.items ≡ old.sets.items ++ s ∷ [] → IsSoundTable old → IsSet s → IsKept old new
-is_kept old new s p q h l = record {
+same_lists : {T : Type 0} (old new : List (List T)) → new ≡ old → HasLists old new
+same_lists old new p = record { longer = omega (arith, ap length p); same = λ k l. ap (λ ls. list_at ls k) p }
+
+pub is_kept : (old new : Table) (s : List Range) → new.wholes ≡ old.wholes → new.subsets ≡ old.subsets → new.stored.items ≡ old.stored.items → new.sets.items ≡ old.sets.items ++ s ∷ [] → IsSoundTable old → IsSet s → IsKept old new
+is_kept old new s w v p q h l = record {
+  wholes = same_lists old.wholes new.wholes w;
+  subsets = same_lists old.subsets new.subsets v;
   stored = p;
   entries = ap (λ sets. entries sets new.stored.items) q ∙ ap (entries (old.sets.items ++ s ∷ [])) p ∙ entries_kept old.sets.items s old.stored.items h.consts;
   sound = subst (λ sets. IsSound sets new.stored.items) (sym q) (subst (λ stored. IsSound (old.sets.items ++ s ∷ []) stored) (sym p) (sound_kept old.sets.items s old.stored.items h l));
@@ -114,7 +120,28 @@ is_put t old s k p q = record {
 }
 
 pub same_kept : (t : Table) → IsSoundTable t → IsKept t t
-same_kept t h = record { stored = refl; entries = refl; sound = h }
+same_kept t h = record {
+  wholes = same_lists t.wholes t.wholes refl;
+  subsets = same_lists t.subsets t.subsets refl;
+  stored = refl;
+  entries = refl;
+  sound = h;
+}
+
+lists_lists : {T : Type 0} (old mid new : List (List T)) → HasLists old mid → HasLists mid new → HasLists old new
+lists_lists old mid new p q = record {
+  longer = omega (arith, p.longer, q.longer);
+  same = λ k l. q.same k (omega (arith, l, p.longer)) ∙ p.same k l;
+}
+
+pub kept_kept : (t u v : Table) → IsKept t u → IsKept u v → IsKept t v
+kept_kept t u v p q = record {
+  wholes = lists_lists t.wholes u.wholes v.wholes p.wholes q.wholes;
+  subsets = lists_lists t.subsets u.subsets v.subsets p.subsets q.subsets;
+  stored = q.stored ∙ p.stored;
+  entries = q.entries ∙ p.entries;
+  sound = q.sound;
+}
 
 -- ---- bounds of sets
 

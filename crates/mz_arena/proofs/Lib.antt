@@ -5,6 +5,7 @@ pub mod Lists
 pub mod Telling
 pub mod Kept
 pub mod Pushed
+pub mod Placing
 pub mod Tested
 pub mod Put
 mod TermExamples

@@ -25,7 +25,7 @@ entries-push sets [] s = refl
 entries-push sets (t ∷ stored) s = ap (λ es. seen sets t ∷ es) (entries-push sets stored s)
 
 -- a kept node is an old one or the last
-old_or_new : (stored : List Stored) (s t : Stored) (id : ℕ) → slice_get (stored ++ s ∷ []) id ≡ Some t → ((id < length stored) × (slice_get stored id ≡ Some t)) ⊎ ((id ≡ length stored) × (t ≡ s))
+pub old_or_new : (stored : List Stored) (s t : Stored) (id : ℕ) → slice_get (stored ++ s ∷ []) id ≡ Some t → ((id < length stored) × (slice_get stored id ≡ Some t)) ⊎ ((id ≡ length stored) × (t ≡ s))
 old_or_new stored s t id h =
     let below = get-below (stored ++ s ∷ []) id t h in
     elim (cases_lt id (length stored)) [

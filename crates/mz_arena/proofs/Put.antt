@@ -11,11 +11,13 @@ use Rattle.mz_arena.specs.declared.table.Reach.{Reach}
 use Rattle.mz_arena.specs.declared.table.Stored.{Stored}
 use Rattle.mz_arena.specs.declared.table.Table.{Table}
 use Rattle.mz_arena.specs.Entries.{children, AllBelow}
-use Rattle.mz_arena.specs.Extents.{node_extent, extent}
+use Rattle.mz_arena.specs.Extents.{Known, node_extent, extent}
 use Rattle.mz_arena.specs.Numbering.{local_ids_from}
 use Rattle.mz_arena.specs.Arenas.{IsAsked}
-use Rattle.mz_arena.specs.Tables.{seen, entries, asked, Tells, TellsIn, IsKept, IsLongCons, IsReady, IsPushed, IsSoundTable}
+use Rattle.mz_arena.specs.Tables.{seen, entries, asked, wholes_in, subsets_in, has_wholes, has_subsets, Tells, TellsAny, TellsIn, IsKept, IsLongCons, IsReady, IsPushed, IsSoundTable}
 use Rattle.mz_arena.specs.StepsAsked.{may_stand, IsLast, Puts, IsSoundArena}
+use Rattle.mz_arena.specs.Places.{wholes_listed, subsets_listed, HasPlace, HasPlaces, IsListedTable}
+use Rattle.mz_arena.proofs.Placing.{kept_listed}
 use Rattle.mz_arena.proofs.Tested.{is_asked}
 use Rattle.mz_arena.proofs.Growing.{grew_same, local_ids-push}
 use Rattle.mz_arena.proofs.Pushed.{told_some, seen_plain, put_is, pushed_grew, pushed_extends, pushed_made, pushed_charges}
@@ -99,11 +101,11 @@ local_free Local h = refl
 local_free SetLocal h = refl
 local_free _ h = cc
 
-abbrev kept : Node → Reach → Stored
-kept n r = record { node = n; reach = r }
+abbrev kept : Node → Reach → ℕ → Stored
+kept n r place = record { node = n; reach = r; place = place }
 
 -- the table before and after the node's bounds were found, of which some may be a new set
-module _ (old new : Table) (es : List Entry) (n : Node) (r : Reach) (v : view old ≡ es) (k : IsKept old new) (o : Option Reach) (is : o ≡ Some r) (tells : TellsIn new o (asked old n)) (m : may_stand es n ≡ true) where
+module _ (old new : Table) (es : List Entry) (n : Node) (r : Reach) (place : ℕ) (v : view old ≡ es) (k : IsKept old new) (o : Option Reach) (is : o ≡ Some r) (tells : TellsIn new o (asked old n)) (m : may_stand es n ≡ true) where
   t : Tells new.sets.items r (asked old n)
   t = subst (λ (q : Option Reach). TellsIn new q (asked old n)) is tells
 
@@ -113,12 +115,12 @@ module _ (old new : Table) (es : List Entry) (n : Node) (r : Reach) (v : view ol
   same : view new ≡ es
   same = k.entries ∙ v
 
-  told : Tells new.sets.items r (node_extent (seen new.sets.items (kept n r)) (map (extent (view new)) (children n)))
+  told : Tells new.sets.items r (node_extent (seen new.sets.items (kept n r place)) (map (extent (view new)) (children n)))
   told =
-      subst (λ (fs : List Entry). Tells new.sets.items r (node_extent (seen new.sets.items (kept n r)) (map (extent fs) (children n)))) (sym k.entries)
-      (subst (λ (d : Entry). Tells new.sets.items r (node_extent d (map (extent (view old)) (children n)))) (sym (seen_plain new.sets.items (kept n r) put_asked.other)) t)
+      subst (λ (fs : List Entry). Tells new.sets.items r (node_extent (seen new.sets.items (kept n r place)) (map (extent fs) (children n)))) (sym k.entries)
+      (subst (λ (d : Entry). Tells new.sets.items r (node_extent d (map (extent (view old)) (children n)))) (sym (seen_plain new.sets.items (kept n r place) put_asked.other)) t)
 
-  pub put_ready : IsLongCons n.kind o → IsReady new.sets.items new.stored.items (kept n r)
+  pub put_ready : IsLongCons n.kind o → IsReady new.sets.items new.stored.items (kept n r place)
   put_ready l = record {
     below = subst (λ (fs : List Entry). AllBelow (length fs) (children n)) (sym same) put_asked.below;
     told = told;
@@ -129,29 +131,45 @@ module _ (old new : Table) (es : List Entry) (n : Node) (r : Reach) (v : view ol
     next = λ h. (put_asked.free (local_free n.kind h)).next h ∙ ap (λ (fs : List Entry). length (local_ids fs)) (sym same);
   }
 
-  pub put_last : (last : Table) (id : ℕ) → IsPushed new last (kept n r) id → IsLast es (view last) n id
+  asked_same : asked old n ≡ node_extent (seen new.sets.items (kept n r place)) (map (extent (view new)) (children n))
+  asked_same = ap (λ (d : Entry). node_extent d (map (extent (view old)) (children n))) (sym (seen_plain new.sets.items (kept n r place) put_asked.other)) ∙ ap (λ (fs : List Entry). node_extent (seen new.sets.items (kept n r place)) (map (extent fs) (children n))) (sym k.entries)
+
+  pub put_places : (x : Known) → x ≡ asked old n → (has_wholes r ≡ true → HasPlace (wholes_listed new) (length new.wholes) place (wholes_in x)) → (has_subsets r ≡ true → HasPlace (subsets_listed new) (length new.subsets) place (subsets_in x)) → HasPlaces new (kept n r place)
+  put_places x e w u = record {
+    wholes = λ h. subst (λ (y : Known). HasPlace (wholes_listed new) (length new.wholes) place (wholes_in y)) (e ∙ asked_same) (w h);
+    subsets = λ h. subst (λ (y : Known). HasPlace (subsets_listed new) (length new.subsets) place (subsets_in y)) (e ∙ asked_same) (u h);
+  }
+
+  pub put_last : (last : Table) (id : ℕ) → IsPushed new last (kept n r place) id → IsLast es (view last) n id
   put_last last id p = record {
     asked = put_asked;
     place = p.place ∙ ap length same;
-    items = put_is new last es (kept n r) p.entries same put_asked.other;
+    items = put_is new last es (kept n r place) p.entries same put_asked.other;
   }
 
-  pub count_fits : (last : Table) (id choices : ℕ) → IsPushed new last (kept n r) id → IsSoundArena old choices → choices < length (view last)
+  pub count_fits : (last : Table) (id choices : ℕ) → IsPushed new last (kept n r place) id → IsSoundArena old choices → choices < length (view last)
   count_fits last id choices p a =
-      let items = put_is new last es (kept n r) p.entries same put_asked.other in
+      let items = put_is new last es (kept n r place) p.entries same put_asked.other in
       let longer = ap length items in
       let one = length-append es (entry n ∷ []) in
       let same_length = ap length v in
       omega (arith, choices-le (view old), a.count)
 
-  pub count_next : (last : Table) (id choices : ℕ) → IsPushed new last (kept n r) id → IsSoundArena old choices → IsSoundTable last → is_local n.kind ≡ true → IsSoundArena last (choices + 1)
-  count_next last id choices p a s l =
-      let items = put_is new last es (kept n r) p.entries same put_asked.other in
+  pub count_next : (last : Table) (id choices : ℕ) → IsPushed new last (kept n r place) id → IsSoundArena old choices → IsSoundTable last → IsListedTable last → is_local n.kind ≡ true → IsSoundArena last (choices + 1)
+  count_next last id choices p a s w l =
+      let items = put_is new last es (kept n r place) p.entries same put_asked.other in
       let more = choices_pushed es (view last) (entry n) items l in
       let before = ap (λ (fs : List Entry). length (local_ids fs)) v in
-      record { table = s; count = omega (arith, more, before, a.count) }
+      record { table = s; lists = w; count = omega (arith, more, before, a.count) }
 
-  pub count_same : (last : Table) (id choices : ℕ) → IsPushed new last (kept n r) id → IsSoundArena old choices → IsSoundTable last → is_local n.kind ≡ false → IsSoundArena last choices
-  count_same last id choices p a s l =
-      let items = put_is new last es (kept n r) p.entries same put_asked.other in
-      record { table = s; count = a.count ∙ ap (λ (fs : List Entry). length (local_ids fs)) v ∙ sym (choices_same es (view last) (entry n) items l) }
+  pub count_same : (last : Table) (id choices : ℕ) → IsPushed new last (kept n r place) id → IsSoundArena old choices → IsSoundTable last → IsListedTable last → is_local n.kind ≡ false → IsSoundArena last choices
+  count_same last id choices p a s w l =
+      let items = put_is new last es (kept n r place) p.entries same put_asked.other in
+      record { table = s; lists = w; count = a.count ∙ ap (λ (fs : List Entry). length (local_ids fs)) v ∙ sym (choices_same es (view last) (entry n) items l) }
+
+-- a table whose sets and lists may be more
+pub arena_kept : (old new : Table) (choices : ℕ) → IsKept old new → IsSoundArena old choices → IsSoundArena new choices
+arena_kept old new choices k a = record { table = k.sound; lists = kept_listed old new k a.lists; count = a.count ∙ ap (λ (es : List Entry). length (local_ids es)) (sym k.entries) }
+
+pub told_kept : (old new : Table) (o : Option Reach) (x : Known) → new.sets.items ≡ old.sets.items → TellsIn old o x → TellsIn new o x
+told_kept old new o x p h = subst (λ sets. TellsAny sets o x) (sym p) h

@@ -12,7 +12,7 @@ use Rattle.mz_arena.specs.declared.node.NodeKind.{NodeKind}
 use Rattle.mz_arena.specs.declared.node.NodeKind.TheVariants.{Cons}
 use Rattle.mz_arena.specs.Entries.{Entry, arity, children, AllBelow}
 use Rattle.mz_arena.specs.Extents.{Known, whole, truth, subset, wholes, truths, subsets, empty, as_whole, as_truth, as_subset, as_wholes, is_truths, as_subsets, as_single, as_list, ends_in, sort_of, cons_extent, kind_extent, node_extent, extents, extent}
-use Rattle.mz_arena.specs.Tables.{Sets, seen, entries, wholes_in, subsets_in, wholes_at, subsets_at, HasWholes, HasSubsets, has_wholes, has_subsets, is_long, IsSound, Tells, TellsAny, TellsSingle, TellsRow, single_in, row_in, interval_in, sort_in, is_whole_list, is_truth_list, is_subset_list, whole_in, truth_in, subset_place, IsPlaced}
+use Rattle.mz_arena.specs.Tables.{Sets, seen, entries, wholes_in, subsets_in, wholes_at, HasWholes, has_wholes, has_subsets, is_long, IsSound, Tells, TellsAny, TellsSingle, TellsRow, single_in, row_in, interval_in, sort_in, is_whole_list, is_truth_list, is_subset_list, whole_in, truth_in, subset_place, IsPlaced}
 use Rattle.mz_arena.proofs.Folds.{at-past, unroll}
 
 pub length-entries : (sets : Sets) (stored : List Stored) → length (entries sets stored) ≡ length stored
@@ -167,7 +167,7 @@ module _ (sets : Sets) (stored : List Stored) (id : ℕ) (s : Stored) (sound : I
   unfolding extents
   cons_is = unroll node_extent (entries sets stored) id (seen sets s) there_entry (sound.arena.ordered id (seen sets s) there_entry) ∙ by_kind (extent (entries sets stored)) (seen sets s) Cons cons
 
-is_wholes : (r : Reach) → has_wholes r ≡ true → r ≡ Wholes
+pub is_wholes : (r : Reach) → has_wholes r ≡ true → r ≡ Wholes
 is_wholes (Whole i) h = cc
 is_wholes (Truth i) h = cc
 is_wholes (Subset k) h = cc
@@ -176,7 +176,7 @@ is_wholes Truths h = cc
 is_wholes Subsets h = cc
 is_wholes Empty h = cc
 
-is_subsets : (r : Reach) → has_subsets r ≡ true → r ≡ Subsets
+pub is_subsets : (r : Reach) → has_subsets r ≡ true → r ≡ Subsets
 is_subsets (Whole i) h = cc
 is_subsets (Truth i) h = cc
 is_subsets (Subset k) h = cc
@@ -191,14 +191,6 @@ long_wholes sets stored id s sound there h =
     let cons : s.node.kind ≡ Cons = sound.long id s there (ap is_long r) in
     let told : Tells sets Wholes (extent (entries sets stored) id) = subst (λ (q : Reach). Tells sets q (extent (entries sets stored) id)) r (sound.tells id s there) in
     let parts = whole_parts _ _ (wholes_at sets stored id) (sym (cons_is sets stored id s sound there cons) ∙ told) in
-    record { smaller = (cons_below sets stored id s sound there cons).1.0; head = parts.head; is_head = parts.is_head; all = parts.all }
-
-pub long_subsets : (sets : Sets) (stored : List Stored) (id : ℕ) (s : Stored) → IsSound sets stored → slice_get stored id ≡ Some s → has_subsets s.reach ≡ true → HasSubsets sets stored id s.node
-long_subsets sets stored id s sound there h =
-    let r : s.reach ≡ Subsets = is_subsets s.reach h in
-    let cons : s.node.kind ≡ Cons = sound.long id s there (ap is_long r) in
-    let told : Tells sets Subsets (extent (entries sets stored) id) = subst (λ (q : Reach). Tells sets q (extent (entries sets stored) id)) r (sound.tells id s there) in
-    let parts = subset_parts _ _ (subsets_at sets stored id) (sym (cons_is sets stored id s sound there cons) ∙ told) in
     record { smaller = (cons_below sets stored id s sound there cons).1.0; head = parts.head; is_head = parts.is_head; all = parts.all }
 
 pub no_wholes : (sets : Sets) (r : Reach) (x : Known) → Tells sets r x → has_wholes r ≡ false → wholes_in x ≡ []

@@ -6,6 +6,7 @@ pub mod Charges
 pub mod Numbering
 pub mod Arenas
 pub mod Tables
+pub mod Places
 pub mod InBounds
 pub mod StepsAsked
 pub mod FreeNodes

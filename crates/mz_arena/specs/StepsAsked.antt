@@ -7,6 +7,7 @@ use Rattle.mz_arena.specs.Numbering.{local_ids}
 use Rattle.mz_arena.specs.Arenas.{IsAsked, IsRefused}
 use Rattle.mz_arena.specs.declared.table.Table.{Table}
 use Rattle.mz_arena.specs.Tables.{entries, IsSoundTable}
+use Rattle.mz_arena.specs.Places.{IsListedTable}
 
 -- the node that was looked up is a SetConst
 abbrev pub is_const : Option Entry → Bool
@@ -44,4 +45,5 @@ Puts old new n (Ok (Some id)) = IsLast old new n id
 -- what holds of an arena's table and its count of choices at all times
 pub record IsSoundArena (t : Table) (choices : ℕ) : Type 0 where
   pub table : IsSoundTable t
+  pub lists : IsListedTable t
   pub count : choices ≡ length (local_ids (entries t.sets.items t.stored.items))

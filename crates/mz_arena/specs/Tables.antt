@@ -6,6 +6,7 @@ use Rattle.mz_interval.specs.Ends.{Ends}
 use Rattle.mz_interval.specs.Interval.{ends}
 use Rattle.mz_interval.specs.declared.interval.Interval.{Interval}
 use Rattle.mz_operations.specs.declared.row.SetOp.{SetOp}
+use Rattle.mz_arena_blocks.specs.Lists.{list_at}
 use Rattle.mz_arena.specs.declared.node.Node.{Node}
 use Rattle.mz_arena.specs.declared.node.NodeKind.{NodeKind}
 use Rattle.mz_arena.specs.declared.node.NodeKind.TheVariants.{Cons, SetConst, If, Access, Union, Intersect, Symdiff}
@@ -87,11 +88,6 @@ pub record IsSound (sets : Sets) (stored : List Stored) : Type 0 where
   pub consts : (id : ℕ) (s : Stored) → slice_get stored id ≡ Some s → is_set_const s.node.kind ≡ true → set_place s.node < length sets
   pub canonical : (k : ℕ) (s : List Range) → slice_get sets k ≡ Some s → IsSet s
 
--- sets that were added
-pub record HasMore (old new : Sets) : Type 0 where
-  pub longer : length old ≤ length new
-  pub same : (k : ℕ) → k < length old → slice_get new k ≡ slice_get old k
-
 -- what a reach tells by itself
 abbrev pub whole_in : Option Reach → Option Ends
 whole_in (Some (Whole i)) = Some (ends i)
@@ -121,10 +117,6 @@ subsets_at sets stored id = subsets_in (extent (entries sets stored) id)
 abbrev pub SplitsWholes : Sets → List Stored → ℕ → Option (Interval × ℕ) → Type 0
 SplitsWholes sets stored id None = wholes_at sets stored id ≡ []
 SplitsWholes sets stored id (Some p) = wholes_at sets stored id ≡ ends p.0 ∷ wholes_at sets stored p.1
-
-abbrev pub SplitsSubsets : Sets → List Stored → ℕ → Option (ℕ × ℕ) → Type 0
-SplitsSubsets sets stored id None = subsets_at sets stored id ≡ []
-SplitsSubsets sets stored id (Some p) = (p.0 < length sets) × (subsets_at sets stored id ≡ set_at sets p.0 ∷ subsets_at sets stored p.1)
 
 -- a list of integers, of Booleans, of sets; the empty list is each of these
 abbrev pub is_whole_list : Option Reach → Bool
@@ -158,12 +150,6 @@ pub record HasWholes (sets : Sets) (stored : List Stored) (id : ℕ) (n : Node) 
   pub is_head : as_whole (extent (entries sets stored) n.a) ≡ Some head
   pub all : wholes_at sets stored id ≡ head ∷ wholes_at sets stored n.b
 
-pub record HasSubsets (sets : Sets) (stored : List Stored) (id : ℕ) (n : Node) : Type 0 where
-  pub smaller : n.b < id
-  pub head : List Range
-  pub is_head : as_subset (extent (entries sets stored) n.a) ≡ Some head
-  pub all : subsets_at sets stored id ≡ head ∷ subsets_at sets stored n.b
-
 -- ---- of a table
 
 abbrev pub known : Table → ℕ → Known
@@ -185,8 +171,15 @@ subsets_of t id = subsets_at t.sets.items t.stored.items id
 abbrev pub asked : Table → Node → Known
 asked t n = node_extent (entry n) (map (known t) (children n))
 
--- a set that was put into a table, of which all else stays
+-- lists that were added
+pub record HasLists {T : Type 0} (old new : List (List T)) : Type 0 where
+  pub longer : length old ≤ length new
+  pub same : (k : ℕ) → k < length old → list_at new k ≡ list_at old k
+
+-- sets and lists that were put into a table, of which all else stays
 pub record IsKept (old new : Table) : Type 0 where
+  pub wholes : HasLists old.wholes new.wholes
+  pub subsets : HasLists old.subsets new.subsets
   pub stored : new.stored.items ≡ old.stored.items
   pub entries : entries new.sets.items new.stored.items ≡ entries old.sets.items old.stored.items
   pub sound : IsSoundTable new

@@ -6,6 +6,7 @@ ghost use Rattle.mz_interval.specs.Interval.{ends};
 use crate::asked::{is_free, is_id, is_local, is_set_const};
 use crate::node::{Id, Node, Sort};
 use crate::table::{Stored, Table, sort_in};
+use mz_arena_blocks::Blocks;
 use mz_base::Memory;
 use mz_interval::Interval;
 use mz_value::RangeSet;
@@ -54,6 +55,8 @@ impl Arena {
             table: Table {
                 stored: Vec::new(alloc),
                 sets: Vec::new(alloc),
+                wholes: Blocks::new(alloc),
+                subsets: Blocks::new(alloc),
             },
             choices: 0,
             alloc,
@@ -114,7 +117,9 @@ impl Arena {
         let Some(reach) = self.table.reach_of(self.alloc, n)? else {
             return Ok(None);
         };
-        let id = self.table.push(&Stored { node: *n, reach })?;
+        let place = self.table.add_list(self.alloc, n, &reach)?;
+        let node = *n;
+        let id = self.table.push(&Stored { node, reach, place })?;
         if is_local(n.kind) {
             self.choices += 1;
         }

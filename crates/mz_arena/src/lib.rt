@@ -8,6 +8,7 @@ mod choice;
 mod instance;
 mod law;
 mod list;
+mod listed;
 mod node;
 mod number;
 mod reach;

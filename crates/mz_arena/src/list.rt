@@ -1,9 +1,9 @@
 // Lists of integers: their elements' bounds, from the first on.
 
-ghost use Rattle.std.specs.Prelude.{◌≡◌, ◌<◌, [], drop, take, IfSome, MatchOption};
+ghost use Rattle.std.specs.Prelude.{◌≡◌, ◌<◌, [], IfSome, MatchOption};
 ghost use Rattle.mz_interval.specs.Interval.{ends};
-ghost use Rattle.mz_operations.specs.Bounds.{extreme_ends, hull_of_all};
-ghost use Rattle.mz_arena.specs.Tables.{IsSoundTable, HasWholes, SplitsWholes, has_wholes, wholes_of};
+ghost use Rattle.mz_operations.specs.Bounds.{extreme_ends};
+ghost use Rattle.mz_arena.specs.Tables.{IsSoundTable, HasWholes, SplitsWholes, has_subsets, has_wholes, wholes_of};
 
 use crate::node::{Id, Node};
 use crate::number::toward;
@@ -11,11 +11,20 @@ use crate::table::{Reach, Table};
 use mz_interval::Interval;
 use mz_operations::Side;
 
-fn has_wholes(reach: Reach) -> bool
+pub(crate) fn has_wholes(reach: Reach) -> bool
     ensures { result ≡ has_wholes reach }
 {
     match reach {
         Reach::Wholes => true,
+        _ => false,
+    }
+}
+
+pub(crate) fn has_subsets(reach: Reach) -> bool
+    ensures { result ≡ has_subsets reach }
+{
+    match reach {
+        Reach::Subsets => true,
         _ => false,
     }
 }
@@ -64,50 +73,6 @@ impl Table {
         while let Some((head, tail)) = self.split(at) {
             acc = toward(side, &acc, &head);
             at = tail;
-        }
-        acc
-    }
-
-    /// The list without this many of its first elements.
-    pub(crate) fn skip(&self, list: Id, count: u64) -> Id
-        requires { IsSoundTable self.now }
-        ensures { wholes_of self.now result ≡ drop count (wholes_of self.now list) }
-    {
-        let mut at = list;
-        let mut left = count;
-        while left > 0 {
-            match self.split(at) {
-                Some((_, tail)) => at = tail,
-                None => return at,
-            }
-            left -= 1;
-        }
-        at
-    }
-
-    /// The hull of this many first elements; 0..0 of none.
-    pub(crate) fn hull_of_first(&self, list: Id, count: u64) -> Interval
-        requires { IsSoundTable self.now }
-        ensures { ends result ≡ hull_of_all (take count (wholes_of self.now list)) }
-    {
-        if count == 0 {
-            return Interval { lo: 0, hi: 0 };
-        }
-        let Some((first, rest)) = self.split(list) else {
-            return Interval { lo: 0, hi: 0 };
-        };
-        let mut acc = first;
-        let mut at = rest;
-        let mut left = count - 1;
-        while left > 0 {
-            match self.split(at) {
-                Some((head, tail)) => {
-                    acc = acc.hull(head);
-                    at = tail;
-                }
-                None => return acc,
-            }
-            left -= 1;
         }
         acc
     }

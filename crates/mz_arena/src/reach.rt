@@ -4,6 +4,7 @@ ghost use Rattle.std.specs.Prelude.{◌≡◌, IfOk, option_map, true, false};
 ghost use Rattle.mz_interval.specs.Interval.{ends};
 ghost use Rattle.mz_arena.specs.Entries.{is_set_const};
 ghost use Rattle.mz_arena.specs.Extents.{whole, extreme_extent};
+ghost use Rattle.mz_arena.specs.Places.{IsListedTable};
 ghost use Rattle.mz_arena.specs.Tables.{Sets, asked, known, is_plain, IsKept, IsLongCons, IsShort, IsSoundTable, TellsAny, TellsIn};
 
 use crate::node::{Id, Node, NodeKind};
@@ -103,6 +104,7 @@ impl Table {
     /// set is put into the table.
     pub(crate) fn reach_of(&mut self, alloc: Global, n: &Node) -> Result<Option<Reach>, AllocError>
         requires sound { IsSoundTable self.old }
+        requires listed { IsListedTable self.old }
         requires other { is_set_const n.now.kind ≡ false }
         ensures kept { IsKept self.old self.new }
         ensures long { IfOk result (IsLongCons n.now.kind) }

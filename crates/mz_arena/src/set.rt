@@ -6,6 +6,7 @@ ghost use Rattle.mz_operations.specs.Sets.{union, intersection};
 ghost use Rattle.mz_operations.specs.declared.row.SetOp.TheVariants.{Union, Intersect, Diff, Symdiff};
 ghost use Rattle.mz_operations.specs.Laws.{IsSet};
 ghost use Rattle.mz_arena.specs.Extents.{as_subset, ends_in, card_bounds, marked, both_truths, set_extent, set_variable_extent, variable_extent};
+ghost use Rattle.mz_arena.specs.Places.{IsListedTable};
 ghost use Rattle.mz_arena.specs.Tables.{Sets, set_at, entries, interval_in, IsPushedConst, known, TellsAny, IsPair, IsKept, IsPut, IsSoundTable, IsShort, TellsIn};
 
 use crate::node::{Id, Node, NodeKind};
@@ -185,7 +186,9 @@ impl Table {
     pub(crate) fn push_const(&mut self, place: u64) -> Result<Id, Memory>
         requires sound { IsSoundTable self.old }
         requires within { place < length self.old.sets.items }
+        requires listed { IsListedTable self.old }
         ensures sound { IsSoundTable self.new }
+        ensures listed { IsListedTable self.new }
         ensures pushed { IfOk result (IsPushedConst self.old self.new place) }
         ensures err { OnErr result (entries self.new.sets.items self.new.stored.items ≡ entries self.old.sets.items self.old.stored.items) }
     {
@@ -202,6 +205,7 @@ impl Table {
         let id = self.push(&Stored {
             node,
             reach: Reach::Subset(place),
+            place: 0,
         })?;
         Ok(id)
     }

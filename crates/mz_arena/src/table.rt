@@ -1,11 +1,13 @@
-// What is kept of the nodes: each with its bounds, and the sets that they speak of.
+// What is kept of the nodes: each with its bounds, and the sets and lists that they speak of.
 
 ghost use Rattle.std.specs.Prelude.{◌≡◌, IfOk, OnErr, option_map, if◌then◌else◌, Some, None};
 ghost use Rattle.mz_interval.specs.Interval.{ends};
 ghost use Rattle.mz_arena.specs.Extents.{as_whole, as_truth, as_subset, as_wholes, is_truths, as_subsets, extent};
 ghost use Rattle.mz_arena.specs.Tables.{entries, whole_in, truth_in, subset_place, single_in, row_in, sort_in, is_whole_list, is_truth_list, is_subset_list, IsPlaced, IsSound, TellsAny, IsSoundTable, TellsSingle, TellsRow, known, wholes_of, subsets_of, IsReady, IsPushed};
+ghost use Rattle.mz_arena.specs.Places.{HasPlaces, IsListedTable};
 
 use crate::node::{Id, Node, Sort};
+use mz_arena_blocks::Blocks;
 use mz_interval::Interval;
 use mz_value::RangeSet;
 use std::alloc::AllocError;
@@ -46,12 +48,18 @@ pub(crate) enum Row {
 pub(crate) struct Stored {
     pub(crate) node: Node,
     pub(crate) reach: Reach,
+    /// Where it is a list of integers or of sets: its place among these.
+    pub(crate) place: u64,
 }
 
 #[derive(Drop)]
 pub(crate) struct Table {
     pub(crate) stored: Vec<Stored>,
     pub(crate) sets: Vec<RangeSet>,
+    /// The bounds of the elements of each list of integers, and the greatest sets of those of each
+    /// list of sets, so that an access doesn't walk its list.
+    pub(crate) wholes: Blocks<Interval>,
+    pub(crate) subsets: Blocks<RangeSet>,
 }
 
 impl Table {
@@ -143,7 +151,10 @@ impl Table {
     pub(crate) fn push(&mut self, stored: &Stored) -> Result<Id, AllocError>
         requires sound { IsSoundTable self.old }
         requires ready { IsReady self.old.sets.items self.old.stored.items stored.now }
+        requires listed { IsListedTable self.old }
+        requires places { HasPlaces self.old stored.now }
         ensures sound { IsSoundTable self.new }
+        ensures listed { IsListedTable self.new }
         ensures pushed { IfOk result (IsPushed self.old self.new stored.now) }
         ensures err { OnErr result (entries self.new.sets.items self.new.stored.items ≡ entries self.old.sets.items self.old.stored.items) }
     {

@@ -1,5 +1,5 @@
 -- What elements of lists have together, by parts of the lists.
-use Rattle.std.proofs.Common.{◌≡◌, ℕ, zero, suc, ◌+◌, ◌-◌, ◌≤◌, List, [], ◌∷◌, ◌++◌, take, drop, map, Option, Some, None, refl, sym, ap, subst, ◌∙◌, arith}
+use Rattle.std.proofs.Common.{◌≡◌, ℕ, zero, suc, ◌+◌, ◌-◌, ◌≤◌, List, [], ◌∷◌, ◌++◌, take, drop, map, Some, refl, ap, subst, ◌∙◌}
 use Rattle.std.proofs.Math.Seq.{take-add}
 use Rattle.mz_arena_blocks.specs.Joins.{join_from, join_of_all, AllFit, AreLaws}
 
@@ -54,8 +54,3 @@ map_append f (x ∷ xs) ys = ap (λ t. f x ∷ t) (map_append f xs ys)
 
 pub map_taken : {T S : Type 0} (f : T → S) (n m : ℕ) (xs : List T) → map f (take (n + m) xs) ≡ map f (take n xs) ++ map f (take m (drop n xs))
 map_taken f n m xs = ap (map f) (take-add n m xs) ∙ map_append f (take n xs) (take m (drop n xs))
-
-pub take_nothing : {T : Type 0} (n : ℕ) (xs : List T) → xs ≡ [] → take n xs ≡ []
-take_nothing zero xs h = refl
-take_nothing (suc n) [] h = refl
-take_nothing (suc n) (x ∷ xs) h = cc

@@ -1,11 +1,11 @@
 -- Walks by blocks, and the block of a list that is made.
-use Rattle.std.proofs.Common.{◌≡◌, ℕ, zero, suc, ◌+◌, ◌-◌, ◌<◌, ◌≤◌, List, [], ◌∷◌, ◌++◌, length, drop, take, map, Option, Some, None, refl, sym, ap, subst, ◌∙◌, arith}
+use Rattle.std.proofs.Common.{◌≡◌, ℕ, suc, ◌+◌, ◌-◌, ◌<◌, ◌≤◌, List, [], ◌∷◌, ◌++◌, drop, take, map, Option, Some, sym, ap, subst, ◌∙◌, arith}
 use Rattle.std.proofs.lemmas.List.{drop-drop}
 use Rattle.mz_arena_blocks.specs.declared.blocks.Row.{Row}
 use Rattle.mz_arena_blocks.specs.Joins.{join_from, join_of_all, AllFit, AreLaws}
 use Rattle.mz_arena_blocks.specs.Lists.{list_at}
-use Rattle.mz_arena_blocks.specs.Rows.{IsBlock, IsRow, IsStep, AreEqualBlocks}
-use Rattle.mz_arena_blocks.proofs.Joined.{fit_taken, fit_dropped, join_before, join_append, all_fits, all_append, map_taken, take_nothing}
+use Rattle.mz_arena_blocks.specs.Rows.{IsBlock, IsStep, AreEqualBlocks}
+use Rattle.mz_arena_blocks.proofs.Joined.{fit_taken, fit_dropped, join_before, join_append, all_fits, all_append, map_taken}
 
 -- ---- a walk
 
@@ -37,22 +37,7 @@ join_block seen fits joined l lists at left next span t acc a all s p e h =
     let begun = e ∙ sym (join_before fits joined l (seen acc) first (seen t) p (fit_taken seen fits span list s.elements) s.block.together) in
     ap (λ xs. Some (join_from joined (seen a) (map seen (take (left - span) xs)))) s.block.rest ∙ ap (λ d. Some (join_from joined d rest)) begun ∙ ap (λ y. Some y) (sym (join_append joined (seen acc) first rest)) ∙ ap (λ xs. Some (join_from joined (seen acc) xs)) parts ∙ h
 
--- the end of a walk
-pub join_end : {T S : Type 0} (seen : T → S) (joined : S → S → S) (left : ℕ) (list : List T) (acc : T) (all : Option S) → take left list ≡ [] → Some (join_from joined (seen acc) (map seen (take left list))) ≡ all → Some (seen acc) ≡ all
-join_end seen joined left list acc all e h = ap (λ xs. Some (join_from joined (seen acc) (map seen xs))) (sym e) ∙ h
-
-pub join_none : {T S : Type 0} (seen : T → S) (joined : S → S → S) (count : ℕ) (list : List T) → take count list ≡ [] → None ≡ join_of_all joined (map seen (take count list))
-join_none seen joined count list e = ap (λ xs. join_of_all joined (map seen xs)) (sym e)
-
 -- ---- the block of a list that is made
-
-pub one_element : {T S : Type 0} (seen : T → S) (joined : S → S → S) (lists : List (List T)) (place : ℕ) (head t : T) (tail : ℕ) → tail < place → seen t ≡ seen head → IsBlock seen joined lists place (head ∷ list_at lists tail) tail 1 t
-one_element seen joined lists place head t tail l e = record {
-  below = omega (arith, l);
-  some = omega arith;
-  rest = refl;
-  together = ap (λ x. Some x) (sym e);
-}
 
 pub both_blocks : {T S : Type 0} (seen : T → S) (fits : S → Type 0) (joined : S → S → S) → AreLaws fits joined → (lists : List (List T)) (place : ℕ) (head two t : T) (tail span : ℕ) (b c : Row T) → tail < place → fits (seen head) → AreEqualBlocks seen fits joined lists tail b c → span ≡ suc (b.block.span + c.block.span) → seen two ≡ joined (seen head) (seen b.block.all) → seen t ≡ joined (seen two) (seen c.block.all) → IsBlock seen joined lists place (head ∷ list_at lists tail) c.block.next span t
 both_blocks seen fits joined l lists place head two t tail span b c low p e n k m =

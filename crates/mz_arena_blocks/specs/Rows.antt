@@ -1,5 +1,5 @@
 -- What is kept of the lists. Private clauses only.
-use Rattle.std.specs.Prelude.{◌≡◌, ℕ, suc, ◌+◌, ◌<◌, ◌≤◌, List, [], ◌∷◌, drop, take, map, slice_get, Option, Some, None}
+use Rattle.std.specs.Prelude.{◌≡◌, ℕ, suc, ◌+◌, ◌<◌, ◌≤◌, List, [], ◌∷◌, drop, take, map, slice_get, Some}
 use Rattle.mz_arena_blocks.specs.declared.blocks.Row.{Row}
 use Rattle.mz_arena_blocks.specs.Joins.{join_of_all, AllFit}
 use Rattle.mz_arena_blocks.specs.Lists.{list_at, lists_of}

@@ -1,4 +1,3 @@
-use Rattle.std.proofs.Common.{arith}
 use Rattle.mz_arena_blocks.proofs.Placed.{lists_pushed, rows_pushed}
 use Rattle.mz_arena_blocks.proofs.blocks.Blocks.push.Goals as goal
 
