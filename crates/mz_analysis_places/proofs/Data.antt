@@ -15,7 +15,7 @@ use Rattle.mz_check_meaning.specs.Models.{Model, entry_of, type_of_decl}
 use Rattle.mz_check_meaning.specs.Coerced.{fitted, list_of}
 use Rattle.mz_check_meaning.specs.Arrays.{listed, tabled, set_literal}
 use Rattle.mz_check_meaning.specs.Calls.{par, row_node}
-use Rattle.mz_check_data.specs.Datum.{Meanings, list_in, lines_in, name_tree, one_tree, range_tree, set_tree, plain_tree, list_tree, are_level, rows_tree, index_set_type, index_set_tree, array_call, shaped_tree, value_tree, wanted, as_data_form, typed_value}
+use Rattle.mz_check_data.specs.Datum.{Meanings, list_in, lines_in, name_tree, one_tree, range_tree, set_tree, plain_tree, list_tree, are_level, rows_tree, index_set_type, index_set_tree, array_call, shaped_tree, value_tree, wanted, type_for, fitted_value, as_data_form, typed_value}
 use Rattle.mz_check_data.specs.WithData.{declared_as, given_value, given_values, or_given, with_value}
 use Rattle.mz_check_meaning.proofs.Giving.{AllBy, all_both, all_mapped, Gives, gives_then, gives_after, each_gives}
 use Rattle.mz_core.specs.Nodes.{nodes_in}
@@ -136,8 +136,9 @@ module _ (P : Span → Type 0) where
   typed_placed : (ms : Meanings) (u : PlainType) (g : Given) → P g.at → Gives (typed_value ms u g) (IsPlaced P)
   unfolding typed_value
   typed_placed ms u g here =
-      as_data_placed g.at (value_tree ms g.at u g.value >>= λ e. fitted e (wanted u g.value))
-      (gives_then (IsPlaced P) (IsPlaced P) (value_tree ms g.at u g.value) (λ e. fitted e (wanted u g.value)) (value_placed ms g.at here u g.value) (λ e h. fitted_placed P e (wanted u g.value) h))
+      let t : PlainType = type_for u g.value in
+      as_data_placed g.at (fitted_value ms g.at t g.value)
+      (gives_then (IsPlaced P) (IsPlaced P) (value_tree ms g.at t g.value) (λ e. fitted e (wanted t g.value)) (value_placed ms g.at here t g.value) (λ e h. fitted_placed P e (wanted t g.value) h))
 
   -- ---- all of them
 
