@@ -19,7 +19,7 @@ use Rattle.mz_operations.specs.Lines.{lines, line_at, place_in}
 use Rattle.mz_meaning.specs.Contexts.{Positive}
 use Rattle.mz_meaning.specs.Chains.{innermost_of, innermost_in, back_of, back_in, backed}
 use Rattle.mz_meaning.specs.Evaluation.{eval}
-use Rattle.mz_meaning.specs.Written.{col, int, bool, ints, list_of, num, lit, slot, fun, call, step, chain, bin, to_int, list, comp, gen, choose, let_in, range, plain, indexed, decl, param, function, i, set, fromto, row, world, result, is, stops}
+use Rattle.mz_meaning.specs.Written.{col, int, bool, ints, list_of, num, lit, slot, fun, call, step, opened, chain, bin, to_int, list, comp, gen, choose, let_in, range, plain, indexed, decl, param, function, i, set, fromto, row, world, result, is, stops}
 use Rattle.mz_base.specs.declared.kind.Kind.TheVariants as kind
 use Rattle.mz_core.specs.declared.types.Coercion.TheVariants as coercion
 use Rattle.mz_core.specs.Tree as tree

@@ -85,6 +85,10 @@ call at t f es = tree.node (col at) t (tree.call f (trees es))
 abbrev pub step : ℕ → PlainType → Tree → Step
 step n t e = record { start = place_of e; row = n; ty = t; left = []; right = []; operand = e }
 
+-- the operand is in parentheses, which begin here
+abbrev pub opened : ℕ → ℕ → PlainType → Tree → Step
+opened at n t e = record { start = col at; row = n; ty = t; left = []; right = []; operand = e }
+
 abbrev pub chain : ℕ → PlainType → Tree → List Step → Tree
 chain at t e ss = tree.node (col at) t (tree.chain e (steps ss))
 
