@@ -135,6 +135,7 @@ impl Machine {
     fn step(&mut self, row_word: &str, ty: &str) -> Result<CoreStep, Memory> {
         let operand = self.take()?;
         Ok(CoreStep {
+            start: operand.span,
             row: row(row_word),
             ty: type_of(self.alloc, ty)?,
             left: Vec::new(self.alloc),

@@ -34,8 +34,8 @@ pub fn put_expression(page: &mut Page, names: &Spellings, e: &Expr) {
         Form::Chain(first, links) => {
             page.put("(");
             put_expression(page, names, first);
-            for (op, x) in links.as_slice() {
-                page.put(format_args!(" {} ", operator(*op)));
+            for (o, x) in links.as_slice() {
+                page.put(format_args!(" {} ", operator(o.op)));
                 put_expression(page, names, x);
             }
             page.put(")");

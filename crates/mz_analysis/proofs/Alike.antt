@@ -8,7 +8,7 @@ use Rattle.mz_core.specs.Types.{PlainType}
 use Rattle.mz_core.specs.Tree as typed
 use Rattle.mz_core.specs.Tree.{Tree, DeclaredType, type_of, place_of}
 use Rattle.mz_tree.specs.declared.expr.UnOp.{UnOp}
-use Rattle.mz_tree.specs.declared.expr.BinOp.{BinOp}
+use Rattle.mz_tree.specs.declared.expr.PlacedOp.{PlacedOp}
 use Rattle.mz_tree.specs.Tree as source
 use Rattle.mz_tree.specs.Tree.{Name}
 use Rattle.mz_scope_names.specs.Sets.{holds, with_name}
@@ -217,7 +217,7 @@ module _ (b : Model) (ts us : List (ℕ × Test DeclaredType)) (hs ks : List (�
   abbrev pub SameType : List Name → TypeCheck → TypeCheck → Type 0
   SameType h c d = (env : Env) → Hides h env → c env ≡ d env
 
-  abbrev SameLink : List Name → BinOp × Check → BinOp × Check → Type 0
+  abbrev SameLink : List Name → PlacedOp × Check → PlacedOp × Check → Type 0
   SameLink h x y = (x.0 ≡ y.0) × Same h x.1 y.1
 
   abbrev SameBranch : List Name → Check × Check → Check × Check → Type 0
@@ -270,25 +270,25 @@ module _ (b : Model) (ts us : List (ℕ × Test DeclaredType)) (hs ks : List (�
   unary_alike : (h : List Name) (at : Span) (x : UnOp) (c d : Check) → Same h c d → Same h (unary_of at x c) (unary_of at x d)
   unary_alike h at x c d s env hides = same_then (c env) (d env) (λ e. row_node at (prefix_name x) (e ∷ [])) (s env hides)
 
-  left_alike : (h : List Name) (at : Span) (env : Env) (acc : Chained) (x y : BinOp × Check) → Hides h env → SameLink h x y → left_next at env acc x ≡ left_next at env acc y
+  left_alike : (h : List Name) (at : Span) (env : Env) (acc : Chained) (x y : PlacedOp × Check) → Hides h env → SameLink h x y → left_next at env acc x ≡ left_next at env acc y
   left_alike h at env acc x y hides s = same_then (x.1 env) (y.1 env) (λ e. from_left at acc (operand_of x.0 e)) (s.1 env hides) ∙ ap (λ p. y.1 env >>= λ e. from_left at acc (operand_of p e)) s.0
 
-  operand_alike : (h : List Name) (env : Env) (x y : BinOp × Check) → Hides h env → SameLink h x y → operand env x ≡ operand env y
+  operand_alike : (h : List Name) (env : Env) (x y : PlacedOp × Check) → Hides h env → SameLink h x y → operand env x ≡ operand env y
   operand_alike h env x y hides s = same_then (x.1 env) (y.1 env) (λ e. Ok (operand_of x.0 e)) (s.1 env hides) ∙ ap (λ p. y.1 env >>= λ e. Ok (operand_of p e)) s.0
 
-  grouped_alike : (right : Bool) (h : List Name) (at : Span) (e : Tree) (xs ys : List (BinOp × Check)) (env : Env) → Pairs (SameLink h) xs ys → Hides h env → grouped_of right at e xs env ≡ grouped_of right at e ys env
+  grouped_alike : (right : Bool) (h : List Name) (at : Span) (e : Tree) (xs ys : List (PlacedOp × Check)) (env : Env) → Pairs (SameLink h) xs ys → Hides h env → grouped_of right at e xs env ≡ grouped_of right at e ys env
   grouped_alike true h at e xs ys env s hides = same_then (each (operand env) xs) (each (operand env) ys) (λ es. appended at e es) (same_each (SameLink h) (operand env) (λ x y k. operand_alike h env x y hides k) xs ys s)
   grouped_alike false h at e xs ys env s hides =
       same_then (loop (left_next at env) (record { ty = type_of e; done = [] }) xs) (loop (left_next at env) (record { ty = type_of e; done = [] }) ys) (λ c. Ok (chain_node at e c))
       (same_loop (SameLink h) (left_next at env) (λ acc x y k. left_alike h at env acc x y hides k) xs ys s (record { ty = type_of e; done = [] }))
 
-  group_alike : (h : List Name) (xs ys : List (BinOp × Check)) → Pairs (SameLink h) xs ys → group_right xs ≡ group_right ys
+  group_alike : (h : List Name) (xs ys : List (PlacedOp × Check)) → Pairs (SameLink h) xs ys → group_right xs ≡ group_right ys
   group_alike h [] [] s = refl
   group_alike h [] (y ∷ ys) s = absurd s
   group_alike h (x ∷ xs) [] s = absurd s
-  group_alike h (x ∷ xs) (y ∷ ys) s = ap groups_right s.0.0
+  group_alike h (x ∷ xs) (y ∷ ys) s = ap (λ (o : PlacedOp). groups_right o.op) s.0.0
 
-  chain_alike : (h : List Name) (at : Span) (c d : Check) (xs ys : List (BinOp × Check)) → Same h c d → Pairs (SameLink h) xs ys → Same h (chain_of at c xs) (chain_of at d ys)
+  chain_alike : (h : List Name) (at : Span) (c d : Check) (xs ys : List (PlacedOp × Check)) → Same h c d → Pairs (SameLink h) xs ys → Same h (chain_of at c xs) (chain_of at d ys)
   chain_alike h at c d xs ys s ss env hides =
       same_next (c env) (d env) (λ e. grouped_of (group_right xs) at e xs env) (λ e. grouped_of (group_right ys) at e ys env) (s env hides)
       (λ e k. grouped_alike (group_right xs) h at e xs ys env ss hides ∙ ap (λ r. grouped_of r at e ys env) (group_alike h xs ys ss))

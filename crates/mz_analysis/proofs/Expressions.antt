@@ -9,8 +9,7 @@ use Rattle.mz_core.specs.Types.{PlainType}
 use Rattle.mz_core.specs.Tree as typed
 use Rattle.mz_core.specs.Tree.{Tree, type_of, place_of}
 use Rattle.mz_tree.specs.declared.expr.UnOp.{UnOp}
-use Rattle.mz_tree.specs.declared.expr.BinOp.{BinOp}
-use Rattle.mz_tree.specs.declared.expr.BinOp.TheVariants as op
+use Rattle.mz_tree.specs.declared.expr.PlacedOp.{PlacedOp}
 use Rattle.mz_tree.specs.Tree as source
 use Rattle.mz_tree.specs.Tree.{Name}
 use Rattle.mz_tree.specs.Kinds.{IsSpot, OfTree, OfShape, OfMaybe, OfTrees, OfLinks, OfRows, OfBranches, OfPart, OfParts, OfGenerator, OfGens, OfLet, OfLets, OfDeclaration, OfWritten, OfBased, OfDims, OfBases}
@@ -21,7 +20,7 @@ use Rattle.mz_check_meaning.specs.Chains.{Chained, prefix_name}
 use Rattle.mz_check_meaning.specs.Comprehensions.{running_type, bind_names}
 use Rattle.mz_check_meaning.specs.WrittenTypes.{Based, of_bool, of_int, of_set}
 use Rattle.mz_check_meaning.specs.Lets.{new_name, decl_of}
-use Rattle.mz_check_meaning.specs.Forms.{Check, TypeCheck, part, parts, maybe_part, unary_of, operand_of, left_next, operand, grouped_of, group_right, chain_of, call_of, array_of, row_parts, rows_of, set_of, access_of, Branched, branch_next, choice_of, GenCheck, Generated, gen_next, generators, comp_of, gen_call_of, based_part, written_of, LetCheck, declares_by, constrains_by, Declared, local_value, let_next, let_of, PieceCheck, plain_by, shown_by, piece, texted, text_of}
+use Rattle.mz_check_meaning.specs.Forms.{Check, TypeCheck, part, parts, maybe_part, unary_of, operand_of, next_piece, left_next, operand, grouped_of, group_right, chain_of, call_of, array_of, row_parts, rows_of, set_of, access_of, Branched, branch_next, choice_of, GenCheck, Generated, gen_next, generators, comp_of, gen_call_of, based_part, written_of, LetCheck, declares_by, constrains_by, Declared, local_value, let_next, let_of, PieceCheck, plain_by, shown_by, piece, texted, text_of}
 use Rattle.mz_check_meaning.specs.Typing.{check, check_form, check_maybe, checks, check_links, check_rows, check_branches, check_piece, check_pieces, check_gen, check_gens, check_let, check_lets, check_declaration, check_written, check_based, check_dims, check_bases}
 use Rattle.mz_analysis.proofs.Stopping.{OfSome, one_more_all, Stops, Any, next, looped, each_stops, there_stops}
 use Rattle.mz_analysis.proofs.Leaves.{At, fitted_stops, IsKnown, applied_stops, row_stops, named_stops, bare_stops, OperandAt, left_stops, appended_stops, listed_stops, tabled_stops, set_stops, accessed_stops, decided_stops, GenAt, running_stops, names_stop, comprehended_stops, BasedAt, declared_stops, ItemAt, new_stops, let_stops}
@@ -34,8 +33,8 @@ module _ (P : Span → Type 0) where
   abbrev pub GoodType : TypeCheck → Type 0
   GoodType go = (env : Env) → Stops P (Any P) (go env)
 
-  abbrev GoodLink : BinOp × Check → Type 0
-  GoodLink o = Good o.1
+  abbrev GoodLink : PlacedOp × Check → Type 0
+  GoodLink o = P o.0.start × Good o.1
 
   abbrev GoodBranch : Check × Check → Type 0
   GoodBranch b = Good b.0 × Good b.1
@@ -69,18 +68,18 @@ module _ (P : Span → Type 0) where
   unary_good : (at : Span) (o : UnOp) (go : Check) → P at → Good go → Good (unary_of at o go)
   unary_good at o go p h env = next P (At P) (At P) (go env) _ (h env) (λ e k. row_stops P at (prefix_name o) (e ∷ []) p)
 
-  operand_stops : (env : Env) (o : BinOp × Check) → GoodLink o → Stops P (OperandAt P) (operand env o)
-  operand_stops env o h = next P (At P) (OperandAt P) (o.1 env) _ (h env) (λ e k. k)
+  operand_stops : (env : Env) (o : PlacedOp × Check) → GoodLink o → Stops P (OperandAt P) (operand env o)
+  operand_stops env o h = next P (At P) (OperandAt P) (o.1 env) _ (h.1 env) (λ e k. (h.0, k))
 
-  left_next_stops : (at : Span) (env : Env) (acc : Chained) (o : BinOp × Check) → P at → GoodLink o → Stops P (Any P) (left_next at env acc o)
-  left_next_stops at env acc o p h = next P (At P) (Any P) (o.1 env) _ (h env) (λ e k. left_stops P at acc (operand_of o.0 e) p)
+  left_next_stops : (at : Span) (env : Env) (acc : Chained) (o : PlacedOp × Check) → P at → GoodLink o → Stops P (Any P) (left_next at env acc o)
+  left_next_stops at env acc o p h = next P (At P) (Any P) (o.1 env) _ (h.1 env) (λ e k. left_stops P at acc (operand_of o.0 e) p)
 
-  grouped_stops : (right : Bool) (at : Span) (e : Tree) (os : List (BinOp × Check)) (env : Env) → P at → AllByRecursion GoodLink os → Stops P (At P) (grouped_of right at e os env)
+  grouped_stops : (right : Bool) (at : Span) (e : Tree) (os : List (PlacedOp × Check)) (env : Env) → P at → AllByRecursion GoodLink os → Stops P (At P) (grouped_of right at e os env)
   grouped_stops true at e os env p h = next P (AllByRecursion (OperandAt P)) (At P) (each (operand env) os) _ (each_stops P GoodLink (OperandAt P) (operand env) (operand_stops env) os h) (λ es k. appended_stops P at e es p k)
   grouped_stops false at e os env p h =
       next P (Any P) (At P) (loop (left_next at env) (record { ty = type_of e; done = [] }) os) _ (looped P GoodLink (Any P) (left_next at env) (λ acc o u k. left_next_stops at env acc o p k) os h (record { ty = type_of e; done = [] }) tt) (λ c u. p)
 
-  chain_good : (at : Span) (go : Check) (os : List (BinOp × Check)) → P at → Good go → AllByRecursion GoodLink os → Good (chain_of at go os)
+  chain_good : (at : Span) (go : Check) (os : List (PlacedOp × Check)) → P at → Good go → AllByRecursion GoodLink os → Good (chain_of at go os)
   chain_good at go os p h hs env = next P (At P) (At P) (go env) _ (h env) (λ e k. grouped_stops (group_right os) at e os env p hs)
 
   module _ (m : Model) (known : IsKnown P m) where
@@ -170,14 +169,14 @@ module _ (P : Span → Type 0) where
     piece_stops at env (plain_by n) p h = p
     piece_stops at env (shown_by go) p h = next P (At P) (At P) (go env) _ (h env) (λ e k. row_stops P (place_of e) (codes "show") (e ∷ []) k)
 
-    operands_at : (es : List Tree) → AllByRecursion (At P) es → AllByRecursion (OperandAt P) (map (operand_of op.Concat) es)
+    operands_at : (es : List Tree) → AllByRecursion (At P) es → AllByRecursion (OperandAt P) (map next_piece es)
     operands_at [] h = tt
-    operands_at (e ∷ es) h = (h.0, operands_at es h.1)
+    operands_at (e ∷ es) h = ((h.0, h.0), operands_at es h.1)
 
     texted_stops : (at : Span) (es : List Tree) → P at → AllByRecursion (At P) es → Stops P (At P) (texted at es)
     texted_stops at [] p h = (p, tt)
     texted_stops at (e ∷ []) p h = h.0
-    texted_stops at (e ∷ f ∷ es) p h = appended_stops P at e (map (operand_of op.Concat) (f ∷ es)) p (operands_at (f ∷ es) h.1)
+    texted_stops at (e ∷ f ∷ es) p h = appended_stops P at e (map next_piece (f ∷ es)) p (operands_at (f ∷ es) h.1)
 
     text_good : (at : Span) (ps : List PieceCheck) → P at → AllByRecursion GoodPiece ps → Good (text_of at ps)
     text_good at ps p h env = next P (AllByRecursion (At P)) (At P) (each (piece at env) ps) _ (each_stops P GoodPiece (At P) (piece at env) (λ x k. piece_stops at env x p k) ps h) (λ es k. texted_stops at es p k)
@@ -225,7 +224,7 @@ module _ (P : Span → Type 0) where
 
         links_good : (ls : source.Links) → OfLinks N P ls → AllByRecursion GoodLink (check_links m ls)
         links_good source.no_links h = tt
-        links_good (source.a_link o e ls) h = (tree_good e h.0, links_good ls h.1)
+        links_good (source.a_link o e ls) h = ((h.0, tree_good e h.1), links_good ls h.2)
 
         rows_of_good : (rs : source.Rows) → OfRows N P rs → AllByRecursion (AllByRecursion Good) (check_rows m rs)
         rows_of_good source.no_rows h = tt

@@ -17,7 +17,7 @@ use Rattle.mz_overload.specs.declared.resolution.Resolution.TheVariants.{One, No
 use Rattle.mz_overload.specs.Best.{resolution}
 use Rattle.mz_builtin.specs.Signatures.{fitting}
 use Rattle.mz_tree.specs.Tree.{Name}
-use Rattle.mz_tree.specs.declared.expr.BinOp.{BinOp}
+use Rattle.mz_tree.specs.declared.expr.PlacedOp.{PlacedOp}
 use Rattle.mz_check_meaning.specs.declared.callee.Callee.{Callee}
 use Rattle.mz_check_meaning.specs.declared.callee.Callee.TheVariants as callee
 use Rattle.mz_check_meaning.specs.declared.meaning.Meaning.{Meaning}
@@ -26,7 +26,7 @@ use Rattle.mz_check_meaning.specs.Tests.{Test, refuse, require, loop, each, if_t
 use Rattle.mz_check_meaning.specs.Models.{Model, Env, Local, entry_of, entries_of, typed_so_far, type_of_decl, heading_of, local_in, is_bound_since}
 use Rattle.mz_check_meaning.specs.Coerced.{wrapped, coerced, coercions_to, fitted, is_below, condition, as_var, allowed_at, is_scalar, is_set_type, made_var, bottom_type, scalar, element_of}
 use Rattle.mz_check_meaning.specs.Calls.{Candidate, chosen, unfit, is_left_out, best, function_candidate, candidates, row_candidate, called_node, call_node, applied, row_of, row_node}
-use Rattle.mz_check_meaning.specs.Chains.{Operand, Chained, operator_name, operated, from_left, from_right, from_right_at, appended}
+use Rattle.mz_check_meaning.specs.Chains.{Operand, Chained, operator_name, operated, from_left, from_right, appended}
 use Rattle.mz_check_meaning.specs.Arrays.{join_next, element_next, elements_join, listed, all_in, tabled, is_var, member_next, set_literal, index_base, index_pair, indices_fitted, element_type, accessed}
 use Rattle.mz_check_meaning.specs.Branches.{branches_join, whole_type, else_list, decided}
 use Rattle.mz_check_meaning.specs.Comprehensions.{running_type, is_list_type, member_of, Bound, bind_next, bind_names, where_fitted, is_var_gen, head_type, listed_heads, set_of_heads, heads, comprehended}
@@ -173,28 +173,25 @@ module _ (P : Span → Type 0) where
   -- ---- operators
 
   abbrev pub OperandAt : Operand → Type 0
-  OperandAt o = At o.tree
+  OperandAt o = P o.operator.start × At o.tree
 
-  operated_stops : (at : Span) (o : BinOp) (left right : PlainType) (e : Tree) → P at → Stops P (Any P) (operated at o left right e)
+  operated_stops : (at : Span) (o : PlacedOp) (left right : PlainType) (e : Tree) → P at → Stops P (Any P) (operated at o left right e)
   unfolding operated
-  operated_stops at o left right e p = next P (Any P) (Any P) (row_of at (operator_name o) (left ∷ right ∷ [])) _ (row_of_stops at (operator_name o) (left ∷ right ∷ []) p) (λ c u. tt)
+  operated_stops at o left right e p = next P (Any P) (Any P) (row_of at (operator_name o.op) (left ∷ right ∷ [])) _ (row_of_stops at (operator_name o.op) (left ∷ right ∷ []) p) (λ c u. tt)
 
   pub left_stops : (at : Span) (acc : Chained) (o : Operand) → P at → Stops P (Any P) (from_left at acc o)
   left_stops at acc o p = next P (Any P) (Any P) (operated at o.operator acc.ty (type_of o.tree) o.tree) _ (operated_stops at o.operator acc.ty (type_of o.tree) o.tree p) (λ s u. tt)
 
-  right_stops : (e : Tree) (os : List Operand) → At e → AllByRecursion OperandAt os → Stops P (Any P) (from_right e os)
+  right_stops : (at : Span) (e : Tree) (os : List Operand) → P at → AllByRecursion OperandAt os → Stops P (Any P) (from_right at e os)
   unfolding from_right
-  right_stops e [] h k = tt
-  right_stops e (o ∷ os) h k =
-      next P (Any P) (Any P) (from_right o.tree os) _ (right_stops o.tree os k.0 k.1)
-      (λ rest u. next P (Any P) (Any P) (operated (place_of e) o.operator (type_of e) rest.ty o.tree) _ (operated_stops (place_of e) o.operator (type_of e) rest.ty o.tree h) (λ s v. tt))
-
-  right_at_stops : (at : Span) (e : Tree) (os : List Operand) → P at → AllByRecursion OperandAt os → Stops P (Any P) (from_right_at at e os)
-  right_at_stops at (node s t f) os p k = right_stops (node at t f) os p k
+  right_stops at e [] p k = tt
+  right_stops at e (o ∷ os) p k =
+      next P (Any P) (Any P) (from_right o.operator.start o.tree os) _ (right_stops o.operator.start o.tree os k.0.0 k.1)
+      (λ rest u. next P (Any P) (Any P) (operated at o.operator (type_of e) rest.ty o.tree) _ (operated_stops at o.operator (type_of e) rest.ty o.tree p) (λ s v. tt))
 
   pub appended_stops : (at : Span) (e : Tree) (os : List Operand) → P at → AllByRecursion OperandAt os → Stops P At (appended at e os)
   unfolding appended
-  appended_stops at e os p k = next P (Any P) At (from_right_at at e os) _ (right_at_stops at e os p k) (λ c u. p)
+  appended_stops at e os p k = next P (Any P) At (from_right at e os) _ (right_stops at e os p k) (λ c u. p)
 
   -- ---- arrays, sets, accesses
 

@@ -5,10 +5,10 @@ use Rattle.std.proofs.lemmas.List.{map-append, reverse-append}
 use Rattle.mz_base.specs.declared.fault.Span.{Span}
 use Rattle.mz_base.specs.declared.fault.Fault.{Fault}
 use Rattle.mz_core.specs.Types.{PlainType}
-use Rattle.mz_core.specs.Tree.{Tree, node, Step, type_of, place_of}
+use Rattle.mz_core.specs.Tree.{Tree, Step, type_of}
 use Rattle.mz_core.specs.TreeViews.{tree}
 use Rattle.mz_check_meaning.specs.Tests.{Test, ◌>>=◌}
-use Rattle.mz_check_meaning.specs.Chains.{Operand, Chained, from_right, from_right_at}
+use Rattle.mz_check_meaning.specs.Chains.{Operand, Chained, from_right}
 use Rattle.mz_check_calls.specs.declared.chains.Operand.{Operand as Typed}
 use Rattle.mz_check_calls.specs.declared.chains.Chained.{Chained as Done}
 use Rattle.mz_check_calls.specs.StepsChains.{preceded, all_preceded}
@@ -25,7 +25,7 @@ as_is (Err e) = refl
 -- the operand before those after these
 abbrev place_at : Span → List Operand → Span
 place_at at [] = at
-place_at at (o ∷ os) = place_at (place_of o.tree) os
+place_at at (o ∷ os) = place_at o.operator.start os
 
 abbrev type_at : PlainType → List Operand → PlainType
 type_at t [] = t
@@ -40,12 +40,12 @@ last_first : (at : Span) (t : PlainType) (os : List Operand) (o : Operand) (afte
 unfolding all_preceded
 last_first at t [] o after = sym (as_is (preceded at t o after))
 last_first at t (p ∷ os) o after =
-    ap (λ (r : Test Chained). r >>= preceded at t p) (last_first (place_of p.tree) (type_of p.tree) os o after)
-    ∙ in_turn (preceded (place_at (place_of p.tree) os) (type_at (type_of p.tree) os) o after) (all_preceded (place_of p.tree) (type_of p.tree) os) (preceded at t p)
+    ap (λ (r : Test Chained). r >>= preceded at t p) (last_first p.operator.start (type_of p.tree) os o after)
+    ∙ in_turn (preceded (place_at p.operator.start os) (type_at (type_of p.tree) os) o after) (all_preceded p.operator.start (type_of p.tree) os) (preceded at t p)
 
-place_last : (at : Span) (os : List Operand) (p : Operand) → place_at at (os ++ p ∷ []) ≡ place_of p.tree
+place_last : (at : Span) (os : List Operand) (p : Operand) → place_at at (os ++ p ∷ []) ≡ p.operator.start
 place_last at [] p = refl
-place_last at (o ∷ os) p = place_last (place_of o.tree) os p
+place_last at (o ∷ os) p = place_last o.operator.start os p
 
 type_last : (t : PlainType) (os : List Operand) (p : Operand) → type_at t (os ++ p ∷ []) ≡ type_of p.tree
 type_last t [] p = refl
@@ -53,11 +53,11 @@ type_last t (o ∷ os) p = type_last (type_of o.tree) os p
 
 -- one step of the loop: the operator of the last operand, whose left operand is the one before it
 one_preceded : (at : Span) (t : PlainType) (os : List Operand) (p o : Operand) (after : Chained)
-    → all_preceded at t ((os ++ p ∷ []) ++ o ∷ []) after ≡ (preceded (place_of p.tree) (type_of p.tree) o after >>= λ more. all_preceded at t (os ++ p ∷ []) more)
+    → all_preceded at t ((os ++ p ∷ []) ++ o ∷ []) after ≡ (preceded p.operator.start (type_of p.tree) o after >>= λ more. all_preceded at t (os ++ p ∷ []) more)
 one_preceded at t os p o after =
     last_first at t (os ++ p ∷ []) o after
     ∙ ap (λ (s : Span). preceded s (type_at t (os ++ p ∷ [])) o after >>= λ more. all_preceded at t (os ++ p ∷ []) more) (place_last at os p)
-    ∙ ap (λ (u : PlainType). preceded (place_of p.tree) u o after >>= λ more. all_preceded at t (os ++ p ∷ []) more) (type_last t os p)
+    ∙ ap (λ (u : PlainType). preceded p.operator.start u o after >>= λ more. all_preceded at t (os ++ p ∷ []) more) (type_last t os p)
 
 first_preceded : (at : Span) (t : PlainType) (o : Operand) (after : Chained) → all_preceded at t (o ∷ []) after ≡ preceded at t o after
 unfolding all_preceded
@@ -67,21 +67,18 @@ abbrev start : PlainType → Chained
 start t = record { ty = t; done = [] }
 
 -- all operators, before none
-all_before : (e : Tree) (os : List Operand) → from_right e os ≡ all_preceded (place_of e) (type_of e) os (start (last_type e os))
+all_before : (at : Span) (e : Tree) (os : List Operand) → from_right at e os ≡ all_preceded at (type_of e) os (start (last_type e os))
 unfolding from_right all_preceded
-all_before e [] = refl
-all_before e (o ∷ os) = ap (λ (r : Test Chained). r >>= preceded (place_of e) (type_of e) o) (all_before o.tree os)
+all_before at e [] = refl
+all_before at e (o ∷ os) = ap (λ (r : Test Chained). r >>= preceded at (type_of e) o) (all_before o.operator.start o.tree os)
 
-all_before_at : (at : Span) (e : Tree) (os : List Operand) → from_right_at at e os ≡ all_preceded at (type_of e) os (start (last_type e os))
-all_before_at at (node s t f) os = all_before (node at t f) os
-
-pub from_the_last : (at : Span) (e : Tree) (os : List Operand) (o : Operand) → from_right_at at e (os ++ o ∷ []) ≡ all_preceded at (type_of e) (os ++ o ∷ []) (start (type_of o.tree))
+pub from_the_last : (at : Span) (e : Tree) (os : List Operand) (o : Operand) → from_right at e (os ++ o ∷ []) ≡ all_preceded at (type_of e) (os ++ o ∷ []) (start (type_of o.tree))
 from_the_last at e os o =
-    all_before_at at e (os ++ o ∷ []) ∙ ap (λ (t : PlainType). all_preceded at (type_of e) (os ++ o ∷ []) (start t)) (type_last (type_of e) os o)
+    all_before at e (os ++ o ∷ []) ∙ ap (λ (t : PlainType). all_preceded at (type_of e) (os ++ o ∷ []) (start t)) (type_last (type_of e) os o)
 
-pub from_none : (at : Span) (e : Tree) → from_right_at at e [] ≡ Ok (start (type_of e))
+pub from_none : (at : Span) (e : Tree) → from_right at e [] ≡ Ok (start (type_of e))
 unfolding from_right
-from_none at (node s t f) = refl
+from_none at e = refl
 
 -- THE STEPS OF THE LOOP
 
@@ -93,26 +90,26 @@ abbrev pub left_before : Span → PlainType → List Typed → Typed → Chained
 left_before at t before right after = all_preceded at t (map operand before ++ operand right ∷ []) after
 
 on_to : (at : Span) (t : PlainType) (old rest : List Typed) (p o : Typed) (after : Chained) → old ≡ rest ++ p ∷ []
-    → left_before at t old o after ≡ (preceded (place_of (tree p.tree)) (type_of (tree p.tree)) (operand o) after >>= λ more. left_before at t rest p more)
+    → left_before at t old o after ≡ (preceded p.operator.start (type_of (tree p.tree)) (operand o) after >>= λ more. left_before at t rest p more)
 on_to at t old rest p o after is =
     ap (λ (os : List Operand). all_preceded at t (os ++ operand o ∷ []) after) (apart old rest p is) ∙ one_preceded at t (map operand rest) (operand p) (operand o) after
 
-same_step : (s place : Span) (u ty : PlainType) (o : Operand) (after : Chained) (r : Test Chained) → s ≡ place → u ≡ ty → preceded s u o after ≡ r → preceded place ty o after ≡ r
-same_step s place u ty o after r one two is = ap (λ (x : Span). preceded x ty o after) (sym one) ∙ ap (λ (x : PlainType). preceded s x o after) (sym two) ∙ is
+same_step : (s : Span) (u ty : PlainType) (o : Operand) (after : Chained) (r : Test Chained) → u ≡ ty → preceded s u o after ≡ r → preceded s ty o after ≡ r
+same_step s u ty o after r same is = ap (λ (x : PlainType). preceded s x o after) (sym same) ∙ is
 
-pub step_taken : (at : Span) (t : PlainType) (whole : Test Chained) (old rest : List Typed) (p o : Typed) (after next : Chained) (s : Span) (u : PlainType) → whole ≡ left_before at t old o after
-    → old ≡ rest ++ p ∷ [] → s ≡ place_of (tree p.tree) → u ≡ type_of (tree p.tree) → preceded s u (operand o) after ≡ Ok next → whole ≡ left_before at t rest p next
-step_taken at t whole old rest p o after next s u so_far is place ty done =
+pub step_taken : (at : Span) (t : PlainType) (whole : Test Chained) (old rest : List Typed) (p o : Typed) (after next : Chained) (u : PlainType) → whole ≡ left_before at t old o after
+    → old ≡ rest ++ p ∷ [] → u ≡ type_of (tree p.tree) → preceded p.operator.start u (operand o) after ≡ Ok next → whole ≡ left_before at t rest p next
+step_taken at t whole old rest p o after next u so_far is ty done =
     so_far
     ∙ on_to at t old rest p o after is
-    ∙ ap (λ (r : Test Chained). r >>= λ more. left_before at t rest p more) (same_step s (place_of (tree p.tree)) u (type_of (tree p.tree)) (operand o) after (Ok next) place ty done)
+    ∙ ap (λ (r : Test Chained). r >>= λ more. left_before at t rest p more) (same_step p.operator.start u (type_of (tree p.tree)) (operand o) after (Ok next) ty done)
 
-pub step_stopped : (at : Span) (t : PlainType) (whole : Test Chained) (old rest : List Typed) (p o : Typed) (after : Chained) (f : Fault) (s : Span) (u : PlainType) → whole ≡ left_before at t old o after
-    → old ≡ rest ++ p ∷ [] → s ≡ place_of (tree p.tree) → u ≡ type_of (tree p.tree) → preceded s u (operand o) after ≡ Err f → whole ≡ Err f
-step_stopped at t whole old rest p o after f s u so_far is place ty refused =
+pub step_stopped : (at : Span) (t : PlainType) (whole : Test Chained) (old rest : List Typed) (p o : Typed) (after : Chained) (f : Fault) (u : PlainType) → whole ≡ left_before at t old o after
+    → old ≡ rest ++ p ∷ [] → u ≡ type_of (tree p.tree) → preceded p.operator.start u (operand o) after ≡ Err f → whole ≡ Err f
+step_stopped at t whole old rest p o after f u so_far is ty refused =
     so_far
     ∙ on_to at t old rest p o after is
-    ∙ ap (λ (r : Test Chained). r >>= λ more. left_before at t rest p more) (same_step s (place_of (tree p.tree)) u (type_of (tree p.tree)) (operand o) after (Err f) place ty refused)
+    ∙ ap (λ (r : Test Chained). r >>= λ more. left_before at t rest p more) (same_step p.operator.start u (type_of (tree p.tree)) (operand o) after (Err f) ty refused)
 
 pub step_last : (at : Span) (t : PlainType) (whole : Test Chained) (old : List Typed) (o : Typed) (after : Chained) → whole ≡ left_before at t old o after → old ≡ [] → whole ≡ preceded at t (operand o) after
 step_last at t whole old o after so_far none =

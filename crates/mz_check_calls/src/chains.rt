@@ -7,7 +7,7 @@ ghost use Rattle.mz_core.specs.Tree.{type_of};
 ghost use Rattle.mz_core.specs.TreeViews.{tree, step};
 ghost use Rattle.mz_check_meaning.specs.Coerced.{coercions_to, bottom_type};
 ghost use Rattle.mz_check_meaning.specs.Calls.{row_of};
-ghost use Rattle.mz_check_meaning.specs.Chains.{row_number, operator_name, step_of, operated, then_step, from_left, from_right_at, chain_node, appended};
+ghost use Rattle.mz_check_meaning.specs.Chains.{row_number, operator_name, step_of, operated, then_step, from_left, from_right, chain_node, appended};
 ghost use Rattle.mz_check_meaning.specs.Passes.{Passes};
 ghost use Rattle.mz_check_calls.specs.Rows.{IsRow};
 ghost use Rattle.mz_check_calls.specs.StepsChains.{preceded};
@@ -21,14 +21,14 @@ use mz_base::{Memory, Span, Stop};
 use mz_check_forms::{coercions_to, scalar};
 use mz_check_meaning::Callee;
 use mz_core::{Base, Coercion, Core, CoreStep, Signature, TypeInst, copy_type};
-use mz_core_nodes::{make_chain, make_step, place_of, type_of};
-use mz_tree::BinOp;
+use mz_core_nodes::{make_chain, make_step, type_of};
+use mz_tree::{BinOp, PlacedOp};
 use std::alloc::Global;
 
-/// An operator with its second operand.
+/// An operator with its second operand, and the place where that begins.
 #[derive(Drop)]
 pub struct Operand {
-    pub operator: BinOp,
+    pub operator: PlacedOp,
     pub tree: Core,
 }
 
@@ -64,23 +64,24 @@ fn coercions_to_param(
     }
 }
 
-/// The operator of this row between operands of these types, of which the second is this tree.
+/// The operator of this row between operands of these types, of which the second is this tree and begins there.
 #[tactic(auto, unfolding(mz_core::specs::Types::plain_signature))]
 fn step_of(
     alloc: Global,
+    start: Span,
     left: &TypeInst,
     right: &TypeInst,
     e: Core,
     c: Candidate,
 ) -> Result<CoreStep, Memory>
     requires { IsRow c.callee }
-    ensures { IfOk result (λ s. step s ≡ step_of (plain_type left.now) (plain_type right.now) (tree e) (candidate c)) }
+    ensures { IfOk result (λ s. step s ≡ step_of start (plain_type left.now) (plain_type right.now) (tree e) (candidate c)) }
 {
     let Candidate { callee, signature } = c;
     let Signature { params, result } = signature;
     let first = coercions_to_param(alloc, left, params.as_slice(), 0)?;
     let second = coercions_to_param(alloc, right, params.as_slice(), 1)?;
-    Ok(make_step(row_number(callee), result, first, second, e))
+    Ok(make_step(start, row_number(callee), result, first, second, e))
 }
 
 /// Copies of two types.
@@ -115,15 +116,15 @@ fn operator_row(
 fn operated(
     alloc: Global,
     span: Span,
-    op: BinOp,
+    o: PlacedOp,
     left: &TypeInst,
     right: &TypeInst,
     e: Core,
 ) -> Result<CoreStep, Stop>
-    ensures { Passes step result (operated span op (plain_type left.now) (plain_type right.now) (tree e)) }
+    ensures { Passes step result (operated span o (plain_type left.now) (plain_type right.now) (tree e)) }
 {
-    let c = operator_row(alloc, span, op, left, right)?;
-    Ok(step_of(alloc, left, right, e, c)?)
+    let c = operator_row(alloc, span, o.op, left, right)?;
+    Ok(step_of(alloc, o.start, left, right, e, c)?)
 }
 
 /// One more operator.
@@ -149,11 +150,11 @@ impl Chained {
 
     /// One more operator of a chain that groups to the left, after those that are typed, each at the chain's place.
     #[inline(never)]
-    pub fn add_left(&mut self, alloc: Global, span: Span, op: BinOp, e: Core) -> Result<(), Stop>
-        ensures { Passes (λ _. chained self.new) result (from_left span (chained self.old) (record { operator = op; tree = tree e })) }
+    pub fn add_left(&mut self, alloc: Global, span: Span, o: PlacedOp, e: Core) -> Result<(), Stop>
+        ensures { Passes (λ _. chained self.new) result (from_left span (chained self.old) (record { operator = o; tree = tree e })) }
     {
         let right = copy_type(alloc, type_of(&e))?;
-        let s = operated(alloc, span, op, &self.ty, &right, e)?;
+        let s = operated(alloc, span, o, &self.ty, &right, e)?;
         self.ty = copy_type(alloc, &s.ty)?;
         self.done.push(s)?;
         Ok(())
@@ -177,8 +178,8 @@ fn preceded(
     Ok(then_step(alloc, done, s)?)
 }
 
-/// The operators of a chain that groups to the right, from the last to the first: the first at the chain's place, each other at its left
-/// operand's.
+/// The operators of a chain that groups to the right, from the last to the first: the first at the chain's place, each other where its left
+/// operand begins.
 fn from_last(
     alloc: Global,
     span: Span,
@@ -186,13 +187,13 @@ fn from_last(
     operands: Vec<Operand>,
     last: Operand,
 ) -> Result<Chained, Stop>
-    ensures { Passes chained_back result (from_right_at span (tree first.now) (map operand operands.items ++ operand last ∷ [])) }
+    ensures { Passes chained_back result (from_right span (tree first.now) (map operand operands.items ++ operand last ∷ [])) }
 {
     let mut acc = Chained::of(alloc, &last.tree)?;
     let mut before = operands;
     let mut right = last;
     while let Some(left) = before.pop() {
-        acc = preceded(alloc, place_of(&left.tree), type_of(&left.tree), right, acc)?;
+        acc = preceded(alloc, left.operator.start, type_of(&left.tree), right, acc)?;
         right = left;
     }
     preceded(alloc, span, type_of(first), right, acc)
@@ -224,7 +225,7 @@ fn operators_of(
     first: &Core,
     operands: Vec<Operand>,
 ) -> Result<Chained, Stop>
-    ensures { Passes chained result (from_right_at span (tree first.now) (map operand operands.items)) }
+    ensures { Passes chained result (from_right span (tree first.now) (map operand operands.items)) }
 {
     let mut before = operands;
     match before.pop() {

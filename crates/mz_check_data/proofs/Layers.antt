@@ -63,7 +63,7 @@ branches_are (pure.a_branch c e bs) =
 steps_are : (ss : Steps) → texts_among (in_steps ss) ≡ flat_map in_operand (all_steps ss)
 unfolding nodes_in
 steps_are pure.no_steps = refl
-steps_are (pure.a_step r t l m e ss) = two (nodes_in e) (in_steps ss) ∙ ap (λ (ns : List ℕ). texts_in e ++ ns) (steps_are ss)
+steps_are (pure.a_step sp r t l m e ss) = two (nodes_in e) (in_steps ss) ∙ ap (λ (ns : List ℕ). texts_in e ++ ns) (steps_are ss)
 
 gens_are : (gs : Gens) → texts_among (in_gens gs) ≡ flat_map in_generator (all_gens gs)
 unfolding nodes_in

@@ -10,7 +10,7 @@ use Rattle.mz_tree.specs.declared.expr.TypeBase.{TypeBase, TypeBase-F}
 use Rattle.mz_tree.specs.declared.expr.Decl.{Decl}
 use Rattle.mz_tree.specs.declared.expr.Gen.{Gen}
 use Rattle.mz_tree.specs.declared.expr.TypeText.{TypeText}
-use Rattle.mz_tree.specs.declared.expr.BinOp.{BinOp}
+use Rattle.mz_tree.specs.declared.expr.PlacedOp.{PlacedOp}
 use Rattle.mz_tree.specs.declared.expr.Form.TheOpen as open_form
 use Rattle.mz_tree.specs.declared.expr.Form.TheViews.{out-Form, out-LetItem, out-TextPart, out-TypeBase, out-Decl, out-Gen, out-TypeText}
 use Rattle.mz_tree.specs.Tree as pure
@@ -31,7 +31,7 @@ unfolding check
 trees_checked m [] = refl
 trees_checked m (e ∷ es) = ap (λ cs. expression m e ∷ cs) (trees_checked m es)
 
-links_checked : (m : Model) (os : List (BinOp × Expr)) → check_links m (pure.links (map link os)) ≡ map (operand_by m) os
+links_checked : (m : Model) (os : List (PlacedOp × Expr)) → check_links m (pure.links (map link os)) ≡ map (operand_by m) os
 unfolding check
 links_checked m [] = refl
 links_checked m (o ∷ os) = ap (λ cs. operand_by m o ∷ cs) (links_checked m os)

@@ -12,7 +12,7 @@ use Rattle.mz_tree.specs.declared.expr.TypeBase.{TypeBase, TypeBase-F}
 use Rattle.mz_tree.specs.declared.expr.Decl.{Decl}
 use Rattle.mz_tree.specs.declared.expr.Gen.{Gen}
 use Rattle.mz_tree.specs.declared.expr.TypeText.{TypeText}
-use Rattle.mz_tree.specs.declared.expr.BinOp.{BinOp}
+use Rattle.mz_tree.specs.declared.expr.PlacedOp.{PlacedOp}
 use Rattle.mz_tree.specs.declared.expr.Form.TheOpen as open_form
 use Rattle.mz_tree.specs.declared.expr.Form.TheViews.{out-Form, out-LetItem, out-TextPart, out-TypeBase, out-Decl, out-Gen, out-TypeText}
 use Rattle.mz_tree.specs.Tree as pure
@@ -39,10 +39,10 @@ module _ (k : ℕ) where
   trees_named [] h = All-nil (IsNamedExpression k)
   trees_named (e ∷ es) h = All-cons (IsNamedExpression k) e es h.0 (trees_named es h.1)
 
-  links_named : (os : List (BinOp × Expr)) → OfLinks N P (pure.links (map link os)) → All (λ o. IsNamedExpression k o.1) os
+  links_named : (os : List (PlacedOp × Expr)) → OfLinks N P (pure.links (map link os)) → All (λ o. IsNamedExpression k o.1) os
   unfolding OfTree
   links_named [] h = All-nil (λ o. IsNamedExpression k o.1)
-  links_named (o ∷ os) h = All-cons (λ o. IsNamedExpression k o.1) o os h.0 (links_named os h.1)
+  links_named (o ∷ os) h = All-cons (λ o. IsNamedExpression k o.1) o os h.1 (links_named os h.2)
 
   rows_named : (rs : List (Vec Expr Global)) → OfRows N P (pure.rows_of (map tree_row rs)) → All (λ r. All (IsNamedExpression k) r.items) rs
   unfolding OfTree

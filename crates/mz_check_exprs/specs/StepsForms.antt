@@ -13,7 +13,7 @@ use Rattle.mz_tree.specs.declared.expr.TypeBase.{TypeBase, TypeBase-F}
 use Rattle.mz_tree.specs.declared.expr.Decl.{Decl}
 use Rattle.mz_tree.specs.declared.expr.Gen.{Gen}
 use Rattle.mz_tree.specs.declared.expr.TypeText.{TypeText}
-use Rattle.mz_tree.specs.declared.expr.BinOp.{BinOp}
+use Rattle.mz_tree.specs.declared.expr.PlacedOp.{PlacedOp}
 use Rattle.mz_tree.specs.declared.expr.Form.TheOpen as open_form
 use Rattle.mz_tree.specs.declared.expr.Form.TheViews.{out-LetItem, out-TextPart, out-TypeBase, out-Decl, out-Gen, out-TypeText}
 use Rattle.mz_tree.specs.Views.{tree, written}
@@ -36,7 +36,7 @@ expression m e = check m (tree e)
 abbrev pub maybe_expression : Model → Option Expr → Option Check
 maybe_expression m e = option_map (expression m) e
 
-abbrev pub operand_by : Model → BinOp × Expr → BinOp × Check
+abbrev pub operand_by : Model → PlacedOp × Expr → PlacedOp × Check
 operand_by m o = (o.0, expression m o.1)
 
 abbrev pub branch_by : Model → Expr × Expr → Check × Check

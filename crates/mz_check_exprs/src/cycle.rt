@@ -29,7 +29,7 @@ use mz_check_forms::{
 };
 use mz_core::{Base, Core, CoreType};
 use mz_core_nodes::{make_absent, make_bool, make_int, make_text};
-use mz_tree::{BinOp, Decl, Expr, Form, Gen, LetItem, TextPart, TypeBase, TypeText};
+use mz_tree::{Decl, Expr, Form, Gen, LetItem, PlacedOp, TextPart, TypeBase, TypeText};
 use std::alloc::Global;
 
 /// An expression, typed where these names are in scope; or the first fault. The scope is as it was, but where the expression is refused
@@ -317,7 +317,7 @@ fn check_left(
     alloc: Global,
     context: &Context<'_>,
     scope: &mut Scope,
-    rest: &[(BinOp, Expr)],
+    rest: &[(PlacedOp, Expr)],
     span: Span,
     first: Core,
 ) -> Result<Core, Stop>
@@ -340,7 +340,7 @@ fn check_right(
     alloc: Global,
     context: &Context<'_>,
     scope: &mut Scope,
-    rest: &[(BinOp, Expr)],
+    rest: &[(PlacedOp, Expr)],
     span: Span,
     first: Core,
 ) -> Result<Core, Stop>

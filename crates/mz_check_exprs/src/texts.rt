@@ -3,11 +3,10 @@
 ghost use Rattle.std.specs.Prelude.{◌≡◌, ◌∷◌, [], codes, IfOk, map};
 ghost use Rattle.mz_core.specs.Tree.{place_of};
 ghost use Rattle.mz_core.specs.TreeViews.{tree};
-ghost use Rattle.mz_tree.specs.declared.expr.BinOp.TheVariants as op;
 ghost use Rattle.mz_check_meaning.specs.Models.{Model};
 ghost use Rattle.mz_check_meaning.specs.Calls.{row_node};
 ghost use Rattle.mz_check_meaning.specs.Chains.{prefix_name};
-ghost use Rattle.mz_check_meaning.specs.Forms.{operand_of, group_right, texted};
+ghost use Rattle.mz_check_meaning.specs.Forms.{next_piece, group_right, texted};
 ghost use Rattle.mz_check_meaning.specs.Passes.{Passes};
 ghost use Rattle.mz_check_calls.specs.Views.{operand};
 ghost use Rattle.mz_check_exprs.specs.StepsForms.{operand_by};
@@ -17,7 +16,7 @@ use mz_check_calls::{Operand, appended, groups_right, prefix_name, row_node};
 use mz_check_forms::refusal;
 use mz_core::Core;
 use mz_core_nodes::place_of;
-use mz_tree::{BinOp, Expr, UnOp};
+use mz_tree::{BinOp, Expr, PlacedOp, UnOp};
 use std::alloc::Global;
 
 /// A prefix operator with its typed operand.
@@ -40,25 +39,26 @@ pub(crate) fn shown(alloc: Global, e: Core) -> Result<Core, Stop>
 }
 
 /// Whether the operators of a chain group to the right.
-pub(crate) fn group_right(rest: &[(BinOp, Expr)]) -> bool
+pub(crate) fn group_right(rest: &[(PlacedOp, Expr)]) -> bool
     ensures { (m : Model) → result ≡ group_right (map (operand_by m) rest.now) }
 {
     match rest {
         [] => false,
-        [o, ..] => groups_right(o.0),
+        [o, ..] => groups_right(o.0.op),
     }
 }
 
-/// Expressions as operands of `++`.
+/// Expressions as operands of `++`, each at its place.
 fn concatenated(alloc: Global, es: Vec<Core>) -> Result<Vec<Operand>, Memory>
-    ensures { IfOk result (λ v. map operand v.items ≡ map (operand_of op.Concat) (map tree es.items)) }
+    ensures { IfOk result (λ v. map operand v.items ≡ map next_piece (map tree es.items)) }
 {
     let mut all = Vec::new(alloc);
     for e in es {
-        all.push(Operand {
-            operator: BinOp::Concat,
-            tree: e,
-        })?;
+        let operator = PlacedOp {
+            op: BinOp::Concat,
+            start: place_of(&e),
+        };
+        all.push(Operand { operator, tree: e })?;
     }
     Ok(all)
 }

@@ -15,12 +15,12 @@ use Rattle.mz_core.specs.Tree as tree
 use Rattle.mz_core.specs.Tree.{Tree, Step, Gen, DeclaredType, Decl, Item, declares, constrains, trees, maybe, maybes, rows_of, branches, steps, gens, items, type_of, place_of}
 use Rattle.mz_check_meaning.specs.declared.callee.Callee.{Callee}
 use Rattle.mz_check_meaning.specs.declared.callee.Callee.TheVariants as callee
-use Rattle.mz_tree.specs.declared.expr.BinOp.{BinOp}
+use Rattle.mz_tree.specs.declared.expr.PlacedOp.{PlacedOp}
 use Rattle.mz_check_meaning.specs.Tests.{Test, ◌>>=◌, ◌>>◌, require, refuse, loop, each, maybe_some, if_there}
 use Rattle.mz_check_meaning.specs.Models.{Model}
 use Rattle.mz_check_meaning.specs.Coerced.{wrapped, coercions_to, coerced, all_coerced, fitted, condition, is_below, as_var, scalar, allowed_at, made_var, is_scalar, is_set_type, list_of, table_of, bottom_type}
 use Rattle.mz_check_meaning.specs.Calls.{Candidate, candidates, best, called_node, call_node, applied, row_of, row_node}
-use Rattle.mz_check_meaning.specs.Chains.{Operand, Chained, operator_name, step_of, operated, from_left, then_step, from_right, from_right_at, chain_node, appended}
+use Rattle.mz_check_meaning.specs.Chains.{Operand, Chained, operator_name, step_of, operated, from_left, then_step, from_right, chain_node, appended}
 use Rattle.mz_check_meaning.specs.Arrays.{elements_join, each_to, listed, all_in, tabled, is_var, member_base, set_base, member_next, set_literal, index_base, index_fitted, index_pair, indices_fitted, element_type, accessed}
 use Rattle.mz_check_meaning.specs.Branches.{branches_join, whole_type, else_list, else_to, decided}
 use Rattle.mz_check_meaning.specs.Comprehensions.{where_fitted, head_type, listed_heads, set_of_heads, heads, comprehended, is_var_gen}
@@ -250,26 +250,23 @@ module _ (rules : Rules) where
   unfolding row_node
   row_kept at name es h = gives_after IsKept (row_of at name (map type_of es)) (λ c. Ok (call_node at es c)) (λ c. call_kept at es c h)
 
-  operated_kept : (at : Span) (o : BinOp) (left right : PlainType) (e : Tree) → IsKept e → Gives (operated at o left right e) IsKeptStep
+  operated_kept : (at : Span) (o : PlacedOp) (left right : PlainType) (e : Tree) → IsKept e → Gives (operated at o left right e) IsKeptStep
   unfolding operated
-  operated_kept at o left right e h = gives_after IsKeptStep (row_of at (operator_name o) (left ∷ right ∷ [])) (λ c. Ok (step_of left right e c)) (λ c. h)
+  operated_kept at o left right e h = gives_after IsKeptStep (row_of at (operator_name o.op) (left ∷ right ∷ [])) (λ c. Ok (step_of o.start left right e c)) (λ c. h)
 
   pub left_kept : (at : Span) (acc : Chained) (o : Operand) → IsKeptChain acc → IsKept o.tree → Gives (from_left at acc o) IsKeptChain
   left_kept at acc o h k =
       gives_then IsKeptStep IsKeptChain (operated at o.operator acc.ty (type_of o.tree) o.tree) (λ s. Ok (then_step acc s)) (operated_kept at o.operator acc.ty (type_of o.tree) o.tree k)
       (λ s l. all_both IsKeptStep acc.done (s ∷ []) h (l, tt))
 
-  right_kept : (e : Tree) (os : List Operand) → AllBy IsKeptOperand os → Gives (from_right e os) IsKeptChain
+  right_kept : (at : Span) (e : Tree) (os : List Operand) → AllBy IsKeptOperand os → Gives (from_right at e os) IsKeptChain
   unfolding from_right
-  right_kept e [] h = tt
-  right_kept e (o ∷ os) h =
+  right_kept at e [] h = tt
+  right_kept at e (o ∷ os) h =
       let last : Chained → Step → Test Chained = λ rest s. Ok (record { ty = s.ty; done = s ∷ rest.done }) in
-      let next : Chained → Test Chained = λ rest. operated (place_of e) o.operator (type_of e) rest.ty o.tree >>= λ s. last rest s in
-      gives_then IsKeptChain IsKeptChain (from_right o.tree os) next (right_kept o.tree os h.1) (λ rest r.
-      gives_then IsKeptStep IsKeptChain (operated (place_of e) o.operator (type_of e) rest.ty o.tree) (last rest) (operated_kept (place_of e) o.operator (type_of e) rest.ty o.tree h.0) (λ s k. (k, r)))
-
-  right_at_kept : (at : Span) (e : Tree) (os : List Operand) → AllBy IsKeptOperand os → Gives (from_right_at at e os) IsKeptChain
-  right_at_kept at (tree.node s t f) os h = right_kept (tree.node at t f) os h
+      let next : Chained → Test Chained = λ rest. operated at o.operator (type_of e) rest.ty o.tree >>= λ s. last rest s in
+      gives_then IsKeptChain IsKeptChain (from_right o.operator.start o.tree os) next (right_kept o.operator.start o.tree os h.1) (λ rest r.
+      gives_then IsKeptStep IsKeptChain (operated at o.operator (type_of e) rest.ty o.tree) (last rest) (operated_kept at o.operator (type_of e) rest.ty o.tree h.0) (λ s k. (k, r)))
 
   pub chain_kept : (at : Span) (e : Tree) (c : Chained) → IsKept e → IsKeptChain c → IsKept (chain_node at e c)
   unfolding nodes_in
@@ -277,7 +274,7 @@ module _ (rules : Rules) where
 
   pub appended_kept : (at : Span) (e : Tree) (os : List Operand) → IsKept e → AllBy IsKeptOperand os → Gives (appended at e os) IsKept
   unfolding appended
-  appended_kept at e os h k = gives_then IsKeptChain IsKept (from_right_at at e os) (λ c. Ok (chain_node at e c)) (right_at_kept at e os k) (λ c l. chain_kept at e c h l)
+  appended_kept at e os h k = gives_then IsKeptChain IsKept (from_right at e os) (λ c. Ok (chain_node at e c)) (right_kept at e os k) (λ c l. chain_kept at e c h l)
 
   -- ---- comprehensions
 

@@ -6,8 +6,7 @@ use Rattle.mz_base.specs.declared.fault.Span.{Span}
 use Rattle.mz_core.specs.Types.{PlainType}
 use Rattle.mz_core.specs.Tree.{Tree, DeclaredType, declares, constrains, type_of, place_of}
 use Rattle.mz_tree.specs.declared.expr.UnOp.{UnOp}
-use Rattle.mz_tree.specs.declared.expr.BinOp.{BinOp}
-use Rattle.mz_tree.specs.declared.expr.BinOp.TheVariants as op
+use Rattle.mz_tree.specs.declared.expr.PlacedOp.{PlacedOp}
 use Rattle.mz_tree.specs.Tree as source
 use Rattle.mz_tree.specs.Tree.{Name, Shape, Maybe, Trees, Links, Rows, Branches, Part, Parts, Generator, Gens, Let, Lets, Declaration, Written, Dims, Bases}
 use Rattle.mz_tree.specs.Kinds.{OfTree, OfShape, OfMaybe, OfTrees, OfLinks, OfRows, OfBranches, OfPart, OfParts, OfGenerator, OfGens, OfLet, OfLets, OfDeclaration, OfWritten, OfBased, OfDims, OfBases}
@@ -25,7 +24,7 @@ use Rattle.mz_check_meaning.specs.Comprehensions.{Bound, running_type, bind_name
 use Rattle.mz_check_meaning.specs.Lets.{new_name, decl_of, let_node}
 use Rattle.mz_check_meaning.specs.Names.{decl_node, bare_node, meant, named_or, named, function_meant, bare_or, bare_call}
 use Rattle.mz_check_meaning.specs.WrittenTypes.{Based, of_bool, of_int, of_set, declared}
-use Rattle.mz_check_meaning.specs.Forms.{Check, TypeCheck, part, parts, maybe_part, unary_of, operand_of, left_next, from_left_of, operand, from_right_of, grouped_of, group_right, chain_of, call_of, array_of, row_parts, rows_of, set_of, access_of, Branched, branch_next, choice_of, GenCheck, Generated, gen_next, generators, comp_of, gen_call_of, based_part, written_of, LetCheck, declares_by, constrains_by, Declared, local_value, let_next, let_of, PieceCheck, plain_by, shown_by, piece, texted, text_of}
+use Rattle.mz_check_meaning.specs.Forms.{Check, TypeCheck, part, parts, maybe_part, unary_of, operand_of, next_piece, left_next, from_left_of, operand, from_right_of, grouped_of, group_right, chain_of, call_of, array_of, row_parts, rows_of, set_of, access_of, Branched, branch_next, choice_of, GenCheck, Generated, gen_next, generators, comp_of, gen_call_of, based_part, written_of, LetCheck, declares_by, constrains_by, Declared, local_value, let_next, let_of, PieceCheck, plain_by, shown_by, piece, texted, text_of}
 use Rattle.mz_check_meaning.specs.Typing.{check, check_form, check_maybe, checks, check_links, check_rows, check_branches, check_piece, check_pieces, check_gen, check_gens, check_let, check_lets, check_declaration, check_written, check_based, check_dims, check_bases}
 use Rattle.mz_core.specs.Nodes.{nodes_in}
 use Rattle.mz_check_meaning.proofs.Giving.{AllBy, all_both, all_mapped, Gives, gives_then, gives_after, loop_gives, each_gives}
@@ -117,31 +116,31 @@ module _ (rules : Rules) where
   unary_kept : (at : Span) (o : UnOp) (go : Check) → Keeps go → Keeps (unary_of at o go)
   unary_kept at o go h env = gives_then (IsKept rules) (IsKept rules) (go env) (λ e. row_node at (prefix_name o) (e ∷ [])) (h env) (λ e k. leaves.row_kept rules at (prefix_name o) (e ∷ []) (k, tt))
 
-  lefts_kept : (at : Span) (env : Env) (os : List (BinOp × Check)) → AllBy (λ o. Keeps o.1) os → AllBy (λ o. (s : Chained) → IsKeptChain rules s → Gives (left_next at env s o) (IsKeptChain rules)) os
+  lefts_kept : (at : Span) (env : Env) (os : List (PlacedOp × Check)) → AllBy (λ o. Keeps o.1) os → AllBy (λ o. (s : Chained) → IsKeptChain rules s → Gives (left_next at env s o) (IsKeptChain rules)) os
   lefts_kept at env [] h = tt
   lefts_kept at env (o ∷ os) h =
       ((λ s k. gives_then (IsKept rules) (IsKeptChain rules) (o.1 env) (λ e. from_left at s (operand_of o.0 e)) (h.0 env) (λ e l. leaves.left_kept rules at s (operand_of o.0 e) k l)), lefts_kept at env os h.1)
 
-  from_left_kept : (at : Span) (e : Tree) (os : List (BinOp × Check)) (env : Env) → IsKept rules e → AllBy (λ o. Keeps o.1) os → Gives (from_left_of at e os env) (IsKept rules)
+  from_left_kept : (at : Span) (e : Tree) (os : List (PlacedOp × Check)) (env : Env) → IsKept rules e → AllBy (λ o. Keeps o.1) os → Gives (from_left_of at e os env) (IsKept rules)
   from_left_kept at e os env h k =
       gives_then (IsKeptChain rules) (IsKept rules) (loop (left_next at env) (record { ty = type_of e; done = [] }) os) (λ c. Ok (chain_node at e c))
       (loop_gives (IsKeptChain rules) (left_next at env) (record { ty = type_of e; done = [] }) os tt (lefts_kept at env os k))
       (λ c l. leaves.chain_kept rules at e c h l)
 
-  operands_kept : (env : Env) (os : List (BinOp × Check)) → AllBy (λ o. Keeps o.1) os → AllBy (λ o. Gives (operand env o) (IsKeptOperand rules)) os
+  operands_kept : (env : Env) (os : List (PlacedOp × Check)) → AllBy (λ o. Keeps o.1) os → AllBy (λ o. Gives (operand env o) (IsKeptOperand rules)) os
   operands_kept env [] h = tt
   operands_kept env (o ∷ os) h = (gives_then (IsKept rules) (IsKeptOperand rules) (o.1 env) (λ e. Ok (operand_of o.0 e)) (h.0 env) (λ e k. k), operands_kept env os h.1)
 
-  from_right_kept : (at : Span) (e : Tree) (os : List (BinOp × Check)) (env : Env) → IsKept rules e → AllBy (λ o. Keeps o.1) os → Gives (from_right_of at e os env) (IsKept rules)
+  from_right_kept : (at : Span) (e : Tree) (os : List (PlacedOp × Check)) (env : Env) → IsKept rules e → AllBy (λ o. Keeps o.1) os → Gives (from_right_of at e os env) (IsKept rules)
   from_right_kept at e os env h k =
       gives_then (AllBy (IsKeptOperand rules)) (IsKept rules) (each (operand env) os) (λ es. appended at e es) (each_gives (IsKeptOperand rules) (operand env) os (operands_kept env os k))
       (λ es l. leaves.appended_kept rules at e es h l)
 
-  grouped_kept : (b : Bool) (at : Span) (e : Tree) (os : List (BinOp × Check)) (env : Env) → IsKept rules e → AllBy (λ o. Keeps o.1) os → Gives (grouped_of b at e os env) (IsKept rules)
+  grouped_kept : (b : Bool) (at : Span) (e : Tree) (os : List (PlacedOp × Check)) (env : Env) → IsKept rules e → AllBy (λ o. Keeps o.1) os → Gives (grouped_of b at e os env) (IsKept rules)
   grouped_kept true at e os env h k = from_right_kept at e os env h k
   grouped_kept false at e os env h k = from_left_kept at e os env h k
 
-  chain_kept : (at : Span) (go : Check) (os : List (BinOp × Check)) → Keeps go → AllBy (λ o. Keeps o.1) os → Keeps (chain_of at go os)
+  chain_kept : (at : Span) (go : Check) (os : List (PlacedOp × Check)) → Keeps go → AllBy (λ o. Keeps o.1) os → Keeps (chain_of at go os)
   chain_kept at go os h k env = gives_then (IsKept rules) (IsKept rules) (go env) (λ e. grouped_of (group_right os) at e os env) (h env) (λ e l. grouped_kept (group_right os) at e os env l k)
 
   -- ---- calls, literals and accesses
@@ -293,7 +292,7 @@ module _ (rules : Rules) where
   concatenated_kept : (at : Span) (es : List Tree) → AreKept rules es → Gives (texted at es) (IsKept rules)
   concatenated_kept at [] h = tt
   concatenated_kept at (e ∷ []) h = h.0
-  concatenated_kept at (e ∷ f ∷ es) h = leaves.appended_kept rules at e (map (operand_of op.Concat) (f ∷ es)) h.0 (all_mapped (IsKept rules) (IsKeptOperand rules) (operand_of op.Concat) (f ∷ es) (λ x k. k) h.1)
+  concatenated_kept at (e ∷ f ∷ es) h = leaves.appended_kept rules at e (map next_piece (f ∷ es)) h.0 (all_mapped (IsKept rules) (IsKeptOperand rules) next_piece (f ∷ es) (λ x k. k) h.1)
 
   text_kept : (at : Span) (ps : List PieceCheck) → AllBy KeepsPiece ps → Keeps (text_of at ps)
   text_kept at ps h env = gives_then (AreKept rules) (IsKept rules) (each (piece at env) ps) (λ es. texted at es) (each_gives (IsKept rules) (piece at env) ps (all_pieces at env ps h)) (λ es k. concatenated_kept at es k)
@@ -337,7 +336,7 @@ module _ (rules : Rules) where
 
     links_keep : (m : Model) (ls : Links) → OfLinks rules.allows AnyPlace ls → AllBy (λ o. Keeps o.1) (check_links m ls)
     links_keep m source.no_links h = tt
-    links_keep m (source.a_link o e ls) h = (tree_keeps m e h.0, links_keep m ls h.1)
+    links_keep m (source.a_link o e ls) h = (tree_keeps m e h.1, links_keep m ls h.2)
 
     rows_keep : (m : Model) (rs : Rows) → OfRows rules.allows AnyPlace rs → AllBy (AllBy Keeps) (check_rows m rs)
     rows_keep m source.no_rows h = tt

@@ -3,10 +3,11 @@
 use Rattle.std.specs.Prelude.{ℕ, Bool, true, false, List, [], ◌∷◌, ◌++◌, codes, slice_index_or, Ok}
 use Rattle.mz_base.specs.declared.fault.Span.{Span}
 use Rattle.mz_core.specs.Types.{PlainType, PlainSignature}
-use Rattle.mz_core.specs.Tree.{Tree, Step, node, chain, steps, type_of, place_of}
+use Rattle.mz_core.specs.Tree.{Tree, Step, node, chain, steps, type_of}
 use Rattle.mz_tree.specs.declared.expr.UnOp.{UnOp}
 use Rattle.mz_tree.specs.declared.expr.UnOp.TheVariants as prefix
 use Rattle.mz_tree.specs.declared.expr.BinOp.{BinOp}
+use Rattle.mz_tree.specs.declared.expr.PlacedOp.{PlacedOp}
 use Rattle.mz_tree.specs.declared.expr.BinOp.TheVariants as op
 use Rattle.mz_check_meaning.specs.declared.callee.Callee.{Callee}
 use Rattle.mz_check_meaning.specs.declared.callee.Callee.TheVariants as callee
@@ -56,9 +57,9 @@ abbrev pub groups_right : BinOp → Bool
 groups_right op.Concat = true
 groups_right o = false
 
--- an operator with its second operand, typed
+-- an operator with its second operand, typed, and where that begins
 pub record Operand : Type 0 where
-  pub operator : BinOp
+  pub operator : PlacedOp
   pub tree : Tree
 
 abbrev pub param_at : ℕ → PlainSignature → PlainType
@@ -69,8 +70,9 @@ abbrev pub row_number : Callee → ℕ
 row_number (callee.Row r) = r
 row_number (callee.Function f) = f
 
-abbrev pub step_of : PlainType → PlainType → Tree → Candidate → Step
-step_of left right e c = record {
+abbrev pub step_of : Span → PlainType → PlainType → Tree → Candidate → Step
+step_of start left right e c = record {
+  start = start;
   row = row_number c.callee;
   ty = c.signature.result;
   left = coercions_to left (param_at 0 c.signature);
@@ -79,8 +81,8 @@ step_of left right e c = record {
 }
 
 -- an operator between operands of these types; the tree is the one after it
-unfoldable pub operated : Span → BinOp → PlainType → PlainType → Tree → Test Step
-operated at o left right e = row_of at (operator_name o) (left ∷ right ∷ []) >>= λ c. Ok (step_of left right e c)
+unfoldable pub operated : Span → PlacedOp → PlainType → PlainType → Tree → Test Step
+operated at o left right e = row_of at (operator_name o.op) (left ∷ right ∷ []) >>= λ c. Ok (step_of o.start left right e c)
 
 -- ---- from the left
 
@@ -97,21 +99,17 @@ from_left at acc o = operated at o.operator acc.ty (type_of o.tree) o.tree >>= �
 
 -- ---- from the right: all operands are typed before the last operator
 
--- an operator's node has the place of its left operand
-unfoldable pub from_right : Tree → List Operand → Test Chained
-from_right e [] = Ok (record { ty = type_of e; done = [] })
-from_right e (o ∷ os) = do
-  rest ← from_right o.tree os
-  s ← operated (place_of e) o.operator (type_of e) rest.ty o.tree
+-- an operator's node begins where its left operand does, with a parenthesis; the first one's is the chain's
+unfoldable pub from_right : Span → Tree → List Operand → Test Chained
+from_right at e [] = Ok (record { ty = type_of e; done = [] })
+from_right at e (o ∷ os) = do
+  rest ← from_right o.operator.start o.tree os
+  s ← operated at o.operator (type_of e) rest.ty o.tree
   Ok (record { ty = s.ty; done = s ∷ rest.done })
-
--- the first operator's node is the chain's, at its place
-abbrev pub from_right_at : Span → Tree → List Operand → Test Chained
-from_right_at at (node s t f) os = from_right (node at t f) os
 
 abbrev pub chain_node : Span → Tree → Chained → Tree
 chain_node at e c = node at c.ty (chain e (steps c.done))
 
 -- a chain of `++` with all its operands
 unfoldable pub appended : Span → Tree → List Operand → Test Tree
-appended at e os = from_right_at at e os >>= λ c. Ok (chain_node at e c)
+appended at e os = from_right at e os >>= λ c. Ok (chain_node at e c)

@@ -1,5 +1,5 @@
 -- How the worked examples are written: a small model, trees whose parts have their places on one line, and what comes of their typing.
-use Rattle.std.specs.Prelude.{ℕ, pos, Bool, true, false, List, [], ◌∷◌, Option, None, Ok, Err, codes}
+use Rattle.std.specs.Prelude.{ℕ, pos, Bool, true, false, List, [], ◌∷◌, map, Option, None, Ok, Err, codes}
 use Rattle.mz_base.specs.declared.fault.Span.{Span}
 use Rattle.mz_base.specs.declared.kind.Kind.{Kind}
 use Rattle.mz_core.specs.declared.types.Base.{Base}
@@ -10,6 +10,7 @@ use Rattle.mz_core.specs.Tree as typed
 use Rattle.mz_core.specs.Tree.{Decl, DeclaredType}
 use Rattle.mz_tree.specs.declared.expr.UnOp.{UnOp}
 use Rattle.mz_tree.specs.declared.expr.BinOp.{BinOp}
+use Rattle.mz_tree.specs.declared.expr.PlacedOp.{PlacedOp}
 use Rattle.mz_tree.specs.Tree as source
 use Rattle.mz_tree.specs.Tree.{Tree, Name, Part, Generator, Let, Written, Based}
 use Rattle.mz_check_meaning.specs.declared.meaning.Meaning.TheVariants as meaning
@@ -158,12 +159,23 @@ call m k es = source.node (col k) (source.call m (source.trees es))
 abbrev pub prefix : UnOp → ℕ → Tree → Tree
 prefix o k x = source.node (col k) (source.unary o x)
 
+abbrev begin : Tree → Span
+begin (source.node s f) = s
+
+-- an operator with an operand without parentheses
+abbrev linked : BinOp × Tree → PlacedOp × Tree
+linked l = (source.op_before l.0 (begin l.1), l.1)
+
 -- one operator, and more of one level
 abbrev pub bin : ℕ → Tree → BinOp → Tree → Tree
-bin k x o y = source.node (col k) (source.chain x (source.links ((o, y) ∷ [])))
+bin k x o y = source.node (col k) (source.chain x (source.links (linked (o, y) ∷ [])))
 
 abbrev pub chain : ℕ → Tree → List (BinOp × Tree) → Tree
-chain k x os = source.node (col k) (source.chain x (source.links os))
+chain k x os = source.node (col k) (source.chain x (source.links (map linked os)))
+
+-- with operands that begin with a parenthesis, where that is
+abbrev pub opened : ℕ → Tree → List (PlacedOp × Tree) → Tree
+opened k x os = source.node (col k) (source.chain x (source.links os))
 
 abbrev pub array : ℕ → List Tree → Tree
 array k es = source.node (col k) (source.array (source.trees es))

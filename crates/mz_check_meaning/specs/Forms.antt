@@ -4,9 +4,9 @@ use Rattle.mz_base.specs.declared.fault.Span.{Span}
 use Rattle.mz_base.specs.declared.kind.Kind.TheVariants as kind
 use Rattle.mz_core.specs.Types.{PlainType}
 use Rattle.mz_core.specs.Tree.{Tree, Gen, DeclaredType, Item, declares, constrains, node, text, type_of, place_of}
-use Rattle.mz_tree.specs.Tree.{Name}
+use Rattle.mz_tree.specs.Tree.{Name, op_before}
 use Rattle.mz_tree.specs.declared.expr.UnOp.{UnOp}
-use Rattle.mz_tree.specs.declared.expr.BinOp.{BinOp}
+use Rattle.mz_tree.specs.declared.expr.PlacedOp.{PlacedOp}
 use Rattle.mz_tree.specs.declared.expr.BinOp.TheVariants as op
 use Rattle.mz_check_meaning.specs.Tests.{Test, ◌>>=◌, ◌>>◌, refuse, loop, each, if_there}
 use Rattle.mz_check_meaning.specs.Models.{Model, Env, bind}
@@ -41,31 +41,31 @@ maybe_part go env = if_there (part env) go
 abbrev pub unary_of : Span → UnOp → Check → Check
 unary_of at o go env = go env >>= λ e. row_node at (prefix_name o) (e ∷ [])
 
-abbrev pub operand_of : BinOp → Tree → Operand
+abbrev pub operand_of : PlacedOp → Tree → Operand
 operand_of o e = record { operator = o; tree = e }
 
-abbrev pub left_next : Span → Env → Chained → BinOp × Check → Test Chained
+abbrev pub left_next : Span → Env → Chained → PlacedOp × Check → Test Chained
 left_next at env acc o = o.1 env >>= λ e. from_left at acc (operand_of o.0 e)
 
-abbrev pub from_left_of : Span → Tree → List (BinOp × Check) → Check
+abbrev pub from_left_of : Span → Tree → List (PlacedOp × Check) → Check
 from_left_of at e os env = loop (left_next at env) (record { ty = type_of e; done = [] }) os >>= λ c. Ok (chain_node at e c)
 
-abbrev pub operand : Env → BinOp × Check → Test Operand
+abbrev pub operand : Env → PlacedOp × Check → Test Operand
 operand env o = o.1 env >>= λ e. Ok (operand_of o.0 e)
 
-abbrev pub from_right_of : Span → Tree → List (BinOp × Check) → Check
+abbrev pub from_right_of : Span → Tree → List (PlacedOp × Check) → Check
 from_right_of at e os env = each (operand env) os >>= λ es. appended at e es
 
-abbrev pub grouped_of : Bool → Span → Tree → List (BinOp × Check) → Check
+abbrev pub grouped_of : Bool → Span → Tree → List (PlacedOp × Check) → Check
 grouped_of true at e os env = from_right_of at e os env
 grouped_of false at e os env = from_left_of at e os env
 
 -- the operators of a chain are of one level
-abbrev pub group_right : List (BinOp × Check) → Bool
+abbrev pub group_right : List (PlacedOp × Check) → Bool
 group_right [] = false
-group_right (o ∷ os) = groups_right o.0
+group_right (o ∷ os) = groups_right o.0.op
 
-abbrev pub chain_of : Span → Check → List (BinOp × Check) → Check
+abbrev pub chain_of : Span → Check → List (PlacedOp × Check) → Check
 chain_of at go os env = go env >>= λ e. grouped_of (group_right os) at e os env
 
 -- ---- calls
@@ -208,11 +208,15 @@ abbrev pub piece : Span → Env → PieceCheck → Test Tree
 piece at env (plain_by n) = Ok (node at text_type (text n))
 piece at env (shown_by go) = go env >>= λ e. row_node (place_of e) (codes "show") (e ∷ [])
 
+-- a piece after the first one
+abbrev pub next_piece : Tree → Operand
+next_piece e = operand_of (op_before op.Concat (place_of e)) e
+
 -- `"a\(e)b"` is `"a" ++ (show(e) ++ "b")`. A text has a piece
 abbrev pub texted : Span → List Tree → Test Tree
 texted at [] = refuse kind.Syntax at
 texted at (e ∷ []) = Ok e
-texted at (e ∷ f ∷ es) = appended at e (map (operand_of op.Concat) (f ∷ es))
+texted at (e ∷ f ∷ es) = appended at e (map next_piece (f ∷ es))
 
 abbrev pub text_of : Span → List PieceCheck → Check
 text_of at ps env = each (piece at env) ps >>= λ es. texted at es

@@ -3,7 +3,8 @@ use Rattle.std.specs.Prelude.{◌≡◌, refl, List, [], ◌∷◌, map}
 use Rattle.mz_base.specs.declared.kind.Kind.TheVariants.{Ambiguous, LeftOut, NoOverload, UnknownName}
 use Rattle.mz_tree.specs.declared.expr.BinOp.TheVariants as o
 use Rattle.mz_tree.specs.declared.expr.UnOp.TheVariants as u
-use Rattle.mz_check_meaning.specs.ExampleTrees.{b, n, sn, se, tx, va, li, A, B, num, truth, gone, words, name, call, prefix, bin, chain, array, set, Example, has, stops, typing, expected}
+use Rattle.mz_tree.specs.Tree.{op_before}
+use Rattle.mz_check_meaning.specs.ExampleTrees.{col, b, n, sn, se, tx, va, li, A, B, num, truth, gone, words, name, call, prefix, bin, chain, opened, array, set, Example, has, stops, typing, expected}
 use Rattle.mz_core.specs.Order.{below, same_type, same_dims, dims_below}
 use Rattle.mz_core.specs.Join.{join}
 use Rattle.mz_core.specs.Paths.{coercions, index_links}
@@ -64,6 +65,7 @@ appends =
     ∷ stops (bin 1 (array 1 ((num 2) ∷ [])) o.Concat (words 8)) NoOverload 1
     ∷ stops (bin 1 (name 10 1) o.Concat (name 7 5)) NoOverload 1
     ∷ stops (chain 1 (array 1 ((num 2) ∷ [])) ((o.Concat, (words 7)) ∷ (o.Concat, (array 11 ((num 12) ∷ []))) ∷ [])) NoOverload 7
+    ∷ stops (opened 1 (array 1 ((num 2) ∷ [])) ((op_before o.Concat (col 7), (words 8)) ∷ (op_before o.Concat (col 13), (array 13 ((num 14) ∷ []))) ∷ [])) NoOverload 7
     ∷ stops (chain 1 (array 1 ((num 2) ∷ [])) ((o.Concat, (words 7)) ∷ (o.Concat, (name 22 11)) ∷ [])) UnknownName 11
     ∷ has (chain 1 (array 1 []) ((o.Concat, (array 7 ((num 8) ∷ []))) ∷ (o.Concat, (array 12 ((name A 13) ∷ []))) ∷ [])) (li n)
     ∷ []

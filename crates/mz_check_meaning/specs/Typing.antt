@@ -3,7 +3,7 @@ use Rattle.std.specs.Prelude.{true, false, List, [], ◌∷◌, Option, Some, No
 use Rattle.mz_base.specs.declared.fault.Span.{Span}
 use Rattle.mz_base.specs.declared.kind.Kind.TheVariants as kind
 use Rattle.mz_core.specs.Tree as typed
-use Rattle.mz_tree.specs.declared.expr.BinOp.{BinOp}
+use Rattle.mz_tree.specs.declared.expr.PlacedOp.{PlacedOp}
 use Rattle.mz_tree.specs.Tree as source
 use Rattle.mz_tree.specs.Tree.{Tree, Shape, Maybe, Trees, Links, Rows, Branches, Part, Parts, Generator, Gens, Let, Lets, Declaration, Written, Dims, Bases}
 use Rattle.mz_check_meaning.specs.Tests.{refuse}
@@ -47,7 +47,7 @@ unfoldable mutual
   checks m source.no_trees = []
   checks m (source.a_tree e es) = check m e ∷ checks m es
 
-  pub check_links : Model → Links → List (BinOp × Check)
+  pub check_links : Model → Links → List (PlacedOp × Check)
   check_links m source.no_links = []
   check_links m (source.a_link o e ls) = (o, check m e) ∷ check_links m ls
 

@@ -57,10 +57,11 @@ mutual
     no_branches : Branches
     a_branch : Tree → Tree → Branches → Branches
 
-  -- an operator's row and type, the coercions of its operands, and its second operand
+  -- the place of an operand's first token, a parenthesis too; the row and the type of its operator, the coercions of both operands, and the
+  -- operand itself, which is the second one
   pub data Steps : Type 0 where
     no_steps : Steps
-    a_step : ℕ → PlainType → List PathLink → List PathLink → Tree → Steps → Steps
+    a_step : Span → ℕ → PlainType → List PathLink → List PathLink → Tree → Steps → Steps
 
   -- slots, the set that they run over, and a condition
   pub data Gens : Type 0 where
@@ -78,6 +79,8 @@ mutual
 
 -- an operator of a chain
 pub record Step : Type 0 where
+  -- where its operand begins, with a parenthesis
+  pub start : Span
   pub row : ℕ
   pub ty : PlainType
   pub left : List PathLink
@@ -132,7 +135,7 @@ branches (b ∷ bs) = a_branch b.0 b.1 (branches bs)
 
 abbrev pub steps : List Step → Steps
 steps [] = no_steps
-steps (s ∷ ss) = a_step s.row s.ty s.left s.right s.operand (steps ss)
+steps (s ∷ ss) = a_step s.start s.row s.ty s.left s.right s.operand (steps ss)
 
 abbrev pub gens : List Gen → Gens
 gens [] = no_gens
@@ -165,7 +168,7 @@ all_branches (a_branch c e bs) = (c, e) ∷ all_branches bs
 
 abbrev pub all_steps : Steps → List Step
 all_steps no_steps = []
-all_steps (a_step r t l m e ss) = record { row = r; ty = t; left = l; right = m; operand = e } ∷ all_steps ss
+all_steps (a_step sp r t l m e ss) = record { start = sp; row = r; ty = t; left = l; right = m; operand = e } ∷ all_steps ss
 
 abbrev pub all_gens : Gens → List Gen
 all_gens no_gens = []

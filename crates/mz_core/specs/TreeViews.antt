@@ -53,7 +53,7 @@ abbrev pub gen_step : CoreGen-F Shape Item Tree Decl Gen Step DeclaredType → G
 gen_step g = record { slots = g.slots.items; set = g.set; cond = g.cond }
 
 abbrev pub step_step : CoreStep-F Shape Item Tree Decl Gen Step DeclaredType → Step
-step_step s = record { row = s.row; ty = plain_type s.ty; left = path_links s.left.items; right = path_links s.right.items; operand = s.operand }
+step_step s = record { start = s.start; row = s.row; ty = plain_type s.ty; left = path_links s.left.items; right = path_links s.right.items; operand = s.operand }
 
 abbrev pub type_step : CoreType-F Shape Item Tree Decl Gen Step DeclaredType → DeclaredType
 type_step t = record { span = t.span; ty = plain_type t.ty; index = t.index.items; set = t.set }
@@ -81,7 +81,7 @@ abbrev pub gen : CoreGen → Gen
 gen g = let u = out-CoreGen g in record { slots = u.slots.items; set = tree u.set; cond = option_map tree u.cond }
 
 abbrev pub step : CoreStep → Step
-step s = record { row = s.row; ty = plain_type s.ty; left = path_links s.left.items; right = path_links s.right.items; operand = tree s.operand }
+step s = record { start = s.start; row = s.row; ty = plain_type s.ty; left = path_links s.left.items; right = path_links s.right.items; operand = tree s.operand }
 
 abbrev pub item_layer : CoreItem-F CoreForm CoreItem Core CoreDecl CoreGen CoreStep CoreType → Item
 item_layer (open_form.Decl d) = pure.declares (decl d)

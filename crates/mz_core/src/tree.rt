@@ -136,10 +136,12 @@ impl Drop for CoreItem {
     }
 }
 
-/// An operator of a chain: its row and its type, the coercions of its two operands, in order, each
-/// with the type that it leads to, and its second operand.
+/// An operator of a chain: the place of its second operand's first token, a parenthesis too, its row
+/// and its type, the coercions of its two operands, in order, each with the type that it leads to, and
+/// its second operand.
 #[cycle(typed)]
 pub struct CoreStep {
+    pub start: Span,
     pub row: u32,
     pub ty: TypeInst,
     pub left: Vec<(Coercion, TypeInst)>,
@@ -151,6 +153,7 @@ impl Drop for CoreStep {
     #[cycle(typed)]
     fn drop(self) {
         let CoreStep {
+            start: _,
             row: _,
             ty: _ty,
             left: _left,

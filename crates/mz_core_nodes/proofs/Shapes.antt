@@ -30,7 +30,7 @@ branches_made (pure.a_branch c e bs) = ap (pure.a_branch c e) (branches_made bs)
 
 steps_made : (ss : Steps) → steps (all_steps ss) ≡ ss
 steps_made pure.no_steps = refl
-steps_made (pure.a_step r t l m e ss) = ap (pure.a_step r t l m e) (steps_made ss)
+steps_made (pure.a_step sp r t l m e ss) = ap (pure.a_step sp r t l m e) (steps_made ss)
 
 gens_made : (gs : Gens) → gens (all_gens gs) ≡ gs
 gens_made pure.no_gens = refl

@@ -66,17 +66,19 @@ pub fn make_constraint(e: Core) -> CoreItem
     CoreItem::Constraint(e)
 }
 
-/// An operator of a chain, with the coercions of its two operands.
+/// An operator of a chain, with the place where its second operand begins and the coercions of its two operands.
 pub fn make_step(
+    start: Span,
     row: u32,
     ty: TypeInst,
     left: Vec<(Coercion, TypeInst)>,
     right: Vec<(Coercion, TypeInst)>,
     operand: Core,
 ) -> CoreStep
-    ensures { step result ≡ record { row = row; ty = plain_type ty; left = path_links left.items; right = path_links right.items; operand = tree operand } }
+    ensures { step result ≡ record { start = start; row = row; ty = plain_type ty; left = path_links left.items; right = path_links right.items; operand = tree operand } }
 {
     CoreStep {
+        start,
         row,
         ty,
         left,

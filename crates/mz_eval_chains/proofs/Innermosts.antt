@@ -31,7 +31,7 @@ innermost_of_tree l e =
 
 steps_again : (ss : Steps) → steps (all_steps ss) ≡ ss
 steps_again trees.no_steps = refl
-steps_again (trees.a_step r t l m e ss) = ap (trees.a_step r t l m e) (steps_again ss)
+steps_again (trees.a_step sp r t l m e ss) = ap (trees.a_step sp r t l m e) (steps_again ss)
 
 -- a chain of `++`, if it is one
 abbrev back_with : Bool → Tree → Span → Steps → Option Innermost
@@ -95,7 +95,7 @@ pub backed_split : (at : Span) (xs : List trees.Step) (s : trees.Step) → backe
 unfolding backed
 backed_split at [] s = refl
 backed_split at (x ∷ []) s = refl
-backed_split at (x ∷ y ∷ ys) s = ap (put_first at x) (backed_split (place_of x.operand) (y ∷ ys) s)
+backed_split at (x ∷ y ∷ ys) s = ap (put_first at x) (backed_split x.start (y ∷ ys) s)
 
 -- the operators of a chain of `++`, by the code's steps
 pub backed_apart : (at : Span) (all others : List CoreStep) (s : CoreStep) → all ≡ others ++ (s ∷ []) → backed at (steps (map step all)) ≡ appends_at at (map step others) ++ last_with (place_after at (map step others)) (step s) (root_coercions (tree s.operand)) (back_of (tree s.operand))

@@ -20,6 +20,7 @@ abbrev pub operator_of : Operator → chains.Operator
 operator_of o = record {
   at = o.at;
   step = record {
+    start = o.step.now.start;
     row = o.step.now.row;
     ty = plain_type o.step.now.ty;
     left = links_round o.before ++ path_links o.step.now.left.items;
@@ -33,7 +34,7 @@ innermost_of f = record { first = tree f.first.now; operators = map operator_of 
 
 -- a step with further coercions of its left operand
 abbrev pub left_of_step : List PathLink → trees.Step → trees.Step
-left_of_step ls s = record { row = s.row; ty = s.ty; left = ls ++ s.left; right = s.right; operand = s.operand }
+left_of_step ls s = record { start = s.start; row = s.row; ty = s.ty; left = ls ++ s.left; right = s.right; operand = s.operand }
 
 -- with these coercions round it
 abbrev pub with_links : List PathLink → chains.Innermost → chains.Innermost
@@ -55,15 +56,15 @@ back_by at t (chain_form e ss) = if chains.same_level 12 ss then Some (record { 
 back_by at t (coerce_form c e) = option_map (chains.coerced_innermost (c, t)) (chains.back_of e)
 back_by at t _ = None
 
--- operators of `++`: the first one's node has this place, and each one's after it that of its own first operand
+-- operators of `++`: the first one's node has this place, and each one's after it begins where its own first operand does
 abbrev pub appends_at : Span → List trees.Step → List chains.Operator
 appends_at at [] = []
-appends_at at (s ∷ ss) = record { at = at; step = s } ∷ appends_at (trees.place_of s.operand) ss
+appends_at at (s ∷ ss) = record { at = at; step = s } ∷ appends_at s.start ss
 
 -- the place of the operator's node after them
 abbrev pub place_after : Span → List trees.Step → Span
 place_after at [] = at
-place_after at (s ∷ ss) = place_after (trees.place_of s.operand) ss
+place_after at (s ∷ ss) = place_after s.start ss
 
 -- the last operator, whose operand may be a chain of `++` below these coercions
 abbrev pub last_with : Span → trees.Step → List PathLink → Option chains.Innermost → List chains.Operator

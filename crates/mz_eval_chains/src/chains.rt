@@ -10,7 +10,6 @@ ghost use Rattle.mz_eval_chains.specs.Links.{links_round};
 ghost use Rattle.mz_eval_chains.specs.Innermosts.{operator_of, innermost_of, part_innermost, left_of_step, operator_with, with_links, appends_at, place_after, last_with};
 
 use crate::levels::{chain_level, is_appended, same_level};
-use crate::nodes::place_of;
 use crate::types::{Innermost, Operator};
 use mz_base::Span;
 use mz_core::{Core, CoreForm, CoreStep};
@@ -75,7 +74,7 @@ fn with_appends<'a>(
             operand: &s.operand,
             after: None,
         })?;
-        place = place_of(&s.operand);
+        place = s.start;
     }
     Ok(all)
 }
@@ -85,7 +84,7 @@ fn place_after(at: Span, rest: &[CoreStep]) -> Span
 {
     let mut place = at;
     for s in rest {
-        place = place_of(&s.operand);
+        place = s.start;
     }
     place
 }

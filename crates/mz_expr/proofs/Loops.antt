@@ -5,7 +5,8 @@ use Rattle.std.specs.Prelude.{Ok, Err, Some, None}
 use Rattle.mz_lexer.specs.declared.token.Token.{Token}
 use Rattle.mz_base.specs.declared.keyword.Keyword.TheVariants.{KElseif}
 use Rattle.mz_tree.specs.declared.expr.BinOp.{BinOp}
-use Rattle.mz_tree.specs.Tree.{Tree, Maybe, Part}
+use Rattle.mz_tree.specs.declared.expr.PlacedOp.{PlacedOp}
+use Rattle.mz_tree.specs.Tree.{Tree, Maybe, Part, op_before}
 use Rattle.mz_tree.specs.Tree as pure
 use Rattle.mz_grammar_rules.specs.Tokens.{tok_at, behind}
 use Rattle.mz_grammar_rules.specs.Look.{is_word}
@@ -17,7 +18,7 @@ use Rattle.mz_grammar_rules.specs.Rules.{syntax}
 use Rattle.mz_grammar_rules.specs.Reading.{Read, mapped, with_prefix, on, stuck}
 use Rattle.mz_grammar_rules.proofs.Steps.{prefix_prefix, prefix_more}
 use Rattle.mz_grammar.specs.Parts as parts
-use Rattle.mz_grammar.specs.Parts.{Operand, tree_of}
+use Rattle.mz_grammar.specs.Parts.{Operand, at_of, tree_of, link_of}
 use Rattle.mz_grammar.specs.Tests.{middle_of, tail_of}
 use Rattle.mz_grammar.proofs.Equations.{operators_reads}
 use Rattle.mz_grammar.proofs.ListEquations.{branches_reads, text_rest_reads}
@@ -49,11 +50,11 @@ branches_more done x room behind_skip after rest mid next all so_far is skipped 
     ∙ ap (λ o. with_branches done o) (sym (branches_reads room rest ∙ rw (is, rw (skipped, same_room) at sub) refl)) ∙ so_far)
 
 -- an operator more
-pub operators_more : (l : Level) (done : List (BinOp × Tree)) (op : BinOp) (x : Operand) (e : Tree) (room behind_skip after : ℕ) (rest mid next : List Token) (all : Read (List (BinOp × Tree))) →
+pub operators_more : (l : Level) (done : List (PlacedOp × Tree)) (op : BinOp) (start : Span) (x : Operand) (e : Tree) (room behind_skip after : ℕ) (rest mid next : List Token) (all : Read (List (PlacedOp × Tree))) →
     with_prefix done (reads (parts.operators l) room rest) ≡ all → binary_of l (tok_at rest) ≡ Some op → mid ≡ behind rest → behind_skip ≡ room → after ≡ behind_skip →
-    reads (parts.operand l) behind_skip mid ≡ Ok (x, next) → e ≡ tree_of x → is_nonassociative l ≡ false → with_prefix (done ++ ((op, e) ∷ [])) (reads (parts.operators l) after next) ≡ all
-operators_more l done op x e room behind_skip after rest mid next all so_far is skipped same_room same_after sub same_tree many =
-    rw (same_after, same_room, same_tree) (prefix_more done (op, tree_of x) (reads (parts.operators l) room next)
+    reads (parts.operand l) behind_skip mid ≡ Ok (x, next) → e ≡ tree_of x → start ≡ at_of x → is_nonassociative l ≡ false → with_prefix (done ++ ((op_before op start, e) ∷ [])) (reads (parts.operators l) after next) ≡ all
+operators_more l done op start x e room behind_skip after rest mid next all so_far is skipped same_room same_after sub same_tree same_start many =
+    rw (same_after, same_room, same_tree, same_start) (prefix_more done (link_of op x) (reads (parts.operators l) room next)
     ∙ ap (λ o. with_prefix done o) (sym (operators_reads l room rest ∙ rw (is, rw (skipped, same_room) at sub, many) refl)) ∙ so_far)
 
 -- the same reading, written another way

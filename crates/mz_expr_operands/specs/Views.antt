@@ -4,6 +4,7 @@ use Rattle.std.specs.Option.{option_map}
 use Rattle.mz_tree.specs.Tree.{Tree, Maybe, maybe}
 use Rattle.mz_tree.specs.declared.expr.BinOp.{BinOp}
 use Rattle.mz_tree.specs.declared.expr.BinOp.TheVariants as op
+use Rattle.mz_tree.specs.declared.expr.PlacedOp.{PlacedOp}
 use Rattle.mz_grammar.specs.Arguments as pure_role
 use Rattle.mz_tree.specs.declared.expr.Expr.{Expr}
 use Rattle.mz_base.specs.declared.one_drop.OneDrop.{OneDrop}
@@ -18,7 +19,7 @@ use Rattle.mz_expr_operands.specs.declared.argument.Argument.TheVariants as argu
 
 abbrev pub operand : Operand → pure.Operand
 operand (of_code.Name n s) = pure.name n s
-operand (of_code.Member n s e) = pure.member n s (tree e.value)
+operand (of_code.Member n s p e) = pure.member n s p (tree e.value)
 operand (of_code.Other s e) = pure.other s (tree e.value)
 
 abbrev pub argument : Argument → pure.Argument
@@ -35,7 +36,12 @@ role (role_of.Waiting n s) = pure_role.waiting n s
 role (role_of.Bound ns e c) = pure_role.bound ns.items (tree e.value) (condition c)
 role role_of.Unfit = pure_role.unfit
 
+abbrev pub is_member : BinOp → Bool
+is_member op.Member = true
+is_member _ = false
+
 -- one `in` with its operand
-abbrev pub is_one_member : List (BinOp × Tree) → Bool
-is_one_member ((op.Member, e) ∷ []) = true
-is_one_member _ = false
+abbrev pub is_one_member : List (PlacedOp × Tree) → Bool
+is_one_member [] = false
+is_one_member (l ∷ []) = is_member l.0.op
+is_one_member (l ∷ m ∷ ls) = false

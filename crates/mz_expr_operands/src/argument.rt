@@ -52,7 +52,7 @@ fn possible_with(x: &Operand) -> Generators
 {
     match x {
         Operand::Name(_, _) => Generators::AwaitingIn,
-        Operand::Member(_, _, _) => Generators::Possible,
+        Operand::Member(_, _, _, _) => Generators::Possible,
         Operand::Other(_, _) => Generators::Impossible,
     }
 }
@@ -80,7 +80,7 @@ fn is_member(x: &Operand) -> bool
 {
     match x {
         Operand::Name(_, _) => false,
-        Operand::Member(_, _, _) => true,
+        Operand::Member(_, _, _, _) => true,
         Operand::Other(_, _) => false,
     }
 }
@@ -135,7 +135,7 @@ fn unguarded_role(alloc: Global, x: Operand) -> Result<Role, AllocError>
 {
     match x {
         Operand::Name(n, at) => Ok(Role::Waiting(n, at)),
-        Operand::Member(n, at, set) => bound(alloc, n, at, set, None),
+        Operand::Member(n, at, _, set) => bound(alloc, n, at, set, None),
         Operand::Other(_, _) => Ok(Role::Unfit),
     }
 }
@@ -145,7 +145,7 @@ fn guarded_role(alloc: Global, x: Operand, cond: OneDrop<Expr>) -> Result<Role, 
 {
     match x {
         Operand::Name(_, _) => Ok(Role::Unfit),
-        Operand::Member(n, at, set) => bound(alloc, n, at, set, Some(cond)),
+        Operand::Member(n, at, _, set) => bound(alloc, n, at, set, Some(cond)),
         Operand::Other(_, _) => Ok(Role::Unfit),
     }
 }

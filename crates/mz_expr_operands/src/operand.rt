@@ -10,7 +10,7 @@ ghost use Rattle.mz_grammar.specs.Model.{accessed, unless_annotated};
 ghost use Rattle.mz_expr_operands.specs.Views.{operand, is_one_member};
 
 use mz_base::{Name, OneDrop, Span};
-use mz_tree::{BinOp, Expr, make_access, make_chain, make_ident};
+use mz_tree::{BinOp, Expr, PlacedOp, make_access, make_chain, make_ident};
 use std::alloc::{AllocError, Global};
 
 /// An expression, with the place of its first token. A name alone, and a name in a set, may become generators of a call.
@@ -18,8 +18,8 @@ use std::alloc::{AllocError, Global};
 pub enum Operand {
     /// An identifier.
     Name(Name, Span),
-    /// An identifier, `in` and what follows it.
-    Member(Name, Span, OneDrop<Expr>),
+    /// An identifier, `in` and what follows it, each with its place.
+    Member(Name, Span, Span, OneDrop<Expr>),
     /// Any other expression.
     Other(Span, OneDrop<Expr>),
 }
@@ -38,7 +38,7 @@ impl Operand {
     {
         match self {
             Operand::Name(_, at) => *at,
-            Operand::Member(_, at, _) => *at,
+            Operand::Member(_, at, _, _) => *at,
             Operand::Other(at, _) => *at,
         }
     }
@@ -49,9 +49,13 @@ impl Operand {
     {
         match self {
             Operand::Name(name, at) => Ok(make_ident(at, name)),
-            Operand::Member(name, at, set) => {
+            Operand::Member(name, at, start, set) => {
                 let mut links = Vec::with_capacity(alloc, 1)?;
-                links.push((BinOp::Member, set.take()))?;
+                let op = PlacedOp {
+                    op: BinOp::Member,
+                    start,
+                };
+                links.push((op, set.take()))?;
                 make_chain(alloc, at, make_ident(at, name), links)
             }
             Operand::Other(_, e) => Ok(e.take()),
@@ -63,7 +67,7 @@ impl Operand {
 pub fn chained(
     alloc: Global,
     first: Operand,
-    links: Vec<(BinOp, Expr)>,
+    links: Vec<(PlacedOp, Expr)>,
 ) -> Result<Operand, AllocError>
     ensures { IfOk result (λ x. operand x ≡ chained (operand first) (map link links.items)) }
 {
@@ -72,13 +76,19 @@ pub fn chained(
     }
     match first {
         Operand::Name(name, at) => related(alloc, name, at, links),
-        Operand::Member(name, at, set) => linked(alloc, Operand::Member(name, at, set), links),
+        Operand::Member(name, at, start, set) => {
+            linked(alloc, Operand::Member(name, at, start, set), links)
+        }
         Operand::Other(at, e) => linked(alloc, Operand::Other(at, e), links),
     }
 }
 
 /// An expression with operators after it.
-fn linked(alloc: Global, first: Operand, links: Vec<(BinOp, Expr)>) -> Result<Operand, AllocError>
+fn linked(
+    alloc: Global,
+    first: Operand,
+    links: Vec<(PlacedOp, Expr)>,
+) -> Result<Operand, AllocError>
     ensures { IfOk result (λ x. operand x ≡ pure_parts.other (at_of (operand first)) (node (at_of (operand first)) (chain (tree_of (operand first)) (pure.links (map link links.items))))) }
 {
     let at = first.at();
@@ -91,7 +101,7 @@ fn related(
     alloc: Global,
     name: Name,
     at: Span,
-    links: Vec<(BinOp, Expr)>,
+    links: Vec<(PlacedOp, Expr)>,
 ) -> Result<Operand, AllocError>
     requires { 0 < length links.items }
     ensures { IfOk result (λ x. operand x ≡ chained (pure_parts.name name at) (map link links.items)) }
@@ -102,16 +112,16 @@ fn related(
     let mut links = links;
     match links.pop() {
         None => Ok(Operand::Name(name, at)),
-        Some((_, set)) => Ok(Operand::Member(name, at, OneDrop::new(set))),
+        Some((o, set)) => Ok(Operand::Member(name, at, o.start, OneDrop::new(set))),
     }
 }
 
 /// Whether this is one `in` with its operand.
-fn is_member(links: &[(BinOp, Expr)]) -> bool
+fn is_member(links: &[(PlacedOp, Expr)]) -> bool
     ensures { result ≡ is_one_member (map link links.now) }
 {
     match links {
-        [(op, _)] => matches!(*op, BinOp::Member),
+        [(o, _)] => matches!(o.op, BinOp::Member),
         _ => false,
     }
 }

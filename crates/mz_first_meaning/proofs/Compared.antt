@@ -98,10 +98,10 @@ operators_are w k c at t a s env q =
 
 -- ---- a comparison
 
-comparison_is : (w : World) (k : ℕ) (c : Context) (at : Span) (t : PlainType) (a : Tree) (r : ℕ) (u : PlainType) (l m : List PathLink) (b : Tree) (env : Env) (s : State) → is_step a (a_step_of r u l m b) ≡ true → eval w (suc (suc k)) c (tree.node at t (tree.chain a (tree.a_step r u l m b tree.no_steps))) env s ≡ then_do (compare w (suc k) c at t a (a_step_of r u l m b) env s) (λ p. give (posted_cell p))
+comparison_is : (w : World) (k : ℕ) (c : Context) (at : Span) (t : PlainType) (a : Tree) (sp : Span) (r : ℕ) (u : PlainType) (l m : List PathLink) (b : Tree) (env : Env) (s : State) → is_step a (a_step_of sp r u l m b) ≡ true → eval w (suc (suc k)) c (tree.node at t (tree.chain a (tree.a_step sp r u l m b tree.no_steps))) env s ≡ then_do (compare w (suc k) c at t a (a_step_of sp r u l m b) env s) (λ p. give (posted_cell p))
 unfolding eval
-comparison_is w k c at t a r u l m b env s h =
-    let step : Step = a_step_of r u l m b in
+comparison_is w k c at t a sp r u l m b env s h =
+    let step : Step = a_step_of sp r u l m b in
     let row = and_first (is_comparison r && is_var_truth u) (is_int (operand_base step) && is_none (innermost_of (chain_level (step ∷ [])) a)) h in
     let ends = and_second (is_comparison r && is_var_truth u) (is_int (operand_base step) && is_none (innermost_of (chain_level (step ∷ [])) a)) h in
     let innermost : innermost_of (chain_level (step ∷ [])) a ≡ None = none_is (innermost_of (chain_level (step ∷ [])) a) (and_second (is_int (operand_base step)) (is_none (innermost_of (chain_level (step ∷ [])) a)) ends) in
@@ -110,9 +110,9 @@ comparison_is w k c at t a r u l m b env s h =
     ∙ operators_are w k c at t a step env s)
 
 compared_is : (names : ℕ → Named) (w : World) (c : Context) (env : Env) (e : Tree) (s : State) → is_compared names e ≡ true → eval w levels c e env s ≡ then_do (post_comparison w c env e s) (λ p. give (posted_cell p))
-compared_is names w c env (tree.node at t (tree.chain a (tree.a_step r u l m b tree.no_steps))) s h =
-    let step : Step = a_step_of r u l m b in
-    comparison_is w 598 c at t a r u l m b env s (and_first (is_step a step) (are_operands names a step) (and_second (is_var_truth t) (is_step a step && are_operands names a step) h))
+compared_is names w c env (tree.node at t (tree.chain a (tree.a_step sp r u l m b tree.no_steps))) s h =
+    let step : Step = a_step_of sp r u l m b in
+    comparison_is w 598 c at t a sp r u l m b env s (and_first (is_step a step) (are_operands names a step) (and_second (is_var_truth t) (is_step a step && are_operands names a step) h))
 compared_is names w c env e s h = absurd (cc)
 
 -- ---- a constraint

@@ -58,7 +58,7 @@ mutual
 
   no_local_in_steps : (v : ℕ → Bool) (ss : Steps) → in_steps v ss ≡ [] → free_in_steps ss ≡ []
   no_local_in_steps v tree.no_steps h = refl
-  no_local_in_steps v (tree.a_step r t l m e ss) h = both_none (no_local v e (first_none (unbuilt_in v e) (in_steps v ss) h)) (no_local_in_steps v ss (second_none (unbuilt_in v e) (in_steps v ss) h))
+  no_local_in_steps v (tree.a_step sp r t l m e ss) h = both_none (no_local v e (first_none (unbuilt_in v e) (in_steps v ss) h)) (no_local_in_steps v ss (second_none (unbuilt_in v e) (in_steps v ss) h))
 
   no_local_in_gens : (v : ℕ → Bool) (gs : Gens) → in_gens v gs ≡ [] → free_in_gens gs ≡ []
   no_local_in_gens v tree.no_gens h = refl
@@ -129,7 +129,7 @@ no_local_in_operand names e h = operand_by names e (is_name names e) refl h
 
 no_local_in_operands : (names : ℕ → Named) (e : Tree) → is_compared names e ≡ true → in_operands names e ≡ [] → free_in e ≡ []
 unfolding free_in free_in_form free_in_steps
-no_local_in_operands names (tree.node at t (tree.chain a (tree.a_step r u l m b tree.no_steps))) k h = both_none (no_local_in_operand names a (first_none (in_operand names a) (in_operand names b) h)) (both_none (no_local_in_operand names b (second_none (in_operand names a) (in_operand names b) h)) refl)
+no_local_in_operands names (tree.node at t (tree.chain a (tree.a_step sp r u l m b tree.no_steps))) k h = both_none (no_local_in_operand names a (first_none (in_operand names a) (in_operand names b) h)) (both_none (no_local_in_operand names b (second_none (in_operand names a) (in_operand names b) h)) refl)
 no_local_in_operands names e k h = absurd (cc)
 
 constraint_by : (names : ℕ → Named) (e : Tree) (a b : Bool) → is_compared names e ≡ b → (if a then unbuilt_in (any_variable names) e else (if b then in_operands names e else tree.place_of e ∷ [])) ≡ [] → free_in e ≡ []

@@ -68,8 +68,8 @@ compare_outlined w top k g c d at t a s h j i =
 
 comparison_outlined : (w : World) (top : Env) → Evaluates w top below → (c d : Context) (e : Tree) → free_in e ≡ [] → {env env' : Env} → HasOutlines env env' → HasOutline Without false outline_posted (post_comparison w c env e) (post_comparison (blank_world false w top) d env' e)
 unfolding free_in free_in_form free_in_steps
-comparison_outlined w top g c d (tree.node at t (tree.chain a (tree.a_step r u l m b tree.no_steps))) h i =
-    compare_outlined w top below g c d at t a (a_step_of r u l m b) (allows_left Without (free_in a) (free_in b ++ []) h) (allows_left Without (free_in b) [] (allows_right Without (free_in a) (free_in b ++ []) h)) i
+comparison_outlined w top g c d (tree.node at t (tree.chain a (tree.a_step sp r u l m b tree.no_steps))) h i =
+    compare_outlined w top below g c d at t a (a_step_of sp r u l m b) (allows_left Without (free_in a) (free_in b ++ []) h) (allows_left Without (free_in b) [] (allows_right Without (free_in a) (free_in b ++ []) h)) i
 comparison_outlined w top g c d e h i = give_outlined refl
 
 -- ---- roots
@@ -111,7 +111,7 @@ rooted_outlined w top n g c d i t false f z h = one_outlined h
 each_step_has_none : (ss : Steps) → free_in_steps ss ≡ [] → Each (AllowsStep Without) (all_steps ss)
 unfolding free_in_steps
 each_step_has_none tree.no_steps h = tt
-each_step_has_none (tree.a_step r t l m e ss) h = (allows_left Without (free_in e) (free_in_steps ss) h, each_step_has_none ss (allows_right Without (free_in e) (free_in_steps ss) h))
+each_step_has_none (tree.a_step sp r t l m e ss) h = (allows_left Without (free_in e) (free_in_steps ss) h, each_step_has_none ss (allows_right Without (free_in e) (free_in_steps ss) h))
 
 innermost_has_none : (at : Span) (a : Tree) (ss : Steps) → free_in_form (tree.chain a ss) ≡ [] → AllowsInnermost Without (chained at a (all_steps ss))
 unfolding free_in_form

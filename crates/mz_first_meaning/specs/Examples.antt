@@ -85,7 +85,7 @@ record PostsRoots : Type 0 where
   -- (if true then false /\ false else true endif) /\ true
   in_a_choice : bare (bin 26 bool (choose 26 bool (lit 29 true) (bin 39 bool (lit 39 false) op.both (lit 48 false)) (Some (lit 59 true))) op.both (lit 72 true) ∷ []) ≡ by_work 13 0 (Whole (no ∷ yes ∷ []) no ∷ [])
   -- [][0] /\ false: an element of [] has no type of its own
-  without_a_type : bare (chain 25 bool (access 25 nothing (list 25 nothing []) (num 28 (pos 0))) (record { row = op.both; ty = bool; left = (coercion.BottomToBase, bool) ∷ []; right = []; operand = lit 34 false } ∷ []) ∷ []) ≡ by_work 10 0 (Whole (undefined ∷ no ∷ []) no ∷ [])
+  without_a_type : bare (chain 25 bool (access 25 nothing (list 25 nothing []) (num 28 (pos 0))) (record { start = col 34; row = op.both; ty = bool; left = (coercion.BottomToBase, bool) ∷ []; right = []; operand = lit 34 false } ∷ []) ∷ []) ≡ by_work 10 0 (Whole (undefined ∷ no ∷ []) no ∷ [])
   -- false /\ false, as an option
   coerced : bare (to_opt (bin 25 bool (lit 25 false) op.both (lit 34 false)) ∷ []) ≡ by_work 8 0 (Whole (no ∷ []) no ∷ [])
 

@@ -46,7 +46,7 @@ abbrev pub below : ℕ
 below = 599
 
 abbrev pub post_comparison : World → Context → Env → Tree → Run Posted
-post_comparison w ctx env (node at t (chain a (a_step r u l m b no_steps))) = compare w below ctx at t a (a_step_of r u l m b) env
+post_comparison w ctx env (node at t (chain a (a_step sp r u l m b no_steps))) = compare w below ctx at t a (a_step_of sp r u l m b) env
 post_comparison w ctx env e = give (Whole (undefined ∷ []) undefined)
 
 abbrev pub post_whole : World → Context → Env → Tree → Run Posted

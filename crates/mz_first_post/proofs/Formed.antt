@@ -178,24 +178,24 @@ module _ (vs : List Variable) (xs : List Declared) (names : ℕ → Named) (know
   abbrev posted : Tree → Posted → Type 0
   posted e q = AreRows vs (rows_of xs e q)
 
-  compared_formed : (w : World) (env : Env) (at : Span) (t : PlainType) (a : Tree) (r : ℕ) (u : PlainType) (l m : List PathLink) (b : Tree) (st : State) → are_operands names a (a_step_of r u l m b) ≡ true → Gives (compare w below Untested at t a (a_step_of r u l m b) env st) (posted (node at t (chain a (a_step r u l m b no_steps))))
-  compared_formed w env at t a r u l m b st h =
+  compared_formed : (w : World) (env : Env) (at : Span) (t : PlainType) (a : Tree) (sp : Span) (r : ℕ) (u : PlainType) (l m : List PathLink) (b : Tree) (st : State) → are_operands names a (a_step_of sp r u l m b) ≡ true → Gives (compare w below Untested at t a (a_step_of sp r u l m b) env st) (posted (node at t (chain a (a_step sp r u l m b no_steps))))
+  compared_formed w env at t a sp r u l m b st h =
       let p = and_parts ((all_keep l && all_keep m) && (is_operand names a && is_operand names b)) (is_name names a || is_name names b) h in
       let q = and_parts (is_operand names a) (is_operand names b) (and_parts (all_keep l && all_keep m) (is_operand names a && is_operand names b) p.0).1 in
       gives_five
       (λ x. coerced_by w (place_of a) l x.1)
       (λ x y. operand w below Untested b env)
       (λ x y z. coerced_by w (place_of b) m z.1)
-      (λ x y z v. operated w at u r (operand_base (a_step_of r u l m b)) (y ∷ v ∷ []))
+      (λ x y z v. operated w at u r (operand_base (a_step_of sp r u l m b)) (y ∷ v ∷ []))
       (λ x y z e. Pair x.0 z.0 (typed w.mode false t e))
-      (posted (node at t (chain a (a_step r u l m b no_steps))))
+      (posted (node at t (chain a (a_step sp r u l m b no_steps))))
       (λ x y z e. sides_formed vs (relation_at r) (side xs a x.0) (side xs b z.0) (side_formed a x.0 q.0) (side_formed b z.0 q.1))
       (operand w below Untested a env st)
 
   comparison_formed : (w : World) (env : Env) (e : Tree) (st : State) → is_compared names e ≡ true → Gives (post_comparison w Untested env e st) (posted e)
-  comparison_formed w env (node at t (chain a (a_step r u l m b no_steps))) st h =
-      let p = and_parts (is_var_truth t) (is_step a (a_step_of r u l m b) && are_operands names a (a_step_of r u l m b)) h in
-      compared_formed w env at t a r u l m b st (and_parts (is_step a (a_step_of r u l m b)) (are_operands names a (a_step_of r u l m b)) p.1).1
+  comparison_formed w env (node at t (chain a (a_step sp r u l m b no_steps))) st h =
+      let p = and_parts (is_var_truth t) (is_step a (a_step_of sp r u l m b) && are_operands names a (a_step_of sp r u l m b)) h in
+      compared_formed w env at t a sp r u l m b st (and_parts (is_step a (a_step_of sp r u l m b)) (are_operands names a (a_step_of sp r u l m b)) p.1).1
   comparison_formed w env e st h = absurd (cc)
 
   post_by_formed : (w : World) (env : Env) (e : Tree) (st : State) (t : Bool) → is_par_constraint e ≡ t → is_constraint_built names e ≡ true → Gives (post_by t w Untested env e st) (posted e)

@@ -39,7 +39,7 @@ module _ {A B C D E P R : Type 0} (g : A → B → Run C) (h : A → B → C →
   all_five f (Stopped e) = refl
 
 abbrev a_chain : Span → PlainType → Tree → Step → Tree
-a_chain at t a s = node at t (chain a (a_step s.row s.ty s.left s.right s.operand no_steps))
+a_chain at t a s = node at t (chain a (a_step s.start s.row s.ty s.left s.right s.operand no_steps))
 
 -- the same steps, with the rows made of the cells at the end
 by_cells : (w : World) (xs : List Declared) (at : Span) (t : PlainType) (a : Tree) (s : Step) (env : Env) (st : State) → then_do (compare w below Untested at t a s env st) (λ q. give (rows_of xs (a_chain at t a s) q)) ≡ then_do (operand w below Untested a env st) (λ x n. then_do (coerced_by w (place_of a) s.left x.1 n) (λ l m. then_do (operand w below Untested s.operand env m) (λ y z. then_do (operated_on w l (record { at = at; step = s }) y.1 z) (λ c. give (side_rows (relation_at s.row) (side xs a x.0) (side xs s.operand y.0))))))
@@ -79,8 +79,8 @@ compared_is w xs at t a s env st = by_cells w xs at t a s env st ∙ sym (read_b
     (operand w below Untested a env st))
 
 comparison_is : (w : World) (xs : List Declared) (env : Env) (e : Tree) (st : State) → then_do (post_comparison w Untested env e st) (λ q. give (rows_of xs e q)) ≡ posted_by w xs (place_of e) (layer (shape_of e)) env st
-comparison_is w xs env (node at t (chain a (a_step r u l m b no_steps))) st = compared_is w xs at t a (a_step_of r u l m b) env st
-comparison_is w xs env (node at t (chain a (a_step r u l m b (a_step r2 u2 l2 m2 b2 ss)))) st = refl
+comparison_is w xs env (node at t (chain a (a_step sp r u l m b no_steps))) st = compared_is w xs at t a (a_step_of sp r u l m b) env st
+comparison_is w xs env (node at t (chain a (a_step sp r u l m b (a_step sp2 r2 u2 l2 m2 b2 ss)))) st = refl
 comparison_is w xs env (node at t (chain a no_steps)) st = refl
 comparison_is w xs env (node at t f) st = refl
 

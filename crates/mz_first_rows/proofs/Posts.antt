@@ -93,7 +93,7 @@ IsWhole (Whole rs c) = AreRoots rs c
 IsWhole (Pair x y c) = ⊥
 
 abbrev pub PairOf : Mode → Assignment → Names → Posted → Tree → Type 0
-PairOf m a cases (Pair x y c) (tree.node at t (tree.chain d (tree.a_step r u l k e tree.no_steps))) = IsPair m a cases r d e x y c
+PairOf m a cases (Pair x y c) (tree.node at t (tree.chain d (tree.a_step sp r u l k e tree.no_steps))) = IsPair m a cases r d e x y c
 PairOf m a cases q e = ⊥
 
 abbrev pub PostedBy : Bool → Mode → Assignment → Names → Posted → Tree → Type 0
@@ -101,9 +101,9 @@ PostedBy true m a cases q e = IsWhole q
 PostedBy false m a cases q e = PairOf m a cases q e
 
 comparison_posted : (w : World) (g : ℕ → Content) (a : Assignment) (names : ℕ → Named) (ctx : Context) (env : Env) (e : Tree) → w.mode ≡ Given g → HasCells names w.mode a env → is_compared names e ≡ true → Gives (λ q. PairOf w.mode a w.cases q e) (post_comparison w ctx env e)
-comparison_posted w g a names ctx env (tree.node at t (tree.chain d (tree.a_step r u l k e tree.no_steps))) m z h =
-    weaker (compare_gives w g a names 598 ctx at t d (a_step_of r u l k e) env m z (compared_is names t d (a_step_of r u l k e) h))
-    (λ q i. subst (λ q. PairOf w.mode a w.cases q (tree.node at t (tree.chain d (tree.a_step r u l k e tree.no_steps)))) (sym i.3) i.4)
+comparison_posted w g a names ctx env (tree.node at t (tree.chain d (tree.a_step sp r u l k e tree.no_steps))) m z h =
+    weaker (compare_gives w g a names 598 ctx at t d (a_step_of sp r u l k e) env m z (compared_is names t d (a_step_of sp r u l k e) h))
+    (λ q i. subst (λ q. PairOf w.mode a w.cases q (tree.node at t (tree.chain d (tree.a_step sp r u l k e tree.no_steps)))) (sym i.3) i.4)
 comparison_posted w g a names ctx env e m z h = absurd (cc)
 
 constraint_posted : (w : World) (g : ℕ → Content) (a : Assignment) (names : ℕ → Named) (ctx : Context) (env : Env) (e : Tree) → w.mode ≡ Given g → HasCells names w.mode a env → (b : Bool) → is_par_constraint e ≡ b → (b || is_compared names e) ≡ true → Gives (λ q. PostedBy b w.mode a w.cases q e) (post_by b w ctx env e)
@@ -174,8 +174,8 @@ name_place names xs e c h =
 -- ---- rows
 
 pair_same : (names : ℕ → Named) (xs : List Declared) (a : Assignment) (f : Values) (g : ℕ → Content) (cases : Names) → IsScene names xs a f → (q : Posted) (e : Tree) → is_compared names e ≡ true → PairOf (Given g) a cases q e → AreSame f (rows_of xs e (outline_posted q)) (is_true (value_of (posted_cell q)))
-pair_same names xs a f g cases z (Pair x y c) (tree.node at t (tree.chain d (tree.a_step r u l k e tree.no_steps))) h p =
-    let o = compared_is names t d (a_step_of r u l k e) h in
+pair_same names xs a f g cases z (Pair x y c) (tree.node at t (tree.chain d (tree.a_step sp r u l k e tree.no_steps))) h p =
+    let o = compared_is names t d (a_step_of sp r u l k e) h in
     let place = ⊎_elim (λ n. or_left (is_place (side xs d (outline x))) (is_place (side xs e (outline y))) (name_place names xs d (outline x) n)) (λ n. or_right (is_place (side xs d (outline x))) (is_place (side xs e (outline y))) (name_place names xs e (outline y) n)) (or_cases (is_name names d) (is_name names e) o.name) in
     subst (AreSame f (side_rows (relation_at r) (side xs d (outline x)) (side xs e (outline y)))) (sym p.told)
     (sides_same f z.limit cases r (side xs d (outline x)) (side xs e (outline y)) (value_of x) (value_of y) o.row place (side_shows names xs a f g z d x o.first p.first) (side_shows names xs a f g z e y o.second p.second))

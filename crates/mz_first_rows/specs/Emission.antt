@@ -124,7 +124,7 @@ side_rows r (Place j) (Number n) = if is_literal n then int_row r (var j) (int n
 side_rows r (Place j) (Place k) = int_row r (var j) (var k) ∷ []
 
 abbrev pub pair_rows : List Declared → Tree → Cell → Cell → List Row
-pair_rows xs (node at t (chain a (a_step r u l m b no_steps))) x y = side_rows (relation_at r) (side xs a x) (side xs b y)
+pair_rows xs (node at t (chain a (a_step sp r u l m b no_steps))) x y = side_rows (relation_at r) (side xs a x) (side xs b y)
 pair_rows xs e x y = never ∷ []
 
 -- a false row for each root that isn't true

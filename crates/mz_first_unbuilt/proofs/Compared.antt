@@ -132,8 +132,8 @@ and_false false = refl
 compared_by_layer : (names : ℕ → Named) (t : Tree) → is_compared names t ≡ is_compared_in names (type_of t) (layer (shape_of t))
 unfolding are_compared
 compared_by_layer names (pure.node at t (pure.chain a pure.no_steps)) = and_false (is_var_truth t)
-compared_by_layer names (pure.node at t (pure.chain a (pure.a_step r u l m b pure.no_steps))) = ap (λ p. is_var_truth t && p) (sym (compared_are names a (a_step_of r u l m b)))
-compared_by_layer names (pure.node at t (pure.chain a (pure.a_step r u l m b (pure.a_step r2 u2 l2 m2 b2 ss)))) = and_false (is_var_truth t)
+compared_by_layer names (pure.node at t (pure.chain a (pure.a_step sp r u l m b pure.no_steps))) = ap (λ p. is_var_truth t && p) (sym (compared_are names a (a_step_of sp r u l m b)))
+compared_by_layer names (pure.node at t (pure.chain a (pure.a_step sp r u l m b (pure.a_step sp2 r2 u2 l2 m2 b2 ss)))) = and_false (is_var_truth t)
 compared_by_layer names (pure.node at t f) = refl
 
 pub compared_in_tree : (names : ℕ → Named) (e : Core) → is_compared names (tree e) ≡ is_compared_in names (plain_type e.ty) (form_layer (out-CoreForm e.form))

@@ -81,10 +81,10 @@ operand_place names e = ap (λ b. if b then [] else unbuilt_in (any_in names) e)
 operands_place : (names : ℕ → Named) (e : Tree) → steps.in_operands (any_in names) names (layer (shape_of e)) ≡ in_operands names e
 unfolding steps.in_sides
 operands_place names (pure.node at t (pure.chain a pure.no_steps)) = refl
-operands_place names (pure.node at t (pure.chain a (pure.a_step r u l m b pure.no_steps))) =
+operands_place names (pure.node at t (pure.chain a (pure.a_step sp r u l m b pure.no_steps))) =
     ap (λ ps. ps ++ steps.in_operand (any_in names) names b) (operand_place names a)
     ∙ ap (λ ps. in_operand names a ++ ps) (operand_place names b)
-operands_place names (pure.node at t (pure.chain a (pure.a_step r u l m b (pure.a_step r2 u2 l2 m2 b2 ss)))) = refl
+operands_place names (pure.node at t (pure.chain a (pure.a_step sp r u l m b (pure.a_step sp2 r2 u2 l2 m2 b2 ss)))) = refl
 operands_place names (pure.node at t f) = refl
 
 constraint_place : (names : ℕ → Named) (e : Tree) → steps.in_constraint (any_in names) names e ≡ in_constraint names e

@@ -40,7 +40,7 @@ module _ (v : ℕ → Bool) where
   steps_are : (ss : Steps) → in_steps v ss ≡ flat_map (in_step v) (all_steps ss)
   unfolding unbuilt_in
   steps_are pure.no_steps = refl
-  steps_are (pure.a_step r t l m e ss) = ap (λ (ps : List Span). unbuilt_in v e ++ ps) (steps_are ss)
+  steps_are (pure.a_step sp r t l m e ss) = ap (λ (ps : List Span). unbuilt_in v e ++ ps) (steps_are ss)
 
   gens_are : (gs : Gens) → in_gens v gs ≡ flat_map (in_generator v) (all_gens gs)
   unfolding unbuilt_in

@@ -59,7 +59,7 @@ abbrev pub are_operands : (ℕ → Named) → Tree → Step → Bool
 are_operands names a s = ((all_keep s.left && all_keep s.right) && (is_operand names a && is_operand names s.operand)) && (is_name names a || is_name names s.operand)
 
 abbrev pub is_compared : (ℕ → Named) → Tree → Bool
-is_compared names (node at t (chain a (a_step r u l m b no_steps))) = is_var_truth t && (is_step a (a_step_of r u l m b) && are_operands names a (a_step_of r u l m b))
+is_compared names (node at t (chain a (a_step sp r u l m b no_steps))) = is_var_truth t && (is_step a (a_step_of sp r u l m b) && are_operands names a (a_step_of sp r u l m b))
 is_compared names e = false
 
 abbrev pub is_constraint_built : (ℕ → Named) → Tree → Bool

@@ -42,7 +42,7 @@ x_at n = slot n var_int 0
 
 -- a comparison with a par right operand, which is coerced to var
 abbrev compared : ℕ → Tree → ℕ → PlainType → Tree → Tree
-compared at a n t e = chain at var_bool a (record { row = n; ty = t; left = []; right = (coercion.ToVar, record { var = true; opt = (tree.type_of e).opt; base = (tree.type_of e).base; dims = [] }) ∷ []; operand = e } ∷ [])
+compared at a n t e = chain at var_bool a (record { start = tree.place_of e; row = n; ty = t; left = []; right = (coercion.ToVar, record { var = true; opt = (tree.type_of e).opt; base = (tree.type_of e).base; dims = [] }) ∷ []; operand = e } ∷ [])
 
 -- x > 3, at a column
 abbrev above : ℕ → Tree
@@ -60,11 +60,11 @@ pub record Constraints : Type 0 where
   -- x < 3 /\ x > 1
   pub conjunction : first_of (with_x (bin 25 var_bool (above 25) op.both (above 34) ∷ [])) ≡ at 25
   -- x < true
-  pub coerced_bool : first_of (with_x (chain 25 var_bool (x_at 25) (record { row = op.less; ty = var_bool; left = []; right = (coercion.BoolToInt, int) ∷ (coercion.ToVar, var_int) ∷ []; operand = lit 29 true } ∷ []) ∷ [])) ≡ at 25
+  pub coerced_bool : first_of (with_x (chain 25 var_bool (x_at 25) (record { start = col 29; row = op.less; ty = var_bool; left = []; right = (coercion.BoolToInt, int) ∷ (coercion.ToVar, var_int) ∷ []; operand = lit 29 true } ∷ []) ∷ [])) ≡ at 25
   -- x = o, with an option
-  pub optional : first_of (with_x (chain 25 var_bool (x_at 25) (record { row = op.equal; ty = var_bool; left = (coercion.ToOpt, var_opt_int) ∷ []; right = (coercion.ToVar, var_opt_int) ∷ []; operand = slot 29 opt_int 2 } ∷ []) ∷ [])) ≡ at 25
+  pub optional : first_of (with_x (chain 25 var_bool (x_at 25) (record { start = col 29; row = op.equal; ty = var_bool; left = (coercion.ToOpt, var_opt_int) ∷ []; right = (coercion.ToVar, var_opt_int) ∷ []; operand = slot 29 opt_int 2 } ∷ []) ∷ [])) ≡ at 25
   -- x = A, with a case
-  pub with_case : first_of (with_x (chain 25 var_bool (x_at 25) (record { row = op.equal; ty = var_bool; left = []; right = (coercion.EnumToInt, int) ∷ (coercion.ToVar, var_int) ∷ []; operand = tree.node (col 29) (scalar false (base.Enum 0)) (tree.case 0 (pos 1)) } ∷ []) ∷ [])) ≡ at 25
+  pub with_case : first_of (with_x (chain 25 var_bool (x_at 25) (record { start = col 29; row = op.equal; ty = var_bool; left = []; right = (coercion.EnumToInt, int) ∷ (coercion.ToVar, var_int) ∷ []; operand = tree.node (col 29) (scalar false (base.Enum 0)) (tree.case 0 (pos 1)) } ∷ []) ∷ [])) ≡ at 25
   -- if true then x < 3 endif
   pub chosen : first_of (with_x (choose 25 var_bool (lit 28 true) (above 38) None ∷ [])) ≡ at 25
   -- a call of `predicate p(4)` is var, one of `test p` is par

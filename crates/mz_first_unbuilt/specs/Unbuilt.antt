@@ -67,7 +67,7 @@ unfoldable mutual
 
   pub in_steps : (ℕ → Bool) → Steps → List Span
   in_steps v tree.no_steps = []
-  in_steps v (tree.a_step r t l m e ss) = unbuilt_in v e ++ in_steps v ss
+  in_steps v (tree.a_step sp r t l m e ss) = unbuilt_in v e ++ in_steps v ss
 
   pub in_gens : (ℕ → Bool) → Gens → List Span
   in_gens v tree.no_gens = []
@@ -102,7 +102,7 @@ abbrev pub in_operand : (ℕ → Named) → Tree → List Span
 in_operand names e = if is_name names e then [] else unbuilt_in (λ s. is_any_variable (names s)) e
 
 abbrev pub in_operands : (ℕ → Named) → Tree → List Span
-in_operands names (tree.node at t (tree.chain a (tree.a_step r u l m b tree.no_steps))) = in_operand names a ++ in_operand names b
+in_operands names (tree.node at t (tree.chain a (tree.a_step sp r u l m b tree.no_steps))) = in_operand names a ++ in_operand names b
 in_operands names e = []
 
 abbrev pub in_constraint : (ℕ → Named) → Tree → List Span

@@ -38,13 +38,13 @@ strict_behind : (ns : List (Name × Span)) (n : Name × Span) (ms : List (Name �
 strict_behind [] n ms e w xs h = found_map _ (generators_behind [] xs) h
 strict_behind (m ∷ ns) n ms e w xs h = found_map _ (generators_behind [] xs) h
 
-member_behind : (ns : List (Name × Span)) (n : Name × Span) (x : Name) (s : Span) (e : Tree) (xs : List Argument) → Found (generators_behind [] xs) → Found (generators_behind (ns ++ (n ∷ [])) (unguarded (member x s e) ∷ xs))
-member_behind [] n x s e xs h = found_map _ (generators_behind [] xs) h
-member_behind (m ∷ ns) n x s e xs h = found_map _ (generators_behind [] xs) h
+member_behind : (ns : List (Name × Span)) (n : Name × Span) (x : Name) (s p : Span) (e : Tree) (xs : List Argument) → Found (generators_behind [] xs) → Found (generators_behind (ns ++ (n ∷ [])) (unguarded (member x s p e) ∷ xs))
+member_behind [] n x s p e xs h = found_map _ (generators_behind [] xs) h
+member_behind (m ∷ ns) n x s p e xs h = found_map _ (generators_behind [] xs) h
 
-guarded_behind : (ns : List (Name × Span)) (n : Name × Span) (x : Name) (s : Span) (e w : Tree) (xs : List Argument) → Found (generators_behind [] xs) → Found (generators_behind (ns ++ (n ∷ [])) (guarded (member x s e) w ∷ xs))
-guarded_behind [] n x s e w xs h = found_map _ (generators_behind [] xs) h
-guarded_behind (m ∷ ns) n x s e w xs h = found_map _ (generators_behind [] xs) h
+guarded_behind : (ns : List (Name × Span)) (n : Name × Span) (x : Name) (s p : Span) (e w : Tree) (xs : List Argument) → Found (generators_behind [] xs) → Found (generators_behind (ns ++ (n ∷ [])) (guarded (member x s p e) w ∷ xs))
+guarded_behind [] n x s p e w xs h = found_map _ (generators_behind [] xs) h
+guarded_behind (m ∷ ns) n x s p e w xs h = found_map _ (generators_behind [] xs) h
 
 name_behind : (ns : List (Name × Span)) (n : Name × Span) (x : Name) (s : Span) (xs : List Argument) → Found (generators_behind ((ns ++ (n ∷ [])) ++ ((x, s) ∷ [])) xs) → Found (generators_behind (ns ++ (n ∷ [])) (unguarded (name x s) ∷ xs))
 name_behind [] n x s xs h = h
@@ -55,13 +55,13 @@ fit_unguarded : (t : Generators) (x : Operand) (xs : List Argument) → Fit (pos
 fit_unguarded Impossible x xs h = found_map _ (trees_of xs) h
 fit_unguarded Possible (name n s) xs (inl h) = inl (found_map _ (trees_of xs) h)
 fit_unguarded Possible (name n s) xs (inr h) = inr (h [] (n, s))
-fit_unguarded Possible (member n s e) xs (inl h) = inl (found_map _ (trees_of xs) h)
-fit_unguarded Possible (member n s e) xs (inr h) = inr (found_map _ (generators_behind [] xs) h)
+fit_unguarded Possible (member n s p e) xs (inl h) = inl (found_map _ (trees_of xs) h)
+fit_unguarded Possible (member n s p e) xs (inr h) = inr (found_map _ (generators_behind [] xs) h)
 fit_unguarded Possible (other s e) xs h = inl (found_map _ (trees_of xs) h)
 fit_unguarded AwaitingIn (name n s) xs (inl h) = inl (found_map _ (trees_of xs) h)
 fit_unguarded AwaitingIn (name n s) xs (inr h) = inr (λ ns m. name_behind ns m n s xs (h (ns ++ (m ∷ [])) (n, s)))
-fit_unguarded AwaitingIn (member n s e) xs (inl h) = inl (found_map _ (trees_of xs) h)
-fit_unguarded AwaitingIn (member n s e) xs (inr h) = inr (λ ns m. member_behind ns m n s e xs h)
+fit_unguarded AwaitingIn (member n s p e) xs (inl h) = inl (found_map _ (trees_of xs) h)
+fit_unguarded AwaitingIn (member n s p e) xs (inr h) = inr (λ ns m. member_behind ns m n s p e xs h)
 fit_unguarded AwaitingIn (other s e) xs h = inl (found_map _ (trees_of xs) h)
 
 fit_one : (t : Generators) (x : Operand) → Fit t (unguarded x ∷ [])
@@ -72,10 +72,10 @@ fit_one AwaitingIn x = inl tt
 fit_guarded : (t : Generators) (x : Operand) (w : Tree) (gs : List Generator) → takes_where t x ≡ true → Fit t (guarded x w ∷ map strict gs)
 fit_guarded Impossible x w gs e = absurd (cc)
 fit_guarded Possible (name n s) w gs e = absurd (cc)
-fit_guarded Possible (member n s v) w gs e = inr (found_map _ (generators_behind [] (map strict gs)) (strict_found gs))
+fit_guarded Possible (member n s p v) w gs e = inr (found_map _ (generators_behind [] (map strict gs)) (strict_found gs))
 fit_guarded Possible (other s v) w gs e = absurd (cc)
 fit_guarded AwaitingIn (name n s) w gs e = absurd (cc)
-fit_guarded AwaitingIn (member n s v) w gs e = inr (λ ns m. guarded_behind ns m n s v w (map strict gs) (strict_found gs))
+fit_guarded AwaitingIn (member n s p v) w gs e = inr (λ ns m. guarded_behind ns m n s p v w (map strict gs) (strict_found gs))
 fit_guarded AwaitingIn (other s v) w gs e = absurd (cc)
 
 fit_strict : (t : Generators) (ms : List (Name × Span)) (e : Tree) (w : Maybe) (gs : List Generator) → awaits_in t ≡ true → Fit t (strict (generator ms e w) ∷ map strict gs)

@@ -10,7 +10,7 @@ use Rattle.mz_base.specs.declared.keyword.Keyword.TheVariants.{KIn, KWhere, KIf,
 use Rattle.mz_lexer.specs.declared.token.Symbol.{Symbol}
 use Rattle.mz_lexer.specs.declared.token.Symbol.TheVariants.{SLParen, SRParen, SLBrack, SRBrack, SLBrace, SComma, SColons, SDots, SAbsent}
 use Rattle.mz_tree.specs.Tree.{Name, Tree, Generator, node, gen_call, unary, call, plain, generator, trees, gens}
-use Rattle.mz_tree.specs.declared.expr.BinOp.{BinOp}
+use Rattle.mz_tree.specs.declared.expr.PlacedOp.{PlacedOp}
 use Rattle.mz_grammar_rules.specs.Tokens.{tok_at, behind, place, passes, told}
 use Rattle.mz_grammar_rules.specs.Look.{is_sym, is_word, is_keyword}
 use Rattle.mz_grammar_rules.specs.Rules.{syntax, left_out}
@@ -25,7 +25,7 @@ use Rattle.mz_grammar.specs.declared.list.Generators.{Generators}
 use Rattle.mz_grammar.specs.declared.list.Generators.TheVariants.{Possible}
 use Rattle.mz_grammar.specs.Operators.{prefix_of, binary_of, is_nonassociative, tighter_level}
 use Rattle.mz_grammar.specs.Parts
-use Rattle.mz_grammar.specs.Parts.{Place, Operand, tree_of, chained, Argument, unguarded, guarded, strict}
+use Rattle.mz_grammar.specs.Parts.{Place, Operand, tree_of, link_of, chained, Argument, unguarded, guarded, strict}
 use Rattle.mz_grammar.specs.Arguments.{possible_after, awaits_in, takes_where, trees_of, generators_of}
 use Rattle.mz_grammar.specs.Tests.{closes, is_left_out, ident_of, leaf_in, opener_in}
 use Rattle.mz_grammar.specs.Model.{rule, operand_by, accessed, unless_annotated, plain_call, called, guarded_rest, leaf_head, opened_head}
@@ -90,12 +90,12 @@ operand_reads l room ts = by_rule (Parts.operand l) room ts ∙ go (tighter_leve
     go (Some k) = itself (reads (Parts.level k) room ts)
 
 pub operators_reads : (l : Level) (room : ℕ) (ts : List Token) → reads (Parts.operators l) room ts ≡ on (binary_of l (tok_at ts)) (Ok ([], ts)) (λ op. reads (Parts.operand l) room (behind ts) >>= λ x.
-    if is_nonassociative l then Ok ((op, tree_of x.0) ∷ [], x.1) else with_prefix ((op, tree_of x.0) ∷ []) (reads (Parts.operators l) room x.1))
+    if is_nonassociative l then Ok (link_of op x.0 ∷ [], x.1) else with_prefix (link_of op x.0 ∷ []) (reads (Parts.operators l) room x.1))
 unfolding step rule
 operators_reads l room ts = by_rule (Parts.operators l) room ts
-    ∙ same_on (binary_of l (tok_at ts)) _ _ refl (λ op. same_then (reads (Parts.operand l) room (behind ts)) _ _ (λ x. more (op, tree_of x.0) (is_nonassociative l) x.1))
+    ∙ same_on (binary_of l (tok_at ts)) _ _ refl (λ op. same_then (reads (Parts.operand l) room (behind ts)) _ _ (λ x. more (link_of op x.0) (is_nonassociative l) x.1))
   where
-    more : (x : BinOp × Tree) (done : Bool) (us : List Token) → mapped (λ ls. x ∷ ls) (reads (Parts.more_operators l done) room us) ≡ (if done then Ok (x ∷ [], us) else with_prefix (x ∷ []) (reads (Parts.operators l) room us))
+    more : (x : PlacedOp × Tree) (done : Bool) (us : List Token) → mapped (λ ls. x ∷ ls) (reads (Parts.more_operators l done) room us) ≡ (if done then Ok (x ∷ [], us) else with_prefix (x ∷ []) (reads (Parts.operators l) room us))
     more x true us = ap (λ o. mapped (λ ls. x ∷ ls) o) (by_rule (Parts.more_operators l true) room us)
     more x false us = ap (λ o. mapped (λ ls. x ∷ ls) o) (by_rule (Parts.more_operators l false) room us ∙ itself (reads (Parts.operators l) room us))
 

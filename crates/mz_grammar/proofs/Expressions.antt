@@ -15,7 +15,7 @@ use Rattle.mz_grammar.specs.declared.level.Level.TheVariants as level_is
 use Rattle.mz_grammar.specs.declared.list.Closing.TheVariants.{Paren, Bracket}
 use Rattle.mz_grammar.specs.Operators.{is_nonassociative, tighter_level}
 use Rattle.mz_grammar.specs.Parts
-use Rattle.mz_grammar.specs.Parts.{Operand, tree_of}
+use Rattle.mz_grammar.specs.Parts.{Operand, tree_of, link_of}
 use Rattle.mz_grammar.specs.Tests.{Leaf, an_ident, Opener, a_piece, an_if, a_let, a_paren, a_bracket, a_table, a_brace}
 use Rattle.mz_grammar.specs.Model.{Ruled, rule, operand_by, operand_rule, leaf_head, opened_head}
 use Rattle.mz_grammar.specs.Reading.{rank, operand_rank}
@@ -100,7 +100,7 @@ more_operators_facts l false = record { falls = (omega arith, λ ls. tt); takes 
 
 -- after an operator
 abbrev behind_operator : (l : Level) → BinOp → Operand → Ruled (Parts.operators l)
-behind_operator l op x = part (Parts.more_operators l (is_nonassociative l)) λ ls. give ((op, tree_of x) ∷ ls)
+behind_operator l op x = part (Parts.more_operators l (is_nonassociative l)) λ ls. give (link_of op x ∷ ls)
 
 done_operator : (l : Level) (op : BinOp) → Done {n = Parts.operators l} (part (Parts.operand l) λ x. behind_operator l op x) (a_number ∷ [])
 unfolding step read_by rule symbol_number keyword_number

@@ -8,9 +8,10 @@ use Rattle.mz_lexer.specs.declared.token.Tok.TheVariants.{Word, Sym, Ident, Int}
 use Rattle.mz_base.specs.declared.keyword.Keyword.TheVariants.{KConstraint, KIf, KThen, KEndif, KIn, KLet, KSatisfy, KSolve}
 use Rattle.mz_lexer.specs.declared.token.Symbol.TheVariants.{SLParen, SRParen, SLBrack, SRBrack, SLBrace, SRBrace, SLRows, SRRows, SBar, SComma, SSemi, SColon, SColons, SLt, SEq, SPlus, SMinus, SStar}
 use Rattle.mz_tree.specs.declared.expr.BinOp.{BinOp}
+use Rattle.mz_tree.specs.declared.expr.PlacedOp.{PlacedOp}
 use Rattle.mz_tree.specs.declared.expr.BinOp.TheVariants as op
 use Rattle.mz_tree.specs.declared.expr.UnOp.TheVariants as prefix
-use Rattle.mz_tree.specs.Tree.{Name, Tree, node, int, ident, unary, chain, gen_call, access, rows, choice, let_in, trees, links, gens, rows_of, branches, lets, generator, nothing}
+use Rattle.mz_tree.specs.Tree.{Name, Tree, node, int, ident, unary, chain, gen_call, access, rows, choice, let_in, trees, links, op_before, gens, rows_of, branches, lets, generator, nothing}
 use Rattle.mz_tree.specs.Items.{ItemTree, assign, solve, satisfy}
 use Rattle.mz_grammar_rules.specs.Look.{keyword_number, symbol_number}
 use Rattle.mz_grammar_rules.specs.Rules.{syntax, left_out, too_deep}
@@ -42,12 +43,15 @@ number k n = node (column n) (int (pos k))
 abbrev an_int : ℕ → Tok
 an_int k = Int (pos k)
 
+abbrev linked : BinOp → Tree → PlacedOp × Tree
+linked o (node s f) = (op_before o s, node s f)
+
 abbrev two : ℕ → Tree → BinOp → Tree → Tree
-two n x o y = node (column n) (chain x (links ((o, y) ∷ [])))
+two n x o y = node (column n) (chain x (links (linked o y ∷ [])))
 
 -- a + b * c - 1
 levels_and_chains : expression (Ident 0 ∷ Sym SPlus ∷ Ident 1 ∷ Sym SStar ∷ Ident 2 ∷ Sym SMinus ∷ an_int 1 ∷ [])
-    ≡ Ok (node (column 1) (chain (name 0 1) (links ((op.Add, two 3 (name 1 3) op.Mul (name 2 5)) ∷ (op.Sub, number 1 7) ∷ []))), [])
+    ≡ Ok (node (column 1) (chain (name 0 1) (links (linked op.Add (two 3 (name 1 3) op.Mul (name 2 5)) ∷ linked op.Sub (number 1 7) ∷ []))), [])
 unfolding read_by step rule rank operand_rank symbol_number keyword_number
 levels_and_chains = refl
 

@@ -15,11 +15,12 @@ use Rattle.mz_grammar_rules.specs.Promise.{Gives, Answers}
 use Rattle.mz_base.specs.declared.stop.Stop.{Stop}
 use Rattle.std.specs.Prelude.{Result}
 use Rattle.mz_tree.specs.declared.expr.BinOp.{BinOp}
+use Rattle.mz_tree.specs.declared.expr.PlacedOp.{PlacedOp}
 use Rattle.mz_grammar.specs.declared.level.Level.{Level}
 use Rattle.mz_grammar.specs.declared.level.Level.TheVariants as level_is
 use Rattle.mz_grammar.specs.Operators.{is_nonassociative, tighter_level}
 use Rattle.mz_grammar.specs.Parts
-use Rattle.mz_grammar.specs.Parts.{Place, Value, Operand, tree_of, chained}
+use Rattle.mz_grammar.specs.Parts.{Place, Value, Operand, tree_of, link_of, chained}
 use Rattle.mz_grammar.specs.Model.{Ruled, rule, operand_by, operand_rule, operators_rule, more_operators_rule, unit_rule, atom_rule, annotations_rule, leaf_head, opened_head}
 use Rattle.mz_grammar.specs.Tests.{Leaf, an_ident, Opener, a_piece, an_if, a_let, a_paren, a_bracket, a_table, a_brace}
 use Rattle.mz_grammar.specs.Reading.{rank, width, reads}
@@ -71,7 +72,7 @@ long_level l = λ x. (reach_operators l x, λ ls. (farther [] refl (λ m. tt) re
 
 -- and after an operator and its operand, more of them
 abbrev chain_behind : (l : Level) → BinOp → Operand → Ruled (Parts.operators l)
-chain_behind l op x = part (Parts.more_operators l (is_nonassociative l)) λ ls. give ((op, tree_of x) ∷ ls)
+chain_behind l op x = part (Parts.more_operators l (is_nonassociative l)) λ ls. give (link_of op x ∷ ls)
 
 reach_chain : (l : Level) (op : BinOp) (x : Operand) → Reach (Parts.operand l) (chain_behind l op) (chain_behind l op x)
 unfolding step read_by rule symbol_number keyword_number
@@ -93,7 +94,7 @@ unfolding step read_by rule symbol_number keyword_number
 long_more_operators l true = tt
 long_more_operators l false = λ ls. (farther [] refl (λ m. tt) refl, tt)
 
-reach_more : (l : Level) (op : BinOp) (x : Operand) (ls : List (BinOp × Tree)) → Reach (Parts.more_operators l (is_nonassociative l)) {n = Parts.operators l} (λ ls. give ((op, tree_of x) ∷ ls)) (give ((op, tree_of x) ∷ ls))
+reach_more : (l : Level) (op : BinOp) (x : Operand) (ls : List (PlacedOp × Tree)) → Reach (Parts.more_operators l (is_nonassociative l)) {n = Parts.operators l} (λ ls. give (link_of op x ∷ ls)) (give (link_of op x ∷ ls))
 unfolding step read_by rule symbol_number keyword_number
 reach_more l op x ls = farther [] refl (λ m. tt) refl
 

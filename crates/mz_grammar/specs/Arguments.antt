@@ -12,7 +12,7 @@ use Rattle.mz_grammar.specs.Parts.{Operand, name, member, other, tree_of, Argume
 abbrev pub possible_after : Generators → Operand → Generators
 possible_after Impossible x = Impossible
 possible_after t (name n s) = AwaitingIn
-possible_after t (member n s e) = Possible
+possible_after t (member n s p e) = Possible
 possible_after t (other s e) = Impossible
 
 -- an `in` may follow a comma: `f(i, in S)(e)`
@@ -23,7 +23,7 @@ awaits_in _ = false
 -- a `where` may follow this argument
 abbrev pub takes_where : Generators → Operand → Bool
 takes_where Impossible x = false
-takes_where t (member n s e) = true
+takes_where t (member n s p e) = true
 takes_where t x = false
 
 -- an argument that is an expression
@@ -45,10 +45,10 @@ pub data Role : Type 0 where
 
 abbrev pub role_of : Argument → Role
 role_of (unguarded (name n s)) = waiting n s
-role_of (unguarded (member n s e)) = bound ((n, s) ∷ []) e nothing
+role_of (unguarded (member n s p e)) = bound ((n, s) ∷ []) e nothing
 role_of (unguarded (other s e)) = unfit
 role_of (guarded (name n s) c) = unfit
-role_of (guarded (member n s e) c) = bound ((n, s) ∷ []) e (just c)
+role_of (guarded (member n s p e) c) = bound ((n, s) ∷ []) e (just c)
 role_of (guarded (other s e) c) = unfit
 role_of (strict (generator ms e c)) = bound ms e c
 

@@ -18,7 +18,7 @@ use Rattle.mz_grammar.specs.declared.list.Generators.{Generators}
 use Rattle.mz_grammar.specs.declared.list.Generators.TheVariants.{Possible}
 use Rattle.mz_grammar.specs.Operators.{prefix_in, binary_in, is_nonassociative, tighter_level}
 use Rattle.mz_grammar.specs.Parts
-use Rattle.mz_grammar.specs.Parts.{Operand, name, other, at_of, tree_of, chained, Argument, unguarded, guarded, strict, Place, Value, name_class, prefix_class, operator_class, item_class, leaf_class, opener_class, Told}
+use Rattle.mz_grammar.specs.Parts.{Operand, name, other, at_of, tree_of, link_of, chained, Argument, unguarded, guarded, strict, Place, Value, name_class, prefix_class, operator_class, item_class, leaf_class, opener_class, Told}
 use Rattle.mz_grammar.specs.Arguments.{possible_after, awaits_in, takes_where, trees_of, generators_of}
 use Rattle.mz_grammar.specs.Tests.{closing_symbol, is_left_out, is_end, is_identifier, ident_in, text_in, middle_in, tail_in, ends_row, begins_base, begins_type, ItemKind, an_include, a_constraint, a_solve, an_output, a_predicate, a_test, a_function, an_annotation, an_enum, item_in, Leaf, an_int, a_text, an_ident, a_bool, an_absent, leaf_in, Opener, a_piece, an_if, a_let, a_paren, a_bracket, a_table, a_brace, opener_in}
 
@@ -61,7 +61,7 @@ abbrev pub operand_rule : (l : Level) → Ruled (Parts.operand l)
 operand_rule l = operand_by (tighter_level l)
 
 abbrev pub operators_rule : (l : Level) → Ruled (Parts.operators l)
-operators_rule l = named keeps operator_class (binary_in l) (λ op s. part (Parts.operand l) λ x. part (Parts.more_operators l (is_nonassociative l)) λ ls. give ((op, tree_of x) ∷ ls)) (give [])
+operators_rule l = named keeps operator_class (binary_in l) (λ op s. part (Parts.operand l) λ x. part (Parts.more_operators l (is_nonassociative l)) λ ls. give (link_of op x ∷ ls)) (give [])
 
 abbrev pub more_operators_rule : (l : Level) (done : Bool) → Ruled (Parts.more_operators l done)
 more_operators_rule l true = give []

@@ -4,7 +4,8 @@ use Rattle.mz_base.specs.declared.fault.Span.{Span}
 use Rattle.mz_tree.specs.declared.expr.UnOp.{UnOp}
 use Rattle.mz_tree.specs.declared.expr.BinOp.{BinOp}
 use Rattle.mz_tree.specs.declared.expr.BinOp.TheVariants as op
-use Rattle.mz_tree.specs.Tree.{Name, Tree, Maybe, Generator, Let, Declaration, Written, Based, Part, Shape, node, ident, chain, links}
+use Rattle.mz_tree.specs.declared.expr.PlacedOp.{PlacedOp}
+use Rattle.mz_tree.specs.Tree.{Name, Tree, Maybe, Generator, Let, Declaration, Written, Based, Part, Shape, node, ident, chain, links, op_before}
 use Rattle.mz_tree.specs.Items.{GoalTree, ItemTree}
 use Rattle.mz_grammar.specs.declared.level.Level.{Level}
 use Rattle.mz_grammar.specs.declared.list.Closing.{Closing}
@@ -15,26 +16,34 @@ use Rattle.mz_grammar.specs.Tests.{ItemKind, Leaf, Opener}
 -- The place is that of the first token, a parenthesis too.
 pub data Operand : Type 0 where
   name : Name → Span → Operand
-  member : Name → Span → Tree → Operand
+  -- a name with its place, and a set with its own
+  member : Name → Span → Span → Tree → Operand
   other : Span → Tree → Operand
 
 abbrev pub at_of : Operand → Span
 at_of (name n s) = s
-at_of (member n s e) = s
+at_of (member n s p e) = s
 at_of (other s e) = s
 
 abbrev pub tree_of : Operand → Tree
 tree_of (name n s) = node s (ident n)
-tree_of (member n s e) = node s (chain (node s (ident n)) (links ((op.Member, e) ∷ [])))
+tree_of (member n s p e) = node s (chain (node s (ident n)) (links ((op_before op.Member p, e) ∷ [])))
 tree_of (other s e) = e
 
+-- an operator with an operand
+abbrev pub link_of : BinOp → Operand → PlacedOp × Tree
+link_of o x = (op_before o (at_of x), tree_of x)
+
 -- a name with one operator after it
-abbrev pub related : Name → Span → BinOp → Tree → Operand
-related n s op.Member e = member n s e
-related n s o e = other s (node s (chain (node s (ident n)) (links ((o, e) ∷ []))))
+abbrev pub related_by : Name → Span → BinOp → Span → Tree → Operand
+related_by n s op.Member p e = member n s p e
+related_by n s o p e = other s (node s (chain (node s (ident n)) (links ((op_before o p, e) ∷ []))))
+
+abbrev pub related : Name → Span → PlacedOp → Tree → Operand
+related n s o e = related_by n s o.op o.start e
 
 -- an operand with the operators of one level after it
-abbrev pub chained : Operand → List (BinOp × Tree) → Operand
+abbrev pub chained : Operand → List (PlacedOp × Tree) → Operand
 chained x [] = x
 chained (name n s) (l ∷ []) = related n s l.0 l.1
 chained x (l ∷ ls) = other (at_of x) (node (at_of x) (chain (tree_of x) (links (l ∷ ls))))
@@ -117,8 +126,8 @@ Value (index_types n) = List Based
 Value expr = Tree
 Value (level l) = Operand
 Value (operand l) = Operand
-Value (operators l) = List (BinOp × Tree)
-Value (more_operators l done) = List (BinOp × Tree)
+Value (operators l) = List (PlacedOp × Tree)
+Value (more_operators l done) = List (PlacedOp × Tree)
 Value unit = Operand
 Value atom = Operand
 Value (accesses x) = Operand

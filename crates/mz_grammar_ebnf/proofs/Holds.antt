@@ -162,9 +162,9 @@ module _ (Named : Name → Type 0) (Placed : Span → Type 0) where
   model_holds (model.by_union h0) h = model_holds h0 h
   model_holds (model.alone l h0) h = model_holds h0 h
   model_holds (model.chained l h0 h1 h2) h = let e = model_holds h1 h in let ls = model_holds h2 e.2 in ((e.1, (e.0, ls.0)), e.1, ls.2)
-  model_holds (model.compared l t o h0 h1 h2 h3 h4) h = let x = model_holds h1 h in let a = next h3 x.2 in let y = model_holds h4 a.2 in ((x.1, (x.0, (y.0, tt))), x.1, y.2)
-  model_holds (model.last_operator l t o h0 h1 h2) h = let a = next h1 h in let e = model_holds h2 a.2 in ((e.0, tt), tt, e.2)
-  model_holds (model.more_operators l t o h0 h1 h2 h3) h = let a = next h1 h in let e = model_holds h2 a.2 in let ls = model_holds h3 e.2 in ((e.0, ls.0), tt, ls.2)
+  model_holds (model.compared l t o h0 h1 h2 h3 h4) h = let x = model_holds h1 h in let a = next h3 x.2 in let y = model_holds h4 a.2 in ((x.1, (x.0, (y.1, y.0, tt))), x.1, y.2)
+  model_holds (model.last_operator l t o h0 h1 h2) h = let a = next h1 h in let e = model_holds h2 a.2 in ((e.1, e.0, tt), tt, e.2)
+  model_holds (model.more_operators l t o h0 h1 h2 h3) h = let a = next h1 h in let e = model_holds h2 a.2 in let ls = model_holds h3 e.2 in ((e.1, e.0, ls.0), tt, ls.2)
   model_holds (model.by_tighter l m h0 h1) h = model_holds h1 h
   model_holds (model.by_unit l h0 h1) h = model_holds h1 h
   model_holds (model.by_atom h0) h = model_holds h0 h

@@ -14,8 +14,9 @@ use Rattle.mz_lexer.specs.declared.token.Symbol.TheVariants.{SRParen, SLBrack, S
 use Rattle.mz_tree.specs.declared.expr.UnOp.{UnOp}
 use Rattle.mz_tree.specs.declared.expr.BinOp.{BinOp}
 use Rattle.mz_tree.specs.declared.expr.BinOp.TheVariants as op
+use Rattle.mz_tree.specs.declared.expr.PlacedOp.{PlacedOp}
 use Rattle.mz_tree.specs.Tree as pure
-use Rattle.mz_tree.specs.Tree.{Name, Tree, node, links}
+use Rattle.mz_tree.specs.Tree.{Name, Tree, node, links, op_before}
 use Rattle.mz_tree.specs.Items.{ItemTree}
 use Rattle.mz_grammar_rules.specs.Tokens.{place, tok_at}
 use Rattle.mz_grammar_rules.specs.Look.{is_sym, symbol_number}
@@ -25,7 +26,7 @@ use Rattle.mz_grammar.specs.Operators.{operator_of, prefix_of, binary_of, if_lev
 use Rattle.mz_grammar.specs.Arguments.{awaits_in}
 use Rattle.mz_grammar.specs.Tests.{closing_symbol}
 use Rattle.mz_grammar.specs.Parts
-use Rattle.mz_grammar.specs.Parts.{Operand, name, member, other, at_of, tree_of, related, chained, Place, Value}
+use Rattle.mz_grammar.specs.Parts.{Operand, name, member, other, at_of, tree_of, link_of, related, related_by, chained, Place, Value}
 use Rattle.mz_grammar.specs.Model.{unless_annotated}
 use Rattle.mz_grammar_ebnf.specs.Next.{Next, begins}
 use Rattle.mz_grammar_ebnf.specs.ModelSyntax as ebnf
@@ -58,10 +59,10 @@ pub record Term (g : Grade) (k : ℕ) (ts : List Token) (x : Operand) (us : List
   pub kind : Kind k x ts us
 
 -- an operand with operators after it
-pub data Follow (l : Level) (k : ℕ) : List Token → List (BinOp × Tree) → List Token → Type 0 where
+pub data Follow (l : Level) (k : ℕ) : List Token → List (PlacedOp × Tree) → List Token → Type 0 where
   no_operator : {ts : List Token} → binary_of l (tok_at ts) ≡ None → Follow l k ts [] ts
-  one_operator : {f : Ending} {ts us vs : List Token} {y : Tree} (t : Tok) (o : BinOp) → is_nonassociative l ≡ true → binary_of l (Some t) ≡ Some o → Next t ts us → Derives k (term (ebnf.operand l) f) us y vs → IfBody f vs → Sealed vs → Looser (level_number l) vs → Follow l k ts ((o, y) ∷ []) vs
-  some_operators : {f : Ending} {ts us : List Token} {p : BinOp × Tree} {ls : List (BinOp × Tree)} → is_nonassociative l ≡ false → binary_of l (tok_at ts) ≡ Some p.0 → Derives k (operators l f) ts (p ∷ ls) us → IfBody f us → Sealed us → Looser (level_number l) us → Follow l k ts (p ∷ ls) us
+  one_operator : {f : Ending} {ts us vs : List Token} {y : Tree} (t : Tok) (o : BinOp) → is_nonassociative l ≡ true → binary_of l (Some t) ≡ Some o → Next t ts us → Derives k (term (ebnf.operand l) f) us y vs → IfBody f vs → Sealed vs → Looser (level_number l) vs → Follow l k ts ((op_before o (place us), y) ∷ []) vs
+  some_operators : {f : Ending} {ts us : List Token} {p : PlacedOp × Tree} {ls : List (PlacedOp × Tree)} → is_nonassociative l ≡ false → binary_of l (tok_at ts) ≡ Some p.0.op → Derives k (operators l f) ts (p ∷ ls) us → IfBody f us → Sealed us → Looser (level_number l) us → Follow l k ts (p ∷ ls) us
 
 -- an access after what was read
 abbrev pub Accessed : Operand → ℕ → List Token → Operand → List Token → Type 0
@@ -100,7 +101,7 @@ Claim Parts.expr k ts x us = Derives k ebnf.expr ts x us × Ended us
 Claim (Parts.level l) k ts x us = Term (ebnf.level l) k ts x us × Sealed us × Looser (level_number l) us
 Claim (Parts.operand l) k ts x us = Term (ebnf.operand l) k ts x us × Sealed us × Looser (suc (level_number l)) us
 Claim (Parts.operators l) k ts x us = Follow l k ts x us
-Claim (Parts.more_operators l done) k ts x us = (hs ms : List Token) (t : Tok) (o : BinOp) (y : Operand) → is_nonassociative l ≡ done → binary_of l (Some t) ≡ Some o → Next t hs ms → Term (ebnf.operand l) k ms y ts × Sealed ts × Looser (suc (level_number l)) ts → Follow l k hs ((o, tree_of y) ∷ x) us
+Claim (Parts.more_operators l done) k ts x us = (hs ms : List Token) (t : Tok) (o : BinOp) (y : Operand) → is_nonassociative l ≡ done → binary_of l (Some t) ≡ Some o → Next t hs ms → Term (ebnf.operand l) k ms y ts × Sealed ts × Looser (suc (level_number l)) ts → Follow l k hs (link_of o y ∷ x) us
 Claim Parts.unit k ts x us = Term ebnf.unit k ts x us × Sealed us
 Claim Parts.atom k ts x us = Term ebnf.atom k ts x us × Sealed us
 Claim (Parts.accesses y) k ts x us = (is_sym SLBrack (tok_at us) ≡ false) × (((x ≡ y) × (us ≡ ts)) ⊎ Accessed y k ts x us)
@@ -210,41 +211,43 @@ is_closed l o with_body us h e s = absurd (no_operator_after l o us h e s)
 pub told : (t : Tok) {ts us : List Token} → Next t ts us → tok_at ts ≡ Some t
 told t (begins e) = ap Some e
 
-some_more : {l : Level} {k : ℕ} {f : Ending} {ts us vs : List Token} {y : Tree} (t : Tok) (o : BinOp) (ls : List (BinOp × Tree)) → is_nonassociative l ≡ false → binary_of l (Some t) ≡ Some o → Next t ts us → Derives k (term (ebnf.operand l) f) us y vs → IfBody f vs → Sealed vs → Looser (suc (level_number l)) vs → (ws : List Token) → Follow l k vs ls ws → Follow l k ts ((o, y) ∷ ls) ws
-some_more {l = l} {y = y} t o _ s b n d i c w _ (no_operator e) = some_operators {p = (o, y)} s (ap (binary_of l) (told t n) ∙ b) (ebnf.last_operator l t o b n d) i c (looser l _ w e)
+some_more : {l : Level} {k : ℕ} {f : Ending} {ts us vs : List Token} {y : Tree} (t : Tok) (o : BinOp) (ls : List (PlacedOp × Tree)) → is_nonassociative l ≡ false → binary_of l (Some t) ≡ Some o → Next t ts us → Derives k (term (ebnf.operand l) f) us y vs → IfBody f vs → Sealed vs → Looser (suc (level_number l)) vs → (ws : List Token) → Follow l k vs ls ws → Follow l k ts ((op_before o (place us), y) ∷ ls) ws
+some_more {l = l} {us = us} {y = y} t o _ s b n d i c w _ (no_operator e) = some_operators {p = (op_before o (place us), y)} s (ap (binary_of l) (told t n) ∙ b) (ebnf.last_operator l t o b n d) i c (looser l _ w e)
 some_more t o _ s b n d i c w ws (one_operator u q r e m g j z x) = absurd (differ s r)
 some_more {l = l} {k = k} {f = f} {us = us} {vs = vs} {y = y} t o _ s b n d i c w ws (some_operators {p = p} r e g j z x) =
-    some_operators {p = (o, y)} s (ap (binary_of l) (told t n) ∙ b) (ebnf.more_operators l t o b n (subst (λ f. Derives k (term (ebnf.operand l) f) us y vs) (is_closed l p.0 f _ i e s) d) g) j z x
+    some_operators {p = (op_before o (place us), y)} s (ap (binary_of l) (told t n) ∙ b) (ebnf.more_operators l t o b n (subst (λ f. Derives k (term (ebnf.operand l) f) us y vs) (is_closed l p.0.op f _ i e s) d) g) j z x
 
-pub follow_one : (l : Level) (t : Tok) (o : BinOp) {k : ℕ} {ts us vs : List Token} (x : Operand) → is_nonassociative l ≡ true → binary_of l (Some t) ≡ Some o → Next t ts us → Claim (Parts.operand l) k us x vs → Follow l k ts ((o, tree_of x) ∷ []) vs
-follow_one l t o x s b n h = one_operator t o s b n h.0.derived h.0.longest h.1 (looser_nonassociative l _ h.2 s)
+pub follow_one : (l : Level) (t : Tok) (o : BinOp) {k : ℕ} {ts us vs : List Token} (x : Operand) → is_nonassociative l ≡ true → binary_of l (Some t) ≡ Some o → Next t ts us → Claim (Parts.operand l) k us x vs → Follow l k ts (link_of o x ∷ []) vs
+follow_one l t o {k = k} {ts = ts} {vs = vs} x s b n h =
+    subst (λ (p : Span). Follow l k ts ((op_before o p, tree_of x) ∷ []) vs) (sym h.0.at) (one_operator t o s b n h.0.derived h.0.longest h.1 (looser_nonassociative l _ h.2 s))
 
-pub follow_more : (l : Level) (t : Tok) (o : BinOp) {k : ℕ} {ts us vs ws : List Token} (x : Operand) (ls : List (BinOp × Tree)) → is_nonassociative l ≡ false → binary_of l (Some t) ≡ Some o → Next t ts us → Claim (Parts.operand l) k us x vs → Follow l k vs ls ws → Follow l k ts ((o, tree_of x) ∷ ls) ws
-follow_more l t o {ws = ws} x ls s b n h g = some_more t o ls s b n h.0.derived h.0.longest h.1 h.2 ws g
+pub follow_more : (l : Level) (t : Tok) (o : BinOp) {k : ℕ} {ts us vs ws : List Token} (x : Operand) (ls : List (PlacedOp × Tree)) → is_nonassociative l ≡ false → binary_of l (Some t) ≡ Some o → Next t ts us → Claim (Parts.operand l) k us x vs → Follow l k vs ls ws → Follow l k ts (link_of o x ∷ ls) ws
+follow_more l t o {k = k} {ts = ts} {ws = ws} x ls s b n h g =
+    subst (λ (p : Span). Follow l k ts ((op_before o p, tree_of x) ∷ ls) ws) (sym h.0.at) (some_more t o ls s b n h.0.derived h.0.longest h.1 h.2 ws g)
 
 -- Chains
 
-related_tree : (n : Name) (s : Span) (o : BinOp) (e : Tree) → tree_of (related n s o e) ≡ node s (pure.chain (node s (pure.ident n)) (links ((o, e) ∷ [])))
-related_tree n s op.Member e = refl
-related_tree n s _ e = refl
+related_tree : (n : Name) (s : Span) (o : BinOp) (p : Span) (e : Tree) → tree_of (related_by n s o p e) ≡ node s (pure.chain (node s (pure.ident n)) (links ((op_before o p, e) ∷ [])))
+related_tree n s op.Member p e = refl
+related_tree n s _ p e = refl
 
-related_at : (n : Name) (s : Span) (o : BinOp) (e : Tree) → at_of (related n s o e) ≡ s
-related_at n s op.Member e = refl
-related_at n s _ e = refl
+related_at : (n : Name) (s : Span) (o : BinOp) (p : Span) (e : Tree) → at_of (related_by n s o p e) ≡ s
+related_at n s op.Member p e = refl
+related_at n s _ p e = refl
 
-chained_tree : (x : Operand) (p : BinOp × Tree) (ls : List (BinOp × Tree)) → tree_of (chained x (p ∷ ls)) ≡ node (at_of x) (pure.chain (tree_of x) (links (p ∷ ls)))
-chained_tree (name n s) p [] = related_tree n s p.0 p.1
+chained_tree : (x : Operand) (p : PlacedOp × Tree) (ls : List (PlacedOp × Tree)) → tree_of (chained x (p ∷ ls)) ≡ node (at_of x) (pure.chain (tree_of x) (links (p ∷ ls)))
+chained_tree (name n s) p [] = related_tree n s p.0.op p.0.start p.1
 chained_tree (name n s) p (q ∷ ls) = refl
-chained_tree (member n s e) p [] = refl
-chained_tree (member n s e) p (q ∷ ls) = refl
+chained_tree (member n s a e) p [] = refl
+chained_tree (member n s a e) p (q ∷ ls) = refl
 chained_tree (other s e) p [] = refl
 chained_tree (other s e) p (q ∷ ls) = refl
 
-chained_at : (x : Operand) (p : BinOp × Tree) (ls : List (BinOp × Tree)) → at_of (chained x (p ∷ ls)) ≡ at_of x
-chained_at (name n s) p [] = related_at n s p.0 p.1
+chained_at : (x : Operand) (p : PlacedOp × Tree) (ls : List (PlacedOp × Tree)) → at_of (chained x (p ∷ ls)) ≡ at_of x
+chained_at (name n s) p [] = related_at n s p.0.op p.0.start p.1
 chained_at (name n s) p (q ∷ ls) = refl
-chained_at (member n s e) p [] = refl
-chained_at (member n s e) p (q ∷ ls) = refl
+chained_at (member n s a e) p [] = refl
+chained_at (member n s a e) p (q ∷ ls) = refl
 chained_at (other s e) p [] = refl
 chained_at (other s e) p (q ∷ ls) = refl
 
@@ -286,45 +289,46 @@ tight_of (ebnf.by_unit _ g d) = absurd (no_none g)
     no_none : {A : Type 0} {x : A} → Some x ≡ None → ⊥
     no_none e = absurd (cc)
 
-member_kind : {k : ℕ} {f : Ending} {ts us vs ws : List Token} (l : Level) (t : Tok) (n : Name) (s : Span) (y : Tree) → Kind k (name n s) ts us → binary_of l (Some t) ≡ Some op.Member → Next t us vs → Derives k (term (ebnf.operand l) f) vs y ws → Kind k (member n s y) ts ws
-member_kind {k = k} {f = f} {us = us} {vs = vs} {ws = ws} l t n s y h b c d =
+member_kind : {k : ℕ} {f : Ending} {ts us vs ws : List Token} (l : Level) (t : Tok) (n : Name) (s p : Span) (y : Tree) → Kind k (name n s) ts us → binary_of l (Some t) ≡ Some op.Member → Next t us vs → Derives k (term (ebnf.operand l) f) vs y ws → Kind k (member n s p y) ts ws
+member_kind {k = k} {f = f} {us = us} {vs = vs} {ws = ws} l t n s p y h b c d =
     let w = by_member l t b in
     (us, vs, h.0, h.1, subst (λ t. Next t us vs) w.0 c, tight_of (subst (λ l. Derives k (term (ebnf.operand l) f) vs y ws) w.1 d))
 
-related_kind : {k : ℕ} {f : Ending} {ts us vs ws : List Token} (l : Level) (t : Tok) (n : Name) (s : Span) (o : BinOp) (y : Tree) → Kind k (name n s) ts us → binary_of l (Some t) ≡ Some o → Next t us vs → Derives k (term (ebnf.operand l) f) vs y ws → Kind k (related n s o y) ts ws
-related_kind l t n s op.Member y h b c d = member_kind l t n s y h b c d
-related_kind l t n s _ y h b c d = tt
+related_kind : {k : ℕ} {f : Ending} {ts us vs ws : List Token} (l : Level) (t : Tok) (n : Name) (s : Span) (o : BinOp) (p : Span) (y : Tree) → Kind k (name n s) ts us → binary_of l (Some t) ≡ Some o → Next t us vs → Derives k (term (ebnf.operand l) f) vs y ws → Kind k (related_by n s o p y) ts ws
+related_kind l t n s op.Member p y h b c d = member_kind l t n s p y h b c d
+related_kind l t n s _ p y h b c d = tt
 
-kind_one : {k : ℕ} {f : Ending} (ts : List Token) {us vs ws : List Token} (l : Level) (t : Tok) (x : Operand) (o : BinOp) (y : Tree) → Kind k x ts us → binary_of l (Some t) ≡ Some o → Next t us vs → Derives k (term (ebnf.operand l) f) vs y ws → Kind k (chained x ((o, y) ∷ [])) ts ws
-kind_one ts l t (name n s) o y h b c d = related_kind l t n s o y h b c d
-kind_one ts l t (member n s e) o y h b c d = tt
+kind_one : {k : ℕ} {f : Ending} (ts : List Token) {us vs ws : List Token} (l : Level) (t : Tok) (x : Operand) (o : BinOp) (y : Tree) → Kind k x ts us → binary_of l (Some t) ≡ Some o → Next t us vs → Derives k (term (ebnf.operand l) f) vs y ws → Kind k (chained x ((op_before o (place vs), y) ∷ [])) ts ws
+kind_one ts {vs = vs} l t (name n s) o y h b c d = related_kind l t n s o (place vs) y h b c d
+kind_one ts l t (member n s a e) o y h b c d = tt
 kind_one ts l t (other s e) o y h b c d = tt
 
 -- there is an operator at least
-some_there : {k : ℕ} {l : Level} {f : Ending} {ts us : List Token} {ls : List (BinOp × Tree)} → Derives k (operators l f) ts ls us → ls ≡ [] → ⊥
+some_there : {k : ℕ} {l : Level} {f : Ending} {ts us : List Token} {ls : List (PlacedOp × Tree)} → Derives k (operators l f) ts ls us → ls ≡ [] → ⊥
 some_there (ebnf.last_operator _ t o b c d) e = absurd (cc)
 some_there (ebnf.more_operators _ t o b c d g) e = absurd (cc)
 
-kind_some : {k : ℕ} {f : Ending} (ts : List Token) {us ws : List Token} (l : Level) (x : Operand) (p : BinOp × Tree) (ls : List (BinOp × Tree)) → Kind k x ts us → Derives k (operators l f) us (p ∷ ls) ws → Kind k (chained x (p ∷ ls)) ts ws
-kind_some ts l (name n s) _ [] h (ebnf.last_operator _ t o b c d) = related_kind l t n s o _ h b c d
+kind_some : {k : ℕ} {f : Ending} (ts : List Token) {us ws : List Token} (l : Level) (x : Operand) (p : PlacedOp × Tree) (ls : List (PlacedOp × Tree)) → Kind k x ts us → Derives k (operators l f) us (p ∷ ls) ws → Kind k (chained x (p ∷ ls)) ts ws
+kind_some ts l (name n s) _ [] h (ebnf.last_operator _ t o b c d) = related_kind l t n s o _ _ h b c d
 kind_some ts l (name n s) _ [] h (ebnf.more_operators _ t o b c d g) = absurd (some_there g refl)
 kind_some ts l (name n s) p (q ∷ ls) h g = tt
-kind_some ts l (member n s e) p [] h g = tt
-kind_some ts l (member n s e) p (q ∷ ls) h g = tt
+kind_some ts l (member n s a e) p [] h g = tt
+kind_some ts l (member n s a e) p (q ∷ ls) h g = tt
 kind_some ts l (other s e) p [] h g = tt
 kind_some ts l (other s e) p (q ∷ ls) h g = tt
 
 -- Levels
 
-chain_derived : {l : Level} {k : ℕ} {f : Ending} {ts vs : List Token} (x : Operand) (p : BinOp × Tree) (ls : List (BinOp × Tree)) → at_of x ≡ place ts → Derives k (term (ebnf.level l) f) ts (node (place ts) (pure.chain (tree_of x) (links (p ∷ ls)))) vs → Derives k (term (ebnf.level l) f) ts (tree_of (chained x (p ∷ ls))) vs
+chain_derived : {l : Level} {k : ℕ} {f : Ending} {ts vs : List Token} (x : Operand) (p : PlacedOp × Tree) (ls : List (PlacedOp × Tree)) → at_of x ≡ place ts → Derives k (term (ebnf.level l) f) ts (node (place ts) (pure.chain (tree_of x) (links (p ∷ ls)))) vs → Derives k (term (ebnf.level l) f) ts (tree_of (chained x (p ∷ ls))) vs
 chain_derived {l = l} {k = k} {f = f} {ts = ts} {vs = vs} x p ls e h = subst (λ e. Derives k (term (ebnf.level l) f) ts e vs) (sym (chained_tree x p ls ∙ ap (λ s. node s (pure.chain (tree_of x) (links (p ∷ ls)))) e)) h
 
-pub level_claim : (l : Level) (k : ℕ) (ts us vs : List Token) (x : Operand) (ls : List (BinOp × Tree)) → Claim (Parts.operand l) k ts x us → Follow l k us ls vs → Claim (Parts.level l) k ts (chained x ls) vs
+pub level_claim : (l : Level) (k : ℕ) (ts us vs : List Token) (x : Operand) (ls : List (PlacedOp × Tree)) → Claim (Parts.operand l) k ts x us → Follow l k us ls vs → Claim (Parts.level l) k ts (chained x ls) vs
 level_claim l k ts us _ x _ h (no_operator e) = (record { at = h.0.at; ending = h.0.ending; derived = ebnf.alone l h.0.derived; longest = h.0.longest; kind = h.0.kind }, h.1, looser l _ h.2 e)
-level_claim l k ts us vs x _ h (one_operator {f = f} {y = y} t o s b n d i c w) =
-    (record { at = chained_at x (o, y) [] ∙ h.0.at; ending = f; derived = chain_derived x (o, y) [] h.0.at (ebnf.compared l t o s h.0.derived b n d); longest = i; kind = kind_one ts l t x o y h.0.kind b n d }, c, w)
+level_claim l k ts us vs x _ h (one_operator {f = f} {us = zs} {y = y} t o s b n d i c w) =
+    let p : PlacedOp × Tree = (op_before o (place zs), y) in
+    (record { at = chained_at x p [] ∙ h.0.at; ending = f; derived = chain_derived x p [] h.0.at (ebnf.compared l t o s h.0.derived b n d); longest = i; kind = kind_one ts l t x o y h.0.kind b n d }, c, w)
 level_claim l k ts us vs x _ h (some_operators {f = f} {p = p} {ls = more} s e g i c w) =
-    (record { at = chained_at x p more ∙ h.0.at; ending = f; derived = chain_derived x p more h.0.at (ebnf.chained l s (subst (λ f. Derives k (term (ebnf.operand l) f) ts (tree_of x) us) (is_closed l p.0 h.0.ending _ h.0.longest e s) h.0.derived) g); longest = i; kind = kind_some ts l x p more h.0.kind g }, c, w)
+    (record { at = chained_at x p more ∙ h.0.at; ending = f; derived = chain_derived x p more h.0.at (ebnf.chained l s (subst (λ f. Derives k (term (ebnf.operand l) f) ts (tree_of x) us) (is_closed l p.0.op h.0.ending _ h.0.longest e s) h.0.derived) g); longest = i; kind = kind_some ts l x p more h.0.kind g }, c, w)
 
 -- the operands of a level
 abbrev number : Option Level → ℕ

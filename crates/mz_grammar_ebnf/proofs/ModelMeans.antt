@@ -167,7 +167,7 @@ by_expression_means (name n s) k ts us h = (
   λ vs q e ws y. (refl, subst (λ s. Derives k ebnf.item ts (assign n s e) ws) (sym h.0.kind.0) (ebnf.assign_item n h.0.kind.1 (next_symbol q) y.0)),
   λ e d vs g. (refl, ebnf.decl_item (g ts (expression_type (name n s) h))),
 )
-by_expression_means (member n s e) k ts us h = λ d vs g. (refl, ebnf.decl_item (g ts (expression_type (member n s e) h)))
+by_expression_means (member n s p e) k ts us h = λ d vs g. (refl, ebnf.decl_item (g ts (expression_type (member n s p e) h)))
 by_expression_means (other s e) k ts us h = λ d vs g. (refl, ebnf.decl_item (g ts (expression_type (other s e) h)))
 
 item_means : (t : Tok) → Says (Onward item_by) (item_in t) t

@@ -21,7 +21,7 @@ use Rattle.mz_grammar_ebnf.specs.ModelSyntax.{Derives, list, optional, perhaps, 
 -- what was read beside an expression: a name, or a name in a set
 abbrev pub Kind : ℕ → Operand → List Token → List Token → Type 0
 Kind k (name n s) ts us = (s ≡ place ts) × Next (Ident n) ts us
-Kind k (member n s e) ts us = (vs : List Token) × (ws : List Token) × (s ≡ place ts) × Next (Ident n) ts vs × Next (Word KIn) vs ws × Derives k tight ws e us
+Kind k (member n s p e) ts us = (vs : List Token) × (ws : List Token) × (s ≡ place ts) × Next (Ident n) ts vs × Next (Word KIn) vs ws × Derives k tight ws e us
 Kind k (other s e) ts us = Unit {0}
 
 -- An `in` may come first only where a name waits for it.
@@ -56,13 +56,13 @@ weaker b (more_args h c g) = more_args (weaker_arg b h) c g
 -- as the rules keep account of it
 pub args_after : {k : ℕ} {ts us : List Token} {all : List Argument} (t : Generators) (x : Operand) → Args k (awaits_in (possible_after t x)) ts all us → Args k (waits_after (unguarded x)) ts all us
 args_after Impossible (name n s) h = weaker true h
-args_after Impossible (member n s e) h = h
+args_after Impossible (member n s p e) h = h
 args_after Impossible (other s e) h = h
 args_after Possible (name n s) h = h
-args_after Possible (member n s e) h = h
+args_after Possible (member n s p e) h = h
 args_after Possible (other s e) h = h
 args_after AwaitingIn (name n s) h = h
-args_after AwaitingIn (member n s e) h = h
+args_after AwaitingIn (member n s p e) h = h
 args_after AwaitingIn (other s e) h = h
 
 -- generators alone
@@ -166,8 +166,8 @@ more_bound : {k : ℕ} {start us vs ws : List Token} {g : Generator} {gs : List 
 more_bound {k = k} {start = start} {ws = ws} {g = g} rest h c again e = let r = given_by {g = g} (generators_behind [] rest) e in subst (λ gs. Gens k start gs ws) r.2 (ebnf.some (after h c (again r.0 r.1)))
 
 -- a bound argument is a generator, with the names that wait
-member_bound : {k : ℕ} {start ts us vs : List Token} {ns : List (Name × Span)} (n : Name) (s : Span) (e : Tree) (w : Maybe) → Commas start ns ts → Kind k (member n s e) ts us → Derives k (perhaps (Word KWhere)) us w vs → Derives k gen start (generator (ns ++ ((n, s) ∷ [])) e w) vs
-member_bound n s e w c h g = ebnf.a_gen (names_after c (one_name n s h.2 h.3)) h.4 h.5 g
+member_bound : {k : ℕ} {start ts us vs : List Token} {ns : List (Name × Span)} (n : Name) (s p : Span) (e : Tree) (w : Maybe) → Commas start ns ts → Kind k (member n s p e) ts us → Derives k (perhaps (Word KWhere)) us w vs → Derives k gen start (generator (ns ++ ((n, s) ∷ [])) e w) vs
+member_bound n s p e w c h g = ebnf.a_gen (names_after c (one_name n s h.2 h.3)) h.4 h.5 g
 
 in_bound : {k : ℕ} {start ts us vs ws : List Token} {ns : List (Name × Span)} {e : Tree} {w : Maybe} → Commas start ns ts → Waits true ns → Next (Word KIn) ts us → Derives k tight us e vs → Derives k (perhaps (Word KWhere)) vs w ws → Derives k gen start (generator (ns ++ []) e w) ws
 in_bound no_commas l c s w = absurd l
@@ -178,10 +178,10 @@ strict_bound w (ebnf.a_gen h i s c) = ebnf.a_gen (names_after w h) i s c
 
 last_step : {k : ℕ} {b : Bool} {start ts us : List Token} {ns : List (Name × Span)} {a : Argument} {gs : List Generator} → Arg k b ts a us → Commas start ns ts → Waits b ns → by_role ns (role_of a) (λ ms. generators_behind ms []) ≡ Some gs → Gens k start gs us
 last_step {ns = ns} (unguarded_arg (name n s) d h) w l e = absurd (no_some (sym (none_waits ns (n, s)) ∙ e))
-last_step (unguarded_arg (member n s t) d h) w l e = last_bound (member_bound n s t nothing w h ebnf.without) e
+last_step (unguarded_arg (member n s p t) d h) w l e = last_bound (member_bound n s p t nothing w h ebnf.without) e
 last_step (unguarded_arg (other s t) d h) w l e = absurd (no_some e)
 last_step (guarded_arg (name n s) c h x d) w l e = absurd (no_some e)
-last_step (guarded_arg (member n s t) c h x d) w l e = last_bound (member_bound n s t (just c) w h (ebnf.with_it x d)) e
+last_step (guarded_arg (member n s p t) c h x d) w l e = last_bound (member_bound n s p t (just c) w h (ebnf.with_it x d)) e
 last_step (guarded_arg (other s t) c h x d) w l e = absurd (no_some e)
 last_step (in_arg c s x) w l e = last_bound (in_bound w l c s x) e
 last_step (strict_arg {g = generator ms t m} h) w l e = last_bound (strict_bound w h) e
@@ -192,10 +192,10 @@ Again k b vs rest ws = (start : List Token) (ns : List (Name × Span)) (gs : Lis
 
 more_step : {k : ℕ} {b : Bool} {start ts us vs ws : List Token} {ns : List (Name × Span)} {a : Argument} {gs : List Generator} (rest : List Argument) → Arg k b ts a us → Next (Sym SComma) us vs → Again k (waits_after a) vs rest ws → Commas start ns ts → Waits b ns → by_role ns (role_of a) (λ ms. generators_behind ms rest) ≡ Some gs → Gens k start gs ws
 more_step {start = start} {ns = ns} {gs = gs} rest (unguarded_arg (name n s) d h) c again w l e = again start (ns ++ ((n, s) ∷ [])) gs (one_more n s w h.0 h.1 c) (now_waits ns (n, s)) e
-more_step rest (unguarded_arg (member n s t) d h) c again w l e = more_bound rest (member_bound n s t nothing w h ebnf.without) c (λ gs. again _ [] gs no_commas tt) e
+more_step rest (unguarded_arg (member n s p t) d h) c again w l e = more_bound rest (member_bound n s p t nothing w h ebnf.without) c (λ gs. again _ [] gs no_commas tt) e
 more_step rest (unguarded_arg (other s t) d h) c again w l e = absurd (no_some e)
 more_step rest (guarded_arg (name n s) b h x d) c again w l e = absurd (no_some e)
-more_step rest (guarded_arg (member n s t) b h x d) c again w l e = more_bound rest (member_bound n s t (just b) w h (ebnf.with_it x d)) c (λ gs. again _ [] gs no_commas tt) e
+more_step rest (guarded_arg (member n s p t) b h x d) c again w l e = more_bound rest (member_bound n s p t (just b) w h (ebnf.with_it x d)) c (λ gs. again _ [] gs no_commas tt) e
 more_step rest (guarded_arg (other s t) b h x d) c again w l e = absurd (no_some e)
 more_step rest (in_arg d s x) c again w l e = more_bound rest (in_bound w l d s x) c (λ gs. again _ [] gs no_commas tt) e
 more_step rest (strict_arg {g = generator ms t m} h) c again w l e = more_bound rest (strict_bound w h) c (λ gs. again _ [] gs no_commas tt) e

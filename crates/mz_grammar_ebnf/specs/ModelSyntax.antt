@@ -17,8 +17,9 @@ use Rattle.mz_lexer.specs.declared.token.Symbol.{Symbol}
 use Rattle.mz_lexer.specs.declared.token.Symbol.TheVariants.{SLParen, SRParen, SLBrack, SRBrack, SLBrace, SRBrace, SLRows, SRRows, SBar, SComma, SSemi, SColon, SColons, SEq, SAbsent}
 use Rattle.mz_tree.specs.declared.expr.UnOp.{UnOp}
 use Rattle.mz_tree.specs.declared.expr.BinOp.{BinOp}
+use Rattle.mz_tree.specs.declared.expr.PlacedOp.{PlacedOp}
 use Rattle.mz_tree.specs.Tree as pure
-use Rattle.mz_tree.specs.Tree.{Name, Tree, Maybe, Part, Generator, Let, Declaration, Written, Based, node, nothing, just, plain, shown, generator, written, no_array, base_bool, base_int, base_of, array_type, marked, trees, links, rows_of, branches, parts, gens, lets}
+use Rattle.mz_tree.specs.Tree.{Name, Tree, Maybe, Part, Generator, Let, Declaration, Written, Based, node, nothing, just, plain, shown, generator, written, no_array, base_bool, base_int, base_of, array_type, marked, trees, links, rows_of, branches, parts, gens, lets, op_before}
 use Rattle.mz_tree.specs.Items as pure_item
 use Rattle.mz_tree.specs.Items.{GoalTree, ItemTree}
 use Rattle.mz_grammar_rules.specs.Tokens.{place}
@@ -94,7 +95,7 @@ Meaning marks = Unit {0}
 Meaning expr = Tree
 Meaning tight = Tree
 Meaning (term g e) = Tree
-Meaning (operators l e) = List (BinOp × Tree)
+Meaning (operators l e) = List (PlacedOp × Tree)
 Meaning accesses = List (List Tree)
 Meaning text_rest = List Part
 Meaning branch = Tree × Tree
@@ -177,10 +178,10 @@ pub data Derives : ℕ → (p : Phrase) → List Token → Meaning p → List To
   by_union : {k : ℕ} {f : Ending} {ts us : List Token} {e : Tree} → Derives k (term (level level_is.Union) f) ts e us → Derives k tight ts e us
   -- a level: operand { operator operand }, or operand [ operator operand ] where it doesn't associate
   alone : {k : ℕ} {f : Ending} {ts us : List Token} {e : Tree} (l : Level) → Derives k (term (operand l) f) ts e us → Derives k (term (level l) f) ts e us
-  chained : {k : ℕ} {f : Ending} {ts us vs : List Token} {e : Tree} {ls : List (BinOp × Tree)} (l : Level) → is_nonassociative l ≡ false → Derives k (term (operand l) closed) ts e us → Derives k (operators l f) us ls vs → Derives k (term (level l) f) ts (node (place ts) (pure.chain e (links ls))) vs
-  compared : {k : ℕ} {f g : Ending} {ts us vs ws : List Token} {x y : Tree} (l : Level) (t : Tok) (o : BinOp) → is_nonassociative l ≡ true → Derives k (term (operand l) g) ts x us → binary_of l (Some t) ≡ Some o → Next t us vs → Derives k (term (operand l) f) vs y ws → Derives k (term (level l) f) ts (node (place ts) (pure.chain x (links ((o, y) ∷ [])))) ws
-  last_operator : {k : ℕ} {f : Ending} {ts us vs : List Token} {e : Tree} (l : Level) (t : Tok) (o : BinOp) → binary_of l (Some t) ≡ Some o → Next t ts us → Derives k (term (operand l) f) us e vs → Derives k (operators l f) ts ((o, e) ∷ []) vs
-  more_operators : {k : ℕ} {f : Ending} {ts us vs ws : List Token} {e : Tree} {ls : List (BinOp × Tree)} (l : Level) (t : Tok) (o : BinOp) → binary_of l (Some t) ≡ Some o → Next t ts us → Derives k (term (operand l) closed) us e vs → Derives k (operators l f) vs ls ws → Derives k (operators l f) ts ((o, e) ∷ ls) ws
+  chained : {k : ℕ} {f : Ending} {ts us vs : List Token} {e : Tree} {ls : List (PlacedOp × Tree)} (l : Level) → is_nonassociative l ≡ false → Derives k (term (operand l) closed) ts e us → Derives k (operators l f) us ls vs → Derives k (term (level l) f) ts (node (place ts) (pure.chain e (links ls))) vs
+  compared : {k : ℕ} {f g : Ending} {ts us vs ws : List Token} {x y : Tree} (l : Level) (t : Tok) (o : BinOp) → is_nonassociative l ≡ true → Derives k (term (operand l) g) ts x us → binary_of l (Some t) ≡ Some o → Next t us vs → Derives k (term (operand l) f) vs y ws → Derives k (term (level l) f) ts (node (place ts) (pure.chain x (links ((op_before o (place vs), y) ∷ [])))) ws
+  last_operator : {k : ℕ} {f : Ending} {ts us vs : List Token} {e : Tree} (l : Level) (t : Tok) (o : BinOp) → binary_of l (Some t) ≡ Some o → Next t ts us → Derives k (term (operand l) f) us e vs → Derives k (operators l f) ts ((op_before o (place us), e) ∷ []) vs
+  more_operators : {k : ℕ} {f : Ending} {ts us vs ws : List Token} {e : Tree} {ls : List (PlacedOp × Tree)} (l : Level) (t : Tok) (o : BinOp) → binary_of l (Some t) ≡ Some o → Next t ts us → Derives k (term (operand l) closed) us e vs → Derives k (operators l f) vs ls ws → Derives k (operators l f) ts ((op_before o (place us), e) ∷ ls) ws
   -- the operands of a level are the terms of the next tighter one, and at last those of level 13
   by_tighter : {k : ℕ} {f : Ending} {ts us : List Token} {e : Tree} (l m : Level) → tighter_level l ≡ Some m → Derives k (term (level m) f) ts e us → Derives k (term (operand l) f) ts e us
   by_unit : {k : ℕ} {f : Ending} {ts us : List Token} {e : Tree} (l : Level) → tighter_level l ≡ None → Derives k (term unit f) ts e us → Derives k (term (operand l) f) ts e us

@@ -5,7 +5,7 @@ use Rattle.mz_base.specs.declared.fault.Span.{Span}
 use Rattle.mz_core.specs.declared.types.Base.{Base}
 use Rattle.mz_core.specs.Types.{PlainType}
 use Rattle.mz_core.specs.Coercions.{PathLink}
-use Rattle.mz_core.specs.Tree.{Tree, Shape, Step, Steps, all_steps, steps, node, chain, coerce, no_steps, a_step, type_of, place_of}
+use Rattle.mz_core.specs.Tree.{Tree, Shape, Step, Steps, all_steps, steps, node, chain, coerce, no_steps, a_step, type_of}
 use Rattle.mz_meaning.specs.Coerced.{coerced_type}
 use Rattle.mz_operations.specs.Lines.{level_of}
 use Rattle.mz_meaning.specs.Operations.{row_at}
@@ -37,7 +37,7 @@ pub record Innermost : Type 0 where
 -- the coercions round the first operand come before those of its operator
 abbrev pub with_left : List PathLink → List Step → List Step
 with_left ls [] = []
-with_left ls (s ∷ ss) = record { row = s.row; ty = s.ty; left = ls ++ s.left; right = s.right; operand = s.operand } ∷ ss
+with_left ls (s ∷ ss) = record { start = s.start; row = s.row; ty = s.ty; left = ls ++ s.left; right = s.right; operand = s.operand } ∷ ss
 
 abbrev pub with_innermost : Span → List Step → Tree → Option Innermost → Innermost
 with_innermost at ss e None = record { first = e; operators = operators_at at ss; links = [] }
@@ -58,14 +58,14 @@ unfoldable mutual
 -- ---- for `++`: a last operand that is such a chain: its own first operand, its operators, and the coercions round it
 
 abbrev pub with_right : List PathLink → Tree → Step → Step
-with_right ls e s = record { row = s.row; ty = s.ty; left = s.left; right = ls ++ s.right; operand = e }
+with_right ls e s = record { start = s.start; row = s.row; ty = s.ty; left = s.left; right = ls ++ s.right; operand = e }
 
 abbrev pub last_backed : Span → Step → Option Innermost → List Operator
 last_backed at s None = record { at = at; step = s } ∷ []
 last_backed at s (Some f) = record { at = at; step = with_right f.links f.first s } ∷ f.operators
 
-abbrev pub a_step_of : ℕ → PlainType → List PathLink → List PathLink → Tree → Step
-a_step_of r t l m e = record { row = r; ty = t; left = l; right = m; operand = e }
+abbrev pub a_step_of : Span → ℕ → PlainType → List PathLink → List PathLink → Tree → Step
+a_step_of sp r t l m e = record { start = sp; row = r; ty = t; left = l; right = m; operand = e }
 
 unfoldable mutual
   pub back_of : Tree → Option Innermost
@@ -76,11 +76,11 @@ unfoldable mutual
   back_in at t (coerce c e) = option_map (coerced_innermost (c, t)) (back_of e)
   back_in at t form = None
 
-  -- the operators of a chain at a place, with those of a chain that is its last operand; the node of each operator after the first has the place of its own first operand
+  -- the operators of a chain at a place, with those of a chain that is its last operand; the node of each operator after the first begins where its own first operand does
   pub backed : Span → Steps → List Operator
   backed at no_steps = []
-  backed at (a_step r t l m e no_steps) = last_backed at (a_step_of r t l m e) (back_of e)
-  backed at (a_step r t l m e (a_step r2 t2 l2 m2 e2 ss)) = record { at = at; step = a_step_of r t l m e } ∷ backed (place_of e) (a_step r2 t2 l2 m2 e2 ss)
+  backed at (a_step sp r t l m e no_steps) = last_backed at (a_step_of sp r t l m e) (back_of e)
+  backed at (a_step sp r t l m e (a_step sp2 r2 t2 l2 m2 e2 ss)) = record { at = at; step = a_step_of sp r t l m e } ∷ backed sp (a_step sp2 r2 t2 l2 m2 e2 ss)
 
 -- ---- all operators of a chain, with the innermost first operand
 

@@ -3,7 +3,7 @@ use Rattle.std.specs.Prelude.{◌≡◌, refl, ℕ, ◌+◌, pos, negsuc, true, 
 use Rattle.mz_value.specs.Contents.{Content}
 use Rattle.mz_value.specs.Shown.{range_elements}
 use Rattle.mz_core.specs.Types.{PlainType}
-use Rattle.mz_core.specs.Tree.{Tree, Step, Decl, declares}
+use Rattle.mz_core.specs.Tree.{Tree, Step, Decl, declares, place_of}
 use Rattle.mz_core.specs.Coercions.{PathLink}
 use Rattle.mz_operations.specs.Views.{as_bool, as_int, as_case, as_set, as_text, as_items, as_index, as_row, as_ordinal, as_element, as_pair, as_option, is_single, enum_of}
 use Rattle.mz_operations.specs.Arguments.{at, bool_at, int_at, case_at, ordinal_at, element_at, option_at, set_at, enum_at, text_at, items_at, row_at, index_at, pair}
@@ -64,7 +64,7 @@ to_ints = (coercion.BoolToInt, list_of var_int) ∷ []
 
 -- `++` with coercions of its operands
 abbrev append : List PathLink → List PathLink → Tree → Step
-append l r e = record { row = op.append; ty = list_of var_int; left = l; right = r; operand = e }
+append l r e = record { start = place_of e; row = op.append; ty = list_of var_int; left = l; right = r; operand = e }
 
 abbrev ones : Tree
 ones = list 70 var_int (to_var (num 71 (pos 1)) ∷ [])

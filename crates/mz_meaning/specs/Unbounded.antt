@@ -65,7 +65,7 @@ unfoldable mutual
 
   pub in_steps : Steps → List Span
   in_steps tree.no_steps = []
-  in_steps (tree.a_step r t l m e ss) = unbounded_in e ++ in_steps ss
+  in_steps (tree.a_step sp r t l m e ss) = unbounded_in e ++ in_steps ss
 
   pub in_gens : Gens → List Span
   in_gens tree.no_gens = []

@@ -19,7 +19,7 @@ use Rattle.mz_operations.specs.Lines.{lines, line_at, place_in}
 use Rattle.mz_meaning.specs.Contexts.{Positive}
 use Rattle.mz_meaning.specs.Chains.{innermost_of, innermost_in, back_of, back_in, backed}
 use Rattle.mz_meaning.specs.Evaluation.{eval}
-use Rattle.mz_meaning.specs.Written.{col, int, bool, ints, list_of, num, lit, slot, fun, call, step, chain, bin, to_int, list, comp, gen, choose, let_in, range, plain, indexed, decl, param, function, i, set, fromto, row, world, result, is, stops}
+use Rattle.mz_meaning.specs.Written.{col, int, bool, ints, list_of, num, lit, slot, fun, call, step, opened, chain, bin, to_int, list, comp, gen, choose, let_in, range, plain, indexed, decl, param, function, i, set, fromto, row, world, result, is, stops}
 use Rattle.mz_base.specs.declared.kind.Kind.TheVariants as kind
 use Rattle.mz_core.specs.declared.types.Coercion.TheVariants as coercion
 use Rattle.mz_core.specs.Tree as tree
@@ -111,9 +111,11 @@ record Appending : Type 0 where
   nested_lists : result (bin 1 (list_of int) (list 1 int (num 2 (pos 1) ∷ [])) op.append (bin 9 (list_of int) (list 9 int (num 10 (pos 2) ∷ [])) op.append (list 16 int (num 17 (pos 3) ∷ [])))) ≡ is (row (pos 1) (pos 3) (i (pos 1) ∷ i (pos 2) ∷ i (pos 3) ∷ [])) 15
   -- with a budget of 6: the node of `[2] ++ [3]` has the place of its own first operand
   at_an_inner_node : with_budget 6 lists ≡ stops kind.Budget 8 (pos 7)
+  -- [1] ++ ([2]) ++ [3]: the inner node has the place of its `(`
+  at_a_parenthesis : with_budget 6 (chain 1 (list_of int) (list 1 int (num 2 (pos 1) ∷ [])) (opened 8 op.append (list_of int) (list 9 int (num 10 (pos 2) ∷ [])) ∷ step op.append (list_of int) (list 17 int (num 18 (pos 3) ∷ [])) ∷ [])) ≡ stops kind.Budget 8 (pos 7)
   -- with a budget of 10
   at_the_whole : with_budget 10 lists ≡ stops kind.Budget 1 (pos 11)
 
 appending : Appending
 unfolding eval lines line_at place_in innermost_of innermost_in back_of back_in backed scalar_value made_value bounding_value equality is_bounded is_fixable as_bool as_int as_case as_set as_text as_items as_index as_row as_ordinal as_element as_pair as_option is_single enum_of at bool_at int_at case_at ordinal_at element_at option_at set_at enum_at text_at items_at row_at index_at pair connected ordered computed signed folded raised toward nearer quantified contains end_of up_to same_set fold_from summand instance place_count with_index shape_from is_mismatched negative is_failed limited scalar_counts made_counts bounding_counts counts_from cost bound_of bounds_of is_settled toward_ends arith_ends sign_ends extreme_from fold_ends folded_ends raised_ends index_tuples is_reached reached branch_bound branch_bounds if_bounds combined_upper bounds_at each ends_at upper_at elements_at all_ends_at all_uppers_at uppers_before scalar_bounds made_bounds lower_of upper_of value_by_bounds range_elements
-appending = record { three_lists = refl; nested_lists = refl; at_an_inner_node = refl; at_the_whole = refl }
+appending = record { three_lists = refl; nested_lists = refl; at_an_inner_node = refl; at_a_parenthesis = refl; at_the_whole = refl }

@@ -11,7 +11,7 @@ use Rattle.mz_core.specs.declared.types.Ix.TheVariants as ix
 use Rattle.mz_core.specs.declared.types.Coercion.TheVariants as coercion
 use Rattle.mz_core.specs.Types.{PlainType}
 use Rattle.mz_core.specs.Program.{Function}
-use Rattle.mz_core.specs.Tree.{Tree, Decl, DeclaredType, Step, Gen, Item, trees, steps, gens, items, branches, maybe}
+use Rattle.mz_core.specs.Tree.{Tree, Decl, DeclaredType, Step, Gen, Item, trees, steps, gens, items, branches, maybe, place_of}
 use Rattle.mz_core.specs.Tree as tree
 use Rattle.mz_operations.specs.Bounds.{Bound}
 use Rattle.mz_operations.specs.Bounds as bounds
@@ -83,7 +83,11 @@ abbrev pub call : ℕ → PlainType → ℕ → List Tree → Tree
 call at t f es = tree.node (col at) t (tree.call f (trees es))
 
 abbrev pub step : ℕ → PlainType → Tree → Step
-step n t e = record { row = n; ty = t; left = []; right = []; operand = e }
+step n t e = record { start = place_of e; row = n; ty = t; left = []; right = []; operand = e }
+
+-- the operand is in parentheses, which begin here
+abbrev pub opened : ℕ → ℕ → PlainType → Tree → Step
+opened at n t e = record { start = col at; row = n; ty = t; left = []; right = []; operand = e }
 
 abbrev pub chain : ℕ → PlainType → Tree → List Step → Tree
 chain at t e ss = tree.node (col at) t (tree.chain e (steps ss))

@@ -91,7 +91,7 @@ branches_allow t (tree.a_branch c e bs) h =
 pub steps_allow : (t : Tie) (ss : Steps) → Allows t (free_in_steps ss) → Each (AllowsStep t) (all_steps ss)
 unfolding free_in_steps
 steps_allow t tree.no_steps h = tt
-steps_allow t (tree.a_step r ty l m e ss) h = (allows_left t (free_in e) (free_in_steps ss) h, steps_allow t ss (allows_right t (free_in e) (free_in_steps ss) h))
+steps_allow t (tree.a_step sp r ty l m e ss) h = (allows_left t (free_in e) (free_in_steps ss) h, steps_allow t ss (allows_right t (free_in e) (free_in_steps ss) h))
 
 pub gens_allow : (t : Tie) (gs : Gens) → Allows t (free_in_gens gs) → Each (AllowsGen t) (all_gens gs)
 unfolding free_in_gens
@@ -185,8 +185,8 @@ mutual
 
   backed_allows : (t : Tie) (at : Span) (ss : Steps) → Allows t (free_in_steps ss) → Each (AllowsOperator t) (backed at ss)
   backed_allows t at tree.no_steps h = tt
-  backed_allows t at (tree.a_step r ty l m e tree.no_steps) h = last_allows t at (a_step_of r ty l m e) (back_of e) (allows_left t (free_in e) [] h) (back_allows t e (allows_left t (free_in e) [] h))
-  backed_allows t at (tree.a_step r ty l m e (tree.a_step r2 ty2 l2 m2 e2 ss)) h = (allows_left t (free_in e) (free_in_steps (tree.a_step r2 ty2 l2 m2 e2 ss)) h, backed_allows t (place_of e) (tree.a_step r2 ty2 l2 m2 e2 ss) (allows_right t (free_in e) (free_in_steps (tree.a_step r2 ty2 l2 m2 e2 ss)) h))
+  backed_allows t at (tree.a_step sp r ty l m e tree.no_steps) h = last_allows t at (a_step_of sp r ty l m e) (back_of e) (allows_left t (free_in e) [] h) (back_allows t e (allows_left t (free_in e) [] h))
+  backed_allows t at (tree.a_step sp r ty l m e (tree.a_step sp2 r2 ty2 l2 m2 e2 ss)) h = (allows_left t (free_in e) (free_in_steps (tree.a_step sp2 r2 ty2 l2 m2 e2 ss)) h, backed_allows t sp (tree.a_step sp2 r2 ty2 l2 m2 e2 ss) (allows_right t (free_in e) (free_in_steps (tree.a_step sp2 r2 ty2 l2 m2 e2 ss)) h))
 
 steps_back : (t : Tie) (ss : List Step) → Each (AllowsStep t) ss → Allows t (free_in_steps (steps ss))
 unfolding free_in_steps

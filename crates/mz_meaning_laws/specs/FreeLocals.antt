@@ -48,7 +48,7 @@ unfoldable mutual
 
   pub free_in_steps : Steps → List Span
   free_in_steps tree.no_steps = []
-  free_in_steps (tree.a_step r t l m e ss) = free_in e ++ free_in_steps ss
+  free_in_steps (tree.a_step sp r t l m e ss) = free_in e ++ free_in_steps ss
 
   pub free_in_gens : Gens → List Span
   free_in_gens tree.no_gens = []

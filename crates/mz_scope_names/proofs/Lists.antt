@@ -5,7 +5,7 @@ use Rattle.std.specs.List.{flat_map}
 use Rattle.std.proofs.lemmas.List.{drop_more, drop_all}
 use Rattle.mz_tree.specs.Tree as pure
 use Rattle.mz_tree.specs.Tree.{Tree, Part, Generator, Let, Based}
-use Rattle.mz_tree.specs.declared.expr.BinOp.{BinOp}
+use Rattle.mz_tree.specs.declared.expr.PlacedOp.{PlacedOp}
 use Rattle.mz_scope_names.specs.declared.occurrence.Occurrence.{Occurrence}
 use Rattle.mz_tree.specs.declared.expr.Decl.{Decl}
 use Rattle.mz_tree.specs.Views.{declaration}
@@ -16,7 +16,7 @@ unfolding in_tree
 trees_flat f [] = refl
 trees_flat f (x ∷ xs) = ap (λ z. in_tree (f x) ++ z) (trees_flat f xs)
 
-pub links_flat : {X : Type 0} (f : X → BinOp × Tree) (xs : List X) → in_links (pure.links (map f xs)) ≡ flat_map (λ x. in_tree (f x).1) xs
+pub links_flat : {X : Type 0} (f : X → PlacedOp × Tree) (xs : List X) → in_links (pure.links (map f xs)) ≡ flat_map (λ x. in_tree (f x).1) xs
 unfolding in_tree
 links_flat f [] = refl
 links_flat f (x ∷ xs) = ap (λ z. in_tree (f x).1 ++ z) (links_flat f xs)

@@ -7,7 +7,7 @@ use Rattle.std.specs.Option.{option_map}
 use Rattle.mz_base.specs.declared.fault.Span.{Span}
 use Rattle.mz_tree.specs.declared.expr.Expr.{Expr}
 use Rattle.mz_tree.specs.declared.expr.UnOp.{UnOp}
-use Rattle.mz_tree.specs.declared.expr.BinOp.{BinOp}
+use Rattle.mz_tree.specs.declared.expr.PlacedOp.{PlacedOp}
 use Rattle.mz_tree.specs.declared.expr.Gen.{Gen}
 use Rattle.mz_tree.specs.declared.expr.LetItem.{LetItem}
 use Rattle.mz_tree.specs.declared.expr.TextPart.{TextPart}
@@ -100,7 +100,7 @@ pub in_unary_form : (e x : Expr) (op : UnOp) (b : Box Expr Global) → e.form �
 unfolding in_tree
 in_unary_form e x op b h p = form_is e (forms.Unary op b) (pure.unary op (tree b.value)) h (shape_is (forms.Unary op b) ∙ simp form_lemmas refl) ∙ ap (λ z. in_tree (tree z)) (sym p)
 
-pub in_chain_form : (e x : Expr) (b : Box Expr Global) (ls : Vec (BinOp × Expr) Global) (ms : List (BinOp × Expr)) → e.form ≡ forms.Chain b ls → x ≡ b.value → ms ≡ ls.items → in_tree (tree e) ≡ in_tree (tree x) ++ in_links (pure.links (map link ms))
+pub in_chain_form : (e x : Expr) (b : Box Expr Global) (ls : Vec (PlacedOp × Expr) Global) (ms : List (PlacedOp × Expr)) → e.form ≡ forms.Chain b ls → x ≡ b.value → ms ≡ ls.items → in_tree (tree e) ≡ in_tree (tree x) ++ in_links (pure.links (map link ms))
 unfolding in_tree
 in_chain_form e x b ls ms h p q = form_is e (forms.Chain b ls) (pure.chain (tree b.value) (pure.links (map link ls.items))) h (shape_is (forms.Chain b ls) ∙ simp form_lemmas refl) ∙ ap (λ z. in_tree (tree z) ++ in_links (pure.links (map link ls.items))) (sym p) ∙ ap (λ z. in_tree (tree x) ++ in_links (pure.links (map link z))) (sym q)
 

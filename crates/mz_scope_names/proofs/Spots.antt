@@ -77,7 +77,7 @@ module _ (N : Name → Type 0) (P : Span → Type 0) where
 
     links_spotted : (x : Links) → OfLinks N P x → All Spotted (in_links x)
     links_spotted pure.no_links h = All-nil Spotted
-    links_spotted (pure.a_link op e ls) h = both (in_tree e) (in_links ls) (tree_spotted e h.0) (links_spotted ls h.1)
+    links_spotted (pure.a_link op e ls) h = both (in_tree e) (in_links ls) (tree_spotted e h.1) (links_spotted ls h.2)
 
     rows_spotted : (x : Rows) → OfRows N P x → All Spotted (in_rows x)
     rows_spotted pure.no_rows h = All-nil Spotted

@@ -7,7 +7,7 @@ ghost use Rattle.mz_scope_names.specs.Occurrences.{bound, in_tree, in_trees, in_
 
 use crate::occurrence::{Occurrence, Role, note};
 use mz_base::{Memory, Name, Span};
-use mz_tree::{BinOp, Decl, Expr, Form, Gen, LetItem, TextPart, TypeBase, TypeText};
+use mz_tree::{Decl, Expr, Form, Gen, LetItem, PlacedOp, TextPart, TypeBase, TypeText};
 
 /// Adds the names that an expression uses, and those that are local in it.
 #[cycle(walk)]
@@ -81,7 +81,7 @@ fn in_all(out: &mut Vec<Occurrence>, es: &[Expr]) -> Result<(), Memory>
 }
 
 #[cycle(walk)]
-fn in_operands(out: &mut Vec<Occurrence>, rest: &[(BinOp, Expr)]) -> Result<(), Memory>
+fn in_operands(out: &mut Vec<Occurrence>, rest: &[(PlacedOp, Expr)]) -> Result<(), Memory>
     ensures { OnOk result (out.new.items ≡ out.old.items ++ in_links (links (map link rest.now))) }
 {
     for operand in rest {

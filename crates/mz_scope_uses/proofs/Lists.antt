@@ -3,7 +3,7 @@ use Rattle.std.proofs.Common.{◌≡◌, ℕ, ◌+◌, ◌<◌, ◌≤◌, List,
 use Rattle.std.specs.List.{flat_map}
 use Rattle.std.proofs.lemmas.List.{drop_more, drop_all}
 use Rattle.mz_base.specs.declared.fault.Span.{Span}
-use Rattle.mz_tree.specs.declared.expr.BinOp.{BinOp}
+use Rattle.mz_tree.specs.declared.expr.PlacedOp.{PlacedOp}
 use Rattle.mz_tree.specs.Tree as pure
 use Rattle.mz_tree.specs.Tree.{Name, Tree, Part, Generator, Let, Based, Declaration}
 use Rattle.mz_scope_names.specs.Sets.{with_name}
@@ -16,7 +16,7 @@ unfolding in_tree
 trees_flat h f [] = refl
 trees_flat h f (x ∷ xs) = ap (λ z. in_tree h (f x) ++ z) (trees_flat h f xs)
 
-pub links_flat : {X : Type 0} (h : List Name) (f : X → BinOp × Tree) (xs : List X) → in_links h (pure.links (map f xs)) ≡ flat_map (λ x. in_tree h (f x).1) xs
+pub links_flat : {X : Type 0} (h : List Name) (f : X → PlacedOp × Tree) (xs : List X) → in_links h (pure.links (map f xs)) ≡ flat_map (λ x. in_tree h (f x).1) xs
 unfolding in_tree
 links_flat h f [] = refl
 links_flat h f (x ∷ xs) = ap (λ z. in_tree h (f x).1 ++ z) (links_flat h f xs)

@@ -5,7 +5,7 @@ use Rattle.std.specs.Global.{Global}
 use Rattle.std.specs.List.{flat_map}
 use Rattle.std.specs.Prelude.{nat_eq}
 use Rattle.std.proofs.lemmas.Bool.{ne_eqb}
-use Rattle.mz_tree.specs.declared.expr.BinOp.{BinOp}
+use Rattle.mz_tree.specs.declared.expr.PlacedOp.{PlacedOp}
 use Rattle.mz_tree.specs.declared.expr.UnOp.{UnOp}
 use Rattle.mz_tree.specs.declared.expr.TextPart.{TextPart}
 use Rattle.mz_tree.specs.declared.expr.Expr.{Expr}
@@ -87,7 +87,7 @@ in_gen_call h e x n b gs hs i p q = form_is h e (forms.GenCall n gs b) (pure.gen
     ∙ ap (λ z. (applied h n false ++ in_gens h (pure.gens (map generator gs.items))) ++ in_tree (with_gens h (pure.gens (map generator gs.items))) (tree z)) (sym p)
     ∙ ap (λ z. (applied h n false ++ in_gens h (pure.gens (map generator z))) ++ in_tree (with_gens h (pure.gens (map generator z))) (tree x)) (sym q)
 
-chain_is : (x : Box Expr Global) (ls : Vec (BinOp × Expr) Global) → shape (forms.Chain x ls) ≡ pure.chain (tree x.value) (pure.links (map link ls.items))
+chain_is : (x : Box Expr Global) (ls : Vec (PlacedOp × Expr) Global) → shape (forms.Chain x ls) ≡ pure.chain (tree x.value) (pure.links (map link ls.items))
 chain_is x ls = shape_is (forms.Chain x ls) ∙ simp form_lemmas refl
 
 call_is : (n : Name) (es : Vec Expr Global) → shape (forms.Call n es) ≡ pure.call n (pure.trees (map tree es.items))
@@ -99,7 +99,7 @@ access_is x es = shape_is (forms.Access x es) ∙ simp form_lemmas refl
 if_is : (bs : Vec (Expr × Expr) Global) (x : Box Expr Global) → shape (forms.If bs (Some x)) ≡ pure.choice (pure.branches (map branch bs.items)) (pure.just (tree x.value))
 if_is bs x = shape_is (forms.If bs (Some x)) ∙ simp form_lemmas refl
 
-pub in_chain : (h : List Name) (e x : Expr) (b : Box Expr Global) (ls : Vec (BinOp × Expr) Global) (ms : List (BinOp × Expr)) → e.form ≡ forms.Chain b ls → x ≡ b.value → ms ≡ ls.items → in_tree h (tree e) ≡ in_tree h (tree x) ++ in_links h (pure.links (map link ms))
+pub in_chain : (h : List Name) (e x : Expr) (b : Box Expr Global) (ls : Vec (PlacedOp × Expr) Global) (ms : List (PlacedOp × Expr)) → e.form ≡ forms.Chain b ls → x ≡ b.value → ms ≡ ls.items → in_tree h (tree e) ≡ in_tree h (tree x) ++ in_links h (pure.links (map link ms))
 unfolding in_tree
 in_chain h e x b ls ms i p q = form_is h e (forms.Chain b ls) (pure.chain (tree b.value) (pure.links (map link ls.items))) i (chain_is b ls) ∙ ap (λ z. in_tree h (tree z) ++ in_links h (pure.links (map link ls.items))) (sym p) ∙ ap (λ z. in_tree h (tree x) ++ in_links h (pure.links (map link z))) (sym q)
 

@@ -9,7 +9,7 @@ use crate::NameUse;
 use crate::adding::{applied, mention};
 use mz_base::{Memory, Name, Span};
 use mz_scope_names::NameSet;
-use mz_tree::{BinOp, Decl, Expr, Form, Gen, LetItem, TextPart, TypeBase, TypeText};
+use mz_tree::{Decl, Expr, Form, Gen, LetItem, PlacedOp, TextPart, TypeBase, TypeText};
 
 /// Adds the names that an expression uses where these are hidden.
 #[cycle(walk)]
@@ -104,7 +104,7 @@ fn in_all(out: &mut Vec<NameUse>, hidden: &mut NameSet, es: &[Expr]) -> Result<(
 fn in_operands(
     out: &mut Vec<NameUse>,
     hidden: &mut NameSet,
-    rest: &[(BinOp, Expr)],
+    rest: &[(PlacedOp, Expr)],
 ) -> Result<(), Memory>
     ensures uses { OnOk result (out.new.items ≡ out.old.items ++ in_links hidden.old (links (map link rest.now))) }
     ensures hidden { OnOk result (hidden.new ≡ hidden.old) }

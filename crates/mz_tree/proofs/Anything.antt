@@ -48,7 +48,7 @@ mutual
 
   any_links : (ls : Links) → OfLinks AnyName AnyPlace ls
   any_links pure.no_links = tt
-  any_links (pure.a_link op e ls) = (any_tree e, any_links ls)
+  any_links (pure.a_link o e ls) = (tt, any_tree e, any_links ls)
 
   any_rows : (rs : Rows) → OfRows AnyName AnyPlace rs
   any_rows pure.no_rows = tt

@@ -62,7 +62,7 @@ module _ {A : Type 0} (named : Name → List A) (placed : Span → List A) (Q : 
 
     pub links_given : (x : Links) → OfLinks N P x → All Q (in_links named placed x)
     links_given pure.no_links h = All-nil Q
-    links_given (pure.a_link op e ls) h = All-append Q (in_tree named placed e) (in_links named placed ls) (tree_given e h.0) (links_given ls h.1)
+    links_given (pure.a_link o e ls) h = All-append Q ((placed o.start) ++ (in_tree named placed e)) (in_links named placed ls) (All-append Q (placed o.start) (in_tree named placed e) (place o.start h.0) (tree_given e h.1)) (links_given ls h.2)
 
     pub rows_given : (x : Rows) → OfRows N P x → All Q (in_rows named placed x)
     rows_given pure.no_rows h = All-nil Q

@@ -48,7 +48,7 @@ module _ (N M : Name → Type 0) (P Q : Span → Type 0) (name : (n : Name) → 
 
     links_later : (ls : Links) → OfLinks N P ls → OfLinks M Q ls
     links_later pure.no_links h = tt
-    links_later (pure.a_link op e ls) h = (tree_later e h.0, links_later ls h.1)
+    links_later (pure.a_link o e ls) h = (place o.start h.0, tree_later e h.1, links_later ls h.2)
 
     rows_later : (rs : Rows) → OfRows N P rs → OfRows M Q rs
     rows_later pure.no_rows h = tt

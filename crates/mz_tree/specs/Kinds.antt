@@ -46,7 +46,7 @@ module _ (Named : Name → Type 0) (Placed : Span → Type 0) where
 
     pub OfLinks : Links → Type 0
     OfLinks pure.no_links = Unit {0}
-    OfLinks (pure.a_link op e ls) = OfTree e × OfLinks ls
+    OfLinks (pure.a_link o e ls) = Placed o.start × OfTree e × OfLinks ls
 
     pub OfRows : Rows → Type 0
     OfRows pure.no_rows = Unit {0}

@@ -46,7 +46,7 @@ module _ {A : Type 0} (named : Name → List A) (placed : Span → List A) where
 
     pub in_links : Links → List A
     in_links pure.no_links = []
-    in_links (pure.a_link op e ls) = in_tree e ++ in_links ls
+    in_links (pure.a_link o e ls) = placed o.start ++ in_tree e ++ in_links ls
 
     pub in_rows : Rows → List A
     in_rows pure.no_rows = []

@@ -3,6 +3,7 @@ use Rattle.std.specs.Prelude.{ℕ, ℤ, Bool, List, [], ◌∷◌, Option, Some,
 use Rattle.mz_base.specs.declared.fault.Span.{Span}
 use Rattle.mz_tree.specs.declared.expr.UnOp.{UnOp}
 use Rattle.mz_tree.specs.declared.expr.BinOp.{BinOp}
+use Rattle.mz_tree.specs.declared.expr.PlacedOp.{PlacedOp}
 
 abbrev pub Name : Type 0
 Name = ℕ
@@ -45,7 +46,7 @@ mutual
   -- an operator and the operand after it
   pub data Links : Type 0 where
     no_links : Links
-    a_link : BinOp → Tree → Links → Links
+    a_link : PlacedOp → Tree → Links → Links
 
   pub data Rows : Type 0 where
     no_rows : Rows
@@ -101,6 +102,10 @@ mutual
     no_bases : Bases
     a_base : Based → Bases → Bases
 
+-- an operator, and where the operand after it begins
+abbrev pub op_before : BinOp → Span → PlacedOp
+op_before o at = record { op = o; start = at }
+
 abbrev pub maybe : Option Tree → Maybe
 maybe None = nothing
 maybe (Some e) = just e
@@ -109,7 +114,7 @@ abbrev pub trees : List Tree → Trees
 trees [] = no_trees
 trees (e ∷ es) = a_tree e (trees es)
 
-abbrev pub links : List (BinOp × Tree) → Links
+abbrev pub links : List (PlacedOp × Tree) → Links
 links [] = no_links
 links (l ∷ ls) = a_link l.0 l.1 (links ls)
 

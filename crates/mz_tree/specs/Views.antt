@@ -11,7 +11,7 @@ use Rattle.mz_tree.specs.declared.expr.Gen.{Gen, Gen-F, fold-Gen}
 use Rattle.mz_tree.specs.declared.expr.TypeText.{TypeText, TypeText-F, fold-TypeText}
 use Rattle.mz_tree.specs.declared.expr.Form.TheOpen as open_form
 use Rattle.mz_tree.specs.Tree.{Tree, Shape, Part, Based, Declaration, Generator, Let, Written}
-use Rattle.mz_tree.specs.declared.expr.BinOp.{BinOp}
+use Rattle.mz_tree.specs.declared.expr.PlacedOp.{PlacedOp}
 use Rattle.mz_tree.specs.Tree as pure
 
 -- one layer of each type, with the trees of its parts
@@ -86,7 +86,7 @@ generator = fold-Gen Shape Let Part Based Declaration Tree Generator Written for
 unfoldable pub written : TypeText → Written
 written = fold-TypeText Shape Let Part Based Declaration Tree Generator Written form_step let_step part_step base_step decl_step expr_step gen_step type_step
 
-abbrev pub link : BinOp × Expr → BinOp × Tree
+abbrev pub link : PlacedOp × Expr → PlacedOp × Tree
 link l = (l.0, tree l.1)
 
 abbrev pub branch : Expr × Expr → Tree × Tree

@@ -52,6 +52,13 @@ pub enum BinOp {
     Default,
 }
 
+/// A binary operator, with the place of the first token of the operand after it, a parenthesis too.
+#[derive(Clone, Copy, Debug)]
+pub struct PlacedOp {
+    pub op: BinOp,
+    pub start: Span,
+}
+
 /// What an expression is, by its outermost form.
 ///
 /// Parentheses make no node, and the operators of one level in a row are one `Chain`.
@@ -65,7 +72,7 @@ pub enum Form {
     Ident(Name),
     Interp(Vec<TextPart>),
     Unary(UnOp, Box<Expr>),
-    Chain(Box<Expr>, Vec<(BinOp, Expr)>),
+    Chain(Box<Expr>, Vec<(PlacedOp, Expr)>),
     Call(Name, Vec<Expr>),
     GenCall(Name, Vec<Gen>, Box<Expr>),
     Access(Box<Expr>, Vec<Expr>),

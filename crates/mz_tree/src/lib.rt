@@ -15,7 +15,9 @@ mod parts;
 mod source;
 
 pub use data::{Data, DataItem, Datum};
-pub use expr::{BinOp, Decl, Expr, Form, Gen, LetItem, TextPart, TypeBase, TypeText, UnOp};
+pub use expr::{
+    BinOp, Decl, Expr, Form, Gen, LetItem, PlacedOp, TextPart, TypeBase, TypeText, UnOp,
+};
 pub use height::HEIGHT_LIMIT;
 pub use item::{Function, Goal, Item};
 pub use law::names_and_places;

@@ -5,7 +5,7 @@ ghost use Rattle.std.specs.Option.{option_map};
 ghost use Rattle.mz_tree.specs.Tree.{node, int, bool, absent, text, ident, interp, unary, chain, call, gen_call, access, array, rows, set, array_comp, set_comp, choice, let_in, trees, links, rows_of, branches, parts, gens, lets, maybe};
 ghost use Rattle.mz_tree.specs.Views.{tree, part, generator, let_of, link, branch, tree_row};
 
-use crate::expr::{BinOp, Expr, Form, Gen, LetItem, TextPart, UnOp};
+use crate::expr::{Expr, Form, Gen, LetItem, PlacedOp, TextPart, UnOp};
 use mz_base::{Name, Span};
 use std::alloc::{AllocError, Global};
 
@@ -80,7 +80,7 @@ pub fn make_chain(
     alloc: Global,
     span: Span,
     first: Expr,
-    steps: Vec<(BinOp, Expr)>,
+    steps: Vec<(PlacedOp, Expr)>,
 ) -> Result<Expr, AllocError>
     ensures { IfOk result (λ e. tree e ≡ node span (chain (tree first) (links (map link steps.items)))) }
 {

@@ -19,7 +19,7 @@ use mz_expr_operands::step::separator;
 use mz_grammar::{Closing, Level};
 use mz_grammar_rules::{Cursor, is_sym};
 use mz_lexer::Symbol;
-use mz_tree::{BinOp, Expr, make_unary};
+use mz_tree::{Expr, PlacedOp, make_unary};
 use std::alloc::Global;
 
 impl<F: Fn(Global, &mut Cursor<'_>, Entry) -> Result<Operand, Stop>> Descent<F> {
@@ -65,7 +65,7 @@ impl<F: Fn(Global, &mut Cursor<'_>, Entry) -> Result<Operand, Stop>> Descent<F> 
 
     /// The operators of one level in a row, each with the operand after it.
     #[tactic(auto, using(mz_grammar::proofs::Equations::operators_reads, mz_grammar_rules::proofs::Steps::prefix_push, std::proofs::lemmas::List::map_push, mz_grammar_rules::proofs::Steps::nothing_behind, mz_grammar_rules::proofs::Steps::no_prefix))]
-    fn operators(&self, cur: &mut Cursor<'_>, l: Level) -> Result<Vec<(BinOp, Expr)>, Stop>
+    fn operators(&self, cur: &mut Cursor<'_>, l: Level) -> Result<Vec<(PlacedOp, Expr)>, Stop>
         requires { MayBegin (Entry.Level l) self.now.room self.now.entry (F.pre self.now.reader) (F.post self.now.reader) cur.old }
         ensures { Passes (λ v. map link v.items) (reads (parts.operators l)) cur.old cur.new result }
     {
@@ -73,7 +73,8 @@ impl<F: Fn(Global, &mut Cursor<'_>, Entry) -> Result<Operand, Stop>> Descent<F> 
         while let Some(op) = binary_of(l, cur.tok()) {
             cur.skip();
             let x = self.operand(cur, l)?;
-            all.push((op, x.into_expr(self.alloc)?))?;
+            let start = x.at();
+            all.push((PlacedOp { op, start }, x.into_expr(self.alloc)?))?;
             if is_nonassociative(l) {
                 return Ok(all);
             }

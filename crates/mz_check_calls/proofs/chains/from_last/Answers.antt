@@ -2,7 +2,7 @@ use Rattle.std.proofs.Common.{◌≡◌, ◌∷◌, [], ◌++◌, map, vec_len, 
 use Rattle.mz_core.specs.Types.{PlainType, plain_type}
 use Rattle.mz_core.specs.Tree.{type_of}
 use Rattle.mz_core.specs.TreeViews.{tree}
-use Rattle.mz_check_meaning.specs.Chains.{Chained, from_right_at}
+use Rattle.mz_check_meaning.specs.Chains.{Chained, from_right}
 use Rattle.mz_check_meaning.specs.Passes.{Passes}
 use Rattle.mz_check_forms.proofs.Passing.{stops}
 use Rattle.mz_check_calls.specs.StepsChains.{preceded}
@@ -23,19 +23,19 @@ returns-in_err-acc-2 c =
     let e = tree c.args.first.now in
     let right = c.loop-left.right in
     let after = chained_back c.loop-left.acc in
-    let s = c.place_of.result in
+    let s = c.in-Some.left.operator.start in
     let t = plain_type c.type_of.result.now in
-    let whole = from_right_at c.args.span e (map operand c.args.operands.items ++ operand c.args.last ∷ []) in
+    let whole = from_right c.args.span e (map operand c.args.operands.items ++ operand c.args.last ∷ []) in
     stops chained_back chained_back c.from_residual-in_err-acc-2.result c.in_err-acc-2.field-0.0 (preceded s t (operand right) after) whole c.from_residual-in_err-acc-2.ensures.1
-    (λ f p. step_stopped c.args.span (type_of e) whole c.loop-left.before.items c.pop.new.self.items c.in-Some.left right after f s t c.loop-left.invariant c.in-Some.ensures.items c.place_of.ensures c.type_of.ensures p)
+    (λ f p. step_stopped c.args.span (type_of e) whole c.loop-left.before.items c.pop.new.self.items c.in-Some.left right after f t c.loop-left.invariant c.in-Some.ensures.items c.type_of.ensures p)
     c.in_err-acc-2.ensures
 
 pub loop-left-preserved : goal.loop-left-preserved
 loop-left-preserved c =
     let e = tree c.args.first.now in
-    let whole = from_right_at c.args.span e (map operand c.args.operands.items ++ operand c.args.last ∷ []) in
+    let whole = from_right c.args.span e (map operand c.args.operands.items ++ operand c.args.last ∷ []) in
     step_taken c.args.span (type_of e) whole c.loop-left.before.items c.pop.new.self.items c.in-Some.left c.loop-left.right (chained_back c.loop-left.acc) (chained_back c.in_ok-acc-2.acc)
-    c.place_of.result (plain_type c.type_of.result.now) c.loop-left.invariant c.in-Some.ensures.items c.place_of.ensures c.type_of.ensures c.in_ok-acc-2.ensures
+    (plain_type c.type_of.result.now) c.loop-left.invariant c.in-Some.ensures.items c.type_of.ensures c.in_ok-acc-2.ensures
 
 pub returns : goal.returns
 returns c =
@@ -43,7 +43,7 @@ returns c =
     let os = c.loop-left.before in
     let right = c.loop-left.right in
     let after = chained_back c.loop-left.acc in
-    let whole = from_right_at c.args.span e (map operand c.args.operands.items ++ operand c.args.last ∷ []) in
+    let whole = from_right c.args.span e (map operand c.args.operands.items ++ operand c.args.last ∷ []) in
     let popped : vec_len os ≡ 0 = none_popped (vec_len os) (vec_len c.pop.new.self) c.pop.result c.in_default.not-Some c.pop.ensures.cases in
     let none : os.items ≡ [] = none_there os.items (omega (arith, popped, os.ok.0)) in
     subst (Passes chained_back c.preceded-2.result) (sym (step_last c.args.span (type_of e) whole os.items right after c.loop-left.invariant none))

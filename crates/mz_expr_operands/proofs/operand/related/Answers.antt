@@ -7,4 +7,4 @@ use Rattle.mz_expr_operands.proofs.operand.related.Goals as goal
 
 pub returns : goal.returns
 returns c = let one : is_one_member (map link c.args.links.items) ≡ true = search rules in
-    rw c.new.ensures (chained-member c.args.name c.args.at c.args.links.items c.pop.new.self.items (c.in-Some.field-0-0, c.in-Some.set) one c.in-Some.ensures.items)
+    rw c.new.ensures (chained-member c.args.name c.args.at c.args.links.items c.pop.new.self.items (c.in-Some.o, c.in-Some.set) one c.in-Some.ensures.items)
