@@ -8,7 +8,7 @@ use Rattle.mz_core.specs.Program as program
 use Rattle.mz_core.specs.Tree.{Tree, Shape, Layer, Trees, Maybe, Maybes, Rows, Branches, Step, Steps, Gen, Gens, Decl, DeclaredType, Item, Items, declares, constrains, items, maybes, maybe, steps, layer, shape_of, place_of, inner_tree, if_tree, all_trees, all_maybes, all_rows, all_branches, all_steps, all_gens, all_items}
 use Rattle.mz_core.specs.Tree as tree
 use Rattle.mz_core.specs.Nodes.{nodes_in, in_form, in_maybe, in_trees, in_maybes, in_rows, in_branches, in_steps, in_gens, in_items, in_decl, in_type, in_goal}
-use Rattle.mz_meaning_places.specs.Places.{item_places, local_places, own_places, places_in, type_places, decl_places, function_places, goal_places, places_of}
+use Rattle.mz_meaning_places.specs.Places.{step_places, item_places, local_places, own_places, places_in, type_places, decl_places, function_places, goal_places, places_of}
 
 -- ---- lists
 
@@ -59,7 +59,7 @@ module _ (P : Span → Type 0) where
   IsPlacedPair b = IsPlaced b.0 × IsPlaced b.1
 
   abbrev pub IsPlacedStep : Step → Type 0
-  IsPlacedStep s = IsPlaced s.operand
+  IsPlacedStep s = P s.start × IsPlaced s.operand
 
   pub record IsPlacedGen (g : Gen) : Type 0 where
     pub set : IsPlaced g.set
@@ -118,10 +118,10 @@ module _ (P : Span → Type 0) where
       let rest = right_all OwnPlaces (nodes_in c) (nodes_in e ++ in_branches bs) h in
       ((left_all OwnPlaces (nodes_in c) (nodes_in e ++ in_branches bs) h, left_all OwnPlaces (nodes_in e) (in_branches bs) rest), placed_branches bs (right_all OwnPlaces (nodes_in e) (in_branches bs) rest))
 
-  pub placed_steps : (ss : Steps) → AllBy OwnPlaces (in_steps ss) → AllBy IsPlacedStep (all_steps ss)
-  unfolding nodes_in
-  placed_steps tree.no_steps h = tt
-  placed_steps (tree.a_step r t l m e ss) h = (left_all OwnPlaces (nodes_in e) (in_steps ss) h, placed_steps ss (right_all OwnPlaces (nodes_in e) (in_steps ss) h))
+  pub placed_steps : (ss : Steps) → AllBy P (step_places ss) → AllBy OwnPlaces (in_steps ss) → AllBy IsPlacedStep (all_steps ss)
+  unfolding nodes_in step_places
+  placed_steps tree.no_steps p h = tt
+  placed_steps (tree.a_step sp r t l m e ss) p h = ((p.0, left_all OwnPlaces (nodes_in e) (in_steps ss) h), placed_steps ss p.1 (right_all OwnPlaces (nodes_in e) (in_steps ss) h))
 
   placed_gens : (gs : Gens) → AllBy OwnPlaces (in_gens gs) → AllBy IsPlacedGen (all_gens gs)
   unfolding nodes_in
@@ -166,7 +166,7 @@ module _ (P : Span → Type 0) where
 
   placed_form : (f : Shape) → AllBy P (local_places f) → AllBy OwnPlaces (in_form f) → IsPlacedLayer (layer f)
   unfolding nodes_in
-  placed_form (tree.chain e ss) p h = (left_all OwnPlaces (nodes_in e) (in_steps ss) h, placed_steps ss (right_all OwnPlaces (nodes_in e) (in_steps ss) h))
+  placed_form (tree.chain e ss) p h = (left_all OwnPlaces (nodes_in e) (in_steps ss) h, placed_steps ss p (right_all OwnPlaces (nodes_in e) (in_steps ss) h))
   placed_form (tree.builtin n es) p h = placed_trees es h
   placed_form (tree.call f es) p h = placed_trees es h
   placed_form (tree.access e es) p h = (left_all OwnPlaces (nodes_in e) (in_trees es) h, placed_trees es (right_all OwnPlaces (nodes_in e) (in_trees es) h))

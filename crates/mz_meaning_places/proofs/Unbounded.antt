@@ -64,7 +64,7 @@ module _ (P : Span → Type 0) where
 
     steps_placed : (ss : Steps) → AllBy (OwnPlaces P) (nodes.in_steps ss) → AllBy P (in_steps ss)
     steps_placed tree.no_steps h = tt
-    steps_placed (tree.a_step r t l m e ss) h = joined (nodes_in e) (nodes.in_steps ss) (unbounded_in e) (in_steps ss) (unbounded_placed e) (steps_placed ss) h
+    steps_placed (tree.a_step sp r t l m e ss) h = joined (nodes_in e) (nodes.in_steps ss) (unbounded_in e) (in_steps ss) (unbounded_placed e) (steps_placed ss) h
 
     gens_placed : (gs : Gens) → AllBy (OwnPlaces P) (nodes.in_gens gs) → AllBy P (in_gens gs)
     gens_placed tree.no_gens h = tt

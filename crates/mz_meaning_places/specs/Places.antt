@@ -1,9 +1,9 @@
--- ALL PLACES of a typed program: those of its nodes, and of the names and the types that it declares.
+-- ALL PLACES of a typed program: those of its nodes, of the operands of its chains, and of the names and the types that it declares.
 use Rattle.std.specs.Prelude.{◌≡◌, refl, ℕ, pos, false, List, [], ◌∷◌, ◌++◌, Some, None}
 use Rattle.std.specs.List.{flat_map}
 use Rattle.mz_base.specs.declared.fault.Span.{Span}
 use Rattle.mz_core.specs.Program.{Function, Goal, PlainProgram}
-use Rattle.mz_core.specs.Tree.{Tree, Shape, Items, Decl, DeclaredType, declares}
+use Rattle.mz_core.specs.Tree.{Tree, Shape, Steps, Items, Decl, DeclaredType, declares}
 use Rattle.mz_core.specs.Tree as tree
 use Rattle.mz_core.specs.Nodes.{nodes_in, in_decl, in_type, in_goal}
 use Rattle.mz_meaning.specs.Written.{col, int, var_int, num, slot, let_in, plain, decl}
@@ -14,11 +14,17 @@ item_places tree.no_items = []
 item_places (tree.a_decl s n at q t ixs set value is) = at ∷ q ∷ item_places is
 item_places (tree.a_constraint e is) = item_places is
 
+-- where the operands after the operators of a chain begin
+unfoldable pub step_places : Steps → List Span
+step_places tree.no_steps = []
+step_places (tree.a_step sp r t l m e ss) = sp ∷ step_places ss
+
 abbrev pub local_places : Shape → List Span
+local_places (tree.chain e ss) = step_places ss
 local_places (tree.let_in is e) = item_places is
 local_places f = []
 
--- a node's own place, and those of the names and types that it declares
+-- a node's own place, those of its operands, and those of the names and types that it declares
 abbrev pub own_places : Tree → List Span
 own_places (tree.node at t f) = at ∷ local_places f
 
