@@ -23,7 +23,7 @@ use Rattle.mz_meaning.specs.Chains.{innermost_in}
 use Rattle.mz_meaning.specs.Evaluation.{eval}
 use Rattle.mz_meaning.specs.Unbounded.{unbounded_in, in_form, in_maybe, in_trees, in_maybes, in_steps, in_items, first_unbounded}
 use Rattle.mz_meaning.specs.Walk.{Limits}
-use Rattle.mz_meaning.specs.Written.{scalar, chain, access, list, var_int, bool, var_bool, num, lit, slot, bin, choose, to_var, to_opt, range, within, decl, i, b, var_number, no_choices, by_zero}
+use Rattle.mz_meaning.specs.Written.{col, scalar, chain, access, list, var_int, bool, var_bool, num, lit, slot, bin, choose, to_var, to_opt, range, within, decl, i, b, var_number, no_choices, by_zero}
 use Rattle.mz_meaning.specs.RowNumbers as op
 use Rattle.mz_first_meaning.specs.Roots.{roots}
 use Rattle.mz_first_meaning.specs.Posted.{Posted, Whole, Pair, posting_walk}
