@@ -78,7 +78,7 @@ module _ (P : Span → Type 0) where
 
       steps_placed : (ss : Steps) → AllBy (OwnPlaces P) (nodes.in_steps ss) → AllBy P (in_steps v ss)
       steps_placed tree.no_steps h = tt
-      steps_placed (tree.a_step r t l m e ss) h = joined (nodes_in e) (nodes.in_steps ss) (unbuilt_in v e) (in_steps v ss) (unbuilt_placed e) (steps_placed ss) h
+      steps_placed (tree.a_step sp r t l m e ss) h = joined (nodes_in e) (nodes.in_steps ss) (unbuilt_in v e) (in_steps v ss) (unbuilt_placed e) (steps_placed ss) h
 
       gens_placed : (gs : Gens) → AllBy (OwnPlaces P) (nodes.in_gens gs) → AllBy P (in_gens v gs)
       gens_placed tree.no_gens h = tt
@@ -127,7 +127,7 @@ module _ (P : Span → Type 0) where
 
     operands_placed : (e : Tree) → IsPlaced P e → AllBy P (in_operands names e)
     unfolding nodes_in
-    operands_placed (tree.node at t (tree.chain a (tree.a_step r u l m b tree.no_steps))) h =
+    operands_placed (tree.node at t (tree.chain a (tree.a_step sp r u l m b tree.no_steps))) h =
         both_all P (in_operand names a) (in_operand names b) (operand_placed a (left_all (OwnPlaces P) (nodes_in a) (nodes_in b ++ []) h.1))
         (operand_placed b (left_all (OwnPlaces P) (nodes_in b) [] (right_all (OwnPlaces P) (nodes_in a) (nodes_in b ++ []) h.1)))
     operands_placed e h = tt
