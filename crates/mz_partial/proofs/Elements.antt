@@ -24,7 +24,8 @@ use Rattle.mz_partial.specs.Calls.{IsNever, HasNoValue}
 use Rattle.mz_partial.proofs.Standing.{node_means, node_bounds, node_some, node_total, like_bounds}
 use Rattle.mz_partial.proofs.ByKind.{Fits, whole_val, truth_val, subset_val, is_cons}
 use Rattle.mz_partial.proofs.Saying.{fits}
-use Rattle.mz_partial.proofs.Partwise.{value_or, some_or, two_only, kid_whole, strict_one_part, pair_like}
+use Rattle.mz_partial.proofs.Told.{kid_told, cons_elements}
+use Rattle.mz_partial.proofs.Partwise.{value_or, some_or, two_only, strict_one_part, pair_like}
 
 -- ---- values of lists
 
@@ -235,9 +236,10 @@ cons_part es id a b p q f t c ar n m hp hq says none own count =
       open_ = λ d h. subst (λ (x : Known). IsOpen x) (sym bounds) (cons_open (extent es a) (extent es b));
       told = subst (λ j. Tells (extent es id) j) (sym count) (subst (λ (x : Known). Tells x (q.len + 1)) (sym bounds) (cons_tells (extent es a) (extent es b) q.len hq.told));
       counts = λ v i. subst (λ j. Counts (value_or (term v es t)) j) (sym count) (subst (λ (x : Term). Counts (value_or x) (q.len + 1)) (sym (value v i ∙ (longer v i).is)) (longer v i).counts);
+      elements = λ j l. count ∙ cons_elements es id a b q.len j n hq.elements l;
       own = λ w.
-          let o = hp.own (kid_whole es id Cons (a ∷ b ∷ []) n w 0 a refl) in
-          let r = hq.own (kid_whole es id Cons (a ∷ b ∷ []) n w 1 b refl) in
+          let o = hp.own (kid_told es id Cons (a ∷ b ∷ []) n w 0 a refl) in
+          let r = hq.own (kid_told es id Cons (a ∷ b ∷ []) n w 1 b refl) in
           (none o.0 r.0, own o.1 r.1);
     }
 

@@ -2,7 +2,7 @@
 use Rattle.std.specs.Prelude.{refl, ℕ, pos, List, [], ◌∷◌, true, false}
 use Rattle.mz_operations.specs.Numbers.{computed, toward}
 use Rattle.mz_arena.specs.declared.node.NodeKind.{NodeKind}
-use Rattle.mz_arena.specs.declared.node.NodeKind.TheVariants.{Int, Bool as BoolNode, Var, Div, Min, Eq, Ne, Le, And, If, Access, Guard, Nil, Cons, SetConst}
+use Rattle.mz_arena.specs.declared.node.NodeKind.TheVariants.{Int, Bool as BoolNode, Var, Div, Mod, Min, Max, Eq, Ne, Le, And, If, Access, Guard, Nil, Cons, SetConst}
 use Rattle.mz_arena.specs.Entries.{Entry, entry, folded}
 use Rattle.mz_arena.specs.Values.{number, Values, arith_term, extreme_term, comparison_term, and_term, if_term, guard_term, access_term, cons_term}
 use Rattle.mz_arena.specs.Terms.{terms, term}
@@ -22,6 +22,10 @@ values n = record { number = λ k. pos n; set = λ k. [] }
 abbrev quotient : List Entry
 quotient = domain 2 ∷ node Var 0 0 0 1 ∷ node Int 0 0 0 6 ∷ node Div 2 1 0 0 ∷ node Int 0 0 0 0 ∷ node Ne 1 4 0 0 ∷ node Int 0 0 0 2 ∷ node If 5 1 6 0 ∷ node Div 2 7 0 0 ∷ []
 
+-- 7 mod x (3), with x in 0..2: where x isn't 0 (5), and 7 mod (x, or 2 where it is 0) (8)
+abbrev remainder : List Entry
+remainder = domain 2 ∷ node Var 0 0 0 1 ∷ node Int 0 0 0 7 ∷ node Mod 2 1 0 0 ∷ node Int 0 0 0 0 ∷ node Ne 1 4 0 0 ∷ node Int 0 0 0 2 ∷ node If 5 1 6 0 ∷ node Mod 2 7 0 0 ∷ []
+
 abbrev SplitsAt : List Entry → ℕ → ℕ → ℕ → ℕ → Type 0
 SplitsAt es n defined total old = Splits (term (values n) es defined) (term (values n) es total) (term (values n) es old)
 
@@ -32,6 +36,14 @@ access = domain 3 ∷ node Var 0 0 0 1 ∷ node Int 0 0 0 5 ∷ node Int 0 0 0 7
 -- the least of no numbers (1): never (2), and 0 (3)
 abbrev least : List Entry
 least = node Nil 0 0 0 0 ∷ node Min 0 0 0 0 ∷ node BoolNode 0 0 0 0 ∷ node Int 0 0 0 0 ∷ []
+
+-- the least (5) and the greatest (6) of 5 and 7, always (7)
+abbrev extremes : List Entry
+extremes = node Int 0 0 0 5 ∷ node Int 0 0 0 7 ∷ node Nil 0 0 0 0 ∷ node Cons 1 2 0 0 ∷ node Cons 0 3 0 0 ∷ node Min 4 0 0 0 ∷ node Max 4 0 0 0 ∷ node BoolNode 0 0 0 1 ∷ []
+
+-- the least of 6 div x and 5 (14): where x isn't 0 (5), and the same over the total quotient (15)
+abbrev listed : List Entry
+listed = domain 2 ∷ node Var 0 0 0 1 ∷ node Int 0 0 0 6 ∷ node Div 2 1 0 0 ∷ node Int 0 0 0 0 ∷ node Ne 1 4 0 0 ∷ node Int 0 0 0 2 ∷ node If 5 1 6 0 ∷ node Div 2 7 0 0 ∷ node Nil 0 0 0 0 ∷ node Int 0 0 0 5 ∷ node Cons 10 9 0 0 ∷ node Cons 3 11 0 0 ∷ node Cons 8 11 0 0 ∷ node Min 12 0 0 0 ∷ node Min 13 0 0 0 ∷ []
 
 -- 4 where the Boolean x is true (3): x itself (1), and 4 (2)
 abbrev guarded : List Entry
@@ -44,11 +56,17 @@ nested = domain 2 ∷ node Var 0 0 0 1 ∷ node Int 0 0 0 6 ∷ node Div 2 1 0 0
 pub record Work : Type 0 where
   pub divided_by_zero : SplitsAt quotient 0 5 8 3
   pub divided_by_two : SplitsAt quotient 2 5 8 3
+  pub remainder_by_zero : SplitsAt remainder 0 5 8 3
+  pub remainder_by_two : SplitsAt remainder 2 5 8 3
   pub before_the_first_place : SplitsAt access 0 12 14 7
   pub at_the_first_place : SplitsAt access 1 12 14 7
   pub at_the_last_place : SplitsAt access 2 12 14 7
   pub past_the_last_place : SplitsAt access 3 12 14 7
   pub least_of_none : SplitsAt least 0 2 3 1
+  pub least_of_two : SplitsAt extremes 0 7 5 5
+  pub greatest_of_two : SplitsAt extremes 0 7 6 6
+  pub element_without_value : SplitsAt listed 0 5 15 14
+  pub element_with_value : SplitsAt listed 2 5 15 14
   pub guarded_by_false : SplitsAt guarded 0 1 2 3
   pub guarded_by_true : SplitsAt guarded 1 1 2 3
   pub comparison_without_value : SplitsAt nested 0 15 12 10
@@ -61,11 +79,17 @@ unfolding terms folded arith_term computed extreme_term toward comparison_term a
 work = record {
   divided_by_zero = record { holds = false; value = number (pos 3); is_defined = refl; has_value = refl; is_old = refl };
   divided_by_two = record { holds = true; value = number (pos 3); is_defined = refl; has_value = refl; is_old = refl };
+  remainder_by_zero = record { holds = false; value = number (pos 1); is_defined = refl; has_value = refl; is_old = refl };
+  remainder_by_two = record { holds = true; value = number (pos 1); is_defined = refl; has_value = refl; is_old = refl };
   before_the_first_place = record { holds = false; value = number (pos 5); is_defined = refl; has_value = refl; is_old = refl };
   at_the_first_place = record { holds = true; value = number (pos 5); is_defined = refl; has_value = refl; is_old = refl };
   at_the_last_place = record { holds = true; value = number (pos 7); is_defined = refl; has_value = refl; is_old = refl };
   past_the_last_place = record { holds = false; value = number (pos 5); is_defined = refl; has_value = refl; is_old = refl };
   least_of_none = record { holds = false; value = number (pos 0); is_defined = refl; has_value = refl; is_old = refl };
+  least_of_two = record { holds = true; value = number (pos 5); is_defined = refl; has_value = refl; is_old = refl };
+  greatest_of_two = record { holds = true; value = number (pos 7); is_defined = refl; has_value = refl; is_old = refl };
+  element_without_value = record { holds = false; value = number (pos 3); is_defined = refl; has_value = refl; is_old = refl };
+  element_with_value = record { holds = true; value = number (pos 3); is_defined = refl; has_value = refl; is_old = refl };
   guarded_by_false = record { holds = false; value = number (pos 4); is_defined = refl; has_value = refl; is_old = refl };
   guarded_by_true = record { holds = true; value = number (pos 4); is_defined = refl; has_value = refl; is_old = refl };
   comparison_without_value = record { holds = true; value = number (pos 0); is_defined = refl; has_value = refl; is_old = refl };

@@ -1,5 +1,6 @@
 pub mod Standing
 pub mod ByKind
+pub mod Told
 pub mod Costing
 pub mod Asked
 pub mod Saying

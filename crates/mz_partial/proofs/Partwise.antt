@@ -15,8 +15,10 @@ use Rattle.mz_arena_laws.proofs.Terms.{terms_lie}
 use Rattle.mz_partial.specs.declared.part.Part.{Part}
 use Rattle.mz_partial.specs.declared.group.Group.TheVariants as group
 use Rattle.mz_partial.specs.Groups.{group_of, is_inner, is_partial}
-use Rattle.mz_partial.specs.Totals.{only, IsTotal, HasNoPartial, no_partial, IsTruth, SaysAt, Says, IsItself, IsPart}
+use Rattle.mz_partial.specs.Totals.{only, IsTotal, IsTruth, SaysAt, Says, IsItself, IsPart}
+use Rattle.mz_partial.specs.Told.{IsToldDefined}
 use Rattle.mz_partial.specs.Nodes.{IsNode, three}
+use Rattle.mz_partial.proofs.Told.{kid_told, guard_untold, no_list}
 use Rattle.mz_partial.proofs.Standing.{inner_term, inner_by, node_means, node_bounds, node_some, node_total, like_bounds, total_some}
 use Rattle.mz_partial.proofs.ByKind.{Fits, IsPlain, plain_open, plain_tells, plain_counts, is_cons, inner_plain, one_none, one_some, two_left, two_right, two_some, test_bit, test_left, test_right, test_open, connective_reads, connective_some, reading_reads, reading_some, bit_in, bit_is}
 use Rattle.mz_partial.proofs.Asked.{connective_bounds}
@@ -41,25 +43,6 @@ two_only f true true x y l r s = some_or (f (Some x) (Some y)) s
 two_only f true false x y l r s = r (Some x)
 two_only f false b x y l r s = l (only b y)
 
--- ---- children of what has no partial kind
-
-pub kid_whole : (es : List Entry) (id : ℕ) (k : NodeKind) (is : List ℕ) → IsNode es id k is → HasNoPartial es id → (j i : ℕ) → slice_get is j ≡ Some i → HasNoPartial es i
-kid_whole es id k is n (no_partial o e h p kids) j i m =
-    let same : children e.node ≡ is = ap (λ (d : Entry). children d.node) (some_in (sym h ∙ n.stands)) ∙ n.kids in
-    kids j i (ap (λ js. slice_get js j) same ∙ m)
-  where
-    some_in : {a b : Entry} → Some a ≡ Some b → a ≡ b
-    some_in q = cc
-
-pub kind_whole : {A : Type 0} (es : List Entry) (id : ℕ) (k : NodeKind) (is : List ℕ) → IsNode es id k is → is_partial k ≡ true → HasNoPartial es id → A
-kind_whole es id k is n t (no_partial o e h p kids) = clash (ap is_partial (sym n.kind) ∙ ap (λ (d : Entry). is_partial d.node.kind) (some_in (sym n.stands ∙ h)) ∙ p)
-  where
-    some_in : {a b : Entry} → Some a ≡ Some b → a ≡ b
-    some_in q = cc
-
-    clash : {B : Type 0} → is_partial k ≡ false → B
-    clash f = absurd (cc)
-
 -- ---- a node that is no list
 
 -- a term's value lies in the bounds that it has
@@ -68,7 +51,7 @@ total_fits es t id v a h same b =
     let lies : Lies (extent es id) (Some (value_or (term v es t))) = subst (λ (x : Known). Lies x (Some (value_or (term v es t)))) same (subst (λ (x : Term). Lies (extent es t) x) (some_or (term v es t) (total_some es t h v b)) (terms_lie es a v b t)) in
     record { lies = λ x e. subst (λ (o : Known). Lies o (Some (value_or (term v es t)))) e lies }
 
-pub plain_part : (es : List Entry) (id : ℕ) (k : NodeKind) (is : List ℕ) (f : Option ℕ) (t : ℕ) (holds : Values → Bool) → IsArena es → is_inner k ≡ true → is_cons k ≡ false → IsNode es id k is → Says es f holds → IsTotal es t → extent es t ≡ extent es id → ((v : Values) → AreInBounds es v → term v es id ≡ only (holds v) (value_or (term v es t))) → (HasNoPartial es id → IsItself id (record { flag = f; term = t; len = 0 })) → IsPart es id (record { flag = f; term = t; len = 0 })
+pub plain_part : (es : List Entry) (id : ℕ) (k : NodeKind) (is : List ℕ) (f : Option ℕ) (t : ℕ) (holds : Values → Bool) → IsArena es → is_inner k ≡ true → is_cons k ≡ false → IsNode es id k is → Says es f holds → IsTotal es t → extent es t ≡ extent es id → ((v : Values) → AreInBounds es v → term v es id ≡ only (holds v) (value_or (term v es t))) → (IsToldDefined es id → IsItself id (record { flag = f; term = t; len = 0 })) → IsPart es id (record { flag = f; term = t; len = 0 })
 plain_part es id k is f t holds a inner other n says total same splits own =
     let is_plain : IsPlain (extent es id) = subst (λ (x : Known). IsPlain x) (sym (node_bounds es id k is a n)) (inner_plain n.there k (map (extent es) is) inner other) in
     record {
@@ -80,11 +63,12 @@ plain_part es id k is f t holds a inner other n says total same splits own =
       open_ = λ d h. plain_open (extent es id) is_plain;
       told = plain_tells (extent es id) 0 is_plain;
       counts = λ v b. plain_counts (extent es id) (value_or (term v es t)) 0 (a.bounded id n.there n.stands) is_plain (total_fits es t id v a total same b);
+      elements = λ j l. no_list es id k is j n inner other l;
       own = own;
     }
 
 -- a node that always has a value: its total term has it
-pub defined_part : (es : List Entry) (id : ℕ) (k : NodeKind) (is : List ℕ) (t : ℕ) → IsArena es → is_inner k ≡ true → is_cons k ≡ false → IsNode es id k is → IsTotal es t → extent es t ≡ extent es id → ((v : Values) → AreInBounds es v → term v es id ≡ term v es t) → (HasNoPartial es id → t ≡ id) → IsPart es id (record { flag = None; term = t; len = 0 })
+pub defined_part : (es : List Entry) (id : ℕ) (k : NodeKind) (is : List ℕ) (t : ℕ) → IsArena es → is_inner k ≡ true → is_cons k ≡ false → IsNode es id k is → IsTotal es t → extent es t ≡ extent es id → ((v : Values) → AreInBounds es v → term v es id ≡ term v es t) → (IsToldDefined es id → t ≡ id) → IsPart es id (record { flag = None; term = t; len = 0 })
 defined_part es id k is t a inner other n total same equal own =
     plain_part es id k is None t (λ v. true) a inner other n (λ v b. refl) total same (λ v b. equal v b ∙ some_or (term v es t) (total_some es t total v b)) (λ w. (refl, own w))
 
@@ -118,7 +102,7 @@ strict_one_part es id a k p t ar inner other n m hp none some own =
     (node_total es t k (p.term ∷ []) m (hp.kept.total, tt) (λ v b. subst (λ (x : Term). IsSome x) (sym (value v b)) (some v b)))
     (like_bounds es id t k (a ∷ []) (p.term ∷ []) ar inner n m (ap (λ (x : Known). x ∷ []) hp.kept.bounds))
     (λ v b. node_means es id k (a ∷ []) ar n v ∙ ap (F v) (hp.is v b) ∙ one_only (F v) (hp.holds v) (hp.value v) (none v) (some v b) ∙ ap (λ (x : Term). only (hp.holds v) (value_or x)) (sym (value v b)))
-    (λ w. let o = hp.own (kid_whole es id k (a ∷ []) n w 0 a refl) in (o.0, own o.1))
+    (λ w. let o = hp.own (kid_told es id k (a ∷ []) n w 0 a refl) in (o.0, own o.1))
 
 pub one_part : (es : List Entry) (id a : ℕ) (k : NodeKind) (p : Part) (t : ℕ) → IsArena es → group_of k ≡ group.One → IsNode es id k (a ∷ []) → IsNode es t k (p.term ∷ []) → IsPart es a p → (p.term ≡ a → t ≡ id) → IsPart es id (record { flag = p.flag; term = t; len = 0 })
 one_part es id a k p t ar g n m hp own =
@@ -142,8 +126,8 @@ two_part es id a b k p q f t ar g n m hp hq says none own =
     (like_bounds es id t k (a ∷ b ∷ []) (p.term ∷ q.term ∷ []) ar inner n m (pair_like es a b p.term q.term hp.kept.bounds hq.kept.bounds))
     (λ v i. node_means es id k (a ∷ b ∷ []) ar n v ∙ ap (λ x. F v x (term v es b)) (hp.is v i) ∙ ap (F v (only (hp.holds v) (hp.value v))) (hq.is v i) ∙ two_only (F v) (hp.holds v) (hq.holds v) (hp.value v) (hq.value v) (λ z. two_left v n.there k z g) (λ z. two_right v n.there k z g) (some v i) ∙ ap (λ (x : Term). only (hp.holds v && hq.holds v) (value_or x)) (sym (value v i)))
     (λ w.
-    let o = hp.own (kid_whole es id k (a ∷ b ∷ []) n w 0 a refl) in
-    let r = hq.own (kid_whole es id k (a ∷ b ∷ []) n w 1 b refl) in
+    let o = hp.own (kid_told es id k (a ∷ b ∷ []) n w 0 a refl) in
+    let r = hq.own (kid_told es id k (a ∷ b ∷ []) n w 1 b refl) in
     (none o.0 r.0, own o.1 r.1))
 
 -- ---- comparisons
@@ -177,8 +161,8 @@ test_part es id a b k p q f h t ar g n m hp hq under bounds none own =
     defined_part es id k (a ∷ b ∷ []) t ar inner (test_other k g) n says.total (bounds said.truth open_h ∙ open_h ∙ sym open_id)
     (λ v i. node_means es id k (a ∷ b ∷ []) ar n v ∙ ap (λ x. F v x (term v es b)) (hp.is v i) ∙ ap (F v (only (hp.holds v) (hp.value v))) (hq.is v i) ∙ test_only (F v) (hp.holds v) (hq.holds v) (hp.value v) (hq.value v) (λ z. test_left v n.there k z g) (λ z. test_right v n.there k z g) (test_bit v n.there k (Some (hp.value v)) (Some (hq.value v)) g) ∙ sym (says.is v i))
     (λ w.
-    let o = hp.own (kid_whole es id k (a ∷ b ∷ []) n w 0 a refl) in
-    let r = hq.own (kid_whole es id k (a ∷ b ∷ []) n w 1 b refl) in
+    let o = hp.own (kid_told es id k (a ∷ b ∷ []) n w 0 a refl) in
+    let r = hq.own (kid_told es id k (a ∷ b ∷ []) n w 1 b refl) in
     none o.0 r.0 ∙ own o.1 r.1)
 
 -- ---- Booleans of Booleans
@@ -194,8 +178,8 @@ connective_part es id a b k p q c d t ar g n m hp hq ta tb sc sd own_c own_d own
     (node_bounds es t k (c ∷ d ∷ []) ar m ∙ connective_bounds m.there k (extent es c) (extent es d) sc.truth.ends sd.truth.ends g sc.truth.is sd.truth.is ∙ sym (node_bounds es id k (a ∷ b ∷ []) ar n ∙ connective_bounds n.there k (extent es a) (extent es b) ta.ends tb.ends g ta.is tb.is))
     (λ v i. node_means es id k (a ∷ b ∷ []) ar n v ∙ sym (equal v i))
     (λ w.
-    let o = hp.own (kid_whole es id k (a ∷ b ∷ []) n w 0 a refl) in
-    let r = hq.own (kid_whole es id k (a ∷ b ∷ []) n w 1 b refl) in
+    let o = hp.own (kid_told es id k (a ∷ b ∷ []) n w 0 a refl) in
+    let r = hq.own (kid_told es id k (a ∷ b ∷ []) n w 1 b refl) in
     own (own_c o.0 ∙ o.1) (own_d r.0 ∙ r.1))
 
 pub reading_part : (es : List Entry) (id a : ℕ) (k : NodeKind) (p : Part) (c t : ℕ) → IsArena es → group_of k ≡ group.Reading → IsNode es id k (a ∷ []) → IsNode es t k (c ∷ []) → (hp : IsPart es a p) → SaysAt es c (λ v. is_true (term v es a)) → extent es c ≡ extent es a → (p.flag ≡ None → c ≡ p.term) → (c ≡ a → t ≡ id) → IsPart es id (record { flag = None; term = t; len = 0 })
@@ -208,7 +192,7 @@ reading_part es id a k p c t ar g n m hp sc same own_c own =
     (node_total es t k (c ∷ []) m (sc.total, tt) (λ v i. subst (λ (x : Term). IsSome x) (sym (equal v i)) (reading_some v n.there k (term v es a) g)))
     (like_bounds es id t k (a ∷ []) (c ∷ []) ar inner n m (ap (λ (x : Known). x ∷ []) same))
     (λ v i. node_means es id k (a ∷ []) ar n v ∙ sym (equal v i))
-    (λ w. let o = hp.own (kid_whole es id k (a ∷ []) n w 0 a refl) in own (own_c o.0 ∙ o.1))
+    (λ w. let o = hp.own (kid_told es id k (a ∷ []) n w 0 a refl) in own (own_c o.0 ∙ o.1))
 
 -- ---- branches
 
@@ -235,9 +219,9 @@ choice_part es id h i j p q r f c t ar n m hp hq hr sc same says own_c none own 
     (like_bounds es id t If (three h i j) (three c q.term r.term) ar refl n m like)
     (λ v b. node_means es id If (three h i j) ar n v ∙ if_of (term v es h) (term v es i) (term v es j) ∙ ap (λ x. cond (Z v) x (term v es j)) (hq.is v b) ∙ ap (λ x. cond (Z v) (only (hq.holds v) (hq.value v)) x) (hr.is v b) ∙ choice_only (Z v) (hq.holds v) (hr.holds v) (hq.value v) (hr.value v) ∙ ap (λ (x : Term). only (cond (Z v) (hq.holds v) (hr.holds v)) (value_or x)) (sym (value v b)))
     (λ w.
-    let o = hp.own (kid_whole es id If (three h i j) n w 0 h refl) in
-    let s = hq.own (kid_whole es id If (three h i j) n w 1 i refl) in
-    let u = hr.own (kid_whole es id If (three h i j) n w 2 j refl) in
+    let o = hp.own (kid_told es id If (three h i j) n w 0 h refl) in
+    let s = hq.own (kid_told es id If (three h i j) n w 1 i refl) in
+    let u = hr.own (kid_told es id If (three h i j) n w 2 j refl) in
     (none s.0 u.0, own (own_c o.0 ∙ o.1) s.1 u.1))
 
 -- ---- under a condition
@@ -286,7 +270,7 @@ guard_part es id i j q f ar n hq other says =
     plain_part es id Guard (i ∷ j ∷ []) f q.term (λ v. is_true (term v es i) && hq.holds v) ar refl refl n says hq.kept.total
     (hq.kept.bounds ∙ sym (guard_same (extent es i) (extent es j) other (node_some es id Guard (i ∷ j ∷ []) ar n)) ∙ sym (node_bounds es id Guard (i ∷ j ∷ []) ar n))
     (λ v b. node_means es id Guard (i ∷ j ∷ []) ar n v ∙ guard_of (term v es i) (term v es j) ∙ ap (λ x. cond (is_true (term v es i)) x None) (hq.is v b) ∙ guard_only (is_true (term v es i)) (hq.holds v) (hq.value v) ∙ ap (λ (x : Term). only (is_true (term v es i) && hq.holds v) (value_or x)) (sym (hq.kept.is v b)))
-    (λ w. kind_whole es id Guard (i ∷ j ∷ []) n refl w)
+    (λ w. guard_untold es id (i ∷ j ∷ []) n w)
 
 pub guard_truth_part : (es : List Entry) (id i j : ℕ) (q : Part) (f : Option ℕ) (t : ℕ) → IsArena es → IsNode es id Guard (i ∷ j ∷ []) → (hq : IsPart es j q) → IsTruth es j → SaysAt es t (λ v. is_true (term v es i) && is_true (Some (hq.value v))) → extent es t ≡ open_truth → Says es f (λ v. is_true (term v es i) && hq.holds v) → IsPart es id (record { flag = f; term = t; len = 0 })
 guard_truth_part es id i j q f t ar n hq tj st open_t says =
@@ -296,4 +280,4 @@ guard_truth_part es id i j q f t ar n hq tj st open_t says =
     let w = bit_in (extent es j) (hq.value v) (record { ends = tj.ends; is = tj.is }) (fits es j q v ar hq b) in
     let same : Some (hq.value v) ≡ bit (is_true (Some (hq.value v))) = subst (λ (x : Val). Some x ≡ bit (is_true (Some x))) (sym w.is) (bit_is w.value w.bit) in
     node_means es id Guard (i ∷ j ∷ []) ar n v ∙ guard_of (term v es i) (term v es j) ∙ ap (λ x. cond (is_true (term v es i)) x None) (hq.is v b) ∙ guard_bit (is_true (term v es i)) (hq.holds v) (hq.value v) same ∙ ap (λ (x : Term). only (is_true (term v es i) && hq.holds v) (value_or x)) (sym (st.is v b)))
-    (λ w. kind_whole es id Guard (i ∷ j ∷ []) n refl w)
+    (λ w. guard_untold es id (i ∷ j ∷ []) n w)

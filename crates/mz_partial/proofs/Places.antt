@@ -14,13 +14,14 @@ use Rattle.mz_arena.specs.Arenas.{IsArena}
 use Rattle.mz_arena.proofs.Folds.{get-past}
 use Rattle.mz_arena.specs.InBounds.{LiesIn, AreInBounds}
 use Rattle.mz_partial.specs.declared.part.Part.{Part}
-use Rattle.mz_partial.specs.Totals.{only, Says, Has, Tells, Counts, IsPart}
+use Rattle.mz_partial.specs.Told.{IsToldDefined}
+use Rattle.mz_partial.specs.Totals.{only, Says, Has, Tells, Counts, IsItself, IsPart}
 use Rattle.mz_partial.specs.Nodes.{IsNode}
 use Rattle.mz_partial.specs.Calls.{is_place, IsNever, HasNoValue}
 use Rattle.mz_partial.proofs.Standing.{node_means, node_bounds, node_some, node_total, like_bounds}
 use Rattle.mz_partial.proofs.ByKind.{Fits, HasWhole, has_whole, number_in}
 use Rattle.mz_partial.proofs.Saying.{fits}
-use Rattle.mz_partial.proofs.Partwise.{value_or, kind_whole, plain_part, pair_like}
+use Rattle.mz_partial.proofs.Partwise.{value_or, plain_part, pair_like}
 use Rattle.mz_partial.proofs.Quotients.{guarded_only, two_none, cond_pass, cond_same, number_or, number_same}
 
 -- ---- accesses
@@ -154,8 +155,8 @@ access_index x y h = has_whole x (access_sorts x y h).0
 abbrev flip : Term → Term → Term
 flip y x = access_term x y
 
-pub access_part : (es : List Entry) (id a b : ℕ) (p q : Part) (f : Option ℕ) (w t : ℕ) (spare : ℤ) (e : Ends) → IsArena es → IsNode es id Access (a ∷ b ∷ []) → IsNode es t Access (w ∷ q.term ∷ []) → (hp : IsPart es a p) (hq : IsPart es b q) → extent es a ≡ Some (whole e) → Has es w (Some (whole e)) (λ v. number (cond (is_place (pos q.len) (number_or (hp.value v))) (number_or (hp.value v)) spare)) → is_place (pos q.len) spare ≡ true → Says es f (λ v. (hq.holds v && hp.holds v) && is_place (pos q.len) (number_or (hp.value v))) → IsPart es id (record { flag = f; term = t; len = 0 })
-access_part es id a b p q f w t spare e ar n m hp hq whole_a hw pass says =
+pub access_part : (es : List Entry) (id a b : ℕ) (p q : Part) (f : Option ℕ) (w t : ℕ) (spare : ℤ) (e : Ends) → IsArena es → IsNode es id Access (a ∷ b ∷ []) → IsNode es t Access (w ∷ q.term ∷ []) → (hp : IsPart es a p) (hq : IsPart es b q) → extent es a ≡ Some (whole e) → Has es w (Some (whole e)) (λ v. number (cond (is_place (pos q.len) (number_or (hp.value v))) (number_or (hp.value v)) spare)) → is_place (pos q.len) spare ≡ true → Says es f (λ v. (hq.holds v && hp.holds v) && is_place (pos q.len) (number_or (hp.value v))) → (IsToldDefined es id → IsItself id (record { flag = f; term = t; len = 0 })) → IsPart es id (record { flag = f; term = t; len = 0 })
+access_part es id a b p q f w t spare e ar n m hp hq whole_a hw pass says own =
     let C : ℤ → Bool = is_place (pos q.len) in
     let M : Values → ℤ = λ v. number_or (hp.value v) in
     let S : Values → ℤ = λ v. cond (C (M v)) (M v) spare in
@@ -175,7 +176,7 @@ access_part es id a b p q f w t spare e ar n m hp hq whole_a hw pass says =
     (λ h. cond_same (C (M v)) (M v) spare (hp.value v) same h)
     (some v i)
     ∙ ap (λ (x : Term). only ((hq.holds v && hp.holds v) && C (M v)) (value_or x)) (sym (value v i)))
-    (λ o. kind_whole es id Access (a ∷ b ∷ []) n refl o)
+    own
 
 -- no place lies in the bounds
 abbrev pub HasNoPlace : Ends → ℕ → Type 0

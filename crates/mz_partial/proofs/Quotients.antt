@@ -19,14 +19,15 @@ use Rattle.mz_arena.specs.Arenas.{IsArena}
 use Rattle.mz_arena.specs.InBounds.{LiesIn, AreInBounds}
 use Rattle.mz_partial.specs.declared.part.Part.{Part}
 use Rattle.mz_partial.specs.declared.group.Group.TheVariants as group
-use Rattle.mz_partial.specs.Groups.{group_of, is_inner, is_partial}
-use Rattle.mz_partial.specs.Totals.{only, Says, Has, IsPart}
+use Rattle.mz_partial.specs.Groups.{group_of, is_inner}
+use Rattle.mz_partial.specs.Told.{IsToldDefined}
+use Rattle.mz_partial.specs.Totals.{only, Says, Has, IsItself, IsPart}
 use Rattle.mz_partial.specs.Nodes.{IsNode}
 use Rattle.mz_partial.specs.Calls.{is_nonzero, IsNever, HasNoValue}
 use Rattle.mz_partial.proofs.Standing.{node_means, node_bounds, node_some, node_total, like_bounds}
 use Rattle.mz_partial.proofs.ByKind.{Fits, IsNumberVal, number_in, arith_first, arith_some, is_cons}
 use Rattle.mz_partial.proofs.Saying.{fits}
-use Rattle.mz_partial.proofs.Partwise.{value_or, some_or, kind_whole, total_fits, plain_part, pair_like}
+use Rattle.mz_partial.proofs.Partwise.{value_or, some_or, total_fits, plain_part, pair_like}
 
 -- ---- an operand that has to pass a test, and is replaced where it doesn't
 
@@ -91,7 +92,6 @@ no_right op (Some empty) = refl
 pub record Divides (k : NodeKind) (op : ArithRow) : Type 0 where
   pub inner : is_inner k ≡ true
   pub other : is_cons k ≡ false
-  pub partial : is_partial k ≡ true
   pub term : (v : Values) (e : Entry) (x y : Term) → kind_term v e k (x ∷ y ∷ []) ≡ arith_term op x y
   pub ends_are : (e : Entry) (x y : Known) → kind_extent e k (x ∷ y ∷ []) ≡ arith_extent op x y
   pub zero : (i m : ℤ) → is_nonzero m ≡ false → computed op i m ≡ None
@@ -107,10 +107,10 @@ unfolding arith_ends
 mod_none e = refl
 
 div_divides : Divides Div arith_row.Div
-div_divides = record { inner = refl; other = refl; partial = refl; term = λ v e x y. refl; ends_are = λ e x y. refl; zero = div_zero; some = div_some; none = div_none }
+div_divides = record { inner = refl; other = refl; term = λ v e x y. refl; ends_are = λ e x y. refl; zero = div_zero; some = div_some; none = div_none }
 
 mod_divides : Divides Mod arith_row.Mod
-mod_divides = record { inner = refl; other = refl; partial = refl; term = λ v e x y. refl; ends_are = λ e x y. refl; zero = mod_zero; some = mod_some; none = mod_none }
+mod_divides = record { inner = refl; other = refl; term = λ v e x y. refl; ends_are = λ e x y. refl; zero = mod_zero; some = mod_some; none = mod_none }
 
 pub record HasDivides (k : NodeKind) : Type 0 where
   pub op : ArithRow
@@ -154,8 +154,8 @@ cond_same false m k w e h = absurd (cc)
 number_in_same : (m j : ℤ) → number m ≡ number j → m ≡ j
 number_in_same m j h = cc
 
-pub division_part : (es : List Entry) (id a b : ℕ) (k : NodeKind) (p q : Part) (f : Option ℕ) (w t : ℕ) (spare : ℤ) (e : Ends) → IsArena es → group_of k ≡ group.Division → IsNode es id k (a ∷ b ∷ []) → IsNode es t k (p.term ∷ w ∷ []) → (hp : IsPart es a p) (hq : IsPart es b q) → extent es b ≡ Some (whole e) → Has es w (Some (whole e)) (λ v. number (cond (is_nonzero (number_or (hq.value v))) (number_or (hq.value v)) spare)) → is_nonzero spare ≡ true → Says es f (λ v. (hp.holds v && hq.holds v) && is_nonzero (number_or (hq.value v))) → IsPart es id (record { flag = f; term = t; len = 0 })
-division_part es id a b k p q f w t spare e ar g n m hp hq whole_b hw pass says =
+pub division_part : (es : List Entry) (id a b : ℕ) (k : NodeKind) (p q : Part) (f : Option ℕ) (w t : ℕ) (spare : ℤ) (e : Ends) → IsArena es → group_of k ≡ group.Division → IsNode es id k (a ∷ b ∷ []) → IsNode es t k (p.term ∷ w ∷ []) → (hp : IsPart es a p) (hq : IsPart es b q) → extent es b ≡ Some (whole e) → Has es w (Some (whole e)) (λ v. number (cond (is_nonzero (number_or (hq.value v))) (number_or (hq.value v)) spare)) → is_nonzero spare ≡ true → Says es f (λ v. (hp.holds v && hq.holds v) && is_nonzero (number_or (hq.value v))) → (IsToldDefined es id → IsItself id (record { flag = f; term = t; len = 0 })) → IsPart es id (record { flag = f; term = t; len = 0 })
+division_part es id a b k p q f w t spare e ar g n m hp hq whole_b hw pass says own =
     let d = divides k g in
     let op = d.op in
     let M : Values → ℤ = λ v. number_or (hq.value v) in
@@ -177,7 +177,7 @@ division_part es id a b k p q f w t spare e ar g n m hp hq whole_b hw pass says 
     (λ h. cond_same (is_nonzero (M v)) (M v) spare (hq.value v) same h)
     (some v i)
     ∙ ap (λ (x : Term). only ((hp.holds v && hq.holds v) && is_nonzero (M v)) (value_or x)) (sym (value v i)))
-    (λ o. kind_whole es id k (a ∷ b ∷ []) n d.is.partial o)
+    own
 
 pub two_none : (f : Term → Term → Term) (a b : Bool) (x y : Val) → ((w : Term) → f None w ≡ None) → ((w : Term) → f w None ≡ None) → f (Some x) (Some y) ≡ None → f (only a x) (only b y) ≡ None
 two_none f true true x y l r h = h

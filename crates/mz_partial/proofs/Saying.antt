@@ -132,7 +132,7 @@ joins_first es f g a h = record {
     both_true true b h = sym h
     both_true false b h = refl
 
-some_none : {A : Type 0} (f : Option ℕ) (d : ℕ) → f ≡ Some d → f ≡ None → A
+pub some_none : {A : Type 0} (f : Option ℕ) (d : ℕ) → f ≡ Some d → f ≡ None → A
 some_none f d h k = absurd (cc)
 
 pub joins_both : (old new : List Entry) (f g : Option ℕ) (a b h : ℕ) → f ≡ Some a → g ≡ Some b → Placed old new And (a ∷ b ∷ []) h → Joins old new f g (Some h)

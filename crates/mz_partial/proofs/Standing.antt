@@ -15,8 +15,9 @@ use Rattle.mz_arena.proofs.Growing.{grew_same, grew_both}
 use Rattle.mz_partial.specs.declared.part.Part.{Part}
 use Rattle.mz_partial.specs.declared.group.Group.{Group}
 use Rattle.mz_partial.specs.Groups.{group_of, reads, is_inner_group, is_inner}
-use Rattle.mz_partial.specs.Totals.{IsTotal, is_total, HasNoPartial, no_partial, IsTruth, SaysAt, Says, Has, IsOpen, Tells, IsPart}
+use Rattle.mz_partial.specs.Totals.{IsTotal, is_total, IsTruth, SaysAt, Says, Has, IsOpen, Tells, IsPart}
 use Rattle.mz_partial.specs.Nodes.{IsNode}
+use Rattle.mz_partial.proofs.Told.{told_before, kept_count}
 
 -- ---- an inner node doesn't read its own fields
 
@@ -161,19 +162,6 @@ total_later old new id g (is_total i e h t kids) =
     let below = get-below old i e h in
     is_total i e (g.same i below ∙ h) (λ v b. subst (λ (x : Term). IsSome x) (sym (g.terms v i below)) (t v (bounds_before old new v g b))) (λ k j m. total_later old new j g (kids k j m))
 
-pub no_partial_before : (old new : List Entry) (id : ℕ) → Grew old new → IsArena old → id < length old → HasNoPartial new id → HasNoPartial old id
-no_partial_before old new id g a below (no_partial i e h p kids) =
-    let there : slice_get old i ≡ Some e = sym (g.same i below) ∙ h in
-    no_partial i e there p (λ k j m. no_partial_before old new j g a (kid_in e.node (a.ordered i e there) k j m) (kids k j m))
-  where
-    below_at : (n k j : ℕ) (is : List ℕ) → AllBelow n is → slice_get is k ≡ Some j → j < n
-    below_at n k j [] b m = absurd (cc)
-    below_at n zero j (x ∷ is) b m = let same : x ≡ j = cc in subst (λ y. y < n) same b.0
-    below_at n (suc k) j (x ∷ is) b m = below_at n k j is b.1 m
-
-    kid_in : (n : Node) → AllBelow id (children n) → (k j : ℕ) → slice_get (children n) k ≡ Some j → j < length old
-    kid_in n b k j m = let l = below_at id k j (children n) b m in omega (arith, l, below)
-
 -- an id with bounds is in the arena
 some_clash : {A : Type 0} (x : Known) → x ≡ None → IsSome x → A
 some_clash None h k = absurd (cc)
@@ -224,5 +212,6 @@ part_later old new id p g a below h =
       open_ = λ d m. subst (λ (x : Known). IsOpen x) (sym same) (h.open_ d m);
       told = subst (λ (x : Known). Tells x p.len) (sym same) h.told;
       counts = λ v i. h.counts v (bounds_before old new v g i);
-      own = λ n. h.own (no_partial_before old new id g a below n);
+      elements = kept_count old new id p.len g a below h.elements;
+      own = λ n. h.own (told_before old new id g a below n);
     }

@@ -26,7 +26,8 @@ use Rattle.mz_partial.proofs.Standing.{inner_by, arity_by, taken, node_as, node_
 use Rattle.mz_partial.proofs.ByKind.{HasTruth, connective_truths, reading_truth, choice_kind, guard_kind, choice_truth, guard_truth, connective_open}
 use Rattle.mz_partial.proofs.Costing.{group_cost, node_cost}
 use Rattle.mz_partial.proofs.Saying.{some_is, and_says, part_says}
-use Rattle.mz_partial.proofs.Partwise.{kid_whole, kind_whole, value_or, some_or, pair_like, one_part, two_part, test_part, connective_part, reading_part, choice_part, guard_part, guard_truth_part}
+use Rattle.mz_partial.proofs.Told.{kid_told, guard_untold, leaf_elements}
+use Rattle.mz_partial.proofs.Partwise.{value_or, some_or, pair_like, one_part, two_part, test_part, connective_part, reading_part, choice_part, guard_part, guard_truth_part}
 
 -- ---- the children of a node of a group
 
@@ -216,6 +217,7 @@ leaf_part es id k is a g n =
       open_ = λ d h. absurd (cc);
       told = subst (λ (x : Known). Tells x 0) (sym (node_bounds es id k is a n)) (leaf_tells e k (map (extent es) is) g);
       counts = λ v b. subst (λ (x : Term). Counts (value_or x) 0) (sym (node_means es id k is a n v)) (leaf_counts v e k (map (term v es) is) g);
+      elements = λ j l. leaf_elements es id j e n.stands leaf l;
       own = λ w. (refl, refl);
     }
 
@@ -229,7 +231,7 @@ one_parted old new memo id n p t h hp m =
     let k = takes_one old memo id n group.One h refl refl in
     let g = m.extends.grew in
     record {
-      same = λ w. let o = (h.parts n.a p hp).own (kid_whole old id n.kind (n.a ∷ []) k.node w 0 n.a refl) in (m.own (ap (λ i. three i n.b n.c) o.1)).1;
+      same = λ w. let o = (h.parts n.a p hp).own (kid_told old id n.kind (n.a ∷ []) k.node w 0 n.a refl) in (m.own (ap (λ i. three i n.b n.c) o.1)).1;
       cost = node_cost old id n.kind (n.a ∷ []) (costs new) (costs old) k.node (omega (arith, m.cost, group_cost n.kind group.One h.kind));
       extends = m.extends;
       arena = m.arena;
@@ -245,7 +247,7 @@ two_parted old mid new memo id n p q f t h hp hq m j =
     let np = part_later old new n.a p g h.arena k.first (h.parts n.a p hp) in
     let nq = part_later old new n.b q g h.arena k.second (h.parts n.b q hq) in
     record {
-      same = λ w. let o = (h.parts n.a p hp).own (kid_whole old id n.kind (n.a ∷ n.b ∷ []) k.node w 0 n.a refl) in let r = (h.parts n.b q hq).own (kid_whole old id n.kind (n.a ∷ n.b ∷ []) k.node w 1 n.b refl) in (j.own o.0 r.0).1 ∙ (m.own (ap (λ i. three i q.term n.c) o.1 ∙ ap (λ i. three n.a i n.c) r.1)).1;
+      same = λ w. let o = (h.parts n.a p hp).own (kid_told old id n.kind (n.a ∷ n.b ∷ []) k.node w 0 n.a refl) in let r = (h.parts n.b q hq).own (kid_told old id n.kind (n.a ∷ n.b ∷ []) k.node w 1 n.b refl) in (j.own o.0 r.0).1 ∙ (m.own (ap (λ i. three i q.term n.c) o.1 ∙ ap (λ i. three n.a i n.c) r.1)).1;
       cost = node_cost old id n.kind (n.a ∷ n.b ∷ []) (costs new) (costs old) k.node (omega (arith, m.cost, j.cost, group_cost n.kind group.Two h.kind));
       extends = e;
       arena = j.arena;
@@ -265,7 +267,7 @@ test_parted old m1 m2 new memo id n p q f h t x hp hq m j c =
     let np = part_later old new n.a p g x.arena k.first (x.parts n.a p hp) in
     let nq = part_later old new n.b q g x.arena k.second (x.parts n.b q hq) in
     record {
-      same = λ w. let o = (x.parts n.a p hp).own (kid_whole old id n.kind (n.a ∷ n.b ∷ []) k.node w 0 n.a refl) in let r = (x.parts n.b q hq).own (kid_whole old id n.kind (n.a ∷ n.b ∷ []) k.node w 1 n.b refl) in (c.own (j.own o.0 r.0).0).1 ∙ (j.own o.0 r.0).1 ∙ (m.own (ap (λ i. three i q.term n.c) o.1 ∙ ap (λ i. three n.a i n.c) r.1)).1;
+      same = λ w. let o = (x.parts n.a p hp).own (kid_told old id n.kind (n.a ∷ n.b ∷ []) k.node w 0 n.a refl) in let r = (x.parts n.b q hq).own (kid_told old id n.kind (n.a ∷ n.b ∷ []) k.node w 1 n.b refl) in (c.own (j.own o.0 r.0).0).1 ∙ (j.own o.0 r.0).1 ∙ (m.own (ap (λ i. three i q.term n.c) o.1 ∙ ap (λ i. three n.a i n.c) r.1)).1;
       cost = node_cost old id n.kind (n.a ∷ n.b ∷ []) (costs new) (costs old) k.node (omega (arith, m.cost, j.cost, c.cost, group_cost n.kind group.Test x.kind));
       extends = e;
       arena = c.arena;
@@ -323,7 +325,7 @@ connective_parted old m1 m2 new memo id n p q c d t x hp hq rc rd m =
     let ta = truth_later old new n.a g kids.first in
     let tb = truth_later old new n.b g kids.second in
     record {
-      same = λ w. let o = (x.parts n.a p hp).own (kid_whole old id n.kind (n.a ∷ n.b ∷ []) k.node w 0 n.a refl) in let r = (x.parts n.b q hq).own (kid_whole old id n.kind (n.a ∷ n.b ∷ []) k.node w 1 n.b refl) in (m.own (ap (λ i. three i d n.c) ((rc.own o.0).0 ∙ o.1) ∙ ap (λ i. three n.a i n.c) ((rd.own r.0).0 ∙ r.1))).1 ∙ (rd.own r.0).1 ∙ (rc.own o.0).1;
+      same = λ w. let o = (x.parts n.a p hp).own (kid_told old id n.kind (n.a ∷ n.b ∷ []) k.node w 0 n.a refl) in let r = (x.parts n.b q hq).own (kid_told old id n.kind (n.a ∷ n.b ∷ []) k.node w 1 n.b refl) in (m.own (ap (λ i. three i d n.c) ((rc.own o.0).0 ∙ o.1) ∙ ap (λ i. three n.a i n.c) ((rd.own r.0).0 ∙ r.1))).1 ∙ (rd.own r.0).1 ∙ (rc.own o.0).1;
       cost = node_cost old id n.kind (n.a ∷ n.b ∷ []) (costs new) (costs old) k.node (omega (arith, rc.cost, rd.cost, m.cost, group_cost n.kind group.Connective x.kind));
       extends = e;
       arena = m.arena;
@@ -340,7 +342,7 @@ reading_parted old mid new memo id n p c t x hp rc m =
     let np = part_later old new n.a p g x.arena k.first (x.parts n.a p hp) in
     let ta = truth_later old new n.a g (reading_kid old memo id n x) in
     record {
-      same = λ w. let o = (x.parts n.a p hp).own (kid_whole old id n.kind (n.a ∷ []) k.node w 0 n.a refl) in (m.own (ap (λ i. three i n.b n.c) ((rc.own o.0).0 ∙ o.1))).1 ∙ (rc.own o.0).1;
+      same = λ w. let o = (x.parts n.a p hp).own (kid_told old id n.kind (n.a ∷ []) k.node w 0 n.a refl) in (m.own (ap (λ i. three i n.b n.c) ((rc.own o.0).0 ∙ o.1))).1 ∙ (rc.own o.0).1;
       cost = node_cost old id n.kind (n.a ∷ []) (costs new) (costs old) k.node (omega (arith, rc.cost, m.cost, group_cost n.kind group.Reading x.kind));
       extends = e;
       arena = m.arena;
@@ -363,7 +365,7 @@ choice_parted old m1 m2 new memo id n p q r f c t x hp hq hr rc m o =
     let ta = truth_later old new n.a g (choice_kid old memo id n x) in
     let sc = rc.says new late.grew o.arena np ta in
     record {
-      same = λ w. let y = (x.parts n.a p hp).own (kid_whole old id n.kind (three n.a n.b n.c) k.node w 0 n.a refl) in let s = (x.parts n.b q hq).own (kid_whole old id n.kind (three n.a n.b n.c) k.node w 1 n.b refl) in let u = (x.parts n.c r hr).own (kid_whole old id n.kind (three n.a n.b n.c) k.node w 2 n.c refl) in (o.own s.0 u.0).1 ∙ (m.own (ap (λ i. three i q.term r.term) ((rc.own y.0).0 ∙ y.1) ∙ ap (λ i. three n.a i r.term) s.1 ∙ ap (λ i. three n.a n.b i) u.1)).1 ∙ (rc.own y.0).1;
+      same = λ w. let y = (x.parts n.a p hp).own (kid_told old id n.kind (three n.a n.b n.c) k.node w 0 n.a refl) in let s = (x.parts n.b q hq).own (kid_told old id n.kind (three n.a n.b n.c) k.node w 1 n.b refl) in let u = (x.parts n.c r hr).own (kid_told old id n.kind (three n.a n.b n.c) k.node w 2 n.c refl) in (o.own s.0 u.0).1 ∙ (m.own (ap (λ i. three i q.term r.term) ((rc.own y.0).0 ∙ y.1) ∙ ap (λ i. three n.a i r.term) s.1 ∙ ap (λ i. three n.a n.b i) u.1)).1 ∙ (rc.own y.0).1;
       cost = node_cost old id n.kind (three n.a n.b n.c) (costs new) (costs old) k.node (omega (arith, rc.cost, m.cost, o.cost, group_cost n.kind group.Choice x.kind));
       extends = e;
       arena = o.arena;
@@ -408,7 +410,7 @@ guard_parted old m1 new memo id n p q f c s x hp hq rc j sort other =
     let nq = part_later old new n.b q g x.arena k.second (x.parts n.b q hq) in
     let ta = truth_later old new n.a g (guard_kid old memo id n x) in
     record {
-      same = λ w. kind_whole old id n.kind (n.a ∷ n.b ∷ []) k.node (ap is_partial (guard_kind n.kind x.kind)) w;
+      same = λ w. guard_untold old id (n.a ∷ n.b ∷ []) (kind_as old id n.kind Guard (n.a ∷ n.b ∷ []) (guard_kind n.kind x.kind) k.node) w;
       cost = node_cost old id n.kind (n.a ∷ n.b ∷ []) (costs new) (costs old) k.node (omega (arith, rc.cost, j.cost, group_cost n.kind group.Guard x.kind, ap cost_of (guard_kind n.kind x.kind)));
       extends = e;
       arena = j.arena;
@@ -430,7 +432,7 @@ guard_truth_parted old m1 m2 new memo id n p q f c t x hp hq rc j sort m =
     let sc = rc.says new late.grew m.arena np ta in
     let sq = part_says new n.b q m.arena nq tb in
     record {
-      same = λ w. kind_whole old id n.kind (n.a ∷ n.b ∷ []) k.node (ap is_partial (guard_kind n.kind x.kind)) w;
+      same = λ w. guard_untold old id (n.a ∷ n.b ∷ []) (kind_as old id n.kind Guard (n.a ∷ n.b ∷ []) (guard_kind n.kind x.kind) k.node) w;
       cost = node_cost old id n.kind (n.a ∷ n.b ∷ []) (costs new) (costs old) k.node (omega (arith, rc.cost, j.cost, m.cost, group_cost n.kind group.Guard x.kind, ap cost_of (guard_kind n.kind x.kind)));
       extends = e;
       arena = m.arena;

@@ -1,5 +1,5 @@
 -- Operands that are tested and made safe, and what never has a value.
-use Rattle.std.proofs.Common.{◌≡◌, ℕ, ◌<◌, ◌≤◌, ℤ, pos, int_le, int_lt, ◌^◌, List, [], ◌∷◌, length, take, Bool, true, false, not, ◌&&◌, cond, Option, Some, None, IsSome, Result, IfOk, inl, refl, sym, ap, subst, ◌∙◌, arith}
+use Rattle.std.proofs.Common.{◌≡◌, ℕ, ◌<◌, ◌≤◌, ℤ, pos, int_le, int_lt, ◌≤ℤ◌, ◌<ℤ◌, ◌^◌, List, [], ◌∷◌, length, take, Bool, true, false, not, ◌&&◌, cond, Option, Some, None, IsSome, slice_get, Result, IfOk, inl, inr, refl, sym, ap, subst, ◌∙◌, arith}
 use Rattle.std.specs.Int.{int_min, int_max}
 use Rattle.std.specs.Ordering.{int_eq}
 use Rattle.std.proofs.lemmas.Int.{ints, clamps}
@@ -20,14 +20,16 @@ use Rattle.mz_arena.proofs.Folds.{get-below}
 use Rattle.mz_arena.proofs.Growing.{grew_same, grew_both}
 use Rattle.mz_partial.specs.declared.part.Part.{Part}
 use Rattle.mz_partial.specs.Groups.{is_partial}
-use Rattle.mz_partial.specs.Totals.{HasNoPartial, no_partial, IsTruth, IsWhole, SaysAt, Says, Has, IsPart, Parted}
+use Rattle.mz_partial.specs.Totals.{IsTruth, IsWhole, SaysAt, Says, Has, IsPart, Parted}
+use Rattle.mz_partial.specs.Told.{IsApart, AreInside}
 use Rattle.mz_partial.specs.Nodes.{IsNode, Placed, AreAlike, IsPartialNode, compares, three}
 use Rattle.mz_partial.specs.Calls.{IsFlag, Joins, IsNumber, IsConstant, Tests, IsSafe, is_nonzero, is_from_one, is_up_to, is_place, IsNever, HasNoValue, IsBlank}
+use Rattle.mz_partial.proofs.Told.{told_before, no_partial_list}
 use Rattle.mz_partial.proofs.Standing.{node_means, node_bounds, node_total, node_later, extends_same, extends_both, extent_in, truth_later, part_later, bounds_before}
 use Rattle.mz_partial.proofs.ByKind.{Fits, not_open, IsPlain, plain_tells, plain_counts, plain_open}
 use Rattle.mz_partial.proofs.Costing.{costs_by_charges, partial_charge}
 use Rattle.mz_partial.proofs.Asked.{comparison_bounds, wholes_choice}
-use Rattle.mz_partial.proofs.Saying.{some_is, if_bit, not_says, says_by}
+use Rattle.mz_partial.proofs.Saying.{some_is, if_bit, not_says, says_by, some_none}
 use Rattle.mz_partial.proofs.Quotients.{number_or, part_number, has_fits}
 
 pub whole_later : (old new : List Entry) (u : ℕ) (e : Ends) → Grew old new → extent old u ≡ Some (whole e) → extent new u ≡ Some (whole e)
@@ -46,9 +48,10 @@ encloses_at : (es : List Entry) (u : ℕ) (e : Ends) (m : Values → ℤ) (v : V
 encloses_at es u e m v a h b = (has_fits es u (Some (whole e)) (λ v. number (m v)) v a h b).lies (whole e) refl
 
 -- no flag, where the bounds tell it
-pub tests_told : (es : List Entry) (u : ℕ) (e : Ends) (holds : ℤ → Bool) → IsArena es → extent es u ≡ Some (whole e) → ((m : ℤ) → Encloses e m → holds m ≡ true) → Tests 2 es es u holds None
-tests_told es u e holds a h all = record {
+pub tests_told : (told : Type 0) (es : List Entry) (u : ℕ) (e : Ends) (holds : ℤ → Bool) → IsArena es → extent es u ≡ Some (whole e) → ((m : ℤ) → Encloses e m → holds m ≡ true) → Tests 2 told es es u holds None
+tests_told told es u e holds a h all = record {
   cost = omega arith;
+  own = λ w. (refl, refl);
   extends = extends_same es;
   arena = a;
   flag = tt;
@@ -79,11 +82,12 @@ le_means : (v : Values) (d : Entry) (i j : ℤ) → kind_term v d Le (Some (numb
 unfolding comparison_term
 le_means v d i j = refl
 
-pub tests_nonzero : (old mid new : List Entry) (u d f : ℕ) (e : Ends) → extent old u ≡ Some (whole e) → IsNumber old mid (pos 0) d → Placed mid new Ne (u ∷ d ∷ []) f → Tests 2 old new u is_nonzero (Some f)
-tests_nonzero old mid new u d f e h z p =
+pub tests_nonzero : (told : Type 0) (old mid new : List Entry) (u d f : ℕ) (e : Ends) → extent old u ≡ Some (whole e) → IsNumber old mid (pos 0) d → Placed mid new Ne (u ∷ d ∷ []) f → (told → ⊥) → Tests 2 told old new u is_nonzero (Some f)
+tests_nonzero told old mid new u d f e h z p untold =
     let w = extends_both old mid new z.extends p.extends in
     record {
       cost = omega (arith, z.cost, p.cost);
+      own = λ r. absurd (untold r);
       extends = w;
       arena = p.arena;
       flag = compare_truth new Ne u d f e (pos 0, pos 0) p.arena refl p.node (whole_later old new u e w.grew h) (z.has new p.extends.grew p.arena).bounds;
@@ -92,11 +96,12 @@ tests_nonzero old mid new u d f e h z p =
           compare_says fs Ne u d f e (pos 0, pos 0) m (λ v. pos 0) (λ i j. not (int_eq i j)) ar refl (node_later new fs f Ne (u ∷ d ∷ []) g p.node) ne_means (has_as fs u x (Some (whole e)) (λ v. number (m v)) (whole_later old fs u e late h) k) (z.has fs (grew_both p.extends.grew g) ar);
     }
 
-pub tests_from_one : (old mid new : List Entry) (u d f : ℕ) (e : Ends) → extent old u ≡ Some (whole e) → IsNumber old mid (pos 1) d → Placed mid new Le (d ∷ u ∷ []) f → Tests 2 old new u is_from_one (Some f)
-tests_from_one old mid new u d f e h z p =
+pub tests_from_one : (told : Type 0) (old mid new : List Entry) (u d f : ℕ) (e : Ends) → extent old u ≡ Some (whole e) → IsNumber old mid (pos 1) d → Placed mid new Le (d ∷ u ∷ []) f → (told → ⊥) → Tests 2 told old new u is_from_one (Some f)
+tests_from_one told old mid new u d f e h z p untold =
     let w = extends_both old mid new z.extends p.extends in
     record {
       cost = omega (arith, z.cost, p.cost);
+      own = λ r. absurd (untold r);
       extends = w;
       arena = p.arena;
       flag = compare_truth new Le d u f (pos 1, pos 1) e p.arena refl p.node (z.has new p.extends.grew p.arena).bounds (whole_later old new u e w.grew h);
@@ -105,11 +110,12 @@ tests_from_one old mid new u d f e h z p =
           compare_says fs Le d u f (pos 1, pos 1) e (λ v. pos 1) m int_le ar refl (node_later new fs f Le (d ∷ u ∷ []) g p.node) le_means (z.has fs (grew_both p.extends.grew g) ar) (has_as fs u x (Some (whole e)) (λ v. number (m v)) (whole_later old fs u e late h) k);
     }
 
-pub tests_up_to : (old mid new : List Entry) (u d f : ℕ) (e : Ends) (n : ℤ) → extent old u ≡ Some (whole e) → IsNumber old mid n d → Placed mid new Le (u ∷ d ∷ []) f → Tests 2 old new u (is_up_to n) (Some f)
-tests_up_to old mid new u d f e n h z p =
+pub tests_up_to : (told : Type 0) (old mid new : List Entry) (u d f : ℕ) (e : Ends) (n : ℤ) → extent old u ≡ Some (whole e) → IsNumber old mid n d → Placed mid new Le (u ∷ d ∷ []) f → (told → ⊥) → Tests 2 told old new u (is_up_to n) (Some f)
+tests_up_to told old mid new u d f e n h z p untold =
     let w = extends_both old mid new z.extends p.extends in
     record {
       cost = omega (arith, z.cost, p.cost);
+      own = λ r. absurd (untold r);
       extends = w;
       arena = p.arena;
       flag = compare_truth new Le u d f e (n, n) p.arena refl p.node (whole_later old new u e w.grew h) (z.has new p.extends.grew p.arena).bounds;
@@ -118,11 +124,12 @@ tests_up_to old mid new u d f e n h z p =
           compare_says fs Le u d f e (n, n) m (λ v. n) int_le ar refl (node_later new fs f Le (u ∷ d ∷ []) g p.node) le_means (has_as fs u x (Some (whole e)) (λ v. number (m v)) (whole_later old fs u e late h) k) (z.has fs (grew_both p.extends.grew g) ar);
     }
 
-pub tests_place : (old m1 m2 new : List Entry) (u : ℕ) (n : ℤ) (f g h : Option ℕ) → Tests 2 old m1 u is_from_one f → Tests 2 m1 m2 u (is_up_to n) g → Joins m2 new f g h → Tests 6 old new u (is_place n) h
-tests_place old m1 m2 new u n f g h s t j =
+pub tests_place : (old m1 m2 new : List Entry) (u : ℕ) (e : Ends) (n : ℤ) (f g h : Option ℕ) → Tests 2 (pos 1 ≤ℤ e.0) old m1 u is_from_one f → Tests 2 (e.1 ≤ℤ n) m1 m2 u (is_up_to n) g → Joins m2 new f g h → Tests 6 (AreInside n e) old new u (is_place n) h
+tests_place old m1 m2 new u e n f g h s t j =
     let late = extends_both m1 m2 new t.extends j.extends in
     record {
       cost = omega (arith, s.cost, t.cost, j.cost);
+      own = λ w. let first = s.own w.0 in let last = t.own w.1 in let both = j.own first.0 last.0 in (both.0, both.1 ∙ last.1 ∙ first.1);
       extends = extends_both old m1 new s.extends late;
       arena = j.arena;
       flag = j.flag (is_flag_later m1 m2 f t.extends.grew s.flag) t.flag;
@@ -141,6 +148,17 @@ above_one e m k t h n = let l = n.from in grind (arith, ints)
 pub below_last : (e : Ends) (n m k j : ℤ) → int_le k j ≡ true → k ≡ e.1 → j ≡ n → Encloses e m → is_up_to n m ≡ true
 below_last e n m k j t h i o = let l = o.to in grind (arith, ints)
 
+-- ends that tell nothing
+pub not_apart : (e : Ends) (k j : ℤ) → int_lt (pos 0) k ≡ false → k ≡ e.0 → int_lt j (pos 0) ≡ false → j ≡ e.1 → IsApart e → ⊥
+not_apart e k j s h t i (inl x) = let p : k ≤ℤ pos 0 = grind (arith, ints) in omega (arith, ints, p, h, x)
+not_apart e k j s h t i (inr x) = let p : pos 0 ≤ℤ j = grind (arith, ints) in omega (arith, ints, p, i, x)
+
+pub not_from_one : (e : Ends) (k : ℤ) → int_le (pos 1) k ≡ false → k ≡ e.0 → pos 1 ≤ℤ e.0 → ⊥
+not_from_one e k t h x = let p : k ≤ℤ pos 0 = grind (arith, ints) in omega (arith, ints, p, h, x)
+
+pub not_up_to : (e : Ends) (n k j : ℤ) → int_le k j ≡ false → k ≡ e.1 → j ≡ n → e.1 ≤ℤ n → ⊥
+not_up_to e n k j t h i x = let p : j <ℤ k = grind (arith, ints) in omega (arith, ints, p, h, i, x)
+
 -- a length in the limit is a number
 pub length_number : (n : ℕ) → n ≤ 2 ^ 61 → is_number (pos n) ≡ true
 length_number n h = both (int_le least_number (pos n)) (int_le (pos n) greatest_number) (grind (arith, ints)) (grind (arith, ints))
@@ -154,6 +172,7 @@ length_number n h = both (int_le least_number (pos n)) (int_le (pos n) greatest_
 pub safe_none : (es : List Entry) (u : ℕ) (f : Option ℕ) (k : ℤ) → IsArena es → f ≡ None → IsSafe es es u f k u
 safe_none es u f k a h = record {
   cost = omega arith;
+  own = λ q. (refl, refl);
   extends = extends_same es;
   arena = a;
   has = λ fs g ar e m b p q s. let n = says_by fs f None b h s in record {
@@ -179,6 +198,7 @@ cond_number false m k = refl
 pub safe_some : (old mid new : List Entry) (u c d w : ℕ) (f : Option ℕ) (k : ℤ) → f ≡ Some c → IsNumber old mid k d → Placed mid new If (three c u d) w → IsSafe old new u f k w
 safe_some old mid new u c d w f k h z p = record {
   cost = omega (arith, z.cost, p.cost);
+  own = λ q. some_none f c h q;
   extends = extends_both old mid new z.extends p.extends;
   arena = p.arena;
   has = λ fs g ar e m b q enc s.
@@ -204,8 +224,8 @@ pub record IsTested (es : List Entry) (i : ℕ) (p : Part) (holds : ℤ → Bool
   pub says : Says es f (λ v. holds (number_or (part.value v)))
   pub has : Has es w (Some (whole e)) (λ v. number (cond (holds (number_or (part.value v))) (number_or (part.value v)) k))
 
-pub tested : (most : ℕ) (old m1 m2 es : List Entry) (i : ℕ) (p : Part) (holds : ℤ → Bool) (f : Option ℕ) (k : ℤ) (w : ℕ) (e : Ends) → IsArena old → i < length old → IsPart old i p → extent old i ≡ Some (whole e) → Encloses e k → Tests most old m1 p.term holds f → IsSafe m1 m2 p.term f k w → Grew m2 es → IsArena es → IsTested es i p holds f k w e
-tested most old m1 m2 es i p holds f k w e a below h is_whole enc t s g ar =
+pub tested : (most : ℕ) (told : Type 0) (old m1 m2 es : List Entry) (i : ℕ) (p : Part) (holds : ℤ → Bool) (f : Option ℕ) (k : ℤ) (w : ℕ) (e : Ends) → IsArena old → i < length old → IsPart old i p → extent old i ≡ Some (whole e) → Encloses e k → Tests most told old m1 p.term holds f → IsSafe m1 m2 p.term f k w → Grew m2 es → IsArena es → IsTested es i p holds f k w e
+tested most told old m1 m2 es i p holds f k w e a below h is_whole enc t s g ar =
     let late = grew_both s.extends.grew g in
     let all = grew_both t.extends.grew late in
     let np = part_later old es i p all a below h in
@@ -231,15 +251,6 @@ never_plain (Some truths) h = absurd h
 never_plain (Some (subsets us)) h = absurd h
 never_plain (Some no_element) h = absurd h
 
-partial_whole : {A : Type 0} (es : List Entry) (id : ℕ) → IsPartialNode es id → HasNoPartial es id → A
-partial_whole es id n (no_partial o e h p kids) = clash (ap (λ (d : Entry). is_partial d.node.kind) (some_in (sym n.stands ∙ h)) ∙ p)
-  where
-    some_in : {a b : Entry} → Some a ≡ Some b → a ≡ b
-    some_in q = cc
-
-    clash : {B : Type 0} → is_partial n.there.node.kind ≡ false → B
-    clash f = let t = n.partial in absurd (cc)
-
 same_entry : {a b : Entry} → Some a ≡ Some b → a ≡ b
 same_entry q = cc
 
@@ -251,9 +262,9 @@ never_parted old mid new id t d a none partial b c =
     let same = g.extents id below in
     let never : IsNever (extent new id) = subst (λ (x : Known). IsNever x) (sym same) none.bounds in
     let h = b.has new c.extends.grew c.arena in
-    let there : IsPartialNode new id = record { there = partial.there; stands = g.same id below ∙ partial.stands; partial = partial.partial } in
+    let stands : slice_get new id ≡ Some partial.there = g.same id below ∙ partial.stands in
     record {
-      same = λ w. partial_whole old id partial w;
+      same = λ w. absurd (partial.untold w);
       cost = λ f there_f. omega (arith, b.cost, c.cost, partial_charge f.node.kind (ap (λ (d : Entry). is_partial d.node.kind) (sym (same_entry (sym partial.stands ∙ there_f))) ∙ partial.partial));
       extends = e;
       arena = c.arena;
@@ -265,8 +276,9 @@ never_parted old mid new id t d a none partial b c =
         is = λ v i. g.terms v id below ∙ none.is v (bounds_before old new v g i);
         open_ = λ f k. plain_open (extent new id) (never_plain (extent new id) never);
         told = plain_tells (extent new id) 0 (never_plain (extent new id) never);
-        counts = λ v i. plain_counts (extent new id) (b.value v) 0 (c.arena.bounded id there.there there.stands) (never_plain (extent new id) never) (subst (λ (x : Known). Fits x (b.value v)) (sym same) (has_fits new t (extent old id) b.value v c.arena h i));
-        own = λ w. partial_whole new id there w;
+        counts = λ v i. plain_counts (extent new id) (b.value v) 0 (c.arena.bounded id partial.there stands) (never_plain (extent new id) never) (subst (λ (x : Known). Fits x (b.value v)) (sym same) (has_fits new t (extent old id) b.value v c.arena h i));
+        elements = λ n l. no_partial_list new id n partial.there stands partial.partial l;
+        own = λ w. absurd (partial.untold (told_before old new id g a below w));
       };
     }
 

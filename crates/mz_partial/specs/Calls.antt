@@ -66,11 +66,12 @@ pub record IsConstant (old new : List Entry) (b : Bool) (t : ℕ) : Type 0 where
   pub cost : costs new ≤ costs old
   pub says : (es : List Entry) → Grew new es → IsArena es → SaysAt es t (λ v. b)
 
--- a flag that tests an integer node, at a cost of at most this
-pub record Tests (most : ℕ) (old new : List Entry) (u : ℕ) (holds : ℤ → Bool) (f : Option ℕ) : Type 0 where
+-- a flag that tests an integer node, at a cost of at most this; none where the bounds tell that it passes
+pub record Tests (most : ℕ) (told : Type 0) (old new : List Entry) (u : ℕ) (holds : ℤ → Bool) (f : Option ℕ) : Type 0 where
   pub extends : Extends old new
   pub arena : IsArena new
   pub cost : costs new ≤ costs old + most
+  pub own : told → (f ≡ None) × (new ≡ old)
   pub flag : IsFlag new f
   pub says : (es : List Entry) → Grew new es → IsArena es → (x : Known) (m : Values → ℤ) → Has es u x (λ v. number (m v)) → Says es f (λ v. holds (m v))
 
@@ -79,6 +80,7 @@ pub record IsSafe (old new : List Entry) (u : ℕ) (f : Option ℕ) (k : ℤ) (w
   pub extends : Extends old new
   pub arena : IsArena new
   pub cost : costs new ≤ costs old + 6
+  pub own : f ≡ None → (w ≡ u) × (new ≡ old)
   pub has : (es : List Entry) → Grew new es → IsArena es → (e : Ends) (m : Values → ℤ) (b : Values → Bool) → Has es u (Some (whole e)) (λ v. number (m v)) → Encloses e k → Says es f b → Has es w (Some (whole e)) (λ v. number (if b v then m v else k))
 
 abbrev pub is_nonzero : ℤ → Bool

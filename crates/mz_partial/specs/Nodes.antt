@@ -10,6 +10,7 @@ use Rattle.mz_partial.specs.declared.part.Part.{Part}
 use Rattle.mz_partial.specs.declared.group.Group.{Group}
 use Rattle.mz_partial.specs.Groups.{group_of, is_inner, is_partial}
 use Rattle.mz_partial.specs.Costs.{cost_of, costs}
+use Rattle.mz_partial.specs.Told.{IsToldDefined}
 use Rattle.mz_partial.specs.Totals.{IsTruth, IsWhole, AreParts}
 
 -- the node of a kind over these children
@@ -53,11 +54,12 @@ compares Le = true
 compares Lt = true
 compares _ = false
 
--- a node of a partial kind
+-- a node of a partial kind that nothing tells to be defined
 pub record IsPartialNode (es : List Entry) (id : ℕ) : Type 0 where
   pub there : Entry
   pub stands : slice_get es id ≡ Some there
   pub partial : is_partial there.node.kind ≡ true
+  pub untold : IsToldDefined es id → ⊥
 
 -- two integers or two Booleans
 abbrev pub AreAlike : List Entry → ℕ → ℕ → Type 0

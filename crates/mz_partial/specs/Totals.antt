@@ -12,7 +12,7 @@ use Rattle.mz_arena.specs.InBounds.{AreInBounds}
 use Rattle.mz_partial.specs.declared.part.Part.{Part}
 use Rattle.mz_partial.specs.declared.memo.Pair.{Pair}
 use Rattle.mz_partial.specs.Costs.{costs}
-use Rattle.mz_partial.specs.Groups.{is_partial}
+use Rattle.mz_partial.specs.Told.{HasElements, IsToldDefined}
 
 -- a value where a condition holds, else none
 abbrev pub only : Bool → Val → Term
@@ -22,10 +22,6 @@ only false w = None
 -- a node that has a value wherever the variables lie in their bounds, as each node below it has
 pub data IsTotal (es : List Entry) : ℕ → Type 0 where
   is_total : (id : ℕ) (e : Entry) → slice_get es id ≡ Some e → ((v : Values) → AreInBounds es v → IsSome (term v es id)) → ((k i : ℕ) → slice_get (children e.node) k ≡ Some i → IsTotal es i) → IsTotal es id
-
--- a node that is of no partial kind, as each node below it
-pub data HasNoPartial (es : List Entry) : ℕ → Type 0 where
-  no_partial : (id : ℕ) (e : Entry) → slice_get es id ≡ Some e → is_partial e.node.kind ≡ false → ((k i : ℕ) → slice_get (children e.node) k ≡ Some i → HasNoPartial es i) → HasNoPartial es id
 
 -- a Boolean node
 pub record IsTruth (es : List Entry) (id : ℕ) : Type 0 where
@@ -54,7 +50,7 @@ pub record IsPair (es : List Entry) (id : ℕ) (p : Pair) : Type 0 where
   pub total : IsTotal es p.term
   pub bounds : extent es p.term ≡ extent es id
   pub splits : (v : Values) → AreInBounds es v → Splits (term v es p.defined) (term v es p.term) (term v es id)
-  pub own : HasNoPartial es id → p.term ≡ id
+  pub own : IsToldDefined es id → p.term ≡ id
 
 -- ---- what is kept of an id: no flag where it always has a value
 
@@ -107,17 +103,18 @@ pub record IsPart (es : List Entry) (id : ℕ) (p : Part) : Type 0 where
   pub open_ : (d : ℕ) → p.flag ≡ Some d → IsOpen (extent es id)
   pub told : Tells (extent es id) p.len
   pub counts : (v : Values) → AreInBounds es v → Counts (value v) p.len
-  pub own : HasNoPartial es id → IsItself id p
+  pub elements : (n : ℕ) → HasElements es id n → p.len ≡ n
+  pub own : IsToldDefined es id → IsItself id p
 
 -- parts of the first ids
 abbrev pub AreParts : List Entry → List Part → Type 0
 AreParts es memo = (i : ℕ) (p : Part) → slice_get memo i ≡ Some p → IsPart es i p
 
--- the part of an id, in an arena that goes on. Of what is of no partial kind nothing is made
+-- the part of an id, in an arena that goes on. Of what is told to be defined nothing is made
 pub record Parted (old new : List Entry) (id : ℕ) (p : Part) : Type 0 where
   pub extends : Extends old new
   pub arena : IsArena new
-  pub same : HasNoPartial old id → new ≡ old
+  pub same : IsToldDefined old id → new ≡ old
   pub cost : (e : Entry) → slice_get old id ≡ Some e → costs new ≤ costs old + charge_of e.node.kind
   pub part : IsPart new id p
 

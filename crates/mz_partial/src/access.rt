@@ -7,6 +7,7 @@ ghost use Rattle.mz_interval.specs.Interval.{ends};
 ghost use Rattle.mz_arena.specs.Arenas.{IsArena};
 ghost use Rattle.mz_arena.specs.Extents.{whole, extent};
 ghost use Rattle.mz_partial.specs.declared.group.Group.TheVariants as group;
+ghost use Rattle.mz_partial.specs.Told.{AreInside};
 ghost use Rattle.mz_partial.specs.Totals.{Parted};
 ghost use Rattle.mz_partial.specs.Nodes.{Takes};
 ghost use Rattle.mz_partial.specs.Calls.{Tests, IsPlaceIn, is_from_one, is_up_to, is_place};
@@ -25,7 +26,7 @@ use std::alloc::Global;
 fn from_one(arena: &mut Arena, u: Id, range: Interval) -> Result<Option<Id>, Memory>
     requires arena { IsArena arena.old }
     requires whole { extent arena.old u ≡ Some (whole (ends range)) }
-    ensures { IfOk result (Tests 2 arena.old arena.new u is_from_one) }
+    ensures { IfOk result (Tests 2 (pos 1 ≤ℤ (ends range).0) arena.old arena.new u is_from_one) }
 {
     if range.lo >= 1 {
         return Ok(None);
@@ -40,7 +41,7 @@ fn up_to(arena: &mut Arena, u: Id, range: Interval, len: i64) -> Result<Option<I
     requires arena { IsArena arena.old }
     requires whole { extent arena.old u ≡ Some (whole (ends range)) }
     requires limit { is_number len ≡ true }
-    ensures { IfOk result (Tests 2 arena.old arena.new u (is_up_to len)) }
+    ensures { IfOk result (Tests 2 ((ends range).1 ≤ℤ len) arena.old arena.new u (is_up_to len)) }
 {
     if range.hi <= len {
         return Ok(None);
@@ -55,7 +56,7 @@ fn inside(arena: &mut Arena, u: Id, range: Interval, len: i64) -> Result<Option<
     requires arena { IsArena arena.old }
     requires whole { extent arena.old u ≡ Some (whole (ends range)) }
     requires limit { is_number len ≡ true }
-    ensures { IfOk result (Tests 6 arena.old arena.new u (is_place len)) }
+    ensures { IfOk result (Tests 6 (AreInside len (ends range)) arena.old arena.new u (is_place len)) }
 {
     let low = from_one(arena, u, range)?;
     let high = up_to(arena, u, range, len)?;

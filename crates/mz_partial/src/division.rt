@@ -7,6 +7,7 @@ ghost use Rattle.mz_operations.specs.Bounds.{nothing};
 ghost use Rattle.mz_arena.specs.Arenas.{IsArena};
 ghost use Rattle.mz_arena.specs.Extents.{whole, extent};
 ghost use Rattle.mz_partial.specs.declared.group.Group.TheVariants as group;
+ghost use Rattle.mz_partial.specs.Told.{IsApart};
 ghost use Rattle.mz_partial.specs.Totals.{IsWhole, Parted};
 ghost use Rattle.mz_partial.specs.Nodes.{Takes};
 ghost use Rattle.mz_partial.specs.Calls.{IsFlag, Tests, IsSafe, is_nonzero};
@@ -24,7 +25,7 @@ use std::alloc::Global;
 fn nonzero(arena: &mut Arena, u: Id, range: Interval) -> Result<Option<Id>, Memory>
     requires arena { IsArena arena.old }
     requires whole { extent arena.old u ≡ Some (whole (ends range)) }
-    ensures { IfOk result (Tests 2 arena.old arena.new u is_nonzero) }
+    ensures { IfOk result (Tests 2 (IsApart (ends range)) arena.old arena.new u is_nonzero) }
 {
     if range.lo > 0 {
         return Ok(None);

@@ -54,8 +54,9 @@ impl Memo {
 }
 
 /// The pair of an id. The arena goes on with no further variable or choice; where the id and those
-/// below it are of no partial kind, the term is the id itself. The nodes that are made cost at most
-/// what the arena charges for the ids that are looked at.
+/// below it are of no partial kind, or their children's bounds tell that they have a value, the term
+/// is the id itself. The nodes that are made cost at most what the arena charges for the ids that are
+/// looked at.
 ///
 /// Each id up to this one is looked at once for all calls with one memo. After `Memory` nothing is
 /// known of the memo.

@@ -3,6 +3,7 @@ use Rattle.std.proofs.lemmas.Int.{ints, to_z-of_z, to_z_pos}
 use Rattle.mz_interval.specs.Ends.{is_number}
 use Rattle.mz_interval.specs.Interval.{ends}
 use Rattle.mz_partial.specs.declared.group.Group.TheVariants as group
+use Rattle.mz_partial.specs.Told.{AreInside}
 use Rattle.mz_partial.specs.Calls.{IsSafe, Tests, IsPlaceIn, is_place}
 use Rattle.mz_partial.proofs.Standing.{extends_both}
 use Rattle.mz_partial.proofs.Taking.{takes_two}
@@ -27,7 +28,7 @@ never-requires c =
     record {
       arena = c.requires.arena;
       never = access_never c.args.arena.now c.args.memo.now c.args.id c.args.n c.part_at-p.result c.part_at-q.result (ends c.bounds-range.result) c.place-number.result c.requires c.part_at-p.ensures c.part_at-q.ensures r.is_whole (subst (λ l. IsPlaceIn (ends c.bounds-range.result) l c.place-number.result) (to_z_pos w64 c.part_at-q.result.len (omega (arith, c.if-q.false))) c.place-number.ensures.place) zero;
-      partial = access_node c.args.arena.now c.args.memo.now c.args.id c.args.n c.requires;
+      partial = access_node c.args.arena.now c.args.memo.now c.args.id c.args.n c.part_at-q.result (ends c.bounds-range.result) c.place-number.result c.requires c.part_at-q.ensures r.is_whole c.bounds-range.result.ordered (subst (λ l. IsPlaceIn (ends c.bounds-range.result) l c.place-number.result) (to_z_pos w64 c.part_at-q.result.len (omega (arith, c.if-q.false))) c.place-number.ensures.place) zero;
     }
 
 pub inside-requires : goal.inside-requires
@@ -53,7 +54,7 @@ pub remake-requires : goal.remake-requires
 remake-requires c =
     let r = index_range c.args.arena.now c.args.memo.now c.args.id c.args.n c.part_at-p.result (ends c.bounds-range.result) c.requires c.part_at-p.ensures c.bounds-range.ensures in
     let s = subst (λ k. IsSafe c.inside.new.arena c.safe.new.arena c.part_at-p.result.term c.in_ok-test.test k c.in_ok-w.w) (to_z-of_z w64 c.place-number.result (search rules)) c.in_ok-w.ensures in
-    access_may c.args.arena.now c.inside.new.arena c.safe.new.arena c.args.memo.now c.args.id c.args.n c.part_at-p.result c.part_at-q.result c.in_ok-test.test c.in_ok-w.w c.place-number.result (ends c.bounds-range.result) c.requires c.part_at-p.ensures c.part_at-q.ensures r.is_whole (place_within (ends c.bounds-range.result) (pos c.part_at-q.result.len) c.place-number.result (subst (λ l. IsPlaceIn (ends c.bounds-range.result) l c.place-number.result) (to_z_pos w64 c.part_at-q.result.len (omega (arith, c.if-q.false))) c.place-number.ensures.place) (λ h. c.if-number-eq0.false (ap (of_z w64) h))).within (subst (λ l. Tests 6 c.args.arena.now c.inside.new.arena c.part_at-p.result.term (is_place l) c.in_ok-test.test) (to_z_pos w64 c.part_at-q.result.len (omega (arith, c.if-q.false))) c.in_ok-test.ensures) s
+    access_may c.args.arena.now c.inside.new.arena c.safe.new.arena c.args.memo.now c.args.id c.args.n c.part_at-p.result c.part_at-q.result c.in_ok-test.test c.in_ok-w.w c.place-number.result (ends c.bounds-range.result) c.requires c.part_at-p.ensures c.part_at-q.ensures r.is_whole (place_within (ends c.bounds-range.result) (pos c.part_at-q.result.len) c.place-number.result (subst (λ l. IsPlaceIn (ends c.bounds-range.result) l c.place-number.result) (to_z_pos w64 c.part_at-q.result.len (omega (arith, c.if-q.false))) c.place-number.ensures.place) (λ h. c.if-number-eq0.false (ap (of_z w64) h))).within (subst (λ l. Tests 6 (AreInside l (ends c.bounds-range.result)) c.args.arena.now c.inside.new.arena c.part_at-p.result.term (is_place l) c.in_ok-test.test) (to_z_pos w64 c.part_at-q.result.len (omega (arith, c.if-q.false))) c.in_ok-test.ensures) s
 
 pub both-requires : goal.both-requires
 both-requires c =
@@ -87,4 +88,4 @@ returns c =
     let s = subst (λ k. IsSafe c.inside.new.arena c.safe.new.arena c.part_at-p.result.term c.in_ok-test.test k c.in_ok-w.w) (to_z-of_z w64 c.place-number.result (search rules)) c.in_ok-w.ensures in
     access_parted c.args.arena.now c.inside.new.arena c.safe.new.arena c.remake.new.arena c.both.new.arena c.both-2.new.arena c.args.memo.now c.args.id c.args.n c.part_at-p.result c.part_at-q.result c.in_ok-test.test c.in_ok-parts.parts c.in_ok-flag.flag c.in_ok-w.w c.in_ok-term.term c.place-number.result (ends c.bounds-range.result)
     c.requires c.part_at-p.ensures c.part_at-q.ensures r.is_whole (place_within (ends c.bounds-range.result) (pos c.part_at-q.result.len) c.place-number.result (subst (λ l. IsPlaceIn (ends c.bounds-range.result) l c.place-number.result) (to_z_pos w64 c.part_at-q.result.len (omega (arith, c.if-q.false))) c.place-number.ensures.place) (λ h. c.if-number-eq0.false (ap (of_z w64) h))).within (place_within (ends c.bounds-range.result) (pos c.part_at-q.result.len) c.place-number.result (subst (λ l. IsPlaceIn (ends c.bounds-range.result) l c.place-number.result) (to_z_pos w64 c.part_at-q.result.len (omega (arith, c.if-q.false))) c.place-number.ensures.place) (λ h. c.if-number-eq0.false (ap (of_z w64) h))).place
-    (subst (λ l. Tests 6 c.args.arena.now c.inside.new.arena c.part_at-p.result.term (is_place l) c.in_ok-test.test) (to_z_pos w64 c.part_at-q.result.len (omega (arith, c.if-q.false))) c.in_ok-test.ensures) s c.in_ok-term.ensures c.in_ok-parts.ensures c.in_ok-flag.ensures
+    (subst (λ l. Tests 6 (AreInside l (ends c.bounds-range.result)) c.args.arena.now c.inside.new.arena c.part_at-p.result.term (is_place l) c.in_ok-test.test) (to_z_pos w64 c.part_at-q.result.len (omega (arith, c.if-q.false))) c.in_ok-test.ensures) s c.in_ok-term.ensures c.in_ok-parts.ensures c.in_ok-flag.ensures

@@ -27,7 +27,7 @@ never-requires c =
     record {
       arena = c.requires.arena;
       never = division_never c.args.arena.now c.args.memo.now c.args.id c.args.n c.part_at-p.result c.part_at-q.result (ends c.bounds-range.result) c.requires c.part_at-p.ensures c.part_at-q.ensures r.is_whole (c.divisor-number.ensures.never zero);
-      partial = division_node c.args.arena.now c.args.memo.now c.args.id c.args.n c.requires;
+      partial = division_node c.args.arena.now c.args.memo.now c.args.id c.args.n (ends c.bounds-range.result) c.requires r.is_whole (c.divisor-number.ensures.never zero);
     }
 
 pub nonzero-requires : goal.nonzero-requires

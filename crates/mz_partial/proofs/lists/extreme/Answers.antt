@@ -12,7 +12,7 @@ pub never-requires : goal.never-requires
 never-requires c = record {
   arena = c.requires.arena;
   never = extreme_never c.args.arena.now c.args.memo.now c.args.id c.args.n c.part_at-p.result c.requires c.part_at-p.ensures c.if-p-eq0.true;
-  partial = extreme_node c.args.arena.now c.args.memo.now c.args.id c.args.n c.requires;
+  partial = extreme_node c.args.arena.now c.args.memo.now c.args.id c.args.n c.part_at-p.result c.requires c.part_at-p.ensures c.if-p-eq0.true;
 }
 
 pub remake-requires : goal.remake-requires
