@@ -1,12 +1,14 @@
 -- What a builder's calls add, and how the solutions of a program go on as it grows.
 use Rattle.std.specs.Prelude.{◌≡◌, ◌⊎◌, ℕ, ◌+◌, ◌≤◌, List, [], ◌∷◌, ◌++◌, length, map, take, Some, slice_get}
+use Rattle.mz_interval.specs.Ends.{Encloses}
 use Rattle.fz_program.specs.declared.program.Domain.{Domain}
 use Rattle.fz_program.specs.declared.row_name.RowName.{RowName}
 use Rattle.fz_program.specs.Arguments.{Plain, var, Argument, plain_of}
-use Rattle.fz_program.specs.Values.{Value, Values}
-use Rattle.fz_program.specs.Flat.{Variable, Row, Program, FlatSolves, RowHolds, IsInDomain, plain_value, argument_value}
+use Rattle.fz_program.specs.Values.{Value, Values, number_in}
+use Rattle.fz_program.specs.Flat.{Variable, Row, Program, AreInDomains, FlatSolves, RowHolds, IsInDomain, plain_value, argument_value}
 use Rattle.fz_build.specs.Build.{IsArgumentOver, with_defined}
 use Rattle.fz_build_domains.specs.Results.{result_given}
+use Rattle.fz_build_domains.specs.Bounds.{ends_of}
 
 -- ---- variables
 
@@ -25,6 +27,10 @@ pub record HasDomain (vs : List Variable) (p : Plain) (domain : Domain) : Type 0
 -- what an argument that is no array stands for
 abbrev pub value_of : Values → Argument → Value
 value_of f a = plain_value f (plain_of a)
+
+-- the number that an argument stands for lies between its ends
+abbrev pub EndsEnclose : List Variable → Plain → Type 0
+EndsEnclose vs p = (f : Values) → AreInDomains vs f → Encloses (ends_of vs p) (number_in (plain_value f p))
 
 -- ---- a variable or a row more
 

@@ -7,7 +7,7 @@ ghost use Rattle.fz_build_domains.specs.Bounds.{AreInputs, HoldsResults, ends_of
 ghost use Rattle.fz_build.specs.Build.{MayAdd, MayDeclare, constraint, empty, introduced_variable, with_array, with_goal, with_row, with_variable};
 ghost use Rattle.fz_build.specs.Naming.{introduced_name, next_number};
 ghost use Rattle.fz_build.specs.Results.{MayDefine};
-ghost use Rattle.fz_build.specs.Growth.{Declares, Defines, IsAdded, Posts};
+ghost use Rattle.fz_build.specs.Growth.{Declares, Defines, EndsEnclose, IsAdded, Posts};
 
 use crate::naming::{introduced_name, number_after};
 use crate::result_row::args_with;
@@ -174,9 +174,10 @@ impl Build {
     }
 
     /// The least and the greatest that an argument may be by its domain, of a truth value as 0 or 1; 0 and
-    /// 0 of a set and of an array.
+    /// 0 of a set and of an array. The number that it stands for lies between them in each solution.
     pub fn ends(&self, a: &Arg) -> (i64, i64)
-        ensures { result ≡ ends_of self.now.vars (plain a.now) }
+        ensures is { result ≡ ends_of self.now.vars (plain a.now) }
+        ensures encloses { EndsEnclose self.now.vars (plain a.now) }
     {
         ends_of(&self.vars, a)
     }
