@@ -15,12 +15,12 @@ use Rattle.mz_core.specs.Tree as tree
 use Rattle.mz_core.specs.Tree.{Tree, Step, Gen, DeclaredType, Decl, Item, declares, constrains, trees, maybe, maybes, rows_of, branches, steps, gens, items, type_of, place_of}
 use Rattle.mz_check_meaning.specs.declared.callee.Callee.{Callee}
 use Rattle.mz_check_meaning.specs.declared.callee.Callee.TheVariants as callee
-use Rattle.mz_tree.specs.declared.expr.BinOp.{BinOp}
+use Rattle.mz_tree.specs.declared.expr.PlacedOp.{PlacedOp}
 use Rattle.mz_check_meaning.specs.Tests.{Test, ◌>>=◌, ◌>>◌, require, refuse, loop, each, maybe_some, if_there}
 use Rattle.mz_check_meaning.specs.Models.{Model}
 use Rattle.mz_check_meaning.specs.Coerced.{wrapped, coercions_to, coerced, all_coerced, fitted, condition, is_below, as_var, scalar, allowed_at, made_var, is_scalar, is_set_type, list_of, table_of, bottom_type}
 use Rattle.mz_check_meaning.specs.Calls.{Candidate, candidates, best, called_node, call_node, applied, row_of, row_node}
-use Rattle.mz_check_meaning.specs.Chains.{Operand, Chained, operator_name, step_of, operated, from_left, then_step, from_right, from_right_at, chain_node, appended}
+use Rattle.mz_check_meaning.specs.Chains.{Operand, Chained, operator_name, step_of, operated, from_left, then_step, from_right, chain_node, appended}
 use Rattle.mz_check_meaning.specs.Arrays.{elements_join, each_to, listed, all_in, tabled, is_var, member_base, set_base, member_next, set_literal, index_base, index_fitted, index_pair, indices_fitted, element_type, accessed}
 use Rattle.mz_check_meaning.specs.Branches.{branches_join, whole_type, else_list, else_to, decided}
 use Rattle.mz_check_meaning.specs.Comprehensions.{where_fitted, head_type, listed_heads, set_of_heads, heads, comprehended, is_var_gen}
@@ -28,10 +28,10 @@ use Rattle.mz_check_meaning.specs.Lets.{is_var_item, item_fitted, let_node}
 use Rattle.mz_check_meaning.specs.WrittenTypes.{Based, of_bool, of_int, of_set, with_base, par_set, Index, index_by, index, Values, values_by, values, declared_base, declared}
 use Rattle.mz_core.specs.Nodes.{nodes_in, in_trees, in_maybe, in_maybes, in_rows, in_branches, in_steps, in_gens, in_items}
 use Rattle.mz_check_meaning.proofs.Giving.{AllBy, all_both, all_mapped, Gives, gives_then, gives_after, gives_if, each_gives}
-use Rattle.mz_meaning_places.specs.Places.{item_places, own_places}
+use Rattle.mz_meaning_places.specs.Places.{step_places, item_places, own_places}
 
 module _ (P : Span → Type 0) where
-  -- a node's own places, and of a let those of the names and types that it declares
+  -- a node's own places, of a chain those of its operands, and of a let those of the names and types that it declares
   abbrev pub OwnPlaces : Tree → Type 0
   OwnPlaces e = AllBy P (own_places e)
 
@@ -50,10 +50,10 @@ module _ (P : Span → Type 0) where
   IsPlacedPair b = IsPlaced b.0 × IsPlaced b.1
 
   abbrev pub IsPlacedStep : Step → Type 0
-  IsPlacedStep s = IsPlaced s.operand
+  IsPlacedStep s = P s.start × IsPlaced s.operand
 
   abbrev pub IsPlacedOperand : Operand → Type 0
-  IsPlacedOperand o = IsPlaced o.tree
+  IsPlacedOperand o = P o.operator.start × IsPlaced o.tree
 
   abbrev pub IsPlacedChain : Chained → Type 0
   IsPlacedChain c = AllBy IsPlacedStep c.done
@@ -110,7 +110,13 @@ module _ (P : Span → Type 0) where
   steps_placed : (ss : List Step) → AllBy IsPlacedStep ss → AllBy OwnPlaces (in_steps (steps ss))
   unfolding nodes_in
   steps_placed [] h = tt
-  steps_placed (s ∷ ss) h = all_both OwnPlaces (nodes_in s.operand) (in_steps (steps ss)) h.0 (steps_placed ss h.1)
+  steps_placed (s ∷ ss) h = all_both OwnPlaces (nodes_in s.operand) (in_steps (steps ss)) h.0.1 (steps_placed ss h.1)
+
+  -- the places where operands begin
+  starts_placed : (ss : List Step) → AllBy IsPlacedStep ss → AllBy P (step_places (steps ss))
+  unfolding step_places
+  starts_placed [] h = tt
+  starts_placed (s ∷ ss) h = (h.0.0, starts_placed ss h.1)
 
   gens_placed : (gs : List Gen) → AllBy IsPlacedGen gs → AllBy OwnPlaces (in_gens (gens gs))
   unfolding nodes_in
@@ -265,34 +271,31 @@ module _ (P : Span → Type 0) where
   unfolding row_node
   row_placed at name es here h = gives_after IsPlaced (row_of at name (map type_of es)) (λ c. Ok (call_node at es c)) (λ c. call_placed at es c here h)
 
-  operated_placed : (at : Span) (o : BinOp) (left right : PlainType) (e : Tree) → IsPlaced e → Gives (operated at o left right e) IsPlacedStep
+  operated_placed : (at : Span) (o : PlacedOp) (left right : PlainType) (e : Tree) → P o.start → IsPlaced e → Gives (operated at o left right e) IsPlacedStep
   unfolding operated
-  operated_placed at o left right e h = gives_after IsPlacedStep (row_of at (operator_name o) (left ∷ right ∷ [])) (λ c. Ok (step_of left right e c)) (λ c. h)
+  operated_placed at o left right e p h = gives_after IsPlacedStep (row_of at (operator_name o.op) (left ∷ right ∷ [])) (λ c. Ok (step_of o.start left right e c)) (λ c. (p, h))
 
-  pub left_placed : (at : Span) (acc : Chained) (o : Operand) → IsPlacedChain acc → IsPlaced o.tree → Gives (from_left at acc o) IsPlacedChain
+  pub left_placed : (at : Span) (acc : Chained) (o : Operand) → IsPlacedChain acc → IsPlacedOperand o → Gives (from_left at acc o) IsPlacedChain
   left_placed at acc o h k =
-      gives_then IsPlacedStep IsPlacedChain (operated at o.operator acc.ty (type_of o.tree) o.tree) (λ s. Ok (then_step acc s)) (operated_placed at o.operator acc.ty (type_of o.tree) o.tree k)
+      gives_then IsPlacedStep IsPlacedChain (operated at o.operator acc.ty (type_of o.tree) o.tree) (λ s. Ok (then_step acc s)) (operated_placed at o.operator acc.ty (type_of o.tree) o.tree k.0 k.1)
       (λ s l. all_both IsPlacedStep acc.done (s ∷ []) h (l, tt))
 
-  right_placed : (e : Tree) (os : List Operand) → AllBy IsPlacedOperand os → Gives (from_right e os) IsPlacedChain
+  right_placed : (at : Span) (e : Tree) (os : List Operand) → AllBy IsPlacedOperand os → Gives (from_right at e os) IsPlacedChain
   unfolding from_right
-  right_placed e [] h = tt
-  right_placed e (o ∷ os) h =
+  right_placed at e [] h = tt
+  right_placed at e (o ∷ os) h =
       let last : Chained → Step → Test Chained = λ rest s. Ok (record { ty = s.ty; done = s ∷ rest.done }) in
-      let next : Chained → Test Chained = λ rest. operated (place_of e) o.operator (type_of e) rest.ty o.tree >>= λ s. last rest s in
-      gives_then IsPlacedChain IsPlacedChain (from_right o.tree os) next (right_placed o.tree os h.1) (λ rest r.
-      gives_then IsPlacedStep IsPlacedChain (operated (place_of e) o.operator (type_of e) rest.ty o.tree) (last rest) (operated_placed (place_of e) o.operator (type_of e) rest.ty o.tree h.0) (λ s k. (k, r)))
-
-  right_at_placed : (at : Span) (e : Tree) (os : List Operand) → AllBy IsPlacedOperand os → Gives (from_right_at at e os) IsPlacedChain
-  right_at_placed at (tree.node s t f) os h = right_placed (tree.node at t f) os h
+      let next : Chained → Test Chained = λ rest. operated at o.operator (type_of e) rest.ty o.tree >>= λ s. last rest s in
+      gives_then IsPlacedChain IsPlacedChain (from_right o.operator.start o.tree os) next (right_placed o.operator.start o.tree os h.1) (λ rest r.
+      gives_then IsPlacedStep IsPlacedChain (operated at o.operator (type_of e) rest.ty o.tree) (last rest) (operated_placed at o.operator (type_of e) rest.ty o.tree h.0.0 h.0.1) (λ s k. (k, r)))
 
   pub chain_placed : (at : Span) (e : Tree) (c : Chained) → P at → IsPlaced e → IsPlacedChain c → IsPlaced (chain_node at e c)
   unfolding nodes_in
-  chain_placed at e c here h k = ((here, tt), all_both OwnPlaces (nodes_in e) (in_steps (steps c.done)) h (steps_placed c.done k))
+  chain_placed at e c here h k = ((here, starts_placed c.done k), all_both OwnPlaces (nodes_in e) (in_steps (steps c.done)) h (steps_placed c.done k))
 
   pub appended_placed : (at : Span) (e : Tree) (os : List Operand) → P at → IsPlaced e → AllBy IsPlacedOperand os → Gives (appended at e os) IsPlaced
   unfolding appended
-  appended_placed at e os here h k = gives_then IsPlacedChain IsPlaced (from_right_at at e os) (λ c. Ok (chain_node at e c)) (right_at_placed at e os k) (λ c l. chain_placed at e c here h l)
+  appended_placed at e os here h k = gives_then IsPlacedChain IsPlaced (from_right at e os) (λ c. Ok (chain_node at e c)) (right_placed at e os k) (λ c l. chain_placed at e c here h l)
 
   -- ---- comprehensions
 

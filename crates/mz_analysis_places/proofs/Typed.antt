@@ -6,8 +6,7 @@ use Rattle.mz_base.specs.declared.fault.Span.{Span}
 use Rattle.mz_core.specs.Types.{PlainType}
 use Rattle.mz_core.specs.Tree.{Tree, DeclaredType, declares, constrains, type_of, place_of}
 use Rattle.mz_tree.specs.declared.expr.UnOp.{UnOp}
-use Rattle.mz_tree.specs.declared.expr.BinOp.{BinOp}
-use Rattle.mz_tree.specs.declared.expr.BinOp.TheVariants as op
+use Rattle.mz_tree.specs.declared.expr.PlacedOp.{PlacedOp}
 use Rattle.mz_tree.specs.Tree as source
 use Rattle.mz_tree.specs.Tree.{Name, Shape, Maybe, Trees, Links, Rows, Branches, Part, Parts, Generator, Gens, Let, Lets, Declaration, Written, Dims, Bases}
 use Rattle.mz_tree.specs.Kinds.{OfTree, OfShape, OfMaybe, OfTrees, OfLinks, OfRows, OfBranches, OfPart, OfParts, OfGenerator, OfGens, OfLet, OfLets, OfDeclaration, OfWritten, OfBased, OfDims, OfBases}
@@ -24,7 +23,7 @@ use Rattle.mz_check_meaning.specs.Comprehensions.{Bound, running_type, bind_name
 use Rattle.mz_check_meaning.specs.Lets.{new_name, decl_of, let_node}
 use Rattle.mz_check_meaning.specs.Names.{decl_node, bare_node, meant, named_or, named, function_meant, bare_or, bare_call}
 use Rattle.mz_check_meaning.specs.WrittenTypes.{Based, of_bool, of_int, of_set, declared}
-use Rattle.mz_check_meaning.specs.Forms.{Check, TypeCheck, part, parts, maybe_part, unary_of, operand_of, left_next, from_left_of, operand, from_right_of, grouped_of, group_right, chain_of, call_of, array_of, row_parts, rows_of, set_of, access_of, Branched, branch_next, choice_of, GenCheck, Generated, gen_next, generators, comp_of, gen_call_of, based_part, written_of, LetCheck, declares_by, constrains_by, Declared, local_value, let_next, let_of, PieceCheck, plain_by, shown_by, piece, texted, text_of}
+use Rattle.mz_check_meaning.specs.Forms.{Check, TypeCheck, part, parts, maybe_part, unary_of, operand_of, next_piece, left_next, from_left_of, operand, from_right_of, grouped_of, group_right, chain_of, call_of, array_of, row_parts, rows_of, set_of, access_of, Branched, branch_next, choice_of, GenCheck, Generated, gen_next, generators, comp_of, gen_call_of, based_part, written_of, LetCheck, declares_by, constrains_by, Declared, local_value, let_next, let_of, PieceCheck, plain_by, shown_by, piece, texted, text_of}
 use Rattle.mz_check_meaning.specs.Typing.{check, check_form, check_maybe, checks, check_links, check_rows, check_branches, check_piece, check_pieces, check_gen, check_gens, check_let, check_lets, check_declaration, check_written, check_based, check_dims, check_bases}
 use Rattle.mz_core.specs.Nodes.{nodes_in}
 use Rattle.mz_check_meaning.proofs.Giving.{AllBy, all_both, all_mapped, Gives, gives_then, gives_after, loop_gives, each_gives}
@@ -72,6 +71,9 @@ module _ (P : Span → Type 0) where
   abbrev pub GivesPlaced : Check → Type 0
   GivesPlaced go = (env : Env) → Gives (go env) (IsPlaced P)
 
+  abbrev pub GivesPlacedLink : PlacedOp × Check → Type 0
+  GivesPlacedLink o = P o.0.start × GivesPlaced o.1
+
   abbrev pub GivesPlacedMaybe : Option Check → Type 0
   GivesPlacedMaybe None = Unit {0}
   GivesPlacedMaybe (Some go) = GivesPlaced go
@@ -115,31 +117,31 @@ module _ (P : Span → Type 0) where
   unary_placed : (at : Span) (o : UnOp) (go : Check) → P at → GivesPlaced go → GivesPlaced (unary_of at o go)
   unary_placed at o go here h env = gives_then (IsPlaced P) (IsPlaced P) (go env) (λ e. row_node at (prefix_name o) (e ∷ [])) (h env) (λ e k. nodes.row_placed P at (prefix_name o) (e ∷ []) here (k, tt))
 
-  lefts_placed : (at : Span) (env : Env) (os : List (BinOp × Check)) → AllBy (λ o. GivesPlaced o.1) os → AllBy (λ o. (s : Chained) → IsPlacedChain P s → Gives (left_next at env s o) (IsPlacedChain P)) os
+  lefts_placed : (at : Span) (env : Env) (os : List (PlacedOp × Check)) → AllBy GivesPlacedLink os → AllBy (λ o. (s : Chained) → IsPlacedChain P s → Gives (left_next at env s o) (IsPlacedChain P)) os
   lefts_placed at env [] h = tt
   lefts_placed at env (o ∷ os) h =
-      ((λ s k. gives_then (IsPlaced P) (IsPlacedChain P) (o.1 env) (λ e. from_left at s (operand_of o.0 e)) (h.0 env) (λ e l. nodes.left_placed P at s (operand_of o.0 e) k l)), lefts_placed at env os h.1)
+      ((λ s k. gives_then (IsPlaced P) (IsPlacedChain P) (o.1 env) (λ e. from_left at s (operand_of o.0 e)) (h.0.1 env) (λ e l. nodes.left_placed P at s (operand_of o.0 e) k (h.0.0, l))), lefts_placed at env os h.1)
 
-  from_left_placed : (at : Span) (e : Tree) (os : List (BinOp × Check)) (env : Env) → P at → IsPlaced P e → AllBy (λ o. GivesPlaced o.1) os → Gives (from_left_of at e os env) (IsPlaced P)
+  from_left_placed : (at : Span) (e : Tree) (os : List (PlacedOp × Check)) (env : Env) → P at → IsPlaced P e → AllBy GivesPlacedLink os → Gives (from_left_of at e os env) (IsPlaced P)
   from_left_placed at e os env here h k =
       gives_then (IsPlacedChain P) (IsPlaced P) (loop (left_next at env) (record { ty = type_of e; done = [] }) os) (λ c. Ok (chain_node at e c))
       (loop_gives (IsPlacedChain P) (left_next at env) (record { ty = type_of e; done = [] }) os tt (lefts_placed at env os k))
       (λ c l. nodes.chain_placed P at e c here h l)
 
-  operands_placed : (env : Env) (os : List (BinOp × Check)) → AllBy (λ o. GivesPlaced o.1) os → AllBy (λ o. Gives (operand env o) (IsPlacedOperand P)) os
+  operands_placed : (env : Env) (os : List (PlacedOp × Check)) → AllBy GivesPlacedLink os → AllBy (λ o. Gives (operand env o) (IsPlacedOperand P)) os
   operands_placed env [] h = tt
-  operands_placed env (o ∷ os) h = (gives_then (IsPlaced P) (IsPlacedOperand P) (o.1 env) (λ e. Ok (operand_of o.0 e)) (h.0 env) (λ e k. k), operands_placed env os h.1)
+  operands_placed env (o ∷ os) h = (gives_then (IsPlaced P) (IsPlacedOperand P) (o.1 env) (λ e. Ok (operand_of o.0 e)) (h.0.1 env) (λ e k. (h.0.0, k)), operands_placed env os h.1)
 
-  from_right_placed : (at : Span) (e : Tree) (os : List (BinOp × Check)) (env : Env) → P at → IsPlaced P e → AllBy (λ o. GivesPlaced o.1) os → Gives (from_right_of at e os env) (IsPlaced P)
+  from_right_placed : (at : Span) (e : Tree) (os : List (PlacedOp × Check)) (env : Env) → P at → IsPlaced P e → AllBy GivesPlacedLink os → Gives (from_right_of at e os env) (IsPlaced P)
   from_right_placed at e os env here h k =
       gives_then (AllBy (IsPlacedOperand P)) (IsPlaced P) (each (operand env) os) (λ es. appended at e es) (each_gives (IsPlacedOperand P) (operand env) os (operands_placed env os k))
       (λ es l. nodes.appended_placed P at e es here h l)
 
-  grouped_placed : (b : Bool) (at : Span) (e : Tree) (os : List (BinOp × Check)) (env : Env) → P at → IsPlaced P e → AllBy (λ o. GivesPlaced o.1) os → Gives (grouped_of b at e os env) (IsPlaced P)
+  grouped_placed : (b : Bool) (at : Span) (e : Tree) (os : List (PlacedOp × Check)) (env : Env) → P at → IsPlaced P e → AllBy GivesPlacedLink os → Gives (grouped_of b at e os env) (IsPlaced P)
   grouped_placed true at e os env here h k = from_right_placed at e os env here h k
   grouped_placed false at e os env here h k = from_left_placed at e os env here h k
 
-  chain_placed : (at : Span) (go : Check) (os : List (BinOp × Check)) → P at → GivesPlaced go → AllBy (λ o. GivesPlaced o.1) os → GivesPlaced (chain_of at go os)
+  chain_placed : (at : Span) (go : Check) (os : List (PlacedOp × Check)) → P at → GivesPlaced go → AllBy GivesPlacedLink os → GivesPlaced (chain_of at go os)
   chain_placed at go os here h k env = gives_then (IsPlaced P) (IsPlaced P) (go env) (λ e. grouped_of (group_right os) at e os env) (h env) (λ e l. grouped_placed (group_right os) at e os env here l k)
 
   -- ---- calls, literals and accesses
@@ -287,7 +289,7 @@ module _ (P : Span → Type 0) where
   concatenated_placed : (at : Span) (es : List Tree) → P at → ArePlaced P es → Gives (texted at es) (IsPlaced P)
   concatenated_placed at [] here h = tt
   concatenated_placed at (e ∷ []) here h = h.0
-  concatenated_placed at (e ∷ f ∷ es) here h = nodes.appended_placed P at e (map (operand_of op.Concat) (f ∷ es)) here h.0 (all_mapped (IsPlaced P) (IsPlacedOperand P) (operand_of op.Concat) (f ∷ es) (λ x k. k) h.1)
+  concatenated_placed at (e ∷ f ∷ es) here h = nodes.appended_placed P at e (map next_piece (f ∷ es)) here h.0 (all_mapped (IsPlaced P) (IsPlacedOperand P) next_piece (f ∷ es) (λ x k. (nodes.place_placed P x k, k)) h.1)
 
   text_placed : (at : Span) (ps : List PieceCheck) → P at → AllBy GivesPlacedPiece ps → GivesPlaced (text_of at ps)
   text_placed at ps here h env = gives_then (ArePlaced P) (IsPlaced P) (each (piece at env) ps) (λ es. texted at es) (each_gives (IsPlaced P) (piece at env) ps (all_pieces at env ps here h)) (λ es k. concatenated_placed at es here k)
@@ -330,9 +332,9 @@ module _ (P : Span → Type 0) where
       trees_give m source.no_trees h = tt
       trees_give m (source.a_tree e es) h = (tree_gives m e h.0, trees_give m es h.1)
 
-      links_give : (m : Model) (ls : Links) → OfLinks N P ls → AllBy (λ o. GivesPlaced o.1) (check_links m ls)
+      links_give : (m : Model) (ls : Links) → OfLinks N P ls → AllBy GivesPlacedLink (check_links m ls)
       links_give m source.no_links h = tt
-      links_give m (source.a_link o e ls) h = (tree_gives m e h.0, links_give m ls h.1)
+      links_give m (source.a_link o e ls) h = ((h.0, tree_gives m e h.1), links_give m ls h.2)
 
       rows_give : (m : Model) (rs : Rows) → OfRows N P rs → AllBy (AllBy GivesPlaced) (check_rows m rs)
       rows_give m source.no_rows h = tt
