@@ -2,6 +2,7 @@
 use Rattle.std.specs.Prelude.{ℕ, zero, suc, ℤ, pos, negsuc, ◌+ℤ◌, ◌-ℤ◌, ◌*ℤ◌, int_le, nat_eq, List, [], ◌∷◌, length, take, drop, slice_get, Bool, true, false, not, ◌&&◌, ◌||◌, Option, Some, None, unwrap_or, if◌then◌else◌}
 use Rattle.std.specs.List.{list_all}
 use Rattle.std.specs.Ordering.{int_eq}
+use Rattle.std.specs.Cmp.Lexicographic.{pointwise}
 use Rattle.mz_value.specs.Ranges.{Range}
 use Rattle.mz_operations.specs.Views.{◌>>=◌}
 use Rattle.mz_operations.specs.Numbers.{same}
@@ -25,10 +26,7 @@ is_element i x y = is_number_of (element_at x i) y
 -- ---- tables
 
 abbrev pub same_numbers : List ℤ → List ℤ → Bool
-same_numbers [] [] = true
-same_numbers [] (y ∷ ys) = false
-same_numbers (x ∷ xs) [] = false
-same_numbers (x ∷ xs) (y ∷ ys) = int_eq x y && same_numbers xs ys
+same_numbers xs ys = pointwise int_eq xs ys
 
 -- one of the first rows is this list
 abbrev pub has_row : ℕ → List ℤ → List ℤ → Bool

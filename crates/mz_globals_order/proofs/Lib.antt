@@ -1,0 +1,4 @@
+pub mod Each
+pub mod Orders
+pub mod Sums
+pub mod Zips
