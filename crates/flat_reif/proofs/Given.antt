@@ -120,7 +120,7 @@ one_arity kinds.Abs name r = (refl, refl)
 one_arity kinds.Card name r = (refl, refl)
 one_arity _ name r = absurd (cc)
 
-two_arity : (k : NodeKind) (name : RowName) → row_of_two k ≡ Some name → (arity k ≡ 2) × (is_own k ≡ false)
+pub two_arity : (k : NodeKind) (name : RowName) → row_of_two k ≡ Some name → (arity k ≡ 2) × (is_own k ≡ false)
 two_arity kinds.Eq name r = (refl, refl)
 two_arity kinds.Ne name r = (refl, refl)
 two_arity kinds.Le name r = (refl, refl)
@@ -165,7 +165,7 @@ module _ (s : State) (id : ℕ) (n : Node) (g : IsState s) (r : IsReady s id n) 
   all_one : (p : Plain) → arity n.kind ≡ 1 → at s.args n.a ≡ Some p → AllHave s (children n) (p ∷ [])
   all_one p ar h = subst (λ is. AllHave s is (p ∷ [])) (sym (children_one n ar)) (h, tt)
 
-  all_two : (p q : Plain) → arity n.kind ≡ 2 → at s.args n.a ≡ Some p → at s.args n.b ≡ Some q → AllHave s (children n) (p ∷ q ∷ [])
+  pub all_two : (p q : Plain) → arity n.kind ≡ 2 → at s.args n.a ≡ Some p → at s.args n.b ≡ Some q → AllHave s (children n) (p ∷ q ∷ [])
   all_two p q ar h k = subst (λ is. AllHave s is (p ∷ q ∷ [])) (sym (children_two n ar)) (h, (k, tt))
 
   pub operands_one : (name : RowName) (p : Plain) → row_of_one n.kind ≡ Some name → at s.args n.a ≡ Some p → AreOperands s.prog.vars n.kind (p ∷ [])

@@ -12,3 +12,5 @@ pub mod Fixed
 pub mod Gathering
 pub mod Extremes
 pub mod Accesses
+pub mod Lacking
+pub mod Below
