@@ -114,7 +114,7 @@ integer_ends (Some truths) h = absurd (cc)
 integer_ends (Some (subsets us)) h = absurd (cc)
 integer_ends (Some empty) h = absurd (cc)
 
-interval_of : (r : Interval) → if_interval (ends r) ≡ Some (ends r)
+pub interval_of : (r : Interval) → if_interval (ends r) ≡ Some (ends r)
 interval_of r =
     ap (λ b. cond b (if_in_limit (ends r)) None) (int_le_true r.lo r.hi r.ordered)
     ∙ ap₂ (λ a b. cond (a && b) (Some (ends r)) None) (in_limit r.lo r.lo_in_limit (omega (arith, ints, r.ordered, r.hi_in_limit))) (in_limit r.hi (omega (arith, ints, r.ordered, r.lo_in_limit)) r.hi_in_limit)
@@ -122,7 +122,7 @@ interval_of r =
     in_limit : (n : ℤ) → least_number ≤ℤ n → n ≤ℤ greatest_number → is_number n ≡ true
     in_limit n h k = ap₂ (λ a b. a && b) (int_le_true least_number n h) (int_le_true n greatest_number k)
 
-same_ends : (e f : Ends) → Some e ≡ Some f → e ≡ f
+pub same_ends : (e f : Ends) → Some e ≡ Some f → e ≡ f
 same_ends e f h = cc
 
 pub any_integer : (x : Known) (r : Interval) (p : Plain) → sort_of x ≡ Some sorts.Integer → ends_in x ≡ Some (ends r) → p ≡ int r.lo → IsAny x p

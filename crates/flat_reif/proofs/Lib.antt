@@ -14,3 +14,4 @@ pub mod Extremes
 pub mod Accesses
 pub mod Lacking
 pub mod Below
+pub mod Folding

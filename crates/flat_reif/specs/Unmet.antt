@@ -1,4 +1,4 @@
--- Nodes that no solution gives a value.
+-- Nodes that no solution gives a value, and nodes that their bounds tell.
 use Rattle.std.specs.Prelude.{◌≡◌, [], Some, false}
 use Rattle.mz_interval.specs.Ends.{if_interval}
 use Rattle.mz_arena.specs.Values as terms
@@ -18,3 +18,8 @@ IsAny (Some (whole e)) p = (p ≡ int e.0) × (if_interval e ≡ Some e)
 IsAny (Some (truth e)) p = p ≡ bool false
 IsAny (Some (subset u)) p = p ≡ set []
 IsAny _ p = ⊥
+
+-- the number that an integer is by its bounds
+abbrev pub IsFixed : Known → Plain → Type 0
+IsFixed (Some (whole e)) p = (p ≡ int e.0) × (e.0 ≡ e.1) × (if_interval e ≡ Some e)
+IsFixed _ p = ⊥

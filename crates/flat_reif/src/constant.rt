@@ -1,6 +1,6 @@
 // Constants as arguments.
 
-ghost use Rattle.std.specs.Prelude.{◌≡◌, [], IfOk, false, pos};
+ghost use Rattle.std.specs.Prelude.{◌≡◌, [], IfOk, IfSome, false, pos};
 ghost use Rattle.fz_program.specs.Arguments.{bool, int, plain, set};
 ghost use Rattle.flat_reif.specs.NodeKinds.{scalar};
 
@@ -38,6 +38,23 @@ pub(crate) fn least(range: Interval) -> Arg
     ensures { plain result ≡ int range.lo }
 {
     Arg::Int(range.lo)
+}
+
+// The integer of an interval that has one alone.
+pub(crate) fn alone(range: Interval) -> Option<Arg>
+    ensures { IfSome result (λ a. (plain a ≡ int range.lo) × (range.lo ≡ range.hi)) }
+{
+    if range.lo == range.hi {
+        Some(Arg::Int(range.lo))
+    } else {
+        None
+    }
+}
+
+pub(crate) fn truth(b: bool) -> Arg
+    ensures { plain result ≡ bool b }
+{
+    Arg::Bool(b)
 }
 
 pub(crate) fn falsity() -> Arg

@@ -1,6 +1,6 @@
 // The state of a flattening, and arguments for its nodes.
 
-ghost use Rattle.std.specs.Prelude.{◌≡◌, ◌≢◌, ◌<◌, ◌≤◌, [], IfOk, IsSome, None, Some, false, length, true};
+ghost use Rattle.std.specs.Prelude.{◌≡◌, ◌≢◌, ◌<◌, ◌≤◌, [], IfOk, IfSome, IsSome, None, Some, false, length, true};
 ghost use Rattle.mz_arena.specs.declared.node.NodeKind.TheVariants.{Access, Add, Guard, If, SetConst};
 ghost use Rattle.mz_arena.specs.Entries.{at, is_free, is_local};
 ghost use Rattle.mz_arena.specs.Extents.{as_single, extent};
@@ -11,14 +11,15 @@ ghost use Rattle.fz_program.specs.Arguments.{plain, plains};
 ghost use Rattle.flat_reif_rows.specs.NodeRows.{HasDivisor, row_of_one, row_of_two};
 ghost use Rattle.flat_reif.specs.States.{IsState, state};
 ghost use Rattle.flat_reif.specs.NodeKinds.{divides, extreme_kind, is_scalar, may_lack};
-ghost use Rattle.flat_reif.specs.Unmet.{IsAny, IsUnmet};
+ghost use Rattle.flat_reif.specs.Unmet.{IsAny, IsFixed, IsUnmet};
 ghost use Rattle.flat_reif.specs.Lists.{Gives, HasArg, HasFront, IsListed, IsNode, IsReady, ListArgs};
 ghost use Rattle.flat_reif.specs.Below.{AreNeeded, FlattenedBelow, IsDue, IsSettled};
 
-use crate::constant::{empty_set, falsity, least, scalar, set_argument, zero};
+use crate::constant::{alone, empty_set, falsity, least, scalar, set_argument, truth, zero};
 use crate::domain::free_domain;
 use crate::needed::Needed;
 use crate::table::{copied, divides, is_local, put, row_of_element};
+use flat_reif_folds::{Fold, fold_of_one, fold_of_two};
 use flat_reif_rows::{
     made_of_access, made_of_branches, made_of_extreme, made_of_one, made_of_sum, made_of_two,
     may_divide, may_reach, row_of_one, row_of_two,
@@ -53,7 +54,7 @@ impl Flat {
         }
     }
 
-    // An argument for a node that has one child, by this row.
+    // An argument for a node that has one child, by this row, where its argument doesn't tell the node.
     fn flatten_one(&mut self, id: Id, n: &Node, name: RowName) -> Result<(), Memory>
         requires state { IsState (state self.old) }
         requires ready { IsReady (state self.old) id n.now }
@@ -61,6 +62,20 @@ impl Flat {
         ensures { IfOk result (λ _. Gives (state self.old) (state self.new) id) }
     {
         let a = given!(self.argument(n.a));
+        match fold_of_one(n.kind, &a) {
+            Some(out) => put(&mut self.args, id, out),
+            None => self.give_one(id, n, name, a),
+        }
+    }
+
+    // An argument for a node that has one child, by this row over its argument.
+    fn give_one(&mut self, id: Id, n: &Node, name: RowName, a: Arg) -> Result<(), Memory>
+        requires state { IsState (state self.old) }
+        requires ready { IsReady (state self.old) id n.now }
+        requires row { row_of_one n.now.kind ≡ Some name }
+        requires child { at (state self.old).args n.now.a ≡ Some (plain a) }
+        ensures { IfOk result (λ _. Gives (state self.old) (state self.new) id) }
+    {
         let out = given!(made_of_one(&mut self.build, n.kind, name, a));
         put(&mut self.args, id, out)
     }
@@ -93,7 +108,8 @@ impl Flat {
         put(&mut self.args, id, out)
     }
 
-    // An argument for a node that has two children and doesn't divide, by this row.
+    // An argument for a node that has two children and doesn't divide, by this row, where their arguments
+    // don't tell the node.
     fn flatten_two(&mut self, id: Id, n: &Node, name: RowName) -> Result<(), Memory>
         requires state { IsState (state self.old) }
         requires ready { IsReady (state self.old) id n.now }
@@ -103,7 +119,12 @@ impl Flat {
     {
         let x = given!(self.argument(n.a));
         let y = given!(self.argument(n.b));
-        self.give_two(id, n, name, x, y)
+        match fold_of_two(&self.build, n.kind, &x, &y) {
+            Fold::Truth(b) => put(&mut self.args, id, truth(b)),
+            Fold::First => put(&mut self.args, id, x),
+            Fold::Second => put(&mut self.args, id, y),
+            Fold::Row => self.give_two(id, n, name, x, y),
+        }
     }
 
     // An argument of an id's sort: the least integer of its bounds, `false`, or the empty set.
@@ -353,8 +374,33 @@ impl Flat {
         }
     }
 
-    // An argument for a node that is no variable and no choice. A list needs none.
+    // The number that an integer is by its bounds, where they are one.
+    fn fixed(&self, id: Id) -> Option<Arg>
+        requires { id < length (state self.now).es }
+        ensures { IfSome result (λ a. IsFixed (extent (state self.now).es id) (plain a)) }
+    {
+        match self.arena.sort(id) {
+            Sort::Integer => alone(self.arena.bounds(id)),
+            _ => None,
+        }
+    }
+
+    // An argument for a node that is no variable and no choice: a number where its bounds are one, else
+    // by rows.
     fn flatten_inner(&mut self, id: Id, n: &Node) -> Result<(), Memory>
+        requires state { IsState (state self.old) }
+        requires ready { IsReady (state self.old) id n.now }
+        requires inner { is_free n.now.kind ≡ false }
+        ensures { IfOk result (λ _. Gives (state self.old) (state self.new) id) }
+    {
+        match self.fixed(id) {
+            Some(out) => put(&mut self.args, id, out),
+            None => self.flatten_by_kind(id, n),
+        }
+    }
+
+    // An argument for a node that is no variable and no choice, by its kind. A list needs none.
+    fn flatten_by_kind(&mut self, id: Id, n: &Node) -> Result<(), Memory>
         requires state { IsState (state self.old) }
         requires ready { IsReady (state self.old) id n.now }
         requires inner { is_free n.now.kind ≡ false }
