@@ -35,7 +35,7 @@ use Rattle.flat_reif.proofs.Gathering.{list_value, list_taken}
 -- ---- the elements of a list
 
 -- elements of a list with these bounds, which may have none
-abbrev AreListed : List Variable → List Plain → Known → Type 0
+abbrev pub AreListed : List Variable → List Plain → Known → Type 0
 AreListed vs ps (Some empty) = ps ≡ []
 AreListed vs ps x = AreElements vs ps x
 
@@ -98,7 +98,7 @@ module _ (s : State) (g : IsState s) where
   kind_is : (id : ℕ) (e : Entry) (k : NodeKind) → slice_get s.es id ≡ Some e → e.node.kind ≡ k → extent s.es id ≡ kind_extent e k (map (extent s.es) (take (arity k) (e.node.a ∷ e.node.b ∷ e.node.c ∷ [])))
   kind_is id e k is kind = extent_here s id e g is ∙ ap (λ j. kind_extent e j (map (extent s.es) (take (arity j) (e.node.a ∷ e.node.b ∷ e.node.c ∷ [])))) kind
 
-  list_listed : (id : ℕ) (ps : List Plain) → ListArgs s.es s.args id ps → AreListed s.prog.vars ps (extent s.es id)
+  pub list_listed : (id : ℕ) (ps : List Plain) → ListArgs s.es s.args id ps → AreListed s.prog.vars ps (extent s.es id)
   list_listed id [] (nil e is kind) = subst (AreListed s.prog.vars []) (sym (kind_is id e kinds.Nil is kind)) refl
   list_listed id (p ∷ ps) (cons e is kind here rest) =
       let same = kind_is id e kinds.Cons is kind in

@@ -124,7 +124,7 @@ module _ (s : State) (id : ℕ) (n : Node) (g : IsState s) (r : IsReady s id n) 
   abbrev z : Known
   z = extent s.es n.c
 
-  known : IsSome (extent_over kinds.If (x ∷ y ∷ z ∷ []))
+  pub known : IsSome (extent_over kinds.If (x ∷ y ∷ z ∷ []))
   known =
       subst (λ is. IsSome (extent_over kinds.If (map (extent s.es) is))) (children_three n kind)
       (subst (λ k. IsSome (extent_over k (map (extent s.es) (children n)))) kind (known_at s id n g (ap is_own kind) r.at_id))

@@ -58,7 +58,7 @@ bool_bit : (n : ℤ) → IsSome (bool_extent n) → (pos 0 ≤ℤ n) × (n ≤�
 unfolding bool_extent
 bool_bit n h = bit_ends n (bit_known n (is_bit n) _ h)
 
-int_sort : (vs : List Variable) (n : ℤ) → is_literal n ≡ true → is_plain vs Int (int n) ≡ true
+pub int_sort : (vs : List Variable) (n : ℤ) → is_literal n ≡ true → is_plain vs Int (int n) ≡ true
 unfolding is_plain is_constant same_kind
 int_sort vs n h = h
 
@@ -73,7 +73,7 @@ int_suits vs n h =
     } in
     subst (λ o. Suits vs (int n) (option_map whole o)) (sym limit) lies
 
-bool_sort : (vs : List Variable) (b : Bool) → is_plain vs Truth (bool b) ≡ true
+pub bool_sort : (vs : List Variable) (b : Bool) → is_plain vs Truth (bool b) ≡ true
 unfolding is_plain is_constant same_kind
 bool_sort vs b = refl
 
@@ -91,7 +91,7 @@ bool_value (pos (suc zero)) h = refl
 bool_value (pos (suc (suc k))) h = let b = bool_bit (pos (suc (suc k))) h in absurd (omega (arith, ints, b.1))
 bool_value (negsuc k) h = let b = bool_bit (negsuc k) h in absurd (omega (arith, ints, b.0))
 
-set_sort : (vs : List Variable) (u : List Range) → IsSet u → is_plain vs Set (set u) ≡ true
+pub set_sort : (vs : List Variable) (u : List Range) → IsSet u → is_plain vs Set (set u) ≡ true
 unfolding is_plain is_constant same_kind
 set_sort vs u h = set_is u h.0 h.1
 

@@ -78,10 +78,10 @@ pub record HaveTwo (s : State) (n : Node) : Type 0 where
   pub a : HasArg s n.a
   pub b : HasArg s n.b
 
-children_one : (n : Node) → arity n.kind ≡ 1 → children n ≡ n.a ∷ []
+pub children_one : (n : Node) → arity n.kind ≡ 1 → children n ≡ n.a ∷ []
 children_one n h = ap (λ m. take m (n.a ∷ n.b ∷ n.c ∷ [])) h
 
-children_two : (n : Node) → arity n.kind ≡ 2 → children n ≡ n.a ∷ n.b ∷ []
+pub children_two : (n : Node) → arity n.kind ≡ 2 → children n ≡ n.a ∷ n.b ∷ []
 children_two n h = ap (λ m. take m (n.a ∷ n.b ∷ n.c ∷ [])) h
 
 module _ (s : State) (id : ℕ) (n : Node) (g : IsState s) (own : is_own n.kind ≡ false) where
@@ -113,14 +113,14 @@ gives_at s q id out args g h is = gives_flat s q id out args (put_step s q id ou
 
 -- ---- rows of one child and of two
 
-one_arity : (k : NodeKind) (name : RowName) → row_of_one k ≡ Some name → (arity k ≡ 1) × (is_own k ≡ false)
+pub one_arity : (k : NodeKind) (name : RowName) → row_of_one k ≡ Some name → (arity k ≡ 1) × (is_own k ≡ false)
 one_arity kinds.Not name r = (refl, refl)
 one_arity kinds.ToInt name r = (refl, refl)
 one_arity kinds.Abs name r = (refl, refl)
 one_arity kinds.Card name r = (refl, refl)
 one_arity _ name r = absurd (cc)
 
-two_arity : (k : NodeKind) (name : RowName) → row_of_two k ≡ Some name → (arity k ≡ 2) × (is_own k ≡ false)
+pub two_arity : (k : NodeKind) (name : RowName) → row_of_two k ≡ Some name → (arity k ≡ 2) × (is_own k ≡ false)
 two_arity kinds.Eq name r = (refl, refl)
 two_arity kinds.Ne name r = (refl, refl)
 two_arity kinds.Le name r = (refl, refl)
@@ -162,10 +162,10 @@ module _ (s : State) (id : ℕ) (n : Node) (g : IsState s) (r : IsReady s id n) 
   pub have_two : (name : RowName) → row_of_two n.kind ≡ Some name → HaveTwo s n
   have_two name row = let ar = two_arity n.kind name row in two_have ar.0 (two_kids n.kind name (extent s.es n.a) (extent s.es n.b) row (known_two ar.0 ar.1))
 
-  all_one : (p : Plain) → arity n.kind ≡ 1 → at s.args n.a ≡ Some p → AllHave s (children n) (p ∷ [])
+  pub all_one : (p : Plain) → arity n.kind ≡ 1 → at s.args n.a ≡ Some p → AllHave s (children n) (p ∷ [])
   all_one p ar h = subst (λ is. AllHave s is (p ∷ [])) (sym (children_one n ar)) (h, tt)
 
-  all_two : (p q : Plain) → arity n.kind ≡ 2 → at s.args n.a ≡ Some p → at s.args n.b ≡ Some q → AllHave s (children n) (p ∷ q ∷ [])
+  pub all_two : (p q : Plain) → arity n.kind ≡ 2 → at s.args n.a ≡ Some p → at s.args n.b ≡ Some q → AllHave s (children n) (p ∷ q ∷ [])
   all_two p q ar h k = subst (λ is. AllHave s is (p ∷ q ∷ [])) (sym (children_two n ar)) (h, (k, tt))
 
   pub operands_one : (name : RowName) (p : Plain) → row_of_one n.kind ≡ Some name → at s.args n.a ≡ Some p → AreOperands s.prog.vars n.kind (p ∷ [])

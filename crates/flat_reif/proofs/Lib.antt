@@ -12,3 +12,6 @@ pub mod Fixed
 pub mod Gathering
 pub mod Extremes
 pub mod Accesses
+pub mod Lacking
+pub mod Below
+pub mod Folding

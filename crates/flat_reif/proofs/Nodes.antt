@@ -79,7 +79,7 @@ all_taken s (i ∷ is) (p ∷ ps) f g h = ap₂ (λ x xs. Some (seen x) ∷ xs) 
 
 -- ---- a node that is told by its kind
 
-own_or_free : (k : NodeKind) → is_own k ≡ false → is_free k ≡ false
+pub own_or_free : (k : NodeKind) → is_own k ≡ false → is_free k ≡ false
 own_or_free kinds.Int h = absurd (cc)
 own_or_free kinds.Bool h = absurd (cc)
 own_or_free kinds.Var h = absurd (cc)

@@ -3,8 +3,12 @@ use Rattle.std.specs.Prelude.{ℤ, pos, Bool, true, false}
 use Rattle.std.specs.Ordering.{int_eq}
 use Rattle.mz_operations.specs.declared.row.Side.{Side}
 use Rattle.mz_operations.specs.declared.row.Side.TheVariants.{Least, Greatest}
+use Rattle.mz_arena.specs.declared.node.Sort.{Sort}
+use Rattle.mz_arena.specs.declared.node.Sort.TheVariants as sorts
 use Rattle.mz_arena.specs.declared.node.NodeKind.{NodeKind}
 use Rattle.mz_arena.specs.declared.node.NodeKind.TheVariants as kinds
+use Rattle.fz_program.specs.declared.row_name.RowName.{RowName}
+use Rattle.fz_program.specs.declared.row_name.RowName.TheVariants as rows
 use Rattle.fz_program.specs.Arguments.{Plain, bool, int}
 
 -- a constant number or truth value
@@ -28,3 +32,16 @@ divides _ = false
 abbrev pub extreme_kind : Side → NodeKind
 extreme_kind Least = kinds.Min
 extreme_kind Greatest = kinds.Max
+
+-- a node of which no solution may give a value, though its children have one
+abbrev pub may_lack : NodeKind → Bool
+may_lack kinds.Div = true
+may_lack kinds.Mod = true
+may_lack kinds.Access = true
+may_lack _ = false
+
+-- the row of an access to a list whose elements are of a sort
+abbrev pub row_of_element : Sort → RowName
+row_of_element sorts.Integer = rows.ArrayVarIntElement
+row_of_element sorts.Boolean = rows.ArrayVarBoolElement
+row_of_element _ = rows.ArrayVarSetElement

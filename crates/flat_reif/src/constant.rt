@@ -1,12 +1,13 @@
 // Constants as arguments.
 
-ghost use Rattle.std.specs.Prelude.{◌≡◌, IfOk, pos};
-ghost use Rattle.fz_program.specs.Arguments.{int, plain, set};
+ghost use Rattle.std.specs.Prelude.{◌≡◌, [], IfOk, IfSome, false, pos};
+ghost use Rattle.fz_program.specs.Arguments.{bool, int, plain, set};
 ghost use Rattle.flat_reif.specs.NodeKinds.{scalar};
 
 use fz_program::Arg;
 use mz_arena::{Node, NodeKind};
 use mz_base::Memory;
+use mz_interval::Interval;
 use mz_value::RangeSet;
 use std::alloc::Global;
 
@@ -30,4 +31,40 @@ pub(crate) fn zero() -> Arg
     ensures { plain result ≡ int (pos 0) }
 {
     Arg::Int(0)
+}
+
+// The least integer of an interval.
+pub(crate) fn least(range: Interval) -> Arg
+    ensures { plain result ≡ int range.lo }
+{
+    Arg::Int(range.lo)
+}
+
+// The integer of an interval that has one alone.
+pub(crate) fn alone(range: Interval) -> Option<Arg>
+    ensures { IfSome result (λ a. (plain a ≡ int range.lo) × (range.lo ≡ range.hi)) }
+{
+    if range.lo == range.hi {
+        Some(Arg::Int(range.lo))
+    } else {
+        None
+    }
+}
+
+pub(crate) fn truth(b: bool) -> Arg
+    ensures { plain result ≡ bool b }
+{
+    Arg::Bool(b)
+}
+
+pub(crate) fn falsity() -> Arg
+    ensures { plain result ≡ bool false }
+{
+    Arg::Bool(false)
+}
+
+pub(crate) fn empty_set(alloc: Global) -> Result<Arg, Memory>
+    ensures { IfOk result (λ a. plain a ≡ set []) }
+{
+    Ok(Arg::Set(RangeSet::range(alloc, 1, 0)?))
 }

@@ -1,27 +1,32 @@
 // The state of a flattening, and arguments for its nodes.
 
-ghost use Rattle.std.specs.Prelude.{◌≡◌, ◌≢◌, [], IfOk, None, Some, false, length, true};
+ghost use Rattle.std.specs.Prelude.{◌≡◌, ◌≢◌, ◌<◌, ◌≤◌, [], IfOk, IfSome, IsSome, None, Some, false, length, true};
 ghost use Rattle.mz_arena.specs.declared.node.NodeKind.TheVariants.{Access, Add, Guard, If, SetConst};
-ghost use Rattle.mz_arena.specs.Entries.{at, is_local};
-ghost use Rattle.mz_arena.specs.Extents.{extent};
+ghost use Rattle.mz_arena.specs.Entries.{at, is_free, is_local};
+ghost use Rattle.mz_arena.specs.Extents.{as_single, extent};
 ghost use Rattle.fz_build_domains.specs.Bounds.{ends_of};
 ghost use Rattle.flat_reif_rows.specs.Branches.{branch_row};
 ghost use Rattle.flat_reif_rows.specs.Elements.{Reaches, element_row};
 ghost use Rattle.fz_program.specs.Arguments.{plain, plains};
-ghost use Rattle.flat_reif_rows.specs.NodeRows.{row_of_one, row_of_two};
+ghost use Rattle.flat_reif_rows.specs.NodeRows.{HasDivisor, row_of_one, row_of_two};
 ghost use Rattle.flat_reif.specs.States.{IsState, state};
-ghost use Rattle.flat_reif.specs.NodeKinds.{divides, extreme_kind, is_scalar};
-ghost use Rattle.flat_reif.specs.Lists.{Gives, HasArg, IsListed, IsNode, IsReady, ListArgs};
+ghost use Rattle.flat_reif.specs.NodeKinds.{divides, extreme_kind, is_scalar, may_lack};
+ghost use Rattle.flat_reif.specs.Unmet.{IsAny, IsFixed, IsUnmet};
+ghost use Rattle.flat_reif.specs.Lists.{Gives, HasArg, HasFront, IsListed, IsNode, IsReady, ListArgs};
+ghost use Rattle.flat_reif.specs.Below.{AreNeeded, FlattenedBelow, IsDue, IsSettled};
 
-use crate::constant::{scalar, set_argument, zero};
+use crate::constant::{alone, empty_set, falsity, least, scalar, set_argument, truth, zero};
 use crate::domain::free_domain;
-use crate::table::{copied, put};
+use crate::needed::Needed;
+use crate::table::{copied, divides, is_local, put, row_of_element};
+use flat_reif_folds::{Fold, fold_of_one, fold_of_two};
 use flat_reif_rows::{
     made_of_access, made_of_branches, made_of_extreme, made_of_one, made_of_sum, made_of_two,
+    may_divide, may_reach, row_of_one, row_of_two,
 };
 use fz_build::Build;
 use fz_program::{Arg, RowName};
-use mz_arena::{Arena, Id, Node, NodeKind};
+use mz_arena::{Arena, Id, Node, NodeKind, Sort};
 use mz_base::Memory;
 use mz_operations::Side;
 use std::alloc::Global;
@@ -49,7 +54,7 @@ impl Flat {
         }
     }
 
-    // An argument for a node that has one child, by this row.
+    // An argument for a node that has one child, by this row, where its argument doesn't tell the node.
     fn flatten_one(&mut self, id: Id, n: &Node, name: RowName) -> Result<(), Memory>
         requires state { IsState (state self.old) }
         requires ready { IsReady (state self.old) id n.now }
@@ -57,6 +62,20 @@ impl Flat {
         ensures { IfOk result (λ _. Gives (state self.old) (state self.new) id) }
     {
         let a = given!(self.argument(n.a));
+        match fold_of_one(n.kind, &a) {
+            Some(out) => put(&mut self.args, id, out),
+            None => self.give_one(id, n, name, a),
+        }
+    }
+
+    // An argument for a node that has one child, by this row over its argument.
+    fn give_one(&mut self, id: Id, n: &Node, name: RowName, a: Arg) -> Result<(), Memory>
+        requires state { IsState (state self.old) }
+        requires ready { IsReady (state self.old) id n.now }
+        requires row { row_of_one n.now.kind ≡ Some name }
+        requires child { at (state self.old).args n.now.a ≡ Some (plain a) }
+        ensures { IfOk result (λ _. Gives (state self.old) (state self.new) id) }
+    {
         let out = given!(made_of_one(&mut self.build, n.kind, name, a));
         put(&mut self.args, id, out)
     }
@@ -74,7 +93,23 @@ impl Flat {
         put(&mut self.args, id, out)
     }
 
-    // An argument for a node that has two children and doesn't divide, by this row.
+    // An argument for a node that has two children, by this row over their arguments, of which a divisor
+    // isn't 0 alone.
+    fn give_two(&mut self, id: Id, n: &Node, name: RowName, x: Arg, y: Arg) -> Result<(), Memory>
+        requires state { IsState (state self.old) }
+        requires ready { IsReady (state self.old) id n.now }
+        requires row { row_of_two n.now.kind ≡ Some name }
+        requires first { at (state self.old).args n.now.a ≡ Some (plain x) }
+        requires second { at (state self.old).args n.now.b ≡ Some (plain y) }
+        requires divisor { HasDivisor n.now.kind (ends_of (state self.old).prog.vars (plain y)) }
+        ensures { IfOk result (λ _. Gives (state self.old) (state self.new) id) }
+    {
+        let out = given!(made_of_two(self.alloc, &mut self.build, n.kind, name, x, y));
+        put(&mut self.args, id, out)
+    }
+
+    // An argument for a node that has two children and doesn't divide, by this row, where their arguments
+    // don't tell the node.
     fn flatten_two(&mut self, id: Id, n: &Node, name: RowName) -> Result<(), Memory>
         requires state { IsState (state self.old) }
         requires ready { IsReady (state self.old) id n.now }
@@ -84,8 +119,57 @@ impl Flat {
     {
         let x = given!(self.argument(n.a));
         let y = given!(self.argument(n.b));
-        let out = given!(made_of_two(self.alloc, &mut self.build, n.kind, name, x, y));
+        match fold_of_two(&self.build, n.kind, &x, &y) {
+            Fold::Truth(b) => put(&mut self.args, id, truth(b)),
+            Fold::First => put(&mut self.args, id, x),
+            Fold::Second => put(&mut self.args, id, y),
+            Fold::Row => self.give_two(id, n, name, x, y),
+        }
+    }
+
+    // An argument of an id's sort: the least integer of its bounds, `false`, or the empty set.
+    fn any(&self, id: Id) -> Result<Arg, Memory>
+        requires place { id < length (state self.now).es }
+        requires single { IsSome (as_single (extent (state self.now).es id)) }
+        ensures { IfOk result (λ a. IsAny (extent (state self.now).es id) (plain a)) }
+    {
+        match self.arena.sort(id) {
+            Sort::Integer => Ok(least(self.arena.bounds(id))),
+            Sort::Boolean => Ok(falsity()),
+            Sort::Set => empty_set(self.alloc),
+            Sort::List => unreachable!(),
+        }
+    }
+
+    // The argument of a node that no solution gives a value: any of its sort.
+    fn give_any(&mut self, id: Id, n: &Node) -> Result<(), Memory>
+        requires state { IsState (state self.old) }
+        requires ready { IsReady (state self.old) id n.now }
+        requires kind { may_lack n.now.kind ≡ true }
+        requires unmet { IsUnmet (state self.old) }
+        ensures { IfOk result (λ _. Gives (state self.old) (state self.new) id) }
+    {
+        let _kind = n.kind;
+        let out = given!(self.any(id));
         put(&mut self.args, id, out)
+    }
+
+    // An argument for a quotient or a remainder, by this row. Where the divisor is 0 alone, no solution gives
+    // the node a value.
+    fn flatten_division(&mut self, id: Id, n: &Node, name: RowName) -> Result<(), Memory>
+        requires state { IsState (state self.old) }
+        requires ready { IsReady (state self.old) id n.now }
+        requires row { row_of_two n.now.kind ≡ Some name }
+        requires kind { divides n.now.kind ≡ true }
+        ensures { IfOk result (λ _. Gives (state self.old) (state self.new) id) }
+    {
+        let x = given!(self.argument(n.a));
+        let y = given!(self.argument(n.b));
+        if may_divide(&self.build, &y) {
+            self.give_two(id, n, name, x, y)
+        } else {
+            self.give_any(id, n)
+        }
     }
 
     // An argument for branches, by the row of an access to a list of such.
@@ -220,5 +304,166 @@ impl Flat {
     {
         let out = given!(made_of_access(self.alloc, &mut self.build, name, index, items));
         put(&mut self.args, id, out)
+    }
+
+    // An argument for an access. Where no index that it may have is a place of the list, no solution gives
+    // the node a value.
+    fn flatten_access(&mut self, id: Id, n: &Node) -> Result<(), Memory>
+        requires state { IsState (state self.old) }
+        requires ready { IsReady (state self.old) id n.now }
+        requires kind { n.now.kind ≡ Access }
+        ensures { IfOk result (λ _. Gives (state self.old) (state self.new) id) }
+    {
+        let index = given!(self.argument(n.a));
+        let items = given!(self.gather(n.b));
+        if may_reach(&self.build, &index, items.len() as u64) {
+            let name = row_of_element(self.arena.sort(id));
+            self.give_access(id, n, name, index, items)
+        } else {
+            self.give_any(id, n)
+        }
+    }
+
+    // An argument for branches, by the row of their sort.
+    fn flatten_if(&mut self, id: Id, n: &Node) -> Result<(), Memory>
+        requires state { IsState (state self.old) }
+        requires ready { IsReady (state self.old) id n.now }
+        requires kind { n.now.kind ≡ If }
+        ensures { IfOk result (λ _. Gives (state self.old) (state self.new) id) }
+    {
+        let name = row_of_element(self.arena.sort(n.b));
+        self.flatten_branches(id, n, name)
+    }
+
+    // An argument for a node of two children, by this row.
+    fn flatten_operation(&mut self, id: Id, n: &Node, name: RowName) -> Result<(), Memory>
+        requires state { IsState (state self.old) }
+        requires ready { IsReady (state self.old) id n.now }
+        requires row { row_of_two n.now.kind ≡ Some name }
+        ensures { IfOk result (λ _. Gives (state self.old) (state self.new) id) }
+    {
+        if divides(n.kind) {
+            self.flatten_division(id, n, name)
+        } else {
+            self.flatten_two(id, n, name)
+        }
+    }
+
+    // An argument for a node that no one row gives. A list needs none.
+    fn flatten_other(&mut self, id: Id, n: &Node) -> Result<(), Memory>
+        requires state { IsState (state self.old) }
+        requires ready { IsReady (state self.old) id n.now }
+        requires inner { is_free n.now.kind ≡ false }
+        requires one { row_of_one n.now.kind ≡ None }
+        requires two { row_of_two n.now.kind ≡ None }
+        ensures { IfOk result (λ _. Gives (state self.old) (state self.new) id) }
+    {
+        match n.kind {
+            NodeKind::Int => self.flatten_scalar(id, n),
+            NodeKind::Bool => self.flatten_scalar(id, n),
+            NodeKind::SetConst => self.flatten_set(id, n),
+            NodeKind::Add => self.flatten_sum(id, n),
+            NodeKind::Min => self.flatten_extreme(id, n, Side::Least),
+            NodeKind::Max => self.flatten_extreme(id, n, Side::Greatest),
+            NodeKind::If => self.flatten_if(id, n),
+            NodeKind::Access => self.flatten_access(id, n),
+            NodeKind::Guard => self.flatten_guard(id, n),
+            NodeKind::Nil => Ok(()),
+            NodeKind::Cons => Ok(()),
+            _ => unreachable!(),
+        }
+    }
+
+    // The number that an integer is by its bounds, where they are one.
+    fn fixed(&self, id: Id) -> Option<Arg>
+        requires { id < length (state self.now).es }
+        ensures { IfSome result (λ a. IsFixed (extent (state self.now).es id) (plain a)) }
+    {
+        match self.arena.sort(id) {
+            Sort::Integer => alone(self.arena.bounds(id)),
+            _ => None,
+        }
+    }
+
+    // An argument for a node that is no variable and no choice: a number where its bounds are one, else
+    // by rows.
+    fn flatten_inner(&mut self, id: Id, n: &Node) -> Result<(), Memory>
+        requires state { IsState (state self.old) }
+        requires ready { IsReady (state self.old) id n.now }
+        requires inner { is_free n.now.kind ≡ false }
+        ensures { IfOk result (λ _. Gives (state self.old) (state self.new) id) }
+    {
+        match self.fixed(id) {
+            Some(out) => put(&mut self.args, id, out),
+            None => self.flatten_by_kind(id, n),
+        }
+    }
+
+    // An argument for a node that is no variable and no choice, by its kind. A list needs none.
+    fn flatten_by_kind(&mut self, id: Id, n: &Node) -> Result<(), Memory>
+        requires state { IsState (state self.old) }
+        requires ready { IsReady (state self.old) id n.now }
+        requires inner { is_free n.now.kind ≡ false }
+        ensures { IfOk result (λ _. Gives (state self.old) (state self.new) id) }
+    {
+        match row_of_one(n.kind) {
+            Some(name) => self.flatten_one(id, n, name),
+            None => match row_of_two(n.kind) {
+                Some(name) => self.flatten_operation(id, n, name),
+                None => self.flatten_other(id, n),
+            },
+        }
+    }
+
+    // Whether an id has an argument.
+    fn has(&self, id: Id) -> bool
+        ensures yes { result ≡ true → HasArg (state self.now) id }
+        ensures no { result ≡ false → at (state self.now).args id ≡ None }
+    {
+        match self.args.get(id as usize) {
+            Some(Some(_)) => true,
+            _ => false,
+        }
+    }
+
+    // An argument for an id, where it has none and is a choice or needed.
+    fn settle(&mut self, id: Id, needed: bool) -> Result<(), Memory>
+        requires state { IsState (state self.old) }
+        requires front { HasFront (state self.old) }
+        requires place { id < length (state self.old).es }
+        requires due { needed ≡ true → IsDue (state self.old) id }
+        ensures { IfOk result (λ _. IsSettled (state self.old) (state self.new) id needed) }
+    {
+        if self.has(id) {
+            return Ok(());
+        }
+        let n = self.arena.node(id);
+        if is_local(n.kind) {
+            self.flatten_choice(id, &n)
+        } else if needed {
+            self.flatten_inner(id, &n)
+        } else {
+            Ok(())
+        }
+    }
+
+    /// Gives arguments to the needed ids below this one, by rows, and to the choices among these ids,
+    /// needed or not, each a variable that no row defines. An id that has an argument keeps it.
+    ///
+    /// The model's variables have their arguments. The needed ids are total nodes, and their children are
+    /// needed.
+    pub fn flatten_below(&mut self, upto: Id, need: &Needed) -> Result<(), Memory>
+        requires state { IsState (state self.old) }
+        requires front { HasFront (state self.old) }
+        requires upto { upto ≤ length (state self.old).es }
+        requires need { AreNeeded (state self.old).es need.now }
+        ensures { IfOk result (λ _. FlattenedBelow (state self.old) (state self.new) need.now upto) }
+    {
+        let mut here = 0;
+        'ids: while here < upto {
+            given!(self.settle(here, need.has(here)));
+            here += 1;
+        }
+        Ok(())
     }
 }

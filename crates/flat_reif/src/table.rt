@@ -1,11 +1,13 @@
-// The arguments of ids.
+// The arguments of ids, and tests of kinds and sorts.
 
 ghost use Rattle.std.specs.Prelude.{◌≡◌, ◌<◌, IfOk, OnOk, length};
 ghost use Rattle.fz_program.specs.Arguments.{Plain, plain};
 ghost use Rattle.flat_reif.specs.States.{plain_args, put_at};
+ghost use Rattle.mz_arena.specs.Entries.{is_local};
+ghost use Rattle.flat_reif.specs.NodeKinds.{divides, row_of_element};
 
-use fz_program::Arg;
-use mz_arena::Id;
+use fz_program::{Arg, RowName};
+use mz_arena::{Id, NodeKind, Sort};
 use mz_base::Memory;
 use std::alloc::Global;
 
@@ -49,4 +51,29 @@ pub(crate) fn put(args: &mut Vec<Option<Arg>>, id: Id, a: Arg) -> Result<(), Mem
     given!(reach(args, id));
     set(args, id, a);
     Ok(())
+}
+
+// The row of an access to a list whose elements are of this sort.
+pub(crate) fn row_of_element(sort: Sort) -> RowName
+    ensures { result ≡ row_of_element sort }
+{
+    match sort {
+        Sort::Integer => RowName::ArrayVarIntElement,
+        Sort::Boolean => RowName::ArrayVarBoolElement,
+        _ => RowName::ArrayVarSetElement,
+    }
+}
+
+// Whether a node of this kind is a choice.
+pub(crate) fn is_local(kind: NodeKind) -> bool
+    ensures { result ≡ is_local kind }
+{
+    matches!(kind, NodeKind::Local | NodeKind::SetLocal)
+}
+
+// Whether a node of this kind has no value where its second child is 0.
+pub(crate) fn divides(kind: NodeKind) -> bool
+    ensures { result ≡ divides kind }
+{
+    matches!(kind, NodeKind::Div | NodeKind::Mod)
 }
