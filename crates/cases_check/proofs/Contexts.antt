@@ -3,10 +3,10 @@ use Rattle.std.proofs.Common.{◌≡◌, ◌∙◌, ℕ, zero, suc, ◌<◌, Lis
 use Rattle.std.specs.Prelude.{All}
 use Rattle.std.proofs.lemmas.List.Elements.{All-head, All-tail}
 use Rattle.mz_scope_order.specs.Scoped.{ScopedTree}
+use Rattle.mz_scope_order.specs.Subjects.{Subject, IsOrderOf}
 use Rattle.mz_check_meaning.specs.Models.{Model}
-use Rattle.mz_check_meaning.specs.Headings.{Subject, with_types}
+use Rattle.mz_check_meaning.specs.Headings.{with_types}
 use Rattle.mz_check_meaning.specs.Checks.{untyped}
-use Rattle.mz_check_exprs.specs.Subjects.{IsOrderOf}
 use Rattle.mz_check_exprs.specs.NamedModels.{AreNamed}
 use Rattle.mz_check_exprs.specs.NewSubjects.{AreNew}
 use Rattle.mz_check_exprs.proofs.New.{all_new, texts_kept}

@@ -1,7 +1,8 @@
 // What a case is typed to in a scoped model.
 
 ghost use Rattle.std.specs.Prelude.{length};
-ghost use Rattle.mz_scope_order.specs.Scoped.{scoped_tree, shared_names, AreDistinct, AreRanked};
+ghost use Rattle.mz_scope_order.specs.Scoped.{scoped_tree, shared_names, AreDistinct};
+ghost use Rattle.mz_scope_order.specs.Subjects.{subject, IsOrderOf};
 ghost use Rattle.mz_check_exprs.specs.NamedModels.{AreNamed};
 ghost use Rattle.mz_check_context.specs.Known.{known};
 ghost use Rattle.mz_tree.specs.Views.{tree, written};
@@ -12,7 +13,7 @@ use crate::types::put_type;
 use cases::Page;
 use mz_base::{Memory, Names, Stop};
 use mz_check_context::{Context, Scope};
-use mz_check_exprs::{check, check_written, type_order, untyped, with_types};
+use mz_check_exprs::{check, check_written, untyped, with_types};
 use mz_scope_order::Scoped;
 use mz_tree::{Expr, TypeText};
 use std::alloc::Global;
@@ -142,12 +143,11 @@ pub fn print(
     page: &mut Page,
 ) -> Result<(), Memory>
     requires distinct { AreDistinct (shared_names (scoped_tree scoped.now)) }
-    requires ranked { AreRanked (scoped_tree scoped.now) }
+    requires ordered { IsOrderOf (scoped_tree scoped.now) (map subject scoped.now.types.items) }
     requires named { AreNamed (length names.now) (scoped_tree scoped.now) }
 {
-    let order = type_order(alloc, scoped)?;
     let mut context = untyped(alloc, scoped, names)?;
-    with_types(alloc, scoped, &mut context, order.as_slice())?;
+    with_types(alloc, scoped, &mut context, scoped.types.as_slice())?;
     match kind {
         Kind::Expression => {
             let scope = context.outermost(alloc);

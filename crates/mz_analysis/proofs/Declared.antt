@@ -12,10 +12,11 @@ use Rattle.mz_tree.specs.Data.{Given}
 use Rattle.mz_meaning.specs.Walk.{ordered, with_decl}
 use Rattle.mz_scope_order.specs.Parts.{name_of}
 use Rattle.mz_scope_order.specs.Scoped.{ScopedTree, AreDistinct, enum_names, bare_name, shared_names}
+use Rattle.mz_scope_order.specs.Subjects.{Subject}
 use Rattle.mz_check_meaning.specs.Tests.{Test, ◌>>=◌, each}
 use Rattle.mz_check_meaning.specs.Models.{Model, type_of_decl}
 use Rattle.mz_check_meaning.specs.Items.{value_of, decl, function, constraint, goal, output}
-use Rattle.mz_check_meaning.specs.Headings.{Subject, with_types}
+use Rattle.mz_check_meaning.specs.Headings.{with_types}
 use Rattle.mz_check_meaning.specs.Checks.{numbered, untyped, Sections, sections, decl_in}
 use Rattle.mz_check_data.specs.WithData.{AreNumbered, with_value, with_values, checked_given, checked_with_data}
 use Rattle.mz_check_data.proofs.Parted.{parted}

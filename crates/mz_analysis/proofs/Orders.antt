@@ -15,11 +15,12 @@ use Rattle.mz_scope_uses.specs.Uses.{in_written}
 use Rattle.mz_scope_uses.specs.Sketches.{decl_sketch, function_sketch, in_parameters, with_parameters}
 use Rattle.mz_scope_order.specs.Parts.{decl_at, function_at}
 use Rattle.mz_scope_order.specs.Scoped.{ScopedTree}
+use Rattle.mz_scope_order.specs.Subjects.{Subject, of_decl, of_function, IsAmong, AreTyped, types_in, ComeAfterNeeds}
 use Rattle.mz_check_meaning.specs.Tests.{Test, ◌>>=◌, loop}
 use Rattle.mz_check_meaning.specs.Models.{Model, Heading, entry_of, outermost, bind}
 use Rattle.mz_check_meaning.specs.Typing.{check_written}
 use Rattle.mz_check_meaning.specs.Lets.{new_name, decl_of}
-use Rattle.mz_check_meaning.specs.Headings.{Parameters, param_next, heading, written_in, Subject, of_decl, of_function, with_type, with_types, IsAmong, AreTyped, types_in, ComeAfterNeeds}
+use Rattle.mz_check_meaning.specs.Headings.{Parameters, param_next, heading, written_in, with_type, with_types}
 use Rattle.mz_check_meaning.specs.Checks.{untyped}
 use Rattle.mz_analysis.proofs.Meanings.{uses_alike}
 use Rattle.mz_analysis.proofs.Alike.{front_all, back_all, same_next, same_then, given_by, Gives, gives_next, Hides, bound_hides, told, UseAlike, Alike, type_alike}

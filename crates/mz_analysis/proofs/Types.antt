@@ -18,12 +18,13 @@ use Rattle.mz_tree.specs.Data.{Given}
 use Rattle.mz_tree.specs.Kinds.{OfTree, OfMaybe, OfDeclaration, OfWritten, OfGoal}
 use Rattle.mz_scope_order.specs.Parts.{place_of, decl_at, function_at}
 use Rattle.mz_scope_order.specs.Scoped.{ScopedTree}
+use Rattle.mz_scope_order.specs.Subjects.{Subject, of_decl, of_function}
 use Rattle.mz_check_meaning.specs.Tests.{Test, refuse, loop, each}
 use Rattle.mz_check_meaning.specs.Models.{Model, Heading, outermost, in_output, type_of_decl, heading_of, entry_of}
 use Rattle.mz_check_meaning.specs.Coerced.{fitted, is_scalar}
 use Rattle.mz_check_meaning.specs.Typing.{check, check_written}
 use Rattle.mz_check_meaning.specs.Lets.{new_name}
-use Rattle.mz_check_meaning.specs.Headings.{Parameters, param_next, heading, written_in, Subject, of_decl, of_function, with_type, with_types}
+use Rattle.mz_check_meaning.specs.Headings.{Parameters, param_next, heading, written_in, with_type, with_types}
 use Rattle.mz_check_meaning.specs.Duplicates.{Signed, is_taken, duplicate_after}
 use Rattle.mz_check_meaning.specs.Items.{value_of, decl, function, with_params, constraint, objective, goal, output}
 use Rattle.mz_check_meaning.specs.Checks.{numbered, Met, met, first_from, stands_before, none_met, type_met, heading_met, types_met, signed_by, signed, no_fault, decl_met, function_met, tree_met, tree_place, value_place, goal_place, items_met, sections, untyped}

@@ -16,11 +16,11 @@ use Rattle.mz_scope_uses.specs.Uses.{in_tree}
 use Rattle.mz_scope_uses.specs.Sketches.{decl_sketch, function_sketch}
 use Rattle.mz_scope_order.specs.Parts.{place_of, decl_at, function_at}
 use Rattle.mz_scope_order.specs.Scoped.{ScopedTree}
+use Rattle.mz_scope_order.specs.Subjects.{Subject, of_decl, of_function, IsTypeOrder}
 use Rattle.mz_check_meaning.specs.Tests.{Test, ◌>>=◌, ◌>>◌, each}
 use Rattle.mz_check_meaning.specs.Models.{Model, Env, outermost, in_output, entry_of, typed_so_far, type_of_decl, heading_of}
 use Rattle.mz_check_meaning.specs.Coerced.{condition}
 use Rattle.mz_check_meaning.specs.Typing.{check}
-use Rattle.mz_check_meaning.specs.Headings.{Subject, of_decl, of_function, IsTypeOrder}
 use Rattle.mz_check_meaning.specs.Duplicates.{duplicate_after}
 use Rattle.mz_check_meaning.specs.Items.{value_of, decl, function, with_params, constraint, integer, objective, goal, texts_fitted, output}
 use Rattle.mz_check_meaning.specs.Checks.{numbered, met, none_met, type_met, heading_met, types_met, signed_by, signed, no_fault, decl_met, function_met, tree_met, tree_place, value_place, goal_place, items_met, Sections, sections, untyped}

@@ -4,7 +4,7 @@ use Rattle.mz_base.specs.declared.fault.Fault.{Fault}
 use Rattle.mz_tree.specs.Data.{Given}
 use Rattle.mz_include.specs.Naming.{File}
 use Rattle.mz_scope_order.specs.Scoped.{ScopedTree, AreDistinct}
-use Rattle.mz_check_meaning.specs.Headings.{Subject, IsTypeOrder}
+use Rattle.mz_scope_order.specs.Subjects.{Subject, IsTypeOrder}
 use Rattle.mz_check_data.specs.WithData.{AreNumbered, checked_with_data, IsRefusedWithData}
 use Rattle.mz_analysis.specs.Known.{IsWithin}
 use Rattle.mz_core.specs.Program.{PlainProgram}

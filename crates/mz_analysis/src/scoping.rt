@@ -1,8 +1,9 @@
 // The scoped model of a model's files with their data.
 
-ghost use Rattle.std.specs.Prelude.{◌<◌, length, IfOk, IfErr};
+ghost use Rattle.std.specs.Prelude.{◌<◌, length, map, IfOk, IfErr};
 ghost use Rattle.mz_base.specs.Faults.{IfRefused};
 ghost use Rattle.mz_scope_order.specs.Scoped.{scoped_tree, AreRanked};
+ghost use Rattle.mz_scope_order.specs.Subjects.{subject, IsOrderOf};
 ghost use Rattle.mz_analysis.specs.Analysis.{IsScopedModel, IsIllNamed, IsRead, files_read, items_read, count_read};
 ghost use Rattle.mz_analysis.specs.Known.{IsWithin};
 
@@ -25,6 +26,7 @@ pub fn scoped_model<'a>(
     requires { IsRead names.now read.now }
     ensures scoped { IfOk result (λ s. IsScopedModel names.now (files_read names.now read.now) (items_read read.now) (scoped_tree s)) }
     ensures ranked { IfOk result (λ s. AreRanked (scoped_tree s)) }
+    ensures ordered { IfOk result (λ s. IsOrderOf (scoped_tree s) (map subject s.types.items)) }
     ensures within { IfOk result (λ s. IsWithin (length names.now) (count_read read.now) (scoped_tree s)) }
     ensures refused { IfErr result (λ s. IfRefused s (IsIllNamed names.now (files_read names.now read.now) (items_read read.now))) }
     ensures placed { IfErr result (λ s. IfRefused s (λ f. f.span.file < count_read read.now)) }

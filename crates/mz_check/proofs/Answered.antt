@@ -5,8 +5,7 @@ use Rattle.mz_base.specs.declared.stop.Stop.{Stop}
 use Rattle.mz_base.specs.declared.stop.Stop.TheVariants.{Refused, Memory}
 use Rattle.mz_base.specs.Faults.{IfRefused}
 use Rattle.mz_scope_order.specs.Scoped.{ScopedTree}
-use Rattle.mz_check_exprs.specs.Subjects.{IsOrderOf}
-use Rattle.mz_check_meaning.specs.Headings.{Subject}
+use Rattle.mz_scope_order.specs.Subjects.{IsOrderOf, Subject}
 use Rattle.mz_check_meaning.specs.Passes.{Passes}
 use Rattle.mz_check_data.specs.WithData.{checked_with_data, IsRefusedWithData}
 use Rattle.mz_check.specs.StepsParts.{sections_of}

@@ -3,10 +3,10 @@ use Rattle.std.proofs.Common.{◌≡◌, ℕ, List, [], ◌∷◌, Ok, length, r
 use Rattle.std.specs.List.{flat_map}
 use Rattle.mz_core.specs.Tree.{Tree}
 use Rattle.mz_scope_order.specs.Scoped.{ScopedTree}
-use Rattle.mz_check_exprs.specs.Subjects.{IsOrderOf}
+use Rattle.mz_scope_order.specs.Subjects.{IsOrderOf, Subject, of_decl, of_function}
 use Rattle.mz_check_meaning.specs.Tests.{Test}
 use Rattle.mz_check_meaning.specs.Models.{Model}
-use Rattle.mz_check_meaning.specs.Headings.{Subject, of_decl, of_function, with_type, with_types}
+use Rattle.mz_check_meaning.specs.Headings.{with_type, with_types}
 use Rattle.mz_check_meaning.specs.Checks.{numbered, with_parameters, untyped, Sections}
 use Rattle.mz_check_data.specs.WithData.{AreNumbered, with_values, checked_given, checked_with_data}
 use Rattle.mz_check_data.proofs.Parted.{parted}

@@ -6,9 +6,8 @@ use Rattle.mz_core.specs.Program.{Function, Goal, satisfy, minimize, maximize}
 use Rattle.mz_tree.specs.Items.{FunctionTree}
 use Rattle.mz_scope_order.specs.Parts.{decl_at, function_at}
 use Rattle.mz_scope_order.specs.Scoped.{ScopedTree}
-use Rattle.mz_check_exprs.specs.Subjects.{AreOf}
+use Rattle.mz_scope_order.specs.Subjects.{AreOf, Subject, of_decl, of_function}
 use Rattle.mz_check_meaning.specs.Tests.{◌>>=◌, ◌>>◌}
-use Rattle.mz_check_meaning.specs.Headings.{Subject, of_decl, of_function}
 use Rattle.mz_check_meaning.specs.Items.{goal}
 use Rattle.mz_core.specs.Nodes as nodes
 use Rattle.mz_core.specs.Nodes.{nodes_in, in_maybe, in_maybes}

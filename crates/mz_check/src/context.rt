@@ -2,7 +2,7 @@
 
 ghost use Rattle.std.specs.Prelude.{◌≡◌, length, map, IfOk};
 ghost use Rattle.mz_scope_order.specs.Scoped.{scoped_tree, shared_names, AreDistinct};
-ghost use Rattle.mz_check_exprs.specs.Subjects.{subject, IsOrderOf};
+ghost use Rattle.mz_scope_order.specs.Subjects.{subject, IsOrderOf};
 ghost use Rattle.mz_check_meaning.specs.Headings.{with_types};
 ghost use Rattle.mz_check_meaning.specs.Checks.{untyped};
 ghost use Rattle.mz_check_context.specs.Known.{known};
@@ -10,8 +10,8 @@ ghost use Rattle.mz_check_exprs.specs.NamedModels.{AreNamed};
 
 use mz_base::{Memory, Names};
 use mz_check_context::Context;
-use mz_check_exprs::{Subject, untyped, with_types};
-use mz_scope_order::Scoped;
+use mz_check_exprs::{untyped, with_types};
+use mz_scope_order::{Scoped, Subject};
 use std::alloc::Global;
 
 /// What is known of a model when its types are typed in this order.

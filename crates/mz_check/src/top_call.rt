@@ -4,8 +4,8 @@ ghost use Rattle.std.specs.Prelude.{◌≡◌, length, map, IfOk, IfErr};
 ghost use Rattle.std.specs.List.{flat_map};
 ghost use Rattle.mz_base.specs.Faults.{IfRefused};
 ghost use Rattle.mz_core.specs.Program.{plain_program};
-ghost use Rattle.mz_scope_order.specs.Scoped.{scoped_tree, shared_names, AreDistinct, AreRanked};
-ghost use Rattle.mz_check_exprs.specs.Subjects.{subject, IsOrderOf};
+ghost use Rattle.mz_scope_order.specs.Scoped.{scoped_tree, shared_names, AreDistinct};
+ghost use Rattle.mz_scope_order.specs.Subjects.{subject, IsOrderOf};
 ghost use Rattle.mz_check_meaning.specs.Checks.{numbered, with_parameters};
 ghost use Rattle.mz_check_meaning.specs.Passes.{Passes};
 ghost use Rattle.mz_check_context.specs.Known.{known};
@@ -23,9 +23,8 @@ use crate::testing::{test_duplicates, test_types};
 use mz_base::{Names, Stop};
 use mz_check_context::Context;
 use mz_check_data::{given_values, with_values};
-use mz_check_exprs::{Subject, type_order};
 use mz_core::{Core, Program};
-use mz_scope_order::Scoped;
+use mz_scope_order::{Scoped, Subject};
 use std::alloc::Global;
 
 /// The typed sections, whose declarations have the values that data gives them.
@@ -85,20 +84,19 @@ fn sections_in_order(
     checked_sections(alloc, scoped, context)
 }
 
-/// The typed program of a scoped model with its data, or its first fault of types: first types are typed, in source order and each after
-/// those that it needs; then functions that are declared twice are refused; then data that doesn't fit; then values, bodies and all other
-/// items are typed, in source order. A declaration's value is the written one, or the one from data.
+/// The typed program of a scoped model with its data, or its first fault of types: first types are typed, in the model's order of
+/// types; then functions that are declared twice are refused; then data that doesn't fit; then values, bodies and all other items
+/// are typed, in source order. A declaration's value is the written one, or the one from data.
 ///
 /// `names` has the texts of all names in the model, of which no two in the shared space are the same.
 pub fn check(alloc: Global, scoped: &Scoped<'_>, names: &Names) -> Result<Program, Stop>
     requires distinct { AreDistinct (shared_names (scoped_tree scoped.now)) }
-    requires ranked { AreRanked (scoped_tree scoped.now) }
+    requires ordered { IsOrderOf (scoped_tree scoped.now) (map subject scoped.now.types.items) }
     requires named { AreNamed (length names.now) (scoped_tree scoped.now) }
     ensures checks { IfOk result (λ p. ChecksWithData names.now (scoped_tree scoped.now) (plain_program p)) }
     ensures refused { IfErr result (λ e. IfRefused e (IsRefusedWithData names.now (scoped_tree scoped.now))) }
 {
-    let order = type_order(alloc, scoped)?;
-    let sections = sections_in_order(alloc, scoped, names, order.as_slice())?;
+    let sections = sections_in_order(alloc, scoped, names, scoped.types.as_slice())?;
     let program = program_of(alloc, scoped, names, sections)?;
     Ok(program)
 }

@@ -15,12 +15,13 @@ use Rattle.mz_tree.specs.Items.{FunctionTree, GoalTree}
 use Rattle.mz_tree.specs.Kinds.{OfTree, OfMaybe}
 use Rattle.mz_scope_order.specs.Parts.{decl_at, function_at}
 use Rattle.mz_scope_order.specs.Scoped.{ScopedTree}
+use Rattle.mz_scope_order.specs.Subjects.{Subject, of_decl, of_function}
 use Rattle.mz_check_meaning.specs.Tests.{Test, ◌>>=◌, ◌>>◌, refuse, loop, each}
 use Rattle.mz_check_meaning.specs.Models.{Model, Heading, entry_of, typed_so_far, type_of_decl, heading_of, outermost, in_output, bind}
 use Rattle.mz_check_meaning.specs.Coerced.{fitted, condition, as_var, is_scalar}
 use Rattle.mz_check_meaning.specs.Lets.{new_name, decl_of}
 use Rattle.mz_check_meaning.specs.Typing.{check, check_written}
-use Rattle.mz_check_meaning.specs.Headings.{Parameters, param_next, heading, written_in, Subject, of_decl, of_function, with_type, with_types}
+use Rattle.mz_check_meaning.specs.Headings.{Parameters, param_next, heading, written_in, with_type, with_types}
 use Rattle.mz_check_meaning.specs.Items.{value_of, decl, with_params, function, constraint, objective, goal, texts_like, texts_fitted, output}
 use Rattle.mz_check_meaning.specs.Duplicates.{duplicate_after}
 use Rattle.mz_check_meaning.specs.Checks.{numbered, none_met, types_met, items_met, no_fault, signed, untyped, Sections, sections}

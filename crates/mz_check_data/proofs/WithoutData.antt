@@ -2,9 +2,10 @@
 use Rattle.std.proofs.Common.{◌≡◌, ◌∙◌, ℕ, List, [], Ok, Err, refl, ap}
 use Rattle.mz_core.specs.Tree.{Tree, Decl}
 use Rattle.mz_scope_order.specs.Scoped.{ScopedTree}
+use Rattle.mz_scope_order.specs.Subjects.{Subject}
 use Rattle.mz_check_meaning.specs.Tests.{Test, ◌>>=◌, ◌>>◌}
 use Rattle.mz_check_meaning.specs.Models.{Model}
-use Rattle.mz_check_meaning.specs.Headings.{Subject, with_types}
+use Rattle.mz_check_meaning.specs.Headings.{with_types}
 use Rattle.mz_check_meaning.specs.Duplicates.{duplicate_after}
 use Rattle.mz_check_meaning.specs.Checks.{untyped, none_met, types_met, no_fault, signed, items_met, Sections, sections, checked_with, checked}
 use Rattle.mz_check_data.specs.WithData.{given_values, with_values, checked_given, checked_with_data}

@@ -3,8 +3,8 @@ use Rattle.std.specs.Prelude.{◌≡◌, ℕ, List, [], All, Ok}
 use Rattle.mz_core.specs.Tree.{Tree}
 use Rattle.mz_tree.specs.Data.{Given}
 use Rattle.mz_scope_order.specs.Scoped.{ScopedTree}
+use Rattle.mz_scope_order.specs.Subjects.{Subject}
 use Rattle.mz_check_meaning.specs.Models.{Model}
-use Rattle.mz_check_meaning.specs.Headings.{Subject}
 use Rattle.mz_check_meaning.specs.Texts.{texts_in}
 use Rattle.mz_check_meaning.specs.Checks.{checked}
 use Rattle.mz_check_data.specs.WithData.{given_values, checked_with_data}

@@ -8,11 +8,12 @@ use Rattle.mz_core.specs.Tree.{Tree, Decl}
 use Rattle.mz_core.specs.Program.{PlainProgram}
 use Rattle.mz_tree.specs.Data.{Given}
 use Rattle.mz_scope_order.specs.Scoped.{ScopedTree}
+use Rattle.mz_scope_order.specs.Subjects.{Subject, IsTypeOrder}
 use Rattle.mz_check_meaning.specs.declared.meaning.Meaning.{Meaning}
 use Rattle.mz_check_meaning.specs.declared.meaning.Meaning.TheVariants as meaning
 use Rattle.mz_check_meaning.specs.Tests.{Test, ◌>>=◌, ◌>>◌, refuse, each}
 use Rattle.mz_check_meaning.specs.Models.{Model, entry_of, type_of_decl}
-use Rattle.mz_check_meaning.specs.Headings.{Subject, with_types, IsTypeOrder}
+use Rattle.mz_check_meaning.specs.Headings.{with_types}
 use Rattle.mz_check_meaning.specs.Duplicates.{duplicate_after}
 use Rattle.mz_check_meaning.specs.Checks.{untyped, none_met, types_met, no_fault, signed, items_met, Sections, sections, IsProgramOf}
 use Rattle.mz_check_data.specs.Datum.{typed_value}

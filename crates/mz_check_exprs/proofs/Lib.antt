@@ -1,6 +1,3 @@
-pub mod Completing
-pub mod Declared
-pub mod Sorting
 pub mod Layers
 pub mod NamingLaws
 pub mod Scopes

@@ -7,11 +7,11 @@ use Rattle.std.proofs.lemmas.List.{drop_more, get_or-map, length-map}
 use Rattle.std.proofs.lemmas.Option.{slice_get-get_or, slice_get_past}
 use Rattle.std.proofs.Math.ListN.{drop_of_length-le}
 use Rattle.mz_scope_order.specs.Scoped.{ScopedTree}
-use Rattle.mz_check_exprs.specs.declared.subject.Subject.{Subject as Typed}
-use Rattle.mz_check_exprs.specs.declared.subject.Subject.TheVariants.{Decl}
-use Rattle.mz_check_exprs.specs.Subjects.{subject, IsOf, AreOf, AreOnce}
+use Rattle.mz_scope_order.specs.declared.subject.Subject.{Subject as Typed}
+use Rattle.mz_scope_order.specs.declared.subject.Subject.TheVariants.{Decl}
+use Rattle.mz_scope_order.specs.Subjects.{subject, IsOf, AreOf, AreOnce, Subject, of_decl, of_function, IsAmong}
 use Rattle.mz_check_meaning.specs.Models.{Model, entry_of}
-use Rattle.mz_check_meaning.specs.Headings.{Subject, of_decl, of_function, IsAmong, with_type, with_types}
+use Rattle.mz_check_meaning.specs.Headings.{with_type, with_types}
 use Rattle.mz_check_exprs.specs.NewSubjects.{IsNew, AreNew}
 use Rattle.mz_check_exprs.specs.StepsTypes.{IfThere, with_there}
 

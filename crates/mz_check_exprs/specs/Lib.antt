@@ -1,4 +1,3 @@
-pub mod Subjects
 pub mod StepsForms
 pub mod Naming
 pub mod Views

@@ -1,7 +1,7 @@
 -- Declarations and functions whose types are typed one after the other.
 use Rattle.std.specs.Prelude.{◌≡◌, List, [], ◌∷◌, None}
+use Rattle.mz_scope_order.specs.Subjects.{Subject, of_decl, of_function, IsAmong}
 use Rattle.mz_check_meaning.specs.Models.{Model, entry_of}
-use Rattle.mz_check_meaning.specs.Headings.{Subject, of_decl, of_function, IsAmong}
 
 -- it has no type yet
 abbrev pub IsNew : Model → Subject → Type 0

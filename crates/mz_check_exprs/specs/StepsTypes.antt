@@ -4,8 +4,9 @@ use Rattle.mz_base.specs.declared.fault.Fault.{Fault}
 use Rattle.mz_base.specs.declared.stop.Stop.{Stop}
 use Rattle.mz_check_meaning.specs.Tests.{Test}
 use Rattle.mz_scope_order.specs.Scoped.{ScopedTree}
+use Rattle.mz_scope_order.specs.Subjects.{Subject}
 use Rattle.mz_check_meaning.specs.Models.{Model}
-use Rattle.mz_check_meaning.specs.Headings.{Subject, with_type}
+use Rattle.mz_check_meaning.specs.Headings.{with_type}
 use Rattle.mz_check_meaning.specs.Passes.{Passes}
 use Rattle.mz_check_context.specs.Headings.{tested}
 

@@ -1,5 +1,5 @@
-// Typing: the order in which types are typed, the types of declarations and functions, functions that are declared twice, and
-// the typing of an expression and of a written type: what it is typed to, or the first fault.
+// Typing: the types of declarations and functions in their order, functions that are declared twice, and the typing of an
+// expression and of a written type: what it is typed to, or the first fault.
 #![tactic(auto)]
 
 mod binding;
@@ -9,10 +9,8 @@ mod ending;
 mod headings;
 mod laws;
 mod model_names;
-mod order;
 mod places;
 mod same;
-mod subject;
 mod texts;
 mod types;
 mod written;
@@ -20,7 +18,5 @@ mod written;
 pub use cycle::check;
 pub use duplicates::duplicate;
 pub use model_names::untyped;
-pub use order::type_order;
-pub use subject::Subject;
 pub use types::with_types;
 pub use written::check_written;

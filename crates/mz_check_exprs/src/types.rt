@@ -5,22 +5,22 @@ ghost use Rattle.mz_core.specs.TreeViews.{declared_type};
 ghost use Rattle.mz_tree.specs.Items.{function_of};
 ghost use Rattle.mz_scope_order.specs.Parts.{decl_at, function_at};
 ghost use Rattle.mz_scope_order.specs.Scoped.{scoped_decl, scoped_tree};
-ghost use Rattle.mz_check_exprs.specs.Subjects.{subject, IsOf, AreOf};
+ghost use Rattle.mz_scope_order.specs.Subjects.{subject, IsOf, AreOf, of_decl, of_function};
 ghost use Rattle.mz_check_meaning.specs.Models.{outermost};
 ghost use Rattle.mz_check_meaning.specs.Typing.{check_written};
-ghost use Rattle.mz_check_meaning.specs.Headings.{written_in, heading, of_decl, of_function, with_type, with_types};
+ghost use Rattle.mz_check_meaning.specs.Headings.{written_in, heading, with_type, with_types};
 ghost use Rattle.mz_check_context.specs.Headings.{heading as seen_heading, tested};
 ghost use Rattle.mz_check_context.specs.Known.{known};
 ghost use Rattle.mz_check_exprs.specs.NamedModels.{IsNamedDeclaration, IsNamedFunction, AreNamed};
 ghost use Rattle.mz_check_exprs.specs.NewSubjects.{IsNew, AreNew};
 ghost use Rattle.mz_check_exprs.specs.StepsTypes.{IsAnswer, IfThere, with_there};
 
+use crate::check_written;
 use crate::headings::heading;
-use crate::{Subject, check_written};
 use mz_base::{Fault, Memory, Stop};
 use mz_check_context::{Context, Heading};
 use mz_core::CoreType;
-use mz_scope_order::{Scoped, ScopedDecl};
+use mz_scope_order::{Scoped, ScopedDecl, Subject};
 use mz_tree::Function;
 use std::alloc::Global;
 

@@ -4,9 +4,10 @@ use Rattle.std.specs.List.{flat_map, AllByRecursion}
 use Rattle.mz_core.specs.Tree.{Tree, Decl, DeclaredType, declares, maybe, maybes}
 use Rattle.mz_core.specs.Program.{Function, Goal, satisfy, minimize, maximize, PlainProgram}
 use Rattle.mz_scope_order.specs.Scoped.{ScopedTree}
+use Rattle.mz_scope_order.specs.Subjects.{Subject}
 use Rattle.mz_check_meaning.specs.Tests.{Test, ◌>>=◌, each}
 use Rattle.mz_check_meaning.specs.Models.{Model}
-use Rattle.mz_check_meaning.specs.Headings.{Subject, with_types}
+use Rattle.mz_check_meaning.specs.Headings.{with_types}
 use Rattle.mz_check_meaning.specs.Items.{decl, function, constraint, goal, output}
 use Rattle.mz_check_meaning.specs.Checks.{numbered, untyped, Sections, sections}
 use Rattle.mz_check_data.specs.WithData.{with_value, with_values, checked_given, checked_with_data, ChecksWithData}

@@ -4,7 +4,8 @@ use Rattle.mz_tree.specs.Items.{FunctionTree}
 use Rattle.mz_tree.proofs.Anything.{any_tree, any_written, any_declaration, any_goal}
 use Rattle.mz_scope_order.specs.Parts.{decl_at, function_at}
 use Rattle.mz_scope_order.specs.Scoped.{ScopedTree}
-use Rattle.mz_check_meaning.specs.Headings.{Subject, of_decl, of_function, written_in}
+use Rattle.mz_scope_order.specs.Subjects.{Subject, of_decl, of_function}
+use Rattle.mz_check_meaning.specs.Headings.{written_in}
 use Rattle.mz_check_meaning.specs.Checks.{Sections}
 use Rattle.mz_check_meaning.proofs.Giving.{AllBy, Gives}
 use Rattle.mz_check_data.specs.WithData.{checked_with_data}

@@ -14,11 +14,12 @@ use Rattle.mz_tree.specs.Items.{FunctionTree, GoalTree}
 use Rattle.mz_scope_uses.specs.Sketches.{has_parameters}
 use Rattle.mz_scope_order.specs.Parts.{EnumTree, name_of, place_of, function_at}
 use Rattle.mz_scope_order.specs.Scoped.{ScopedTree}
+use Rattle.mz_scope_order.specs.Subjects.{Subject}
 use Rattle.mz_check_meaning.specs.declared.meaning.Meaning.{Meaning}
 use Rattle.mz_check_meaning.specs.declared.meaning.Meaning.TheVariants as meaning
 use Rattle.mz_check_meaning.specs.Tests.{Test, ◌>>=◌, ◌>>◌, each}
 use Rattle.mz_check_meaning.specs.Models.{Model, Heading, signature_of, entry_of, type_of_decl, heading_of}
-use Rattle.mz_check_meaning.specs.Headings.{Subject, with_types}
+use Rattle.mz_check_meaning.specs.Headings.{with_types}
 use Rattle.mz_check_meaning.specs.Duplicates.{Signed, duplicate_after}
 use Rattle.mz_check_meaning.specs.Texts.{text_names}
 use Rattle.mz_check_meaning.specs.Items.{decl, function, constraint, goal, output}

@@ -8,6 +8,7 @@ use Rattle.mz_tree.specs.Tree as source
 use Rattle.mz_tree.specs.Tree.{Tree, Name, Written, Declaration}
 use Rattle.mz_tree.specs.Items.{FunctionTree, GoalTree, satisfy, minimize, maximize}
 use Rattle.mz_scope_order.specs.Scoped.{ScopedTree}
+use Rattle.mz_scope_order.specs.Subjects.{Subject, of_decl, of_function}
 use Rattle.mz_check_meaning.specs.Tests.{Test}
 use Rattle.mz_check_meaning.specs.ExampleTrees.{n, va, num, truth, words, name, call, bin, array, set, written, written_array, col}
 use Rattle.mz_core.specs.Order.{below, same_type, same_dims, dims_below}
@@ -28,7 +29,7 @@ use Rattle.mz_check_meaning.specs.WrittenTypes.{par_set, index, values, set_of_v
 use Rattle.mz_check_meaning.specs.Lets.{let_node}
 use Rattle.mz_check_meaning.specs.Names.{meant, named, bare_call}
 use Rattle.mz_check_meaning.specs.Typing.{check, check_form, check_maybe, checks, check_links, check_rows, check_branches, check_piece, check_pieces, check_gen, check_gens, check_let, check_lets, check_declaration, check_written, check_based, check_dims, check_bases}
-use Rattle.mz_check_meaning.specs.Headings.{heading, with_types, Subject, of_decl, of_function}
+use Rattle.mz_check_meaning.specs.Headings.{heading, with_types}
 use Rattle.mz_check_meaning.specs.Duplicates.{same_types, is_in_library, duplicate_after}
 use Rattle.mz_check_meaning.specs.Items.{decl, with_params, function, constraint, goal, output}
 use Rattle.mz_check_meaning.specs.Checks.{untyped, first_from, types_met, signed, items_met, sections, checked_with, checked, Sections}

@@ -1,5 +1,5 @@
 -- Parts with their declarations in order of evaluation are a scoped model.
-use Rattle.std.proofs.Common.{◌≡◌, ℕ, zero, suc, ◌+◌, ◌<◌, ◌≤◌, Bool, true, List, [], ◌∷◌, ◌++◌, Vec, refl, ap, sym, ◌∙◌, subst, map, length, get_or, arith}
+use Rattle.std.proofs.Common.{◌≡◌, ℕ, zero, suc, ◌<◌, Bool, true, List, [], ◌∷◌, Vec, refl, ap, sym, ◌∙◌, subst, map, length, get_or, arith}
 use Rattle.std.specs.Prelude.{All, Result, Ok, Err, IfOk, IfErr}
 use Rattle.std.proofs.lemmas.List.{length-map, get_or-map}
 use Rattle.mz_base.specs.declared.fault.Span.{Span}
@@ -16,22 +16,25 @@ use Rattle.mz_tree.specs.Tree.{Declaration}
 use Rattle.mz_tree.specs.Items.{ItemTree}
 use Rattle.mz_tree.specs.Data.{Given}
 use Rattle.mz_graph.specs.Graph.{IsIn}
-use Rattle.mz_graph.proofs.Membership.{in_at}
 use Rattle.mz_scope_names.specs.Given.{occurrences}
 use Rattle.mz_scope_names.specs.Sets.{holds}
-use Rattle.mz_scope_uses.specs.declared.name_use.NameUse.{NameUse}
 use Rattle.mz_scope_uses.specs.Uses.{in_tree}
 use Rattle.mz_scope_uses.specs.Sketches.{Sketch, decl_sketch, function_sketch}
-use Rattle.mz_scope_order.specs.Dependencies.{sketch_at, meant_by, IsUsed, RefersTo, AreRanks, HaveRanks, IsSequence, IsStuckAt, IsBackAt}
+use Rattle.mz_scope_order.specs.Dependencies.{sketch_at, RefersTo, AreRanks, HaveRanks, IsStuckAt, IsBackAt}
 use Rattle.mz_scope_order.specs.declared.sequence.Sequence.{Sequence}
 use Rattle.mz_scope_order.specs.declared.sequence.Sequence.TheVariants.{Ordered, CyclicDecl, CyclicFunction}
-use Rattle.mz_scope_order.specs.Answer.{IsAnswer}
+use Rattle.mz_scope_order.specs.Answer.{AreOrders, IsAnswer}
+use Rattle.mz_scope_order.specs.declared.subject.Subject.{Subject as CodeSubject}
+use Rattle.mz_scope_order.specs.Subjects.{Subject, subject, IsTypeSequence, IsOrderOf}
 use Rattle.mz_scope_order.specs.declared.parts.ModelParts.{ModelParts}
 use Rattle.mz_scope_order.specs.declared.scoped.ScopedDecl.{ScopedDecl}
 use Rattle.mz_scope_order.specs.Parts.{name_of, place_of, decl_at, function_at}
-use Rattle.mz_scope_order.specs.Scoped.{ScopedTree, AreDistinct, shared_names, scoped_decl, lent_function, parts_tree, source_parts, IsScoped, AreRanked, IsCyclic, at_decl, at_function}
+use Rattle.mz_scope_order.specs.Scoped.{ScopedTree, AreDistinct, shared_names, scoped_decl, lent_function, parts_tree, source_parts, in_order, IsScoped, AreRanked, IsCyclic, at_decl, at_function}
+use Rattle.mz_scope_order.proofs.Apart.{in_order_counted}
+use Rattle.mz_scope_order.proofs.Modelled.{order_of}
+use Rattle.mz_scope_order.proofs.Renumbering.{turned, place, there, refers, from}
 use Rattle.mz_scope.specs.StepsScope.{IsArranged, HasCycle, of_decl, of_function}
-use Rattle.mz_scope.proofs.Turned.{in_order_counted, all_counted}
+use Rattle.mz_scope.proofs.Turned.{all_counted}
 use Rattle.mz_scope.proofs.Distinct.{HavePassed}
 use Rattle.mz_scope.proofs.Distinct as names
 
@@ -73,32 +76,17 @@ sketches_of ds [] = refl
 sketches_of ds (k ∷ order) = ap (λ z. z ∷ map decl_sketch (map (decl_at ds) order)) (sketch_of ds k) ∙ ap (λ z. sketch_at (map decl_sketch ds) k ∷ z) (sketches_of ds order)
 
 module _ (decls functions : List Sketch) (order : List ℕ) (counted : (x : ℕ) → IsIn x order → x < length decls) (r : HaveRanks decls functions) where
-  abbrev turned : List Sketch
-  turned = map (sketch_at decls) order
+  abbrev new : List Sketch
+  new = turned decls order counted
 
-  abbrev place : ℕ → ℕ
-  place k = get_or order k 0
+  abbrev was : ℕ → ℕ
+  was k = place decls order counted k
 
-  within : (k : ℕ) → k < length turned → k < length order
-  within k l = let m = length-map order (sketch_at decls) in omega (arith, l, m)
-
-  there : (k : ℕ) → k < length turned → sketch_at turned k ≡ sketch_at decls (place k)
-  there k l = get_or-map (sketch_at decls) order k 0 (sketch_at [] 0) (within k l)
-
-  refers : (us : List NameUse) (k : ℕ) → RefersTo us turned k → RefersTo us decls (place k)
-  refers us k u = record {
-    counted = counted (place k) (in_at order k 0 (within k u.counted));
-    used = subst (λ z. IsUsed (meant_by z) us) (there k u.counted) u.used;
-  }
-
-  from : (d : ℕ) → d < length turned → place d < length decls
-  from d l = counted (place d) (in_at order d 0 (within d l))
-
-  pub ranks_turned : AreRanks turned functions (λ k. r.of_decl (place k)) r.of_function
+  pub ranks_turned : AreRanks new functions (λ k. r.of_decl (was k)) r.of_function
   ranks_turned = record {
-    decl_decl = λ d e l u. r.are.decl_decl (place d) (place e) (from d l) (refers (sketch_at decls (place d)).types e (subst (λ z. RefersTo z.types turned e) (there d l) u));
-    decl_function = λ d f l u. r.are.decl_function (place d) f (from d l) (subst (λ z. RefersTo z.types functions f) (there d l) u);
-    function_decl = λ f e l u. r.are.function_decl f (place e) l (refers (sketch_at functions f).types e u);
+    decl_decl = λ d e l u. r.are.decl_decl (was d) (was e) (from decls order counted d l) (refers decls order counted (sketch_at decls (was d)).types e (subst (λ z. RefersTo z.types new e) (there decls order counted d l) u));
+    decl_function = λ d f l u. r.are.decl_function (was d) f (from decls order counted d l) (subst (λ z. RefersTo z.types functions f) (there decls order counted d l) u);
+    function_decl = λ f e l u. r.are.function_decl f (was e) l (refers decls order counted (sketch_at functions f).types e u);
     function_function = λ f h l u. r.are.function_function f h l u;
   }
 
@@ -111,6 +99,12 @@ ranked t s k =
       are = subst (λ z. AreRanks z (map function_sketch t.functions) (λ d. r.of_decl (get_or k.order d 0)) r.of_function) (sym (sketches_of t.decls k.order))
           (ranks_turned (map decl_sketch t.decls) (map function_sketch t.functions) k.order (λ x a. in_order_counted (length (map decl_sketch t.decls)) k.order x k.sequence.is a) r);
     })
+
+-- the order of types of the parts with their declarations in order of evaluation
+pub ordered : (t s : ScopedTree) (order : List ℕ) (all : List Subject) → AreOrders (map decl_sketch t.decls) (map function_sketch t.functions) order all → s ≡ in_order t order → IsOrderOf s all
+ordered t s order all a e =
+    order_of s all (subst (λ z. IsTypeSequence (map decl_sketch z.decls) (map function_sketch z.functions) all) (sym e)
+    (subst (λ z. IsTypeSequence z (map function_sketch t.functions) all) (sym (sketches_of t.decls order)) a.types))
 
 -- what the code reads of the parts
 
@@ -128,9 +122,12 @@ function_place fs k f l e = sym (ap (λ z. z.span) (get_or-map lent_function fs 
 
 -- what an order, or what has none, says of the parts
 
-pub within_parts : (p : ModelParts) (s : Sequence) (order : Vec ℕ Global) (read : List ℕ) → IsAnswer (map decl_sketch (parts_tree p).decls) (map function_sketch (parts_tree p).functions) s → s ≡ Ordered order → read ≡ order.items → All (λ k. k < length p.decls.items) read
-within_parts p s order read k e r =
-    let q : IsSequence (map decl_sketch (parts_tree p).decls) (map function_sketch (parts_tree p).functions) order.items = subst (λ z. IsAnswer (map decl_sketch (parts_tree p).decls) (map function_sketch (parts_tree p).functions) z) e k in
+pub orders_of : (p : ModelParts) (s : Sequence) (order : Vec ℕ Global) (types : Vec CodeSubject Global) → IsAnswer (map decl_sketch (parts_tree p).decls) (map function_sketch (parts_tree p).functions) s → s ≡ Ordered order types → AreOrders (map decl_sketch (parts_tree p).decls) (map function_sketch (parts_tree p).functions) order.items (map subject types.items)
+orders_of p s order types k e = subst (λ z. IsAnswer (map decl_sketch (parts_tree p).decls) (map function_sketch (parts_tree p).functions) z) e k
+
+pub within_parts : (p : ModelParts) (s : Sequence) (order : Vec ℕ Global) (types : Vec CodeSubject Global) (read : List ℕ) → IsAnswer (map decl_sketch (parts_tree p).decls) (map function_sketch (parts_tree p).functions) s → s ≡ Ordered order types → read ≡ order.items → All (λ k. k < length p.decls.items) read
+within_parts p s order types read k e r =
+    let q = (orders_of p s order types k e).sequence in
     let n : length (map decl_sketch (map scoped_decl p.decls.items)) ≡ length p.decls.items = length-map (map scoped_decl p.decls.items) decl_sketch ∙ length-map p.decls.items scoped_decl in
     subst (λ z. All (λ k. k < length p.decls.items) z) (sym r) (subst (λ z. All (λ k. k < z) order.items) n (all_counted (length (map decl_sketch (map scoped_decl p.decls.items))) order.items q.is))
 

@@ -4,18 +4,10 @@ use Rattle.std.specs.Prelude.{nat_eq, All}
 use Rattle.std.proofs.lemmas.Bool.{eqb-true, eq-eqb, ne_eqb}
 use Rattle.std.proofs.lemmas.List.Elements.{All-nil, All-cons}
 use Rattle.mz_graph.specs.Graph.{IsIn}
-use Rattle.mz_graph.specs.Order.{Continues, over, turn, IsOrder, IsComplete}
+use Rattle.mz_graph.specs.Order.{IsOrder, IsComplete}
 use Rattle.mz_graph.proofs.Membership.{below_or_not, in_front, in_last}
+use Rattle.mz_scope_order.proofs.Apart.{AreTurns, turns}
 use Rattle.mz_scope.proofs.Counting.{one_if, count, counted_at, at_counted, one_place}
-
--- numbers below a limit, none of them done before, each once
-abbrev AreTurns : ℕ → List ℕ → List ℕ → Type 0
-AreTurns till done [] = Unit {0}
-AreTurns till done (x ∷ xs) = (x < till) × (IsIn x done → ⊥) × AreTurns till (done ++ x ∷ []) xs
-
-turns : {R : ℕ → ℕ → Type 0} {till : ℕ} (done order : List ℕ) → Continues R till done order → AreTurns till done order
-turns done [] (over none) = tt
-turns done (x ∷ rest) (turn next more) = (next.ready.counted, next.ready.remains, turns (done ++ x ∷ []) rest more)
 
 abbrev AreApart : (ℕ → ℕ) → ℕ → Type 0
 AreApart f till = (d e : ℕ) → d < till → e < till → f d ≡ f e → d ≡ e
@@ -83,17 +75,7 @@ turned_there ns order n whole l =
     let i : count (get_or ns p.place 0) (map (λ d. get_or ns d 0) order) ≡ count n (map (λ d. get_or ns d 0) order) = ap (λ z. count z (map (λ d. get_or ns d 0) order)) p.is in
     omega (arith, r, i)
 
--- which numbers have their turn
-
-turn_counted : (till : ℕ) (done order : List ℕ) (x : ℕ) → AreTurns till done order → IsIn x order → x < till
-turn_counted till done [] x t a = absurd a
-turn_counted till done (y ∷ ys) x t a = elim a [
-  | inl e ↦ subst (λ z. z < till) (sym e) t.0
-  | inr b ↦ turn_counted till (done ++ y ∷ []) ys x t.2 b
-]
-
-pub in_order_counted : {R : ℕ → ℕ → Type 0} (till : ℕ) (order : List ℕ) (x : ℕ) → IsOrder R till order → IsIn x order → x < till
-in_order_counted till order x o a = turn_counted till [] order x (turns [] order o) a
+-- all numbers are counted
 
 turns_counted : (till : ℕ) (done order : List ℕ) → AreTurns till done order → All (λ k. k < till) order
 turns_counted till done [] t = All-nil (λ k. k < till)

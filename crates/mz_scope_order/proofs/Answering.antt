@@ -1,15 +1,22 @@
 -- What the order and the cycles of the graphs say of the declarations and functions.
-use Rattle.std.proofs.Common.{◌≡◌, ℕ, ◌+◌, ◌<◌, List, length, subst, arith}
+use Rattle.std.proofs.Common.{◌≡◌, ◌∙◌, ℕ, ◌+◌, ◌-◌, ◌<◌, ◌≤◌, List, length, map, sym, ap, subst, arith}
 use Rattle.mz_graph.specs.Graph.{Graph, number_of}
 use Rattle.mz_graph.specs.Order.{IsOrder, IsComplete, IsFirstLeft}
 use Rattle.mz_graph.specs.Depends.{DependsOn, IsWholeOrder, IsCyclicAt, NoneOnCycle, IsFirstOnCycle, HaveComponents}
 use Rattle.mz_scope_uses.specs.Sketches.{Sketch}
-use Rattle.mz_scope_order.specs.Dependencies.{Depends, LeadsBack, AreDeclarations, IsSequence, IsStuckAt, IsBackAt}
+use Rattle.mz_scope_order.specs.Answer.{AreOrders}
+use Rattle.mz_scope_order.specs.Dependencies.{sketch_at, Depends, LeadsBack, AreDeclarations, IsSequence, IsStuckAt, IsBackAt}
 use Rattle.mz_scope_order.specs.StepsGraphs.{node_of, base_of, AreGraphs}
+use Rattle.mz_scope_order.specs.StepsSubjects.{StandOnce, subjects_in, AreSubjects}
+use Rattle.mz_scope_order.specs.Subjects.{Subject, IsTypeSequence}
+use Rattle.mz_scope_order.proofs.Apart.{in_order_counted, order_apart}
 use Rattle.mz_scope_order.proofs.Following as following
 use Rattle.mz_scope_order.proofs.Building as building
 use Rattle.mz_scope_order.proofs.Closing as closing
 use Rattle.mz_scope_order.proofs.Ranking as ranking
+use Rattle.mz_scope_order.proofs.Renumbering as renumbering
+use Rattle.mz_scope_order.proofs.Sorting as sorting
+use Rattle.mz_scope_order.proofs.Sorting.{node_subjects}
 
 module _ (decls functions : List Sketch) (calls mentions decl_calls decl_mentions types : Graph) (d : AreDeclarations decls) (k : AreGraphs decls functions calls mentions decl_calls decl_mentions types) where
   sized : length decl_mentions ≡ length decls
@@ -39,6 +46,12 @@ module _ (decls functions : List Sketch) (calls mentions decl_calls decl_mention
         };
       }
 
+  pub counted : length decls ≤ length types
+  counted = let e = building.types_sized decls functions calls mentions decl_calls decl_mentions types d k in omega (arith, e)
+
+  pub apart : (order : List ℕ) → IsWholeOrder (DependsOn calls mentions decl_calls decl_mentions) (length decl_mentions) order → StandOnce (length decls) order
+  apart order w = order_apart (length decls) order (ordered order w.is)
+
   pub stuck : (c : ℕ) → IsCyclicAt (DependsOn calls mentions decl_calls decl_mentions) (length decl_mentions) c → IsStuckAt decls functions c
   stuck c s = record {
     order = s.order;
@@ -55,3 +68,15 @@ module _ (decls functions : List Sketch) (calls mentions decl_calls decl_mention
     back = following.cycle_by_uses decls functions (node_of functions) (base_of functions) types (building.faithful_types decls functions calls mentions decl_calls decl_mentions types d k) f c.within c.cycle;
     before = λ h l b. let t = c.within in c.before h (omega arith) l (following.uses_by_cycle decls functions (node_of functions) (base_of functions) types (building.faithful_types decls functions calls mentions decl_calls decl_mentions types d k) h (omega (arith, l, t)) b);
   }
+
+  pub orders : (order : List ℕ) (all : List Subject) → IsSequence decls functions order → AreSubjects types (length functions) (length types - length decls) (length decls) order all → AreOrders decls functions order all
+  orders order all s a =
+      let sized = building.types_sized decls functions calls mentions decl_calls decl_mentions types d k in
+      let base : length types - length decls ≡ base_of functions = omega (arith, sized) in
+      let found = sorting.sequence_is decls functions (node_of functions) (base_of functions) types (building.faithful_types decls functions calls mentions decl_calls decl_mentions types d k) sized a.nodes s.ranked a.is in
+      record {
+        sequence = s;
+        types = subst (λ z. IsTypeSequence (map (sketch_at decls) order) functions z)
+            (sym (a.are ∙ ap (λ z. subjects_in (length functions) z a.at a.nodes) base ∙ renumbering.subjects_are (length functions) (base_of functions) a.at a.nodes))
+            (renumbering.sequence_renumbered decls functions order a.at (λ x i. in_order_counted (length decls) order x s.is i) s.complete a.places (node_subjects (length functions) (base_of functions) a.nodes) found);
+      }

@@ -1,5 +1,5 @@
 -- What code makes for each sketch: loops, rows, and the graphs that are made of them.
-use Rattle.std.proofs.Common.{◌≡◌, ℕ, ◌+◌, ◌<◌, ◌≤◌, Bool, true, false, List, [], ◌∷◌, ◌++◌, ap, sym, ◌∙◌, map, length, drop, get_or, append_assoc, append-nil, replicate, subst, arith}
+use Rattle.std.proofs.Common.{◌≡◌, ℕ, ◌+◌, ◌-◌, ◌<◌, ◌≤◌, Bool, true, false, List, [], ◌∷◌, ◌++◌, ap, sym, ◌∙◌, map, length, drop, get_or, append_assoc, append-nil, replicate, subst, arith}
 use Rattle.std.specs.Prelude.{if◌then◌else◌, Option, Some, None, MatchOption}
 use Rattle.std.proofs.lemmas.List.{drop_more, length-map, drop_all}
 use Rattle.mz_graph.specs.Graph.{Graph, number_of}
@@ -14,6 +14,8 @@ use Rattle.mz_scope_uses.specs.Sketches.{Sketch, sketch}
 use Rattle.mz_scope_order.specs.Dependencies.{meant_by}
 use Rattle.mz_scope_order.specs.StepsPlaces.{if_in, names_in, callee, or_zero}
 use Rattle.mz_scope_order.specs.StepsGraphs.{name_count, base_of, numbers_of, numbers_by, call_rows, mention_rows, type_rows, HasMembers, HasMembersBetween, AreGraphs}
+use Rattle.mz_scope_order.specs.StepsSubjects.{StandOnce, AreSubjects}
+use Rattle.mz_scope_order.specs.Subjects.{Subject}
 use Rattle.mz_scope_order.proofs.Building.{number_counted}
 
 -- a loop that makes one thing for each sketch
@@ -139,3 +141,18 @@ pub first_found : (g types : Graph) (n f : ℕ) (functions : List CodeSketch) (o
 first_found g types n f functions o k e p q =
     let first : IsFirstOnCycle g 0 n f = subst (λ z. MatchOption z (NoneOnCycle g 0 n) (IsFirstOnCycle g 0 n)) e k in
     subst (λ z. IsFirstOnCycle z 0 (length (map sketch functions)) f) p (subst (λ z. IsFirstOnCycle g 0 z f) (q ∙ sym (length-map functions sketch)) first)
+
+-- what an order of types asks, and says
+
+pub decls_counted : (decls : List CodeSketch) (g types : Graph) → length (map sketch decls) ≤ length types → g ≡ types → length decls ≤ length g
+decls_counted decls g types l p = let a = length-map decls sketch in let b = ap length p in omega (arith, a, b, l)
+
+pub decls_apart : (decls : List CodeSketch) (read order : List ℕ) → StandOnce (length (map sketch decls)) order → read ≡ order → StandOnce (length decls) read
+decls_apart decls read order a p = subst (λ z. StandOnce (length decls) z) (sym p) (subst (λ n. StandOnce n order) (length-map decls sketch) a)
+
+pub subjects_found : (g types : Graph) (n m : ℕ) (decls functions : List CodeSketch) (read order : List ℕ) (all : List Subject) → AreSubjects g n (length g - m) m read all → g ≡ types → n ≡ length functions → m ≡ length decls → read ≡ order → AreSubjects types (length (map sketch functions)) (length types - length (map sketch decls)) (length (map sketch decls)) order all
+subjects_found g types n m decls functions read order all k p q r e =
+    subst (λ (z : ℕ). AreSubjects types z (length types - length (map sketch decls)) (length (map sketch decls)) order all) (q ∙ sym (length-map functions sketch))
+    (subst (λ (z : ℕ). AreSubjects types n (length types - z) z order all) (r ∙ sym (length-map decls sketch))
+    (subst (λ (z : Graph). AreSubjects z n (length z - m) m order all) p
+    (subst (λ (z : List ℕ). AreSubjects g n (length g - m) m z all) e k)))

@@ -7,4 +7,6 @@ pub mod StepsPlaces
 pub mod Parts
 pub mod Scoped
 pub mod StepsParts
+pub mod StepsSubjects
 pub mod StepsTables
+pub mod Subjects

@@ -6,6 +6,7 @@ ghost use Rattle.mz_scope_order.specs.Scoped.{scoped_decl, scoped_tree, parts_tr
 
 use crate::parts::ModelParts;
 use crate::scoped::{Scoped, ScopedDecl};
+use crate::subject::Subject;
 use mz_base::Memory;
 use std::alloc::Global;
 
@@ -25,15 +26,17 @@ fn decls_at<'a>(
     Ok(out)
 }
 
-/// The scoped model of these parts, with the declarations in this order: their places in the text, from 0. It fails only where
-/// memory runs out.
+/// The scoped model of these parts, with the declarations in this order: their places in the text, from 0; and with this order of
+/// types. It fails only where memory runs out.
 pub fn arranged<'a>(
     alloc: Global,
     parts: ModelParts<'a>,
     order: &[usize],
+    types: Vec<Subject>,
 ) -> Result<Scoped<'a>, Memory>
     requires { All (λ k. k < length parts.decls.items) order.now }
-    ensures { IfOk result (λ s. scoped_tree s ≡ in_order (parts_tree parts.entry) order.now) }
+    ensures tree { IfOk result (λ s. scoped_tree s ≡ in_order (parts_tree parts.entry) order.now) }
+    ensures types { IfOk result (λ s. s.types ≡ types) }
 {
     let ModelParts {
         enums,
@@ -49,6 +52,7 @@ pub fn arranged<'a>(
         enums,
         decls,
         functions,
+        types,
         constraints,
         goal,
         outputs,

@@ -38,22 +38,6 @@ impl Drop for Graphs {
     }
 }
 
-impl Graphs {
-    /// What the types of functions and of declarations lead to.
-    pub fn into_types(self) -> Vec<Vec<usize>>
-        ensures { result ≡ self.types }
-    {
-        let Graphs {
-            calls: _calls,
-            mentions: _mentions,
-            decl_calls: _decl_calls,
-            decl_mentions: _decl_mentions,
-            types,
-        } = self;
-        types
-    }
-}
-
 /// Two graphs, one after the other.
 fn joined(mut front: Vec<Vec<usize>>, mut back: Vec<Vec<usize>>) -> Result<Vec<Vec<usize>>, Memory>
     ensures { IfOk result (λ v. graph_of v.items ≡ graph_of front.items ++ graph_of back.items) }

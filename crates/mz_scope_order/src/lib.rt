@@ -1,5 +1,5 @@
-// The scoped model: what the files and the data of a run declare, each name with its value; and the order in which declarations
-// are evaluated, from what declarations and functions use.
+// The scoped model: what the files and the data of a run declare, each name with its value; and the orders in which declarations
+// are evaluated and types are typed, from what declarations and functions use.
 #![tactic(auto)]
 
 mod arrange;
@@ -18,8 +18,9 @@ mod places;
 mod scoped;
 mod sequence;
 mod sketches;
+mod subject;
 mod tables;
-mod types;
+mod type_order;
 
 pub use arrange::arranged;
 pub use law::{
@@ -30,4 +31,4 @@ pub use parts::{ModelParts, model_parts};
 pub use scoped::{Scoped, ScopedDecl, ScopedEnum};
 pub use sequence::{Sequence, sequence_of};
 pub use sketches::{decl_sketches, function_sketches};
-pub use types::type_graph;
+pub use subject::Subject;

@@ -1,5 +1,6 @@
 // The scoped model.
 
+use crate::subject::Subject;
 use mz_base::{Name, Span};
 use mz_tree::{DataItem, Decl, Expr, Function, Goal};
 
@@ -27,6 +28,8 @@ pub struct Scoped<'a> {
     /// Each declaration at top level, in order of evaluation.
     pub decls: Vec<ScopedDecl<'a>>,
     pub functions: Vec<&'a Function>,
+    /// All declarations and functions, each once and after those that its types refer to.
+    pub types: Vec<Subject>,
     pub constraints: Vec<&'a Expr>,
     /// What the first solve item asks for. None, where there is no solve item.
     pub goal: Option<&'a Goal>,

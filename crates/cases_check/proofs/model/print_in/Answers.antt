@@ -7,6 +7,6 @@ use Rattle.cases_check.proofs.model.print_in.Goals as goal
 pub print-requires : goal.print-requires
 print-requires c = record {
   distinct = c.in-Ok.ensures.scoped.scoped.distinct;
-  ranked = c.in-Ok.ensures.ranked;
+  ordered = c.in-Ok.ensures.ordered;
   named = named_model (length c.args.names.now) (count_read c.args.read.now) (scoped_tree c.in-Ok.scoped) c.in-Ok.ensures.within;
 }

@@ -1,7 +1,7 @@
 use Rattle.std.proofs.Common.{map, sym, subst}
 use Rattle.mz_scope_order.specs.Scoped.{scoped_tree}
+use Rattle.mz_scope_order.specs.Subjects.{subject, IsOrderOf}
 use Rattle.mz_check_context.specs.Known.{known}
-use Rattle.mz_check_exprs.specs.Subjects.{subject, IsOrderOf}
 use Rattle.cases_check.proofs.Contexts.{order_new, named_at_first, named_then}
 use Rattle.cases_check.proofs.typing.print.Goals as goal
 
@@ -9,7 +9,7 @@ pub with_types-requires : goal.with_types-requires
 with_types-requires c =
     let s = scoped_tree c.args.scoped.now in
     let m = known c.in_ok-context.context in
-    let o = subst (λ xs. IsOrderOf s (map subject xs)) (sym c.as_slice.ensures.value) c.in_ok-order.ensures in
+    let o = subst (λ xs. IsOrderOf s (map subject xs)) (sym c.as_slice.ensures.value) c.requires.ordered in
     record {
       counted = o.among;
       named = named_at_first c.args.names.now s m c.in_ok-context.ensures c.requires.named;

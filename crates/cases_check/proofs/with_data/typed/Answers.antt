@@ -13,6 +13,6 @@ scope-requires c = occurring c.args.names.now c.args.sources.now.files.items (ma
 pub check-requires : goal.check-requires
 check-requires c = record {
   distinct = c.in_ok-scoped.ensures.scoped.distinct;
-  ranked = c.in_ok-scoped.ensures.ranked;
+  ordered = c.in_ok-scoped.ensures.ordered;
   named = data_named (length c.args.names.now) (length c.args.sources.now.files.items) (items_of c.args.sources.now.files.items) (map given c.args.given_data.now.items.items) (scoped_tree c.in_ok-scoped.scoped) (all_known c.args.names.now c.args.sources.now.files.items c.requires.known) c.requires.within c.in_ok-scoped.ensures.scoped;
 }

@@ -1,7 +1,7 @@
 use Rattle.std.proofs.Common.{map, sym, subst}
 use Rattle.std.specs.List.{flat_map}
 use Rattle.mz_scope_order.specs.Scoped.{scoped_tree}
-use Rattle.mz_check_exprs.specs.Subjects.{subject}
+use Rattle.mz_scope_order.specs.Subjects.{subject}
 use Rattle.mz_check_meaning.specs.Checks.{numbered, with_parameters}
 use Rattle.mz_check_meaning.specs.Passes.{Passes}
 use Rattle.mz_check_context.specs.Known.{known}

@@ -1,7 +1,6 @@
 use Rattle.std.proofs.Common.{◌≡◌, Option, OnOk, ap, sym, subst}
 use Rattle.mz_scope_order.specs.Scoped.{scoped_tree}
-use Rattle.mz_check_exprs.specs.Subjects.{IsOf}
-use Rattle.mz_check_meaning.specs.Headings.{Subject}
+use Rattle.mz_scope_order.specs.Subjects.{IsOf, Subject}
 use Rattle.mz_check_context.specs.Known.{known}
 use Rattle.mz_check_exprs.specs.NewSubjects.{IsNew}
 use Rattle.mz_check_exprs.specs.StepsTypes.{IfThere, with_there}

@@ -1,6 +1,6 @@
 use Rattle.std.proofs.Common.{List, ℕ, map, length, sym, subst, arith}
 use Rattle.mz_scope_order.specs.Scoped.{scoped_tree}
-use Rattle.mz_check_exprs.specs.Subjects.{subject}
+use Rattle.mz_scope_order.specs.Subjects.{subject}
 use Rattle.mz_check_context.specs.Known.{known}
 use Rattle.mz_check_exprs.specs.NamedModels.{AreNamed}
 use Rattle.mz_check_exprs.proofs.New.{none_typed, next_typed, there_left, end_typed}

@@ -1,6 +1,6 @@
 use Rattle.std.proofs.Common.{map, drop}
 use Rattle.mz_scope_order.specs.Scoped.{scoped_tree}
-use Rattle.mz_check_exprs.specs.Subjects.{subject}
+use Rattle.mz_scope_order.specs.Subjects.{subject}
 use Rattle.mz_check_context.specs.Known.{known}
 use Rattle.mz_check_exprs.proofs.New.{AreLeft}
 use Rattle.mz_check_exprs.proofs.types.with_types.Given as goal
