@@ -46,7 +46,10 @@ pub record IsOwn (s : State) (q : Program) (id : ℕ) (out : Plain) : Type 0 whe
   pub declares : Declares s.prog q (free_domain entry.node.kind entry.node.c const.set) (one out)
   pub suits : Suits q.vars out (extent s.es id)
   pub may : (v : terms.Values) → AreInDomains s.es v → IsInDomain (free_domain entry.node.kind entry.node.c const.set) (own_value v entry.node entry.node.kind)
-  pub made : (front : Program) → Made front s.prog (given_choices s.es s.args) → Made front q (given_choices s.es (put_at s.args id out))
+
+-- the variable is a choice's
+abbrev pub IsMade : State → Program → ℕ → Plain → Type 0
+IsMade s q id out = (front : Program) → Made front s.prog (given_choices s.es s.args) → Made front q (given_choices s.es (put_at s.args id out))
 
 module _ (s : State) (q : Program) (id : ℕ) (out : Plain) (g : IsState s) (h : IsOwn s q id out) where
   abbrev n : ℕ
@@ -84,8 +87,8 @@ module _ (s : State) (q : Program) (id : ℕ) (out : Plain) (g : IsState s) (h :
         };
       }
 
-  spreads : Spreads s t Always
-  spreads = record {
+  spreads : IsMade s q id out → Spreads s t Always
+  spreads made = record {
     same = refl;
     longer = longer;
     keeps = λ j p k. put_keeps s.args id out j p h.none k;
@@ -93,11 +96,11 @@ module _ (s : State) (q : Program) (id : ℕ) (out : Plain) (g : IsState s) (h :
     holds = λ v f d m. tt;
     up = λ v f d c m. after v f d m;
     one = λ v f k m w a. h.declares.one f k m.solves w.solves a (sym (here v f m) ∙ here v k w);
-    made = h.made;
+    made = made;
   }
 
-  state : IsState t
-  state = record {
+  pub own_state : IsState t
+  own_state = record {
     arena = g.arena;
     places = λ j p l. elim (put_was s.args id out j p l) [
       | inl old ↦ over_more n (length q.vars) p longer (g.places j p old)
@@ -122,5 +125,5 @@ module _ (s : State) (q : Program) (id : ℕ) (out : Plain) (g : IsState s) (h :
     ];
   }
 
-  pub own_step : Flattened s t
-  own_step = record { spreads = spreads; state = state }
+  pub own_step : IsMade s q id out → Flattened s t
+  own_step made = record { spreads = spreads made; state = own_state }

@@ -38,7 +38,7 @@ use Rattle.flat_reif.specs.Lists.{IsNode, Gives}
 use Rattle.flat_reif.proofs.Puts.{choice_put}
 use Rattle.flat_reif.proofs.Nodes.{extent_here}
 use Rattle.flat_reif.proofs.Given.{gives_flat}
-use Rattle.flat_reif.proofs.Choices.{IsOwn, own_step}
+use Rattle.flat_reif.proofs.Choices.{IsOwn, IsMade, own_step}
 
 -- ---- bounds
 
@@ -186,11 +186,8 @@ local_free kinds.Local h = refl
 local_free kinds.SetLocal h = refl
 local_free _ h = absurd (cc)
 
-module _ (s : State) (id : ℕ) (e : Entry) (g : IsState s) (is : slice_get s.es id ≡ Some e) (none : at s.args id ≡ None) (local : is_local e.node.kind ≡ true) where
-  free : is_free e.node.kind ≡ true
-  free = local_free e.node.kind local
-
-  const : IsSetConst s.es e.node.a
+module _ (s : State) (id : ℕ) (e : Entry) (g : IsState s) (is : slice_get s.es id ≡ Some e) (none : at s.args id ≡ None) (free : is_free e.node.kind ≡ true) where
+  pub const : IsSetConst s.es e.node.a
   const = (g.arena.domains id e is free).const
 
   upper : IsSet const.there.set
@@ -202,12 +199,12 @@ module _ (s : State) (id : ℕ) (e : Entry) (g : IsState s) (is : slice_get s.es
   some : IsSome (own_extent e.node.kind e.node.c const.there.set)
   some = subst (λ (x : Known). IsSome x) bounds_are (g.arena.bounded id e is)
 
-  abbrev domain : Domain
+  abbrev pub domain : Domain
   domain = free_domain e.node.kind e.node.c const.there.set
 
-  choice_own : (q : Program) (out : Plain) → q ≡ with_variable s.prog (introduced_variable s.prog domain) → Declares s.prog q domain (one out) → IsOwn s q id out
+  pub declared_own : (q : Program) (out : Plain) → Declares s.prog q domain (one out) → IsOwn s q id out
   unfolding const
-  choice_own q out added d = record {
+  declared_own q out d = record {
     entry = e;
     is = is;
     free = free;
@@ -217,30 +214,33 @@ module _ (s : State) (id : ℕ) (e : Entry) (g : IsState s) (is : slice_get s.es
     declares = d;
     suits = subst (Suits q.vars out) (sym bounds_are) (own_suits q.vars out const.there.set e.node.kind e.node.c upper free d.typed some);
     may = λ v i. own_may v e.node e.node.kind const.there.set free some (g.arena.domains id e is free).both (i id e const.there is const.stands);
-    made = λ front made. subst (λ p. Made front p (given_choices s.es (put_at s.args id out))) (sym added)
-        (subst (Made front (with_variable s.prog (introduced_variable s.prog domain))) (sym (choice_put s.es s.args id e out is local none)) (adds_choice s.prog (given_choices s.es s.args) domain made));
   }
 
-  same_upper : (u : List Range) → option_map (λ (x : Entry). x.set) (slice_get s.es e.node.a) ≡ Some u → const.there.set ≡ u
+  choice_made : is_local e.node.kind ≡ true → (q : Program) (out : Plain) → q ≡ with_variable s.prog (introduced_variable s.prog domain) → IsMade s q id out
+  choice_made local q out added front made =
+      subst (λ p. Made front p (given_choices s.es (put_at s.args id out))) (sym added)
+      (subst (Made front (with_variable s.prog (introduced_variable s.prog domain))) (sym (choice_put s.es s.args id e out is local none)) (adds_choice s.prog (given_choices s.es s.args) domain made))
+
+  pub same_upper : (u : List Range) → option_map (λ (x : Entry). x.set) (slice_get s.es e.node.a) ≡ Some u → const.there.set ≡ u
   same_upper u h = by (ap (option_map (λ (x : Entry). x.set)) const.stands) h
     where
       by : option_map (λ (x : Entry). x.set) (slice_get s.es e.node.a) ≡ Some const.there.set → option_map (λ (x : Entry). x.set) (slice_get s.es e.node.a) ≡ Some u → const.there.set ≡ u
       by p q = cc
 
-  alone : (a : Argument) (k : ℕ) → plain_of a ≡ var k → a ≡ one (plain_of a)
+  pub alone : (a : Argument) (k : ℕ) → plain_of a ≡ var k → a ≡ one (plain_of a)
   alone (one p) k h = refl
   alone (array ps) k h = absurd (cc)
 
-  choice_gives : (u : List Range) (d : Domain) (q : Program) (out : Argument) (args : List (Option Plain)) → option_map (λ (x : Entry). x.set) (slice_get s.es e.node.a) ≡ Some u → d ≡ free_domain e.node.kind e.node.c u → q ≡ with_variable s.prog (introduced_variable s.prog d) → Declares s.prog q d out → args ≡ put_at s.args id (plain_of out) → Gives s (record { es = s.es; prog = q; args = args }) id
-  choice_gives u d q out args set is_domain added declares put =
+  choice_gives : is_local e.node.kind ≡ true → (u : List Range) (d : Domain) (q : Program) (out : Argument) (args : List (Option Plain)) → option_map (λ (x : Entry). x.set) (slice_get s.es e.node.a) ≡ Some u → d ≡ free_domain e.node.kind e.node.c u → q ≡ with_variable s.prog (introduced_variable s.prog d) → Declares s.prog q d out → args ≡ put_at s.args id (plain_of out) → Gives s (record { es = s.es; prog = q; args = args }) id
+  choice_gives local u d q out args set is_domain added declares put =
       let same : d ≡ domain = is_domain ∙ ap (free_domain e.node.kind e.node.c) (sym (same_upper u set)) in
       let declared : Declares s.prog q domain (one (plain_of out)) = subst (Declares s.prog q domain) (alone out declares.typed.place declares.typed.is) (subst (λ g. Declares s.prog q g out) same declares) in
-      gives_flat s q id (plain_of out) args (own_step s q id (plain_of out) g (choice_own q (plain_of out) (added ∙ ap (λ g. with_variable s.prog (introduced_variable s.prog g)) same) declared)) put
+      gives_flat s q id (plain_of out) args (own_step s q id (plain_of out) g (declared_own q (plain_of out) declared) (choice_made local q (plain_of out) (added ∙ ap (λ g. with_variable s.prog (introduced_variable s.prog g)) same))) put
 
 pub const_at : (s : State) (id : ℕ) (n : Node) → IsState s → IsNode s.es id n → at s.args id ≡ None → is_local n.kind ≡ true → IsSetConst s.es n.a
-const_at s id n g h none local = subst (λ (m : Node). is_local m.kind ≡ true → IsSetConst s.es m.a) h.node (const s id h.entry g h.is none) local
+const_at s id n g h none local = subst (λ (m : Node). is_local m.kind ≡ true → IsSetConst s.es m.a) h.node (λ l. const s id h.entry g h.is none (local_free h.entry.node.kind l)) local
 
 pub choice_given : (s : State) (id : ℕ) (n : Node) → IsState s → IsNode s.es id n → at s.args id ≡ None → is_local n.kind ≡ true → (u : List Range) (d : Domain) (q : Program) (out : Argument) (args : List (Option Plain)) → option_map (λ (x : Entry). x.set) (slice_get s.es n.a) ≡ Some u → d ≡ free_domain n.kind n.c u → q ≡ with_variable s.prog (introduced_variable s.prog d) → Declares s.prog q d out → args ≡ put_at s.args id (plain_of out) → Gives s (record { es = s.es; prog = q; args = args }) id
 choice_given s id n g h none local u d q out args set is_domain added declares put =
     subst (λ (m : Node). is_local m.kind ≡ true → option_map (λ (x : Entry). x.set) (slice_get s.es m.a) ≡ Some u → d ≡ free_domain m.kind m.c u → Gives s (record { es = s.es; prog = q; args = args }) id) h.node
-    (λ l k w. choice_gives s id h.entry g h.is none l u d q out args k w added declares put) local set is_domain
+    (λ l k w. choice_gives s id h.entry g h.is none (local_free h.entry.node.kind l) l u d q out args k w added declares put) local set is_domain

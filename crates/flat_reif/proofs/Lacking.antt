@@ -22,7 +22,7 @@ use Rattle.mz_arena.specs.Entries.{Entry, at, is_free, arity, children, of_two}
 use Rattle.mz_arena.specs.Values as terms
 use Rattle.mz_arena.specs.Values.{Term, Val, arith_term, access_term, cons_term, element_at, value_at}
 use Rattle.mz_arena.specs.Terms.{term, kind_term}
-use Rattle.mz_arena.specs.Extents.{Known, whole, truth, subset, wholes, truths, subsets, empty, as_whole, as_list, as_single, ends_in, sort_of, arith_bounds, arith_extent, access_extent, element_extent, extent, kind_extent}
+use Rattle.mz_arena.specs.Extents.{Known, whole, truth, subset, wholes, truths, subsets, empty, as_whole, as_list, ends_in, sort_of, arith_bounds, arith_extent, access_extent, element_extent, extent, kind_extent}
 use Rattle.mz_arena.specs.InBounds.{AreInDomains, HasSets}
 use Rattle.mz_arena.proofs.Folds.{get-below}
 use Rattle.mz_arena_laws.proofs.Terms as laws

@@ -15,3 +15,5 @@ pub mod Accesses
 pub mod Lacking
 pub mod Below
 pub mod Folding
+pub mod Posting
+pub mod Declaring

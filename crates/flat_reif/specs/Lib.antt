@@ -4,3 +4,4 @@ pub mod Lists
 pub mod NodeKinds
 pub mod Unmet
 pub mod Below
+pub mod Roots

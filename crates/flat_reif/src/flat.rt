@@ -1,8 +1,11 @@
 // The state of a flattening, and arguments for its nodes.
 
-ghost use Rattle.std.specs.Prelude.{◌≡◌, ◌≢◌, ◌<◌, ◌≤◌, [], IfOk, IfSome, IsSome, None, Some, false, length, true};
+ghost use Rattle.std.specs.Prelude.{◌≡◌, ◌≢◌, ◌<◌, ◌≤◌, [], IfOk, IfSome, IsSome, OnOk, None, Some, false, length, true};
 ghost use Rattle.mz_arena.specs.declared.node.NodeKind.TheVariants.{Access, Add, Guard, If, SetConst};
 ghost use Rattle.mz_arena.specs.Entries.{at, is_free, is_local};
+ghost use Rattle.mz_partial.specs.Totals.{AreParts};
+ghost use Rattle.fz_program.specs.Flat.{WellFormed, array_item, is_goal, program, variable};
+ghost use Rattle.fz_build.specs.Build.{MayAdd, MayDeclare, with_array, with_goal};
 ghost use Rattle.mz_arena.specs.Extents.{as_single, extent};
 ghost use Rattle.fz_build_domains.specs.Bounds.{ends_of};
 ghost use Rattle.flat_reif_rows.specs.Branches.{branch_row};
@@ -11,6 +14,7 @@ ghost use Rattle.fz_program.specs.Arguments.{plain, plains};
 ghost use Rattle.flat_reif_rows.specs.NodeRows.{HasDivisor, row_of_one, row_of_two};
 ghost use Rattle.flat_reif.specs.States.{IsState, state};
 ghost use Rattle.flat_reif.specs.NodeKinds.{divides, extreme_kind, is_scalar, may_lack};
+ghost use Rattle.flat_reif.specs.Roots.{GrownTo, HasTest, IsDeclared, IsTrueAt, IsTruthNode, MayStand, Never, Posted, begun, with_prog};
 ghost use Rattle.flat_reif.specs.Unmet.{IsAny, IsFixed, IsUnmet};
 ghost use Rattle.flat_reif.specs.Lists.{Gives, HasArg, HasFront, IsListed, IsNode, IsReady, ListArgs};
 ghost use Rattle.flat_reif.specs.Below.{AreNeeded, FlattenedBelow, IsDue, IsSettled};
@@ -22,13 +26,14 @@ use crate::table::{copied, divides, is_local, put, row_of_element};
 use flat_reif_folds::{Fold, fold_of_one, fold_of_two};
 use flat_reif_rows::{
     made_of_access, made_of_branches, made_of_extreme, made_of_one, made_of_sum, made_of_two,
-    may_divide, may_reach, row_of_one, row_of_two,
+    may_divide, may_reach, post_false, post_test, post_true, row_of_one, row_of_two,
 };
 use fz_build::Build;
-use fz_program::{Arg, RowName};
+use fz_program::{Arg, FzArray, FzGoal, FzProgram, FzVar, RowName};
 use mz_arena::{Arena, Id, Node, NodeKind, Sort};
 use mz_base::Memory;
 use mz_operations::Side;
+use mz_partial::{Memo, Pair, total};
 use std::alloc::Global;
 
 /// A FlatZinc program that is being made of an arena: by ids, the arguments that stand for the nodes.
@@ -43,6 +48,20 @@ pub struct Flat {
 }
 
 impl Flat {
+    /// Begins a flattening of these terms, with no variable, no row and no argument.
+    pub fn begin(alloc: Global, arena: Arena) -> Flat
+        ensures begun { state result ≡ begun arena }
+        ensures state { IsState (state result) }
+    {
+        let _count = arena.len();
+        Flat {
+            arena,
+            build: Build::new(alloc),
+            args: Vec::new(alloc),
+            alloc,
+        }
+    }
+
     // The argument of an id that has one.
     fn argument(&self, id: Id) -> Result<Arg, Memory>
         requires { HasArg (state self.now) id }
@@ -465,5 +484,97 @@ impl Flat {
             here += 1;
         }
         Ok(())
+    }
+
+    /// The terms.
+    pub fn arena(&self) -> &Arena
+        ensures { result.now ≡ (state self.now).es }
+    {
+        &self.arena
+    }
+
+    /// Declares the variable of the model that this node stands for: its argument.
+    ///
+    /// The variable has the node's domain, and a new name. The node has no argument yet.
+    pub fn declare(&mut self, id: Id, var: FzVar) -> Result<(), Memory>
+        requires state { IsState (state self.old) }
+        requires may { MayDeclare (state self.old).prog (variable var) }
+        requires stands { MayStand (state self.old) id (variable var).domain }
+        ensures { IfOk result (λ _. IsDeclared (state self.old) (state self.new) id (variable var)) }
+    {
+        let out = given!(self.build.declare(var));
+        put(&mut self.args, id, out)
+    }
+
+    /// Adds an array of variables that are declared.
+    pub fn array(&mut self, a: FzArray) -> Result<(), Memory>
+        requires state { IsState (state self.old) }
+        requires may { MayAdd (state self.old).prog (array_item a) }
+        ensures added { OnOk result (state self.new ≡ with_prog (state self.old) (with_array (state self.old).prog (array_item a))) }
+        ensures state { OnOk result (IsState (state self.new)) }
+    {
+        self.build.array(a)
+    }
+
+    /// The total term of an id, and where the id has a value. The terms go on; the program and the arguments
+    /// are unchanged.
+    pub fn total(&mut self, id: Id, memo: &mut Memo) -> Result<Pair, Memory>
+        requires state { IsState (state self.old) }
+        requires memo { AreParts (state self.old).es memo.old }
+        requires place { id < length (state self.old).es }
+        ensures totaled { IfOk result (GrownTo (state self.old) (state self.new) id) }
+        ensures memo { OnOk result (AreParts (state self.new).es memo.new) }
+    {
+        let p = given!(total(&mut self.arena, id, memo));
+        let _count = self.arena.len();
+        Ok(p)
+    }
+
+    /// The argument of an id that has one.
+    pub fn arg(&self, id: Id) -> Result<Arg, Memory>
+        requires { HasArg (state self.now) id }
+        ensures { IfOk result (λ a. at (state self.now).args id ≡ Some (plain a)) }
+    {
+        self.argument(id)
+    }
+
+    /// Posts that a Boolean node is true, by the row that its argument is.
+    pub fn post_true(&mut self, id: Id) -> Result<(), Memory>
+        requires state { IsState (state self.old) }
+        requires has { HasArg (state self.old) id }
+        requires truth { IsTruthNode (state self.old).es id }
+        ensures { IfOk result (λ _. Posted (state self.old) (state self.new) (IsTrueAt (state self.old).es id)) }
+    {
+        let a = given!(self.argument(id));
+        post_true(&mut self.build, a)
+    }
+
+    /// Posts what is never true: no solution is left.
+    pub fn post_false(&mut self) -> Result<(), Memory>
+        requires { IsState (state self.old) }
+        ensures { IfOk result (λ _. Posted (state self.old) (state self.new) Never) }
+    {
+        post_false(&mut self.build)
+    }
+
+    /// Posts that a node is true, by the one row that tests it over its two children's arguments.
+    pub fn post_test(&mut self, id: Id, name: RowName) -> Result<(), Memory>
+        requires state { IsState (state self.old) }
+        requires test { HasTest (state self.old) id name }
+        ensures { IfOk result (λ _. Posted (state self.old) (state self.new) (IsTrueAt (state self.old).es id)) }
+    {
+        let n = self.arena.node(id);
+        let x = given!(self.argument(n.a));
+        let y = given!(self.argument(n.b));
+        post_test(self.alloc, &mut self.build, n.kind, name, x, y)
+    }
+
+    /// The program with this solve item. It takes no memory.
+    pub fn finish(self, goal: FzGoal) -> FzProgram
+        requires { is_goal (state self).prog.vars goal ≡ true }
+        ensures items { program result ≡ with_goal (state self).prog goal }
+        ensures well_formed { WellFormed (program result) }
+    {
+        self.build.finish(goal)
     }
 }

@@ -1,6 +1,6 @@
 // The ids that are to be flattened.
 
-ghost use Rattle.std.specs.Prelude.{◌≡◌, ℕ, ◌<◌, ◌^◌, [], OnErr, OnOk, length};
+ghost use Rattle.std.specs.Prelude.{◌≡◌, ℕ, ◌<◌, [], OnErr, OnOk, length};
 ghost use Rattle.flat_reif.specs.Needs.{HasAlso, is_needed};
 
 use mz_arena::Id;
@@ -42,9 +42,8 @@ impl Needed {
         }
     }
 
-    /// Adds an id of an arena.
+    /// Adds an id.
     pub fn add(&mut self, id: Id) -> Result<(), Memory>
-        requires { id < 2 ^ 63 }
         ensures added { OnOk result (HasAlso self.old self.new id) }
         ensures err { OnErr result ((k : ℕ) → is_needed self.new k ≡ is_needed self.old k) }
     {
@@ -56,7 +55,6 @@ impl Needed {
 
 // A mark for this id and all before it, none of them set anew.
 fn grow(marks: &mut Vec<bool>, id: Id) -> Result<(), Memory>
-    requires { id < 2 ^ 63 }
     ensures same { (k : ℕ) → is_needed marks.new.items k ≡ is_needed marks.old.items k }
     ensures long { OnOk result (id < length marks.new.items) }
 {
