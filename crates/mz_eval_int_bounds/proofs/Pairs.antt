@@ -1,10 +1,9 @@
 -- Pairs of ends, and loops over lists of them.
-use Rattle.std.proofs.Common.{◌≡◌, ◌≢◌, ℕ, ◌+◌, ◌-◌, ◌<◌, ◌≤◌, List, length, get_or, drop, refl, sym, ap, ◌∙◌}
+use Rattle.std.proofs.Common.{◌≡◌, ℕ, ◌+◌, ◌<◌, ◌≤◌, List, length, get_or, drop, refl, sym, ap, ◌∙◌}
 use Rattle.std.proofs.lemmas.List.{at_drop_more, at_drop_all, get_or_default}
-use Rattle.std.proofs.lemmas.Bool.{ne_eqb}
-use Rattle.std.specs.Prelude.{ℤ, pos, nat_eq, false, [], ◌∷◌}
+use Rattle.std.specs.Prelude.{ℤ, [], ◌∷◌}
 use Rattle.mz_interval.specs.Ends.{Ends}
-use Rattle.mz_interval.specs.Rows.{sum_of, negation_of, magnitude_of, remainder_from, remainder_to, remainders_below, remainder_of}
+use Rattle.mz_interval.specs.Rows.{sum_of, negation_of}
 use Rattle.mz_operations.specs.declared.row.Arith.TheVariants.{Sub}
 use Rattle.mz_operations.specs.declared.row.Sign.TheVariants.{Abs}
 use Rattle.mz_operations.specs.declared.row.Side.{Side}
@@ -25,14 +24,6 @@ difference_is e f = refl
 pub magnitude_is : (e : Ends) → sign_ends Abs e ≡ pair (least_magnitude e) (int_max (neg_ℤ e.0) e.1)
 unfolding sign_ends
 magnitude_is e = refl
-
-below_magnitude : (e f : Ends) (m : ℕ) → m ≡ magnitude_of f → m ≢ 0 → remainders_below e m ≡ remainder_of e f
-below_magnitude e f m s n =
-    let some : nat_eq (magnitude_of f) 0 ≡ false = ne_eqb (magnitude_of f) 0 (λ z. n (s ∙ z)) in
-    ap (remainders_below e) s ∙ sym (rw some refl)
-
-pub remainder_is : (e f : Ends) (m : ℕ) (x y : ℤ) → m ≡ magnitude_of f → m ≢ 0 → x ≡ remainder_from e.0 (pos (m - 1)) → y ≡ remainder_to e.1 (pos (m - 1)) → pair x y ≡ remainder_of e f
-remainder_is e f m x y s n p q = pair_same (remainders_below e m) x y p q ∙ below_magnitude e f m s n
 
 -- ---- a loop that takes a list's elements in one after another
 

@@ -1,13 +1,12 @@
-// Sums, products, signs, and the lesser and the greater of two.
+// Sums, signs, and the lesser and the greater of two; products, quotients and remainders are `mz_interval`'s.
 
-ghost use Rattle.std.specs.Prelude.{◌≡◌, ◌*ℤ◌};
-ghost use Rattle.mz_interval.specs.Ends as ends;
-ghost use Rattle.mz_interval.specs.Rows.{negation_of, product_of, sum_of};
+ghost use Rattle.std.specs.Prelude.{◌≡◌};
+ghost use Rattle.mz_interval.specs.Rows.{negation_of, sum_of};
 ghost use Rattle.mz_operations.specs.Bounds as bounds;
 ghost use Rattle.mz_operations.specs.declared.row.Arith.TheVariants.{Sub};
 ghost use Rattle.mz_operations.specs.declared.row.Sign.TheVariants.{Abs};
 
-use crate::quotient::{quotient, remainder};
+use mz_interval::{product_ends, quotient_ends, remainder_ends};
 use mz_operations::{Arith, Side, Sign};
 
 /// The same ends, as wide numbers.
@@ -39,35 +38,6 @@ fn negation(e: &(i64, i64)) -> (i128, i128)
     (-(e.1 as i128), -(e.0 as i128))
 }
 
-fn times(x: i64, y: i64) -> i128
-    ensures { result ≡ x *ℤ y }
-{
-    x as i128 * y as i128
-}
-
-/// From the lesser to the greater of two numbers.
-pub(crate) fn between(x: i128, y: i128) -> (i128, i128)
-    ensures { result ≡ ends.between x y }
-{
-    (x.min(y), x.max(y))
-}
-
-/// The smallest range that holds both.
-pub(crate) fn hull(e: &(i128, i128), f: &(i128, i128)) -> (i128, i128)
-    ensures { result ≡ ends.hull_of e.now f.now }
-{
-    (e.0.min(f.0), e.1.max(f.1))
-}
-
-/// From the least to the greatest product of an end of the one by an end of the other.
-pub(crate) fn product(e: &(i64, i64), f: &(i64, i64)) -> (i128, i128)
-    ensures { result ≡ product_of e.now f.now }
-{
-    let by_low = between(times(e.0, f.0), times(e.0, f.1));
-    let by_high = between(times(e.1, f.0), times(e.1, f.1));
-    hull(&by_low, &by_high)
-}
-
 /// The least or the greatest of the lower ends and of the upper ends.
 #[tactic(auto, unfolding(mz_operations::specs::Bounds::toward_ends, mz_operations::specs::Numbers::toward))]
 pub(crate) fn toward_ends(side: Side, e: &(i64, i64), f: &(i64, i64)) -> (i64, i64)
@@ -94,9 +64,9 @@ pub fn arith_ends(op: Arith, e: &(i64, i64), f: &(i64, i64)) -> (i128, i128)
     match op {
         Arith::Add => sum(e, f),
         Arith::Sub => difference(e, f),
-        Arith::Mul => product(e, f),
-        Arith::Div => quotient(e, f),
-        Arith::Mod => remainder(e, f),
+        Arith::Mul => product_ends(e, f),
+        Arith::Div => quotient_ends(e, f),
+        Arith::Mod => remainder_ends(e, f),
         Arith::Min => extreme_of_two(Side::Least, e, f),
         Arith::Max => extreme_of_two(Side::Greatest, e, f),
     }

@@ -4,7 +4,6 @@
 mod ends;
 mod lists;
 mod powers;
-mod quotient;
 
 pub use ends::{arith_ends, sign_ends};
 pub use lists::{extreme_ends, folded_ends, hull_if_any, in_limit};

@@ -6,8 +6,9 @@ ghost use Rattle.mz_operations.specs.Bounds as bounds;
 ghost use Rattle.mz_operations.specs.RowBounds as rows;
 ghost use Rattle.mz_eval_int_bounds.specs.StepsLists.{taken_in};
 
-use crate::ends::{product, sum, toward_ends};
+use crate::ends::{sum, toward_ends};
 use mz_builtin_arguments::is_number;
+use mz_interval::product_ends;
 use mz_operations::{Fold, Side};
 
 /// The ends, where both lie in the limit.
@@ -42,7 +43,7 @@ fn taken_in(op: Fold, acc: &(i64, i64), e: &(i64, i64)) -> (i128, i128)
     match op {
         Fold::Sum => sum(acc, e),
         Fold::SumOfOptions => sum_with_option(acc, e),
-        Fold::Product => product(acc, e),
+        Fold::Product => product_ends(acc, e),
     }
 }
 

@@ -1,7 +1,7 @@
 -- What an answer that may be None says of its range.
 use Rattle.std.proofs.Common.{◌≡◌, ℤ, ◌≤ℤ◌, Bool, true, false, Option, Some, None, option_map, IfSome, int_le, ap, subst, ◌∙◌, refl, arith, ◌&&◌, cond}
 use Rattle.std.proofs.lemmas.Int.{ints}
-use Rattle.mz_interval.specs.Ends.{Ends, Encloses, is_number, if_in_limit, if_interval}
+use Rattle.mz_interval.specs.Ends.{Ends, Encloses, IsInterval, is_number, if_in_limit, if_interval}
 use Rattle.mz_interval.specs.Interval.{ends}
 use Rattle.mz_interval.specs.declared.interval.Interval.{Interval}
 
@@ -26,3 +26,7 @@ some_encloses (Some i) e x p h = limited (Some (ends i)) (is_number e.0 && is_nu
 -- the answer for two numbers that are the ends of a range that has a number
 pub some_row : (r : Option Interval) (a b : ℤ) (e : Ends) → option_map ends r ≡ if_interval (a, b) → a ≡ e.0 → b ≡ e.1 → e.0 ≤ℤ e.1 → option_map ends r ≡ if_in_limit e
 some_row r a b e p lo hi h = p ∙ ap if_interval (λ i. (lo i, hi i)) ∙ if_interval-ordered e h
+
+-- an interval's ends are those of one
+pub are_interval : (i : Interval) → IsInterval (ends i)
+are_interval i = record { ordered = i.ordered; from = i.lo_in_limit; to = i.hi_in_limit }

@@ -1,12 +1,11 @@
 -- A quotient, rounded toward zero, lies between the quotients of the ends by the divisors that may be the extreme ones.
-use Rattle.std.proofs.Common.{◌≡◌, ℕ, zero, suc, ◌/◌, ◌<◌, ◌≤◌, ◌≢◌, ℤ, pos, negsuc, neg_ℤ, ◌≤ℤ◌, int_div, unsigned_abs, Bool, true, cond, Option, Some, None, arith, refl, sym, subst, FitsSigned, w64}
+use Rattle.std.proofs.Common.{◌≡◌, ℕ, zero, suc, ◌/◌, ◌<◌, ◌≤◌, ◌≢◌, ℤ, pos, negsuc, neg_ℤ, ◌≤ℤ◌, int_div, unsigned_abs, Bool, true, false, cond, Option, Some, None, unwrap_or, arith, refl, sym, subst}
 use Rattle.std.proofs.Math.Nat.{mul-le-mul_left, div-mul-le_self, div-le_self, div-zero}
 use Rattle.std.proofs.Math.IntN.{neg_ℤ-neg_ℤ}
 use Rattle.std.proofs.lemmas.Nat.{le-div}
-use Rattle.std.proofs.lemmas.Int.{ints, quot_is}
-use Rattle.mz_interval.specs.Ends.{Ends, Encloses, limit, between, hull_of_some}
+use Rattle.std.proofs.lemmas.Int.{ints, clamps}
+use Rattle.mz_interval.specs.Ends.{Ends, Encloses, IsInterval, limit, between, hull_of_some}
 use Rattle.mz_interval.specs.Rows.{is_divisor, quotients_by, quotient_of}
-use Rattle.mz_interval.proofs.BitsRead.{read_back}
 use Rattle.mz_interval.proofs.Hulls.{between-rising, between-falling, between-neg, Encloses-between, Holds, hull_of_some-left, hull_of_some-right, Encloses-unwrap_or}
 
 div-le : (a b n : ℕ) → a ≤ b → a / n ≤ b / n
@@ -135,9 +134,43 @@ divided e (pos p) q x (negsuc n) h l m s = absurd (omega (arith, ints))
 pub quotient_of-encloses : (e f : Ends) (x y : ℤ) → Encloses e x → Encloses f y → y ≢ pos 0 → Encloses (quotient_of e f) (int_div x y)
 quotient_of-encloses e f x y h g s = divided e f.0 f.1 x y h g.from g.to s
 
-pub int_div-in_limit : (a d : ℤ) → Encloses limit a → Encloses limit (int_div a d)
+int_div-in_limit : (a d : ℤ) → Encloses limit a → Encloses limit (int_div a d)
 int_div-in_limit a d h = let less = unsigned_abs-int_div a d in record { from = omega (arith, ints); to = omega (arith, ints) }
 
--- the quotient as it comes back from its bits
-pub quotient_read : (a d : ℤ) → FitsSigned w64 a → FitsSigned w64 d → Encloses limit a → read_back w64 (int_div (read_back w64 a) (read_back w64 d)) ≡ int_div a d
-quotient_read a d f g h = let there = int_div-in_limit a d h in quot_is w64 a d f g (omega (arith, ints))
+-- ---- a quotient of a range in the limit lies in it
+
+abbrev IfThere : Option Ends → Type 0
+IfThere None = Unit {0}
+IfThere (Some e) = IsInterval e
+
+between_is_interval : (u v : ℤ) → Encloses limit u → Encloses limit v → IsInterval (between u v)
+between_is_interval u v p q = record { ordered = omega (arith, ints, clamps); from = omega (arith, ints, clamps); to = omega (arith, ints, clamps) }
+
+by_divisor_is_interval : (e f : Ends) (d : ℤ) → IsInterval e → IfThere (quotients_by e f d)
+by_divisor_is_interval e f d h = by (is_divisor f d)
+  where
+    low : Encloses limit (int_div e.0 d)
+    low = int_div-in_limit e.0 d (record { from = omega (arith, ints); to = omega (arith, ints) })
+
+    high : Encloses limit (int_div e.1 d)
+    high = int_div-in_limit e.1 d (record { from = omega (arith, ints); to = omega (arith, ints) })
+
+    by : (t : Bool) → IfThere (cond t (Some (between (int_div e.0 d) (int_div e.1 d))) None)
+    by true = between_is_interval (int_div e.0 d) (int_div e.1 d) low high
+    by false = tt
+
+hulls_are_intervals : (e f : Option Ends) → IfThere e → IfThere f → IfThere (hull_of_some e f)
+hulls_are_intervals None f p q = q
+hulls_are_intervals (Some e) None p q = p
+hulls_are_intervals (Some e) (Some f) p q = record { ordered = omega (arith, ints, clamps); from = omega (arith, ints, clamps); to = omega (arith, ints, clamps) }
+
+interval_or_zero : (e : Option Ends) → IfThere e → IsInterval (unwrap_or e (pos 0, pos 0))
+interval_or_zero None p = record { ordered = omega (arith, ints); from = omega (arith, ints); to = omega (arith, ints) }
+interval_or_zero (Some e) p = p
+
+pub quotients_are_interval : (e f : Ends) → IsInterval e → IsInterval (quotient_of e f)
+quotients_are_interval e f h =
+    let there = by_divisor_is_interval e f in
+    let ends = hulls_are_intervals (quotients_by e f f.0) (quotients_by e f f.1) (there f.0 h) (there f.1 h) in
+    let units = hulls_are_intervals (quotients_by e f (pos 1)) (quotients_by e f (negsuc 0)) (there (pos 1) h) (there (negsuc 0) h) in
+    interval_or_zero (hull_of_some (by_ends e f) (by_units e f)) (hulls_are_intervals (by_ends e f) (by_units e f) ends units)

@@ -1,10 +1,10 @@
 -- A remainder, with the dividend's sign, lies in its row.
-use Rattle.std.proofs.Common.{◌≡◌, ◌≢◌, suc, ◌-◌, ◌<◌, ◌≤◌, ℤ, pos, negsuc, neg_ℤ, ◌≤ℤ◌, int_le, int_rem, unsigned_abs, nat_eq, Bool, true, false, cond, arith, refl}
+use Rattle.std.proofs.Common.{◌≡◌, ◌∙◌, sym, ap, ◌≢◌, ℕ, suc, ◌-◌, ◌<◌, ◌≤◌, ℤ, pos, negsuc, neg_ℤ, ◌≤ℤ◌, int_le, int_rem, unsigned_abs, nat_eq, Bool, true, false, cond, arith, refl}
 use Rattle.std.proofs.Math.Nat.{mod-le}
 use Rattle.std.specs.Int.{int_min, int_max}
-use Rattle.std.proofs.lemmas.Bool.{eqb-true}
+use Rattle.std.proofs.lemmas.Bool.{eqb-true, ne_eqb}
 use Rattle.std.proofs.lemmas.Int.{ints, clamps, rem_below}
-use Rattle.mz_interval.specs.Ends.{Ends, Encloses}
+use Rattle.mz_interval.specs.Ends.{Ends, Encloses, IsInterval, least_number, greatest_number}
 use Rattle.mz_interval.specs.Rows.{magnitude_of, remainder_from, remainder_to, remainders_below, remainder_of}
 
 -- the lower end: from n on where the dividend is, and never positive
@@ -104,4 +104,31 @@ remainder_of-encloses e f x y h g s = by (nat_eq (magnitude_of f) 0) refl
         record {
           from = remainder_from-remains e.0 x (int_rem x y) (pos (magnitude_of f - 1)) h.from k;
           to = remainder_to-remains e.1 x (int_rem x y) (pos (magnitude_of f - 1)) h.to k;
+        }
+
+-- ---- from the two ends to the row
+
+below_magnitude : (e f : Ends) (m : ℕ) → m ≡ magnitude_of f → m ≢ 0 → remainders_below e m ≡ remainder_of e f
+below_magnitude e f m s n =
+    let some : nat_eq (magnitude_of f) 0 ≡ false = ne_eqb (magnitude_of f) 0 (λ z. n (s ∙ z)) in
+    ap (remainders_below e) s ∙ sym (rw some refl)
+
+pub remainder_is : (e f : Ends) (m : ℕ) (x y : ℤ) → m ≡ magnitude_of f → m ≢ 0 → x ≡ remainder_from e.0 (pos (m - 1)) → y ≡ remainder_to e.1 (pos (m - 1)) → (x, y) ≡ remainder_of e f
+remainder_is e f m x y s n p q = (λ t. (p t, q t)) ∙ below_magnitude e f m s n
+
+-- ---- a remainder of a range in the limit lies in it
+
+pub remainders_are_interval : (e f : Ends) → IsInterval e → IsInterval (remainder_of e f)
+remainders_are_interval e f h = by (nat_eq (magnitude_of f) 0) refl
+  where
+    by : (t : Bool) → nat_eq (magnitude_of f) 0 ≡ t → IsInterval (cond t (pos 0, pos 0) (remainders_below e (magnitude_of f)))
+    by true z = record { ordered = omega (arith, ints); from = omega (arith, ints); to = omega (arith, ints) }
+    by false z =
+        let m = pos (magnitude_of f - 1) in
+        let low = remainder_from-le e.0 m (omega (arith, ints)) in
+        let high = remainder_to-ge e.1 m (omega (arith, ints)) in
+        record {
+          ordered = omega (arith, ints);
+          from = remainder_from-ge e.0 m least_number h.from (omega (arith, ints));
+          to = remainder_to-le e.1 m greatest_number h.to (omega (arith, ints));
         }

@@ -36,6 +36,12 @@ if_in_limit e = if is_number e.0 && is_number e.1 then Some e else None
 abbrev pub if_interval : Ends → Option Ends
 if_interval e = if int_le e.0 e.1 then if_in_limit e else None
 
+-- the ends of a range that has a number, in the limit
+pub record IsInterval (e : Ends) : Type 0 where
+  pub ordered : e.0 ≤ℤ e.1
+  pub from : least_number ≤ℤ e.0
+  pub to : e.1 ≤ℤ greatest_number
+
 -- from the lesser to the greater of two numbers
 abbrev pub between : ℤ → ℤ → Ends
 between x y = (int_min x y, int_max x y)

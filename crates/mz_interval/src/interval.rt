@@ -33,6 +33,13 @@ impl Interval {
         }
     }
 
+    /// The two ends.
+    pub(crate) fn pair(self) -> (i64, i64)
+        ensures { result ≡ ends self }
+    {
+        (self.lo, self.hi)
+    }
+
     /// The bounds of a sum; `None` exactly where an end leaves the limit.
     pub fn add(self, o: Interval) -> Option<Interval>
         ensures row { option_map ends result ≡ if_in_limit (sum_of (ends self) (ends o)) }

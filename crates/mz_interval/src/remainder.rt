@@ -1,11 +1,13 @@
 // The bounds of a remainder.
 
-ghost use Rattle.std.specs.Prelude.{◌≡◌, ◌≢◌, ◌≤◌, ◌^◌, ◌≤ℤ◌, ℤ, pos, int_rem};
+ghost use Rattle.std.specs.Prelude.{◌≡◌, ◌≢◌, ◌-◌, ◌<◌, ◌≤◌, ◌^◌, ℤ, pos, int_rem};
 ghost use Rattle.mz_interval.specs.Ends.{Encloses};
-ghost use Rattle.mz_interval.specs.Rows.{magnitude_of, remainder_from, remainder_to, remainder_of};
+ghost use Rattle.mz_interval.specs.Rows as rows;
+ghost use Rattle.mz_interval.specs.Rows.{remainder_of};
 ghost use Rattle.mz_interval.specs.Interval.{ends};
 
 use crate::interval::Interval;
+use crate::wide::interval;
 
 impl Interval {
     /// The bounds of a remainder, which has the dividend's sign: `a - (a div b) * b`; `0..0` where
@@ -14,37 +16,49 @@ impl Interval {
         ensures row { ends result ≡ remainder_of (ends self) (ends o) }
         ensures encloses { (x y : ℤ) → Encloses (ends self) x → Encloses (ends o) y → y ≢ pos 0 → Encloses (ends result) (int_rem x y) }
     {
-        let magnitude = o.magnitude();
-        if magnitude == 0 {
-            return Interval { lo: 0, hi: 0 };
-        }
-        let greatest = (magnitude - 1) as i64;
-        Interval {
-            lo: remainder_from(self.lo, greatest),
-            hi: remainder_to(self.hi, greatest),
-        }
-    }
-
-    /// The greatest magnitude of a number in the interval.
-    fn magnitude(self) -> u64
-        ensures value { result ≡ magnitude_of (ends self) }
-        ensures bound { result ≤ 2 ^ 61 }
-    {
-        self.lo.unsigned_abs().max(self.hi.unsigned_abs())
+        interval(remainder_ends(&self.pair(), &o.pair()))
     }
 }
 
-/// The least remainder of a dividend from `lo` on, where none has a magnitude above `greatest`.
-fn remainder_from(lo: i64, greatest: i64) -> i64
-    requires { pos 0 ≤ℤ greatest }
-    ensures { result ≡ remainder_from lo greatest }
+/// The bounds of a remainder of numbers between any ends; `(0, 0)` where the divisor is `0..0`.
+pub fn remainder_ends(e: &(i64, i64), f: &(i64, i64)) -> (i128, i128)
+    ensures { result ≡ remainder_of e.now f.now }
 {
-    if 0 <= lo { 0 } else { lo.max(-greatest) }
+    let m = magnitude(f);
+    if m == 0 {
+        return (0, 0);
+    }
+    (remainder_from(e.0, m), remainder_to(e.1, m))
 }
 
-/// The greatest remainder of a dividend up to `hi`, where none has a magnitude above `greatest`.
-fn remainder_to(hi: i64, greatest: i64) -> i64
-    ensures { result ≡ remainder_to hi greatest }
+/// The greater magnitude of the two ends.
+fn magnitude(f: &(i64, i64)) -> u64
+    ensures value { result ≡ rows.magnitude_of f.now }
+    ensures bound { result ≤ 2 ^ 63 }
 {
-    if hi <= 0 { 0 } else { hi.min(greatest) }
+    f.0.unsigned_abs().max(f.1.unsigned_abs())
+}
+
+/// The least remainder of a dividend from `lo` on by a divisor below this magnitude or of it.
+fn remainder_from(lo: i64, m: u64) -> i128
+    requires { 0 < m }
+    ensures { result ≡ rows.remainder_from lo (pos (m - 1)) }
+{
+    if 0 <= lo {
+        0
+    } else {
+        (lo as i128).max(-((m - 1) as i128))
+    }
+}
+
+/// The greatest remainder of a dividend up to `hi` by a divisor below this magnitude or of it.
+fn remainder_to(hi: i64, m: u64) -> i128
+    requires { 0 < m }
+    ensures { result ≡ rows.remainder_to hi (pos (m - 1)) }
+{
+    if hi <= 0 {
+        0
+    } else {
+        (hi as i128).min((m - 1) as i128)
+    }
 }

@@ -3,8 +3,8 @@ use Rattle.std.specs.Int.{w128}
 use Rattle.std.specs.Prelude.{pos, ◌-◌}
 use Rattle.std.proofs.lemmas.Int.{to_z-of_z}
 use Rattle.mz_interval.specs.Rows.{remainder_from, remainder_to}
-use Rattle.mz_eval_int_bounds.proofs.Pairs.{remainder_is}
-use Rattle.mz_eval_int_bounds.proofs.quotient.remainder.Goals as goal
+use Rattle.mz_interval.proofs.Remainders.{remainder_is}
+use Rattle.mz_interval.proofs.remainder.remainder_ends.Goals as goal
 
 pub returns : goal.returns
 returns c =

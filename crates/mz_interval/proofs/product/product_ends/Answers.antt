@@ -3,7 +3,7 @@ use Rattle.std.specs.Int.{w128}
 use Rattle.std.proofs.lemmas.Int.{to_z-of_z}
 use Rattle.mz_interval.specs.Ends.{between, hull_of}
 use Rattle.mz_interval.proofs.BitsRead.{read_back, product_read}
-use Rattle.mz_eval_int_bounds.proofs.ends.product.Goals as goal
+use Rattle.mz_interval.proofs.product.product_ends.Goals as goal
 
 pub returns : goal.returns
 returns c =
