@@ -13,7 +13,7 @@ use Rattle.mz_operations.specs.Views.{as_option, is_single, as_int}
 use Rattle.mz_operations.specs.Arguments.{at, option_at}
 use Rattle.mz_operations.specs.Arrays.{summand}
 use Rattle.mz_operations.specs.Values.{scalar_value, made_value}
-use Rattle.mz_arena.specs.Values.{Term, number, as_number, bit, is_true, is_one, holds, comparison_term, and_term, not_term, if_term, guard_term}
+use Rattle.mz_arena.specs.Values.{Term, number, as_number, bit, is_true, holds, comparison_term, and_term, not_term, if_term, guard_term}
 use Rattle.mz_instance.specs.Contents.{content_by}
 use Rattle.mz_meaning.specs.Cells.{held}
 use Rattle.mz_symbol.specs.declared.types.Symbol.{Symbol}

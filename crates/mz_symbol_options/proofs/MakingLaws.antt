@@ -6,7 +6,7 @@ use Rattle.mz_value.specs.Contents as values
 use Rattle.mz_core.specs.declared.types.Base.{Base}
 use Rattle.mz_core.specs.declared.types.Base.TheVariants as base
 use Rattle.mz_arena.specs.Values.{Term, as_number, bit, is_true, and_term, or_term, not_term, to_int_term, guard_term}
-use Rattle.mz_instance.specs.Contents.{content_by, is_one}
+use Rattle.mz_instance.specs.Contents.{content_by}
 use Rattle.mz_meaning.specs.Cells.{Mode, Blank, Given, held}
 use Rattle.mz_meaning.specs.Cells as cells
 use Rattle.mz_meaning.specs.Lets.{choice_at}
@@ -18,7 +18,7 @@ use Rattle.mz_symbol_rows.specs.RowValues.{as_argument, argument}
 use Rattle.mz_symbol_rows.proofs.RowLaws.{truth_is}
 use Rattle.mz_symbol_options.specs.OptionValues.{guarded_value}
 use Rattle.mz_symbol_options.specs.StepsNodes.{IsPlain, symbol_of, whole_term, kept_term}
-use Rattle.mz_symbol_options.proofs.OptionLaws.{option_by, truth_by, bit_true}
+use Rattle.mz_symbol_options.proofs.OptionLaws.{option_by, truth_by}
 
 -- ---- what is no option
 

@@ -1,14 +1,11 @@
 -- Options as arguments of rows, by the terms of their nodes.
-use Rattle.std.proofs.Common.{◌≡◌, ◌∙◌, ℕ, ℤ, Bool, true, false, [], ◌∷◌, Option, Some, None, refl, ap, if◌then◌else◌}
+use Rattle.std.proofs.Common.{◌≡◌, ◌∙◌, ℕ, ℤ, Bool, true, false, [], Option, Some, refl, ap, if◌then◌else◌}
 use Rattle.std.specs.Option.{option_map}
-use Rattle.std.specs.Ordering.{int_eq}
 use Rattle.mz_value.specs.Contents.{Content}
 use Rattle.mz_value.specs.Contents as values
 use Rattle.mz_core.specs.declared.types.Base.{Base}
 use Rattle.mz_core.specs.declared.types.Base.TheVariants as base
-use Rattle.mz_operations.specs.declared.row.ScalarRow.{ScalarRow}
-use Rattle.mz_operations.specs.Values.{scalar_value}
-use Rattle.mz_arena.specs.Values.{Term, as_number, bit, is_true, holds}
+use Rattle.mz_arena.specs.Values.{Term, as_number, bit, is_true}
 use Rattle.mz_instance.specs.Contents.{content_by}
 use Rattle.mz_meaning.specs.Cells.{Mode, Blank, Given, held}
 use Rattle.mz_symbol.specs.declared.types.Symbol.{Symbol}

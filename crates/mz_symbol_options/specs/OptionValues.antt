@@ -1,5 +1,5 @@
 -- What rows and forms over optional symbols are asked to give.
-use Rattle.std.specs.Prelude.{ℕ, List, map, Option, Some, None, if◌then◌else◌}
+use Rattle.std.specs.Prelude.{ℕ, List, map, Option, None, if◌then◌else◌}
 use Rattle.std.specs.Option.{option_map, option_and_then}
 use Rattle.mz_value.specs.Contents.{Content}
 use Rattle.mz_value.specs.Contents as values
