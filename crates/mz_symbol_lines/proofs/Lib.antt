@@ -1,0 +1,4 @@
+pub mod Given
+pub mod SeenLaws
+pub mod WalkLaws
+pub mod RowLaws

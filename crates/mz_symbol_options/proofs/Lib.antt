@@ -1,0 +1,4 @@
+pub mod OptionLaws
+pub mod AskingLaws
+pub mod EqualityLaws
+pub mod MakingLaws
