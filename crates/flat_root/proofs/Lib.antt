@@ -1,0 +1,5 @@
+pub mod Marking
+pub mod Keeping
+pub mod Totaling
+pub mod Seeding
+pub mod Rooting

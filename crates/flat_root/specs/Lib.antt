@@ -1,0 +1,4 @@
+pub mod Marks
+pub mod Keeps
+pub mod Totals
+pub mod Posts

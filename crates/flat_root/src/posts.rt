@@ -1,0 +1,138 @@
+// The rows of roots.
+
+ghost use Rattle.std.specs.Prelude.{◌≡◌, ◌++◌, ◌<◌, IfOk, OnOk, false, length, pos, true};
+ghost use Rattle.std.specs.Ordering.{int_eq};
+ghost use Rattle.mz_partial.specs.Totals.{AreParts};
+ghost use Rattle.flat_reif.specs.States.{state};
+ghost use Rattle.flat_reif.specs.Lists.{IsNode};
+ghost use Rattle.flat_reif.specs.Roots.{IsTrueAt};
+ghost use Rattle.flat_root.specs.Keeps.{AllTrue, IsReadyState, Leads};
+ghost use Rattle.flat_root.specs.Totals.{AreRoots, IsRoot};
+ghost use Rattle.flat_root.specs.Posts.{ArePostable, IsPostable, all_seeds, is_constant, seeds_at};
+
+use crate::marks::needed_for;
+use crate::totals::totals;
+use flat_reif::Flat;
+use flat_reif_rows::test_of;
+use mz_arena::{Arena, Id, Node, NodeKind};
+use mz_base::Memory;
+use mz_partial::Memo;
+use std::alloc::Global;
+
+fn is_constant(kind: NodeKind) -> bool
+    ensures { result ≡ is_constant kind }
+{
+    matches!(kind, NodeKind::Bool)
+}
+
+fn is_one(n: &Node) -> bool
+    ensures { result ≡ int_eq n.now.number (pos 1) }
+{
+    n.number == 1
+}
+
+// Posts a constant: `true` adds nothing, and `false` leaves no solution.
+fn post_constant(flat: &mut Flat, id: Id, n: &Node) -> Result<(), Memory>
+    requires ready { IsReadyState (state flat.old) }
+    requires node { IsNode (state flat.old).es id n.now }
+    requires kind { is_constant n.now.kind ≡ true }
+    ensures { IfOk result (λ _. Leads (state flat.old) (state flat.new) (IsTrueAt (state flat.old).es id)) }
+{
+    if is_one(n) { Ok(()) } else { flat.post_false() }
+}
+
+// Posts a node that is no constant: by the row that tests it, or by its argument.
+fn post_row(flat: &mut Flat, id: Id, n: &Node) -> Result<(), Memory>
+    requires ready { IsReadyState (state flat.old) }
+    requires part { IsPostable (state flat.old) id }
+    requires node { IsNode (state flat.old).es id n.now }
+    requires kind { is_constant n.now.kind ≡ false }
+    ensures { IfOk result (λ _. Leads (state flat.old) (state flat.new) (IsTrueAt (state flat.old).es id)) }
+{
+    match test_of(n.kind) {
+        Some(name) => flat.post_test(id, name),
+        None => flat.post_true(id),
+    }
+}
+
+// Posts that a Boolean node is true.
+fn post_part(flat: &mut Flat, id: Id) -> Result<(), Memory>
+    requires ready { IsReadyState (state flat.old) }
+    requires part { IsPostable (state flat.old) id }
+    ensures { IfOk result (λ _. Leads (state flat.old) (state flat.new) (IsTrueAt (state flat.old).es id)) }
+{
+    let n = flat.arena().node(id);
+    if is_constant(n.kind) {
+        post_constant(flat, id, &n)
+    } else {
+        post_row(flat, id, &n)
+    }
+}
+
+// Posts that these Boolean nodes are true.
+fn post_parts(flat: &mut Flat, parts: &[Id]) -> Result<(), Memory>
+    requires ready { IsReadyState (state flat.old) }
+    requires parts { ArePostable (state flat.old) parts.now }
+    ensures { IfOk result (λ _. Leads (state flat.old) (state flat.new) (AllTrue (state flat.old).es parts.now)) }
+{
+    'parts: for id in parts {
+        given!(post_part(flat, *id));
+    }
+    Ok(())
+}
+
+// The ids whose arguments the row of a root takes.
+fn add_seeds(arena: &Arena, id: Id, seeds: &mut Vec<Id>) -> Result<(), Memory>
+    requires { id < length arena.now }
+    ensures { OnOk result (seeds.new.items ≡ seeds.old.items ++ seeds_at arena.now id) }
+{
+    let n = arena.node(id);
+    if is_constant(n.kind) {
+        return Ok(());
+    }
+    match test_of(n.kind) {
+        Some(_) => {
+            seeds.push(n.a)?;
+            seeds.push(n.b)?;
+        }
+        None => {
+            seeds.push(id)?;
+        }
+    }
+    Ok(())
+}
+
+fn all_seeds(alloc: Global, arena: &Arena, ids: &[Id]) -> Result<Vec<Id>, Memory>
+    requires { AreRoots arena.now ids.now }
+    ensures { IfOk result (λ seeds. seeds.items ≡ all_seeds arena.now ids.now) }
+{
+    let mut seeds = Vec::new(alloc);
+    'ids: for id in ids {
+        given!(add_seeds(arena, *id, &mut seeds));
+    }
+    Ok(seeds)
+}
+
+/// Posts that these Boolean nodes are true: keeps just the solutions in which each has a value and is true.
+///
+/// Each is made total; what their rows take gets its arguments; and then each is posted. A comparison, a
+/// disjunction, an equivalence or another test is one row without a variable of its own.
+pub fn post_roots(
+    alloc: Global,
+    flat: &mut Flat,
+    memo: &mut Memo,
+    roots: &[Id],
+) -> Result<(), Memory>
+    requires ready { IsReadyState (state flat.old) }
+    requires memo { AreParts (state flat.old).es memo.old }
+    requires roots { AreRoots (state flat.old).es roots.now }
+    ensures posted { IfOk result (λ _. Leads (state flat.old) (state flat.new) (AllTrue (state flat.old).es roots.now)) }
+    ensures memo { OnOk result (AreParts (state flat.new).es memo.new) }
+{
+    let parts = given!(totals(alloc, flat, memo, roots));
+    let seeds = given!(all_seeds(alloc, flat.arena(), parts.as_slice()));
+    let need = given!(needed_for(alloc, flat.arena(), seeds.as_slice()));
+    let count = flat.arena().len();
+    given!(flat.flatten_below(count, &need));
+    post_parts(flat, parts.as_slice())
+}
