@@ -1,6 +1,6 @@
 // What a case is typed to in a scoped model.
 
-ghost use Rattle.std.specs.Prelude.{length};
+ghost use Rattle.std.specs.Prelude.{length, map};
 ghost use Rattle.mz_scope_order.specs.Scoped.{scoped_tree, shared_names, AreDistinct};
 ghost use Rattle.mz_scope_order.specs.Subjects.{subject, IsOrderOf};
 ghost use Rattle.mz_check_exprs.specs.NamedModels.{AreNamed};
