@@ -3,3 +3,4 @@ pub mod Keeping
 pub mod Totaling
 pub mod Seeding
 pub mod Rooting
+pub mod Parting

@@ -171,12 +171,12 @@ closes_needed es old new c id e is y = record {
 
 -- ---- several ids
 
-in_left : (k : ℕ) (xs ys : List ℕ) → IsIn k xs → IsIn k (xs ++ ys)
+pub in_left : (k : ℕ) (xs ys : List ℕ) → IsIn k xs → IsIn k (xs ++ ys)
 in_left k [] ys h = absurd h
 in_left k (x ∷ xs) ys (inl e) = inl e
 in_left k (x ∷ xs) ys (inr h) = inr (in_left k xs ys h)
 
-in_right : (k : ℕ) (xs ys : List ℕ) → IsIn k ys → IsIn k (xs ++ ys)
+pub in_right : (k : ℕ) (xs ys : List ℕ) → IsIn k ys → IsIn k (xs ++ ys)
 in_right k [] ys h = h
 in_right k (x ∷ xs) ys h = inr (in_right k xs ys h)
 

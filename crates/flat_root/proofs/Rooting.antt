@@ -28,6 +28,7 @@ use Rattle.flat_reif.proofs.Nodes.{term_here}
 use Rattle.flat_root.specs.Keeps.{Keeps, IsReadyState, Leads, AllTrue}
 use Rattle.flat_root.specs.Marks.{AreMarked, AreTotalIds}
 use Rattle.flat_root.specs.Totals.{AreRoots, AreRootParts, Totals}
+use Rattle.flat_root.specs.Parts.{AreSplit}
 use Rattle.flat_root.specs.Posts.{is_constant, seeds_by, seeds_of, seeds_at, all_seeds, IsPostable, ArePostable}
 use Rattle.flat_root.proofs.Marking.{take_next}
 use Rattle.flat_root.proofs.Keeping.{keeps_spread, keeps_twice, keeps_where, fewer_domains}
@@ -187,3 +188,17 @@ memo_later t u w C memo r f l m = parts_later u.es w.es memo l.keeps.extends.gre
 pub if_on_ok : {X E : Type 0} (r : Result X E) (Q P : Type 0) → (Q → P) → IfOk r (λ x. Q) → OnOk r P
 if_on_ok (Ok x) Q P f h = f h
 if_on_ok (Err e) Q P f h = tt
+
+-- ---- with conjunctions taken apart
+
+pub parts_in : (xs ys : List Entry) (is js : List ℕ) → ys ≡ xs → js ≡ is → AreRootParts xs is → AreRootParts ys js
+parts_in xs ys is js h k r = subst (λ es. AreRootParts es js) (sym h) (subst (AreRootParts xs) (sym k) r)
+
+pub totals_split : (s t : State) (roots terms parts : List ℕ) → Totals s t roots terms → AreSplit t.es terms parts → Totals s t roots parts
+totals_split s t roots terms parts f p = record {
+  keeps = f.keeps;
+  ready = f.ready;
+  each = p.each;
+  to = λ v d y. p.to v (f.to v d y);
+  from = λ v d y. f.from v d (p.from v y);
+}

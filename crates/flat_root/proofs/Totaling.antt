@@ -47,7 +47,7 @@ truth_known : (x : Known) → IsSome (as_truth x) → IsSome x
 truth_known None h = absurd (cc)
 truth_known (Some e) h = refl
 
-root_of : (es : List Entry) (id : ℕ) → IsTruthNode es id → IsRoot es id
+pub root_of : (es : List Entry) (id : ℕ) → IsTruthNode es id → IsRoot es id
 root_of es id h = record { place = extent_in es id (extent es id) (truth_known (extent es id) h) refl; truth = h }
 
 pub root_later : (xs ys : List Entry) (id : ℕ) → Extends xs ys → IsRoot xs id → IsRoot ys id
@@ -96,7 +96,7 @@ one_added s t id p before after r root g items = record { parts = p.defined ∷ 
 pub no_totals : (s : State) → IsReadyState s → Totals s s [] []
 no_totals s r = record { keeps = keeps_spread s s Always (spreads_same s); ready = r; each = tt; to = λ v d y. tt; from = λ v d y. tt }
 
-all_both : (P : ℕ → Type 0) (xs ys : List ℕ) → AllByRecursion P xs → AllByRecursion P ys → AllByRecursion P (xs ++ ys)
+pub all_both : (P : ℕ → Type 0) (xs ys : List ℕ) → AllByRecursion P xs → AllByRecursion P ys → AllByRecursion P (xs ++ ys)
 all_both P [] ys a b = b
 all_both P (x ∷ xs) ys a b = (a.0, all_both P xs ys a.1 b)
 

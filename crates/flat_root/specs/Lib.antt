@@ -2,3 +2,4 @@ pub mod Marks
 pub mod Keeps
 pub mod Totals
 pub mod Posts
+pub mod Parts

@@ -12,6 +12,7 @@ macro_rules! given {
 }
 
 mod marks;
+mod parts;
 mod posts;
 mod totals;
 

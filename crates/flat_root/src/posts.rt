@@ -7,10 +7,11 @@ ghost use Rattle.flat_reif.specs.States.{state};
 ghost use Rattle.flat_reif.specs.Lists.{IsNode};
 ghost use Rattle.flat_reif.specs.Roots.{IsTrueAt};
 ghost use Rattle.flat_root.specs.Keeps.{AllTrue, IsReadyState, Leads};
-ghost use Rattle.flat_root.specs.Totals.{AreRoots, IsRoot};
+ghost use Rattle.flat_root.specs.Totals.{AreRoots, Totals};
 ghost use Rattle.flat_root.specs.Posts.{ArePostable, IsPostable, all_seeds, is_constant, seeds_at};
 
 use crate::marks::needed_for;
+use crate::parts::split;
 use crate::totals::totals;
 use flat_reif::Flat;
 use flat_reif_rows::test_of;
@@ -113,10 +114,29 @@ fn all_seeds(alloc: Global, arena: &Arena, ids: &[Id]) -> Result<Vec<Id>, Memory
     Ok(seeds)
 }
 
+// What must be true for these roots, with the conjunctions taken apart.
+fn root_parts(
+    alloc: Global,
+    flat: &mut Flat,
+    memo: &mut Memo,
+    roots: &[Id],
+) -> Result<Vec<Id>, Memory>
+    requires ready { IsReadyState (state flat.old) }
+    requires memo { AreParts (state flat.old).es memo.old }
+    requires roots { AreRoots (state flat.old).es roots.now }
+    ensures totals { IfOk result (λ parts. Totals (state flat.old) (state flat.new) roots.now parts.items) }
+    ensures memo { OnOk result (AreParts (state flat.new).es memo.new) }
+{
+    let terms = given!(totals(alloc, flat, memo, roots));
+    let parts = given!(split(alloc, flat.arena(), terms.as_slice()));
+    Ok(parts)
+}
+
 /// Posts that these Boolean nodes are true: keeps just the solutions in which each has a value and is true.
 ///
-/// Each is made total; what their rows take gets its arguments; and then each is posted. A comparison, a
-/// disjunction, an equivalence or another test is one row without a variable of its own.
+/// Each is made total, and conjunctions are taken apart; what the rows of the parts take gets its arguments;
+/// and then each part is posted, once and in order. A comparison, a disjunction, an equivalence or another
+/// test is one row without a variable of its own.
 pub fn post_roots(
     alloc: Global,
     flat: &mut Flat,
@@ -129,7 +149,7 @@ pub fn post_roots(
     ensures posted { IfOk result (λ _. Leads (state flat.old) (state flat.new) (AllTrue (state flat.old).es roots.now)) }
     ensures memo { OnOk result (AreParts (state flat.new).es memo.new) }
 {
-    let parts = given!(totals(alloc, flat, memo, roots));
+    let parts = given!(root_parts(alloc, flat, memo, roots));
     let seeds = given!(all_seeds(alloc, flat.arena(), parts.as_slice()));
     let need = given!(needed_for(alloc, flat.arena(), seeds.as_slice()));
     let count = flat.arena().len();

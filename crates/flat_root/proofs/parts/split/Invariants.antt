@@ -1,0 +1,8 @@
+use Rattle.flat_root.specs.Parts.{SplitSoFar, effort}
+use Rattle.flat_root.proofs.parts.split.Given as goal
+
+abbrev pub invariant-next : goal.invariant-next
+invariant-next l = SplitSoFar l.arena l.ids l.stack.items l.seen l.parts.items
+
+abbrev pub decreases-next : goal.decreases-next
+decreases-next l = effort l.arena l.stack.items l.seen
