@@ -1,4 +1,5 @@
 pub mod Each
+pub mod Numbered
 pub mod Orders
 pub mod Sums
 pub mod Zips
