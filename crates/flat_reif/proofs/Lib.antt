@@ -17,3 +17,4 @@ pub mod Below
 pub mod Folding
 pub mod Posting
 pub mod Declaring
+pub mod Objective

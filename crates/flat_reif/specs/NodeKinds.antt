@@ -1,5 +1,5 @@
 -- Kinds of nodes, by what a flattening does with them.
-use Rattle.std.specs.Prelude.{ℤ, pos, Bool, true, false}
+use Rattle.std.specs.Prelude.{ℕ, ℤ, pos, Bool, true, false, Option, Some, None}
 use Rattle.std.specs.Ordering.{int_eq}
 use Rattle.mz_operations.specs.declared.row.Side.{Side}
 use Rattle.mz_operations.specs.declared.row.Side.TheVariants.{Least, Greatest}
@@ -9,7 +9,7 @@ use Rattle.mz_arena.specs.declared.node.NodeKind.{NodeKind}
 use Rattle.mz_arena.specs.declared.node.NodeKind.TheVariants as kinds
 use Rattle.fz_program.specs.declared.row_name.RowName.{RowName}
 use Rattle.fz_program.specs.declared.row_name.RowName.TheVariants as rows
-use Rattle.fz_program.specs.Arguments.{Plain, bool, int}
+use Rattle.fz_program.specs.Arguments.{Plain, bool, int, set, var, nested}
 
 -- a constant number or truth value
 abbrev pub is_scalar : NodeKind → Bool
@@ -45,3 +45,11 @@ abbrev pub row_of_element : Sort → RowName
 row_of_element sorts.Integer = rows.ArrayVarIntElement
 row_of_element sorts.Boolean = rows.ArrayVarBoolElement
 row_of_element _ = rows.ArrayVarSetElement
+
+-- the place of the variable that an argument is
+abbrev pub place_of : Plain → Option ℕ
+place_of (var k) = Some k
+place_of (bool b) = None
+place_of (int n) = None
+place_of (set s) = None
+place_of nested = None

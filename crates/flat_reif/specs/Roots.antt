@@ -2,8 +2,9 @@
 use Rattle.std.specs.Prelude.{◌≡◌, ℕ, List, [], length, true, Some, None, IsSome, slice_get}
 use Rattle.mz_arena.specs.declared.node.Node.{Node}
 use Rattle.mz_arena.specs.Entries.{Entry, at}
-use Rattle.mz_arena.specs.Extents.{as_truth, extent}
+use Rattle.mz_arena.specs.Extents.{as_truth, as_whole, extent}
 use Rattle.mz_arena.specs.Arenas.{Extends}
+use Rattle.mz_arena.specs.InBounds.{AreInDomains}
 use Rattle.mz_arena.specs.Terms.{term}
 use Rattle.mz_arena.specs.Values as terms
 use Rattle.mz_arena.specs.Values.{is_true}
@@ -12,9 +13,12 @@ use Rattle.mz_partial.specs.Totals.{IsPair}
 use Rattle.fz_program.specs.declared.program.Domain.{Domain}
 use Rattle.fz_program.specs.Arguments.{var}
 use Rattle.fz_program.specs.declared.row_name.RowName.{RowName}
-use Rattle.fz_program.specs.Flat.{Variable, Program}
+use Rattle.fz_program.specs.declared.row_name.Kind.TheVariants.{Int}
+use Rattle.fz_program.specs.Values.{Values}
+use Rattle.fz_program.specs.Flat.{Variable, Program, is_plain, plain_value}
 use Rattle.fz_build.specs.Build.{empty, with_variable}
-use Rattle.flat_reif.specs.States.{State, Spreads, IsState, put_at, free_domain}
+use Rattle.flat_reif.specs.States.{State, Meets, Spreads, Flattened, IsState, put_at, free_domain}
+use Rattle.flat_reif_rows.specs.Standing.{seen}
 use Rattle.flat_reif_rows.specs.RootRows.{test_of}
 use Rattle.flat_reif.specs.Lists.{IsNode, HasArg, is_front}
 
@@ -84,3 +88,14 @@ pub record IsDeclared (old new : State) (id : ℕ) (v : Variable) : Type 0 where
   pub prog : new.prog ≡ with_variable old.prog v
   pub args : new.args ≡ put_at old.args id (var (length old.prog.vars))
   pub state : IsState new
+
+-- ---- the objective
+
+abbrev pub IsWholeNode : List Entry → ℕ → Type 0
+IsWholeNode es id = IsSome (as_whole (extent es id))
+
+-- a variable at a place that is this integer in each solution
+pub record IsVariableFor (old new : State) (id k : ℕ) : Type 0 where
+  pub flattened : Flattened old new
+  pub sort : is_plain new.prog.vars Int (var k) ≡ true
+  pub value : (v : terms.Values) (f : Values) → AreInDomains new.es v → Meets new v f → term v new.es id ≡ Some (seen (plain_value f (var k)))

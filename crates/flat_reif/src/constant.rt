@@ -1,7 +1,8 @@
 // Constants as arguments.
 
-ghost use Rattle.std.specs.Prelude.{◌≡◌, [], IfOk, IfSome, false, pos};
-ghost use Rattle.fz_program.specs.Arguments.{bool, int, plain, set};
+ghost use Rattle.std.specs.Prelude.{◌≡◌, [], IfOk, IfSome, false, map, pos};
+ghost use Rattle.fz_program.specs.Arguments.{argument, bool, int, one, plain, set};
+ghost use Rattle.flat_reif_rows.specs.NodeRows.{sum_inputs};
 ghost use Rattle.flat_reif.specs.NodeKinds.{scalar};
 
 use fz_program::Arg;
@@ -67,4 +68,13 @@ pub(crate) fn empty_set(alloc: Global) -> Result<Arg, Memory>
     ensures { IfOk result (λ a. plain a ≡ set []) }
 {
     Ok(Arg::Set(RangeSet::range(alloc, 1, 0)?))
+}
+
+// The inputs of the sum of an integer and 0.
+pub(crate) fn with_nothing(alloc: Global, a: Arg) -> Result<Vec<Arg>, Memory>
+    ensures { IfOk result (λ all. map argument all.items ≡ sum_inputs (argument a) (one (int (pos 0)))) }
+{
+    let once = vec![in alloc; Arg::Int(1), Arg::Int(1)]?;
+    let both = vec![in alloc; a, Arg::Int(0)]?;
+    Ok(vec![in alloc; Arg::Array(once), Arg::Array(both), Arg::Int(0)]?)
 }

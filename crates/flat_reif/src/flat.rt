@@ -14,19 +14,21 @@ ghost use Rattle.fz_program.specs.Arguments.{plain, plains};
 ghost use Rattle.flat_reif_rows.specs.NodeRows.{HasDivisor, row_of_one, row_of_two};
 ghost use Rattle.flat_reif.specs.States.{IsState, state};
 ghost use Rattle.flat_reif.specs.NodeKinds.{divides, extreme_kind, is_scalar, may_lack};
-ghost use Rattle.flat_reif.specs.Roots.{GrownTo, HasTest, IsDeclared, IsTrueAt, IsTruthNode, MayStand, Never, Posted, begun, with_prog};
+ghost use Rattle.flat_reif.specs.Roots.{GrownTo, HasTest, IsDeclared, IsTrueAt, IsTruthNode, IsVariableFor, IsWholeNode, MayStand, Never, Posted, begun, with_prog};
 ghost use Rattle.flat_reif.specs.Unmet.{IsAny, IsFixed, IsUnmet};
 ghost use Rattle.flat_reif.specs.Lists.{Gives, HasArg, HasFront, IsListed, IsNode, IsReady, ListArgs};
 ghost use Rattle.flat_reif.specs.Below.{AreNeeded, FlattenedBelow, IsDue, IsSettled};
 
-use crate::constant::{alone, empty_set, falsity, least, scalar, set_argument, truth, zero};
+use crate::constant::{
+    alone, empty_set, falsity, least, scalar, set_argument, truth, with_nothing, zero,
+};
 use crate::domain::free_domain;
 use crate::needed::Needed;
-use crate::table::{copied, divides, is_local, put, row_of_element};
+use crate::table::{copied, divides, is_local, place_of, put, row_of_element};
 use flat_reif_folds::{Fold, fold_of_one, fold_of_two};
 use flat_reif_rows::{
-    made_of_access, made_of_branches, made_of_extreme, made_of_one, made_of_sum, made_of_two,
-    may_divide, may_reach, post_false, post_test, post_true, row_of_one, row_of_two,
+    defined, made_of_access, made_of_branches, made_of_extreme, made_of_one, made_of_sum,
+    made_of_two, may_divide, may_reach, post_false, post_test, post_true, row_of_one, row_of_two,
 };
 use fz_build::Build;
 use fz_program::{Arg, FzArray, FzGoal, FzProgram, FzVar, RowName};
@@ -567,6 +569,37 @@ impl Flat {
         let x = given!(self.argument(n.a));
         let y = given!(self.argument(n.b));
         post_test(self.alloc, &mut self.build, n.kind, name, x, y)
+    }
+
+    // One more variable, which is this argument of an integer node.
+    fn fresh(&mut self, id: Id, a: Arg) -> Result<u64, Memory>
+        requires state { IsState (state self.old) }
+        requires arg { at (state self.old).args id ≡ Some (plain a) }
+        requires whole { IsWholeNode (state self.old).es id }
+        ensures { IfOk result (IsVariableFor (state self.old) (state self.new) id) }
+    {
+        let _id = id;
+        let inputs = given!(with_nothing(self.alloc, a));
+        let out = given!(defined(&mut self.build, RowName::IntLinEq, &inputs));
+        match place_of(&out) {
+            Some(k) => Ok(k),
+            None => unreachable!(),
+        }
+    }
+
+    /// The place of a variable that is this integer in each solution: its argument, or, where that is a
+    /// number, one more variable of this value alone, which a row defines.
+    pub fn variable(&mut self, id: Id) -> Result<u64, Memory>
+        requires state { IsState (state self.old) }
+        requires has { HasArg (state self.old) id }
+        requires whole { IsWholeNode (state self.old).es id }
+        ensures { IfOk result (IsVariableFor (state self.old) (state self.new) id) }
+    {
+        let a = given!(self.argument(id));
+        match place_of(&a) {
+            Some(k) => Ok(k),
+            None => self.fresh(id, a),
+        }
     }
 
     /// The program with this solve item. It takes no memory.

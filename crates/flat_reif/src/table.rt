@@ -4,7 +4,7 @@ ghost use Rattle.std.specs.Prelude.{◌≡◌, ◌<◌, IfOk, OnOk, length};
 ghost use Rattle.fz_program.specs.Arguments.{Plain, plain};
 ghost use Rattle.flat_reif.specs.States.{plain_args, put_at};
 ghost use Rattle.mz_arena.specs.Entries.{is_local};
-ghost use Rattle.flat_reif.specs.NodeKinds.{divides, row_of_element};
+ghost use Rattle.flat_reif.specs.NodeKinds.{divides, place_of, row_of_element};
 
 use fz_program::{Arg, RowName};
 use mz_arena::{Id, NodeKind, Sort};
@@ -76,4 +76,17 @@ pub(crate) fn divides(kind: NodeKind) -> bool
     ensures { result ≡ divides kind }
 {
     matches!(kind, NodeKind::Div | NodeKind::Mod)
+}
+
+// The place of the variable that an argument is.
+pub(crate) fn place_of(a: &Arg) -> Option<u64>
+    ensures { result ≡ place_of (plain a.now) }
+{
+    match a {
+        Arg::Var(k) => Some(*k),
+        Arg::Int(_) => None,
+        Arg::Bool(_) => None,
+        Arg::Set(_) => None,
+        Arg::Array(_) => None,
+    }
 }
