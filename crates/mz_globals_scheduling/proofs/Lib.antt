@@ -1,0 +1,4 @@
+pub mod Places
+pub mod Products
+pub mod Steps
+pub mod Walks
