@@ -1,0 +1,4 @@
+mod Places
+mod Names
+mod Models
+mod Stopped
