@@ -2,3 +2,5 @@ mod Places
 mod Names
 mod Models
 mod Stopped
+mod Walking
+mod Variables

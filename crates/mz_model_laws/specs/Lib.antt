@@ -1,2 +1,4 @@
 pub mod Hands
 pub mod Laws
+pub mod Loops
+pub mod Variables

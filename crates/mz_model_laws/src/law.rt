@@ -1,6 +1,8 @@
 // What the walk over a model has in hand, and the boundary of the walk.
 
 ghost use Rattle.mz_model_laws.specs.Laws.{TellsAssigned, HandModels, HandStops};
+ghost use Rattle.mz_model_laws.specs.Variables.{VariablesSeen, NodesMade, VarsKept, MoreVars, WholeByTest};
+ghost use Rattle.mz_model_laws.specs.Loops.{Started, UnboundedStops, OneMoreDeclared, OneStops, AllDeclared, OneMoreConstrained, ConstraintStops, ObjectiveStops, WholeWalk};
 
 /// The law that the instance made of what the walk has in hand is the model's, and that where the
 /// walk stops under each reading, some walk over the model stops.
@@ -8,4 +10,34 @@ pub fn hands_are_models()
     ensures assigned { TellsAssigned }
     ensures models { HandModels }
     ensures stops { HandStops }
+{}
+
+/// The law of the loop over declarations: its start, a step, and a fault.
+pub fn declarations_are_walked()
+    ensures started { Started }
+    ensures unbounded { UnboundedStops }
+    ensures more { OneMoreDeclared }
+    ensures stops { OneStops }
+{}
+
+/// The law of the loop over constraints, of the objective, and of the whole walk.
+pub fn constraints_are_walked()
+    ensures declared { AllDeclared }
+    ensures more { OneMoreConstrained }
+    ensures stops { ConstraintStops }
+    ensures objective { ObjectiveStops }
+    ensures whole { WholeWalk }
+{}
+
+/// The law of the variables: their cells, those of an instance, and their nodes as the run goes on.
+pub fn variables_are_made()
+    ensures seen { VariablesSeen }
+    ensures nodes { NodesMade }
+    ensures kept { VarsKept }
+    ensures more { MoreVars }
+{}
+
+/// The law that one pass over the arena tells that each choice node is a choice's.
+pub fn one_pass_tells_choices()
+    ensures { WholeByTest }
 {}

@@ -3,4 +3,7 @@
 
 mod law;
 
-pub use law::hands_are_models;
+pub use law::{
+    constraints_are_walked, declarations_are_walked, hands_are_models, one_pass_tells_choices,
+    variables_are_made,
+};
