@@ -4,3 +4,5 @@ mod Models
 mod Stopped
 mod Walking
 mod Variables
+mod Tests
+mod Roots

@@ -24,7 +24,7 @@ have_rest : (t : ℕ → Term) (fs gs : List Free) (k : ℕ) (z : Values) → Pl
 have_rest t [] gs k z h = h
 have_rest t (f ∷ fs) gs k z h = have_rest t fs gs (next (domain_of f).opt k) z h.1
 
-one_more_there : (v : Option Content) (vs : List (Option Content)) (c : Content) (cs : List Content) → v ≡ Some c → all_there vs ≡ Some cs → all_there (v ∷ vs) ≡ Some (c ∷ cs)
+pub one_more_there : (v : Option Content) (vs : List (Option Content)) (c : Content) (cs : List Content) → v ≡ Some c → all_there vs ≡ Some cs → all_there (v ∷ vs) ≡ Some (c ∷ cs)
 one_more_there v vs c cs first rest = ap (λ v. all_there (v ∷ vs)) first ∙ ap (option_map (λ xs. c ∷ xs)) rest
 
 all_values : (t : ℕ → Term) (fs : List Free) (k : ℕ) (z : Values) → PlacesHave t fs k z → places_value t fs ≡ Some (cell_contents (map domain_of fs) k z)

@@ -40,7 +40,7 @@ symbols_of : (t : ℕ → Term) (fs : List Free) → map (symbol_value t) (map (
 symbols_of t [] = refl
 symbols_of t (f ∷ fs) = ap (λ xs. symbol_value t f.symbol ∷ xs) (symbols_of t fs)
 
-if_defined : (b : Bool) (v : Option (List Content)) → b ≡ true → option_and_then (λ xs. if b then Some xs else None) v ≡ v
+pub if_defined : (b : Bool) (v : Option (List Content)) → b ≡ true → option_and_then (λ xs. if b then Some xs else None) v ≡ v
 if_defined true None is = refl
 if_defined true (Some xs) is = refl
 if_defined false v is = absurd (cc)

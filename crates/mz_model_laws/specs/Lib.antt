@@ -2,3 +2,4 @@ pub mod Hands
 pub mod Laws
 pub mod Loops
 pub mod Variables
+pub mod Roots

@@ -2,6 +2,7 @@
 
 ghost use Rattle.mz_model_laws.specs.Laws.{TellsAssigned, HandModels, HandStops};
 ghost use Rattle.mz_model_laws.specs.Variables.{VariablesSeen, NodesMade, VarsKept, MoreVars, WholeByTest};
+ghost use Rattle.mz_model_laws.specs.Roots.{NumbersTested, SetsTested, TruthsTested, GuardedTruthsTested, OptionsTested, TruthsThere, PlaceRoots, ArrayRoots, FalseRoots, NoRoots, ConstraintRoots, MoreRooted, RootedKept, MoreMet, MetKept};
 ghost use Rattle.mz_model_laws.specs.Loops.{Started, UnboundedStops, OneMoreDeclared, OneStops, AllDeclared, OneMoreConstrained, ConstraintStops, ObjectiveStops, WholeWalk};
 
 /// The law that the instance made of what the walk has in hand is the model's, and that where the
@@ -40,4 +41,31 @@ pub fn variables_are_made()
 /// The law that one pass over the arena tells that each choice node is a choice's.
 pub fn one_pass_tells_choices()
     ensures { WholeByTest }
+{}
+
+/// The law of the nodes that test two values: integers and cases, sets, Booleans, and options.
+pub fn values_are_tested()
+    ensures numbers { NumbersTested }
+    ensures sets { SetsTested }
+    ensures truths { TruthsTested }
+    ensures guarded { GuardedTruthsTested }
+    ensures options { OptionsTested }
+    ensures there { TruthsThere }
+{}
+
+/// The law of the roots of declared values, and of constraints.
+pub fn roots_tell_values()
+    ensures place { PlaceRoots }
+    ensures array { ArrayRoots }
+    ensures undefined { FalseRoots }
+    ensures none { NoRoots }
+    ensures constraint { ConstraintRoots }
+{}
+
+/// The law that roots stay what they are as the run goes on.
+pub fn roots_are_kept()
+    ensures more_names { MoreRooted }
+    ensures names { RootedKept }
+    ensures more_constraints { MoreMet }
+    ensures constraints { MetKept }
 {}
