@@ -17,8 +17,9 @@ use Rattle.mz_symbol.specs.Runs.{Run}
 use Rattle.mz_symbol.specs.Readings.{Reading, IsGiven, Reads}
 use Rattle.mz_model_laws.specs.Hands.{View, NameKind, ParName, OnePlace, ManyPlaces, kind_domains, HeldName, HeldConstraint, cell_at, name_at, AreOne, array_value, places_value, IsAssigned, AllAssigned, AllTrue, Iff, IsRootedName, IsRooted, AreRootedNames, AreRooted}
 use Rattle.mz_model_laws.specs.Loops.{ReadBack}
-use Rattle.mz_model_laws.specs.Roots.{TestsOne, IsPlaceRoot, TestElements, AreArrayRoots, IsFalseRoot, are_all_true}
+use Rattle.mz_model_laws.specs.Roots.{TestsOne, equal_term, IsPlaceRoot, IsEqualRoot, TestElements, AreArrayRoots, IsFalseRoot, are_all_true}
 use Rattle.mz_model_laws.proofs.Names.{one_more_there}
+use Rattle.mz_model_laws.proofs.Tests.{symbols_tested}
 use Rattle.mz_model_laws.proofs.Variables.{if_defined}
 use Rattle.mz_model_laws.proofs.Walking.{first_assigned}
 
@@ -56,6 +57,16 @@ place_roots s ns n f v id root = record {
             subst (AllTrue r.term) (sym root.roots) (true', tt);
       };
 }
+
+pub equal_roots : (s : Run) (ns : List HeldName) (n : HeldName) (f : Free) (v : View) (y : Symbol) (id : ℕ) → IsEqualRoot s n f v y id → IsRootedName s (ns ++ n ∷ []) n
+equal_roots s ns n f v y id root = place_roots s ns n f v id (record {
+  kind = root.kind;
+  value = root.value;
+  roots = root.roots;
+  tests = λ r given reads some.
+      let tests = symbols_tested r.term f.symbol y root.base root.option (λ truth. root.truth truth r given reads) some in
+      subst (λ (t : Term). TestsOne t (symbol_value r.term f.symbol) (value_of (v r))) (sym (root.root r reads)) (subst (λ w. TestsOne (equal_term r.term f.symbol y) (symbol_value r.term f.symbol) w) (sym (root.seen r given reads)) tests);
+})
 
 -- ---- lists of values that are there
 

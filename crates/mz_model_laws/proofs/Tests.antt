@@ -15,11 +15,12 @@ use Rattle.mz_arena.specs.Values.{Term, holds, bit, as_number, as_set, is_one, i
 use Rattle.mz_meaning.specs.Cells.{Cell, Par, Var, Unshaped, Mode, Blank, Given, value_of, is_truth, risen, widened, sealed, typed}
 use Rattle.mz_meaning.specs.Cells as cells
 use Rattle.mz_instance.specs.Contents.{content_by}
-use Rattle.mz_instance.specs.Parts.{Whole, Subset, sort_of}
-use Rattle.mz_symbol.specs.Symbols.{value_by}
+use Rattle.mz_instance.specs.Parts.{Whole, Truth, Subset, sort_of}
+use Rattle.mz_symbol.specs.declared.types.Symbol.{Symbol}
+use Rattle.mz_symbol.specs.Symbols.{value_by, value_at, symbol_value}
 use Rattle.mz_symbol.specs.Readings.{IsGiven}
 use Rattle.mz_model_laws.specs.Hands.{AreOne, Iff}
-use Rattle.mz_model_laws.specs.Roots.{TestsOne, option_value}
+use Rattle.mz_model_laws.specs.Roots.{TestsOne, option_value, equal_by, equal_at, equal_term}
 
 -- the term of a truth value is true where it is
 pub bit_true : (b : Bool) → is_true (bit b) ≡ b
@@ -169,6 +170,28 @@ there b x e = never_absent values.int (as_number x) (λ n e. cc) e
 
 pub options_tested : (b : Base) (o p x y t : Term) → (is_true o ≡ true → is_true p ≡ true → TestsOne t (value_by b x) (value_by b y)) → TestsOne (and_term (iff_term o p) (or_term (not_term o) t)) (option_value b o x) (option_value b p y)
 options_tested b o p x y t tests = tests_as (same (is_true o) (is_true p) && (not (is_true o) || is_true t)) (and_term (iff_term o p) (or_term (not_term o) t)) (option_value b o x) (option_value b p y) (option_true o p t) (options_held (is_true o) (is_true p) (is_true t) (value_by b x) (value_by b y) tests (there b x) (there b y))
+
+-- ---- symbols
+
+sorts_tested : (b : Base) (x y : Term) → (sort_of b ≡ Truth → IsSome (as_number y)) → IsSome (value_by b x) → TestsOne (equal_by (sort_of b) x y) (value_by b x) (value_by b y)
+sorts_tested base.Bool x y truth some = subst (λ v. TestsOne (iff_term x y) (value_by base.Bool x) v) (sym (truth_value y (truth refl))) (truths_tested x y some)
+sorts_tested base.SetInt x y truth some = sets_tested base.SetInt x y refl
+sorts_tested (base.SetEnum k) x y truth some = sets_tested (base.SetEnum k) x y refl
+sorts_tested (base.Enum k) x y truth some = numbers_tested (base.Enum k) x y refl
+sorts_tested b x y truth some = numbers_tested b x y refl
+
+occurring : (q : Bool) (v : Option Content) → q ≡ true → IsSome (if q then v else Some values.absent) → IsSome v
+occurring true v is some = some
+occurring false v is some = absurd (cc)
+
+terms_tested : (t : ℕ → Term) (b : Base) (o p : Option ℕ) (x y : ℕ) → is_some o ≡ is_some p → (sort_of b ≡ Truth → IsSome (as_number (t y))) → IsSome (value_at t b o x) → TestsOne (equal_at t (sort_of b) o x p y) (value_at t b o x) (value_at t b p y)
+terms_tested t b None None x y options truth some = sorts_tested b (t x) (t y) truth some
+terms_tested t b None (Some p) x y options truth some = absurd (cc)
+terms_tested t b (Some o) None x y options truth some = absurd (cc)
+terms_tested t b (Some o) (Some p) x y options truth some = options_tested b (t o) (t p) (t x) (t y) (equal_by (sort_of b) (t x) (t y)) (λ first second. sorts_tested b (t x) (t y) truth (occurring (is_true (t o)) (value_by b (t x)) first some))
+
+pub symbols_tested : (t : ℕ → Term) (x y : Symbol) → x.base ≡ y.base → is_some x.occurs ≡ is_some y.occurs → (sort_of x.base ≡ Truth → IsSome (as_number (t y.term))) → IsSome (symbol_value t x) → TestsOne (equal_term t x y) (symbol_value t x) (symbol_value t y)
+symbols_tested t x y base options truth some = subst (λ (b : Base). TestsOne (equal_term t x y) (symbol_value t x) (value_at t b y.occurs y.term)) base (terms_tested t x.base x.occurs y.occurs x.term y.term options truth some)
 
 -- ---- Booleans are there
 

@@ -9,10 +9,10 @@ use Rattle.mz_core.specs.declared.types.Base.{Base}
 use Rattle.mz_core.specs.declared.types.Base.TheVariants as base
 use Rattle.mz_core.specs.Types.{PlainType}
 use Rattle.mz_operations.specs.Sets.{same_set}
-use Rattle.mz_arena.specs.Values.{Term, as_number, is_true, comparison_term, set_comparison_term, and_term, or_term, not_term, iff_term}
+use Rattle.mz_arena.specs.Values.{Term, bit, as_number, is_true, comparison_term, set_comparison_term, and_term, or_term, not_term, iff_term}
 use Rattle.mz_meaning.specs.Cells.{Cell, Mode, value_of, is_truth, typed}
 use Rattle.mz_meaning.specs.Cells as cells
-use Rattle.mz_instance.specs.Parts.{Whole, Subset, sort_of}
+use Rattle.mz_instance.specs.Parts.{Sort, Whole, Truth, Subset, sort_of}
 use Rattle.mz_symbol.specs.declared.types.Free.{Free}
 use Rattle.mz_symbol.specs.declared.types.Symbol.{Symbol}
 use Rattle.mz_symbol.specs.Symbols.{value_by, symbol_value, elements_value}
@@ -51,6 +51,24 @@ option_value b o x = if is_true o then value_by b x else Some values.absent
 abbrev pub OptionsTested : Type 0
 OptionsTested = (b : Base) (o p x y t : Term) → (is_true o ≡ true → is_true p ≡ true → TestsOne t (value_by b x) (value_by b y)) → TestsOne (and_term (iff_term o p) (or_term (not_term o) t)) (option_value b o x) (option_value b p y)
 
+-- the node that tests two values of a sort, and so two symbols of one base, both options or neither
+abbrev pub equal_by : Sort → Term → Term → Term
+equal_by Whole x y = comparison_term int_eq x y
+equal_by Truth x y = iff_term x y
+equal_by Subset x y = set_comparison_term same_set x y
+
+abbrev pub equal_at : (ℕ → Term) → Sort → Option ℕ → ℕ → Option ℕ → ℕ → Term
+equal_at t s None x None y = equal_by s (t x) (t y)
+equal_at t s (Some o) x (Some p) y = and_term (iff_term (t o) (t p)) (or_term (not_term (t o)) (equal_by s (t x) (t y)))
+equal_at t s o x p y = bit false
+
+abbrev pub equal_term : (ℕ → Term) → Symbol → Symbol → Term
+equal_term t x y = equal_at t (sort_of x.base) x.occurs x.term y.occurs y.term
+
+-- where the first symbol has a value, and so has the second one's term if it is a Boolean's
+abbrev pub SymbolsTested : Type 0
+SymbolsTested = (t : ℕ → Term) (x y : Symbol) → x.base ≡ y.base → is_some x.occurs ≡ is_some y.occurs → (sort_of x.base ≡ Truth → IsSome (as_number (t y.term))) → IsSome (symbol_value t x) → TestsOne (equal_term t x y) (symbol_value t x) (symbol_value t y)
+
 -- ---- a Boolean has a value under each reading with values, and it is what its term is, true or not
 
 abbrev pub TruthsThere : Type 0
@@ -67,6 +85,20 @@ pub record IsPlaceRoot (s : Run) (n : HeldName) (f : Free) (v : View) (id : ℕ)
 
 abbrev pub PlaceRoots : Type 0
 PlaceRoots = (s : Run) (ns : List HeldName) (n : HeldName) (f : Free) (v : View) (id : ℕ) → IsPlaceRoot s n f v id → IsRootedName s (ns ++ n ∷ []) n
+
+-- the root is the node that tests the variable's symbol and that of its value
+pub record IsEqualRoot (s : Run) (n : HeldName) (f : Free) (v : View) (y : Symbol) (id : ℕ) : Type 0 where
+  pub kind : n.kind ≡ OnePlace f
+  pub value : n.value ≡ Some v
+  pub roots : n.roots ≡ id ∷ []
+  pub base : f.symbol.base ≡ y.base
+  pub option : is_some f.symbol.occurs ≡ is_some y.occurs
+  pub truth : sort_of f.symbol.base ≡ Truth → (r : Reading) → IsGiven r.mode → Reads r s → IsSome (as_number (r.term y.term))
+  pub seen : (r : Reading) → IsGiven r.mode → Reads r s → value_of (v r) ≡ symbol_value r.term y
+  pub root : (r : Reading) → Reads r s → r.term id ≡ equal_term r.term f.symbol y
+
+abbrev pub EqualRoots : Type 0
+EqualRoots = (s : Run) (ns : List HeldName) (n : HeldName) (f : Free) (v : View) (y : Symbol) (id : ℕ) → IsEqualRoot s n f v y id → IsRootedName s (ns ++ n ∷ []) n
 
 -- each of these terms tests a place, where it has a value, and the element at it
 abbrev pub TestElements : (ℕ → Term) → List Free → List Symbol → List ℕ → Type 0

@@ -2,7 +2,7 @@
 
 ghost use Rattle.mz_model_laws.specs.Laws.{TellsAssigned, HandModels, HandStops};
 ghost use Rattle.mz_model_laws.specs.Variables.{VariablesSeen, NodesMade, VarsKept, MoreVars, WholeByTest};
-ghost use Rattle.mz_model_laws.specs.Roots.{NumbersTested, SetsTested, TruthsTested, GuardedTruthsTested, OptionsTested, TruthsThere, PlaceRoots, ArrayRoots, FalseRoots, NoRoots, ConstraintRoots, MoreRooted, RootedKept, MoreMet, MetKept};
+ghost use Rattle.mz_model_laws.specs.Roots.{NumbersTested, SetsTested, TruthsTested, GuardedTruthsTested, OptionsTested, SymbolsTested, TruthsThere, PlaceRoots, EqualRoots, ArrayRoots, FalseRoots, NoRoots, ConstraintRoots, MoreRooted, RootedKept, MoreMet, MetKept};
 ghost use Rattle.mz_model_laws.specs.Loops.{Started, UnboundedStops, OneMoreDeclared, OneStops, AllDeclared, OneMoreConstrained, ConstraintStops, ObjectiveStops, WholeWalk};
 
 /// The law that the instance made of what the walk has in hand is the model's, and that where the
@@ -50,12 +50,14 @@ pub fn values_are_tested()
     ensures truths { TruthsTested }
     ensures guarded { GuardedTruthsTested }
     ensures options { OptionsTested }
+    ensures symbols { SymbolsTested }
     ensures there { TruthsThere }
 {}
 
 /// The law of the roots of declared values, and of constraints.
 pub fn roots_tell_values()
     ensures place { PlaceRoots }
+    ensures equal { EqualRoots }
     ensures array { ArrayRoots }
     ensures undefined { FalseRoots }
     ensures none { NoRoots }
