@@ -6,3 +6,4 @@ mod Walking
 mod Variables
 mod Tests
 mod Roots
+mod SampleHeld

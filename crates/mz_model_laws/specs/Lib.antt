@@ -3,3 +3,4 @@ pub mod Laws
 pub mod Loops
 pub mod Variables
 pub mod Roots
+pub mod Sample
