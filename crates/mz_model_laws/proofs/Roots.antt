@@ -5,21 +5,25 @@ use Rattle.std.specs.Option.{option_map, option_and_then}
 use Rattle.mz_value.specs.Ranges.{Range}
 use Rattle.mz_value.specs.Contents.{Content, Contents, contents}
 use Rattle.mz_value.specs.Contents as values
-use Rattle.mz_arena.specs.Values.{Term, is_true}
+use Rattle.mz_core.specs.declared.types.Base.{Base}
+use Rattle.mz_core.specs.declared.types.Base.TheVariants as base
+use Rattle.mz_arena.specs.Values.{Term, is_true, iff_term}
 use Rattle.mz_meaning.specs.Cells.{value_of}
 use Rattle.mz_meaning.specs.Cells as cells
 use Rattle.mz_meaning.specs.Solutions.{MatchesValue, HasValue, IsValue}
 use Rattle.mz_meaning.specs.Walk.{Assignment}
+use Rattle.mz_instance.specs.Parts.{sort_of}
 use Rattle.mz_symbol.specs.declared.types.Free.{Free}
+use Rattle.mz_symbol.specs.declared.types.Line.{Line}
 use Rattle.mz_symbol.specs.declared.types.Symbol.{Symbol}
-use Rattle.mz_symbol.specs.Symbols.{symbol_value, all_there, elements_value}
-use Rattle.mz_symbol.specs.Runs.{Run}
+use Rattle.mz_symbol.specs.Symbols.{value_by, value_at, symbol_value, all_there, elements_value, AreItems}
+use Rattle.mz_symbol.specs.Runs.{Run, IsRun}
 use Rattle.mz_symbol.specs.Readings.{Reading, IsGiven, Reads}
 use Rattle.mz_model_laws.specs.Hands.{View, NameKind, ParName, OnePlace, ManyPlaces, kind_domains, HeldName, HeldConstraint, cell_at, name_at, AreOne, array_value, places_value, IsAssigned, AllAssigned, AllTrue, Iff, IsRootedName, IsRooted, AreRootedNames, AreRooted}
 use Rattle.mz_model_laws.specs.Loops.{ReadBack}
-use Rattle.mz_model_laws.specs.Roots.{TestsOne, equal_term, IsPlaceRoot, IsEqualRoot, TestElements, AreArrayRoots, IsFalseRoot, are_all_true}
+use Rattle.mz_model_laws.specs.Roots.{TestsOne, equal_term, IsPlaceRoot, IsEqualRoot, IsTruthRoot, TestElements, AreArrayRoots, AreAlike, AreEqualTerms, AreLineRoots, IsFalseRoot, are_all_true}
 use Rattle.mz_model_laws.proofs.Names.{one_more_there}
-use Rattle.mz_model_laws.proofs.Tests.{symbols_tested}
+use Rattle.mz_model_laws.proofs.Tests.{symbols_tested, truths_tested, truth_number}
 use Rattle.mz_model_laws.proofs.Variables.{if_defined}
 use Rattle.mz_model_laws.proofs.Walking.{first_assigned}
 
@@ -66,6 +70,19 @@ equal_roots s ns n f v y id root = place_roots s ns n f v id (record {
   tests = λ r given reads some.
       let tests = symbols_tested r.term f.symbol y root.base root.option (λ truth. root.truth truth r given reads) some in
       subst (λ (t : Term). TestsOne t (symbol_value r.term f.symbol) (value_of (v r))) (sym (root.root r reads)) (subst (λ w. TestsOne (equal_term r.term f.symbol y) (symbol_value r.term f.symbol) w) (sym (root.seen r given reads)) tests);
+})
+
+pub truth_roots : (s : Run) (ns : List HeldName) (n : HeldName) (f : Free) (v : View) (w id : ℕ) → IsTruthRoot s n f v w id → IsRootedName s (ns ++ n ∷ []) n
+truth_roots s ns n f v w id root = place_roots s ns n f v id (record {
+  kind = root.kind;
+  value = root.value;
+  roots = root.roots;
+  tests = λ r given reads some.
+      let value : symbol_value r.term f.symbol ≡ value_by base.Bool (r.term f.symbol.term) = ap (λ (b : Base). value_at r.term b f.symbol.occurs f.symbol.term) root.base ∙ ap (λ o. value_at r.term base.Bool o f.symbol.term) root.plain in
+      let tests = truths_tested (r.term f.symbol.term) (r.term w) (subst (λ x. IsSome x) value some) in
+      let seen = root.there r given reads ∙ ap (λ q. Some (values.bool q)) (root.seen r given reads) in
+      subst (λ (t : Term). TestsOne t (symbol_value r.term f.symbol) (value_of (v r))) (sym (root.root r reads))
+      (subst (λ x. TestsOne (iff_term (r.term f.symbol.term) (r.term w)) x (value_of (v r))) (sym value) (subst (λ y. TestsOne (iff_term (r.term f.symbol.term) (r.term w)) (value_by base.Bool (r.term f.symbol.term)) y) (sym seen) tests));
 })
 
 -- ---- lists of values that are there
@@ -182,6 +199,31 @@ array_roots s ns n ix fs v defined items ids root = record {
   where
     same_content : (c d : Content) → Some c ≡ Some d → c ≡ d
     same_content c d e = cc
+
+-- ---- an array of the run
+
+-- where the array is defined, its elements have values
+line_tests : (t : ℕ → Term) (fs : List Free) (ys : List Symbol) (is : List ℕ) → AreAlike fs ys → AreEqualTerms t fs ys is → AreItems t ys → TestElements t fs ys is
+line_tests t [] [] [] alike equal items = tt
+line_tests t [] [] (i ∷ is) alike equal items = absurd equal
+line_tests t [] (y ∷ ys) is alike equal items = absurd alike
+line_tests t (f ∷ fs) [] is alike equal items = absurd alike
+line_tests t (f ∷ fs) (y ∷ ys) [] alike equal items = absurd equal
+line_tests t (f ∷ fs) (y ∷ ys) (i ∷ is) alike equal items = (
+  λ some.
+      let tests = symbols_tested t f.symbol y alike.0.0 alike.0.1 (λ truth. truth_number y.base (t y.term) (ap sort_of (sym alike.0.0) ∙ truth) items.0.value) some in
+      subst (λ (x : Term). TestsOne x (symbol_value t f.symbol) (symbol_value t y)) (sym equal.0) tests,
+  line_tests t fs ys is alike.1 equal.1 items.1,
+)
+
+pub line_roots : (s : Run) (ns : List HeldName) (n : HeldName) (ix : List Range) (fs : List Free) (v : View) (k : ℕ) (l : Line) (ids : List ℕ) → IsRun s → AreLineRoots s n ix fs v k l ids → IsRootedName s (ns ++ n ∷ []) n
+line_roots s ns n ix fs v k l ids run root = array_roots s ns n ix fs v l.defined l.items.items ids (record {
+  kind = root.kind;
+  value = root.value;
+  roots = root.roots;
+  seen = λ r given reads. root.seen r given reads ∙ ap (array_value ix) (reads.lines k l root.line);
+  tests = λ r given reads defined. line_tests r.term fs l.items.items ids root.alike (root.equal r reads) ((run.lines r.term reads.nodes k l root.line).whole defined);
+})
 
 -- ---- no value, and no variable
 

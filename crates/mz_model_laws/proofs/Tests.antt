@@ -120,6 +120,12 @@ some_number : (n : Option ℤ) → IsSome (option_map (λ n. content_by base.Boo
 some_number None some = some
 some_number (Some n) some = refl
 
+pub truth_number : (b : Base) (x : Term) → sort_of b ≡ Truth → IsSome (value_by b x) → IsSome (as_number x)
+truth_number base.Bool x sort some = some_number (as_number x) some
+truth_number base.SetInt x sort some = absurd (cc)
+truth_number (base.SetEnum k) x sort some = absurd (cc)
+truth_number b x sort some = absurd (cc)
+
 truths_held : (a b : Bool) → Iff (same a b ≡ true) (AreOne (Some (values.bool a)) (Some (values.bool b)))
 truths_held true true = record { to = λ h. record { content = _; first = refl; second = refl }; from = λ h. refl }
 truths_held true false = record { to = λ h. absurd (cc); from = λ h. absurd (let e = h.first ∙ sym h.second in cc) }

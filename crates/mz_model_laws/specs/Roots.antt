@@ -1,5 +1,5 @@
 -- ROOTS: the nodes that say that a variable has the value that it is declared with, and that a constraint is met.
-use Rattle.std.specs.Prelude.{◌≡◌, ◌≢◌, ◌⊎◌, ℕ, Bool, true, false, List, [], ◌∷◌, ◌++◌, Option, Some, None, is_some, IsSome, if◌then◌else◌}
+use Rattle.std.specs.Prelude.{◌≡◌, ◌≢◌, ◌⊎◌, ℕ, Bool, true, false, List, [], ◌∷◌, ◌++◌, Option, Some, None, is_some, IsSome, slice_get, if◌then◌else◌}
 use Rattle.std.specs.List.{list_all}
 use Rattle.std.specs.Ordering.{int_eq}
 use Rattle.mz_value.specs.Ranges.{Range}
@@ -14,9 +14,10 @@ use Rattle.mz_meaning.specs.Cells.{Cell, Mode, value_of, is_truth, typed}
 use Rattle.mz_meaning.specs.Cells as cells
 use Rattle.mz_instance.specs.Parts.{Sort, Whole, Truth, Subset, sort_of}
 use Rattle.mz_symbol.specs.declared.types.Free.{Free}
+use Rattle.mz_symbol.specs.declared.types.Line.{Line}
 use Rattle.mz_symbol.specs.declared.types.Symbol.{Symbol}
 use Rattle.mz_symbol.specs.Symbols.{value_by, symbol_value, elements_value}
-use Rattle.mz_symbol.specs.Runs.{Run}
+use Rattle.mz_symbol.specs.Runs.{Run, IsRun}
 use Rattle.mz_symbol.specs.Readings.{Reading, IsGiven, Reads}
 use Rattle.mz_model_laws.specs.Hands.{View, ParName, OnePlace, ManyPlaces, HeldName, HeldConstraint, AreOne, array_value, Iff, IsRootedName, IsRooted, AreRootedNames, AreRooted}
 use Rattle.mz_model_laws.specs.Loops.{ReadBack}
@@ -100,6 +101,20 @@ pub record IsEqualRoot (s : Run) (n : HeldName) (f : Free) (v : View) (y : Symbo
 abbrev pub EqualRoots : Type 0
 EqualRoots = (s : Run) (ns : List HeldName) (n : HeldName) (f : Free) (v : View) (y : Symbol) (id : ℕ) → IsEqualRoot s n f v y id → IsRootedName s (ns ++ n ∷ []) n
 
+-- the root of a Boolean is Iff, over a node that is true where the value is
+pub record IsTruthRoot (s : Run) (n : HeldName) (f : Free) (v : View) (w id : ℕ) : Type 0 where
+  pub kind : n.kind ≡ OnePlace f
+  pub value : n.value ≡ Some v
+  pub roots : n.roots ≡ id ∷ []
+  pub base : f.symbol.base ≡ base.Bool
+  pub plain : f.symbol.occurs ≡ None
+  pub there : (r : Reading) → IsGiven r.mode → Reads r s → value_of (v r) ≡ Some (values.bool (cells.is_true (value_of (v r))))
+  pub seen : (r : Reading) → IsGiven r.mode → Reads r s → cells.is_true (value_of (v r)) ≡ is_true (r.term w)
+  pub root : (r : Reading) → Reads r s → r.term id ≡ iff_term (r.term f.symbol.term) (r.term w)
+
+abbrev pub TruthRoots : Type 0
+TruthRoots = (s : Run) (ns : List HeldName) (n : HeldName) (f : Free) (v : View) (w id : ℕ) → IsTruthRoot s n f v w id → IsRootedName s (ns ++ n ∷ []) n
+
 -- each of these terms tests a place, where it has a value, and the element at it
 abbrev pub TestElements : (ℕ → Term) → List Free → List Symbol → List ℕ → Type 0
 TestElements t [] [] [] = Unit {0}
@@ -116,6 +131,31 @@ pub record AreArrayRoots (s : Run) (n : HeldName) (ix : List Range) (fs : List F
 
 abbrev pub ArrayRoots : Type 0
 ArrayRoots = (s : Run) (ns : List HeldName) (n : HeldName) (ix : List Range) (fs : List Free) (v : View) (defined : ℕ) (items : List Symbol) (ids : List ℕ) → AreArrayRoots s n ix fs v defined items ids → IsRootedName s (ns ++ n ∷ []) n
+
+-- the elements have the bases of the places, and are options where they are
+abbrev pub AreAlike : List Free → List Symbol → Type 0
+AreAlike [] [] = Unit {0}
+AreAlike (f ∷ fs) (y ∷ ys) = ((f.symbol.base ≡ y.base) × (is_some f.symbol.occurs ≡ is_some y.occurs)) × AreAlike fs ys
+AreAlike fs ys = ⊥
+
+-- each of these nodes tests the symbols of a place and of the element at it
+abbrev pub AreEqualTerms : (ℕ → Term) → List Free → List Symbol → List ℕ → Type 0
+AreEqualTerms t [] [] [] = Unit {0}
+AreEqualTerms t (f ∷ fs) (y ∷ ys) (i ∷ is) = (t i ≡ equal_term t f.symbol y) × AreEqualTerms t fs ys is
+AreEqualTerms t fs ys is = ⊥
+
+-- the roots of an array of variables whose value is an array of the run
+pub record AreLineRoots (s : Run) (n : HeldName) (ix : List Range) (fs : List Free) (v : View) (k : ℕ) (l : Line) (ids : List ℕ) : Type 0 where
+  pub kind : n.kind ≡ ManyPlaces ix fs
+  pub value : n.value ≡ Some v
+  pub roots : n.roots ≡ l.defined ∷ ids
+  pub line : slice_get s.lines k ≡ Some l
+  pub alike : AreAlike fs l.items.items
+  pub seen : (r : Reading) → IsGiven r.mode → Reads r s → value_of (v r) ≡ array_value ix (r.line k)
+  pub equal : (r : Reading) → Reads r s → AreEqualTerms r.term fs l.items.items ids
+
+abbrev pub LineRoots : Type 0
+LineRoots = (s : Run) (ns : List HeldName) (n : HeldName) (ix : List Range) (fs : List Free) (v : View) (k : ℕ) (l : Line) (ids : List ℕ) → IsRun s → AreLineRoots s n ix fs v k l ids → IsRootedName s (ns ++ n ∷ []) n
 
 -- the root of a value that is undefined, whatever values there are: it is false
 pub record IsFalseRoot (s : Run) (n : HeldName) (v : View) (id : ℕ) : Type 0 where

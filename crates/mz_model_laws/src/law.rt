@@ -2,7 +2,9 @@
 
 ghost use Rattle.mz_model_laws.specs.Laws.{TellsAssigned, HandModels, HandStops};
 ghost use Rattle.mz_model_laws.specs.Variables.{VariablesSeen, NodesMade, VarsKept, MoreVars, WholeByTest};
-ghost use Rattle.mz_model_laws.specs.Roots.{NumbersTested, SetsTested, TruthsTested, GuardedTruthsTested, OptionsTested, SymbolsTested, TruthsThere, PlaceRoots, EqualRoots, ArrayRoots, FalseRoots, NoRoots, ConstraintRoots, MoreRooted, RootedKept, MoreMet, MetKept};
+ghost use Rattle.mz_model_laws.specs.Roots.{NumbersTested, SetsTested, TruthsTested, GuardedTruthsTested, OptionsTested, SymbolsTested, TruthsThere};
+ghost use Rattle.mz_model_laws.specs.Roots.{PlaceRoots, EqualRoots, TruthRoots, ArrayRoots, LineRoots, FalseRoots, NoRoots, ConstraintRoots};
+ghost use Rattle.mz_model_laws.specs.Roots.{MoreRooted, RootedKept, MoreMet, MetKept};
 ghost use Rattle.mz_model_laws.specs.Loops.{Started, UnboundedStops, OneMoreDeclared, OneStops, AllDeclared, OneMoreConstrained, ConstraintStops, ObjectiveStops, WholeWalk};
 
 /// The law that the instance made of what the walk has in hand is the model's, and that where the
@@ -58,7 +60,9 @@ pub fn values_are_tested()
 pub fn roots_tell_values()
     ensures place { PlaceRoots }
     ensures equal { EqualRoots }
+    ensures truth { TruthRoots }
     ensures array { ArrayRoots }
+    ensures line { LineRoots }
     ensures undefined { FalseRoots }
     ensures none { NoRoots }
     ensures constraint { ConstraintRoots }
