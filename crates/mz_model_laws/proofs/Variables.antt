@@ -7,15 +7,18 @@ use Rattle.std.specs.Option.{option_and_then}
 use Rattle.mz_value.specs.Ranges.{Range}
 use Rattle.mz_value.specs.Contents.{Content}
 use Rattle.mz_core.specs.declared.types.Base.{Base}
+use Rattle.mz_core.specs.Tree.{Decl}
 use Rattle.mz_arena.specs.Arenas.{Grew}
 use Rattle.mz_arena.specs.Entries.{Entry}
 use Rattle.mz_arena.specs.Instances.{ModelVar}
 use Rattle.mz_arena.specs.Numbering.{local_ids, Numbered}
 use Rattle.mz_arena.specs.Values.{Term, is_true}
 use Rattle.mz_meaning.specs.Cells.{Cell, Var, Mode, Blank, Given, held}
-use Rattle.mz_meaning.specs.Domains.{domains_bounds}
+use Rattle.mz_meaning.specs.Domains.{Domain, Domains, domains_bounds}
 use Rattle.mz_meaning.specs.Walk.{Assignment, variable}
 use Rattle.mz_instance.specs.Parts.{Part, base_of, sort_of, parts_of, cell_ids, value_part, var_ids, var_parts, ids, parts, AreNodes}
+use Rattle.mz_model_meaning.specs.Decoded.{Named}
+use Rattle.mz_model_meaning.specs.Modeled.{cell_domain, domains_by, domains_of, var_head, var_tail, names_of}
 use Rattle.mz_symbol.specs.declared.types.Free.{Free}
 use Rattle.mz_symbol.specs.declared.types.Symbol.{Symbol}
 use Rattle.mz_symbol.specs.declared.types.Line.{Line}
@@ -24,8 +27,11 @@ use Rattle.mz_symbol.specs.Symbols.{symbol_ids, symbol_value, domain_of, free_id
 use Rattle.mz_symbol.specs.Runs.{Run, IsRun, taken}
 use Rattle.mz_symbol.specs.Readings.{Reading, IsGiven, Reads}
 use Rattle.mz_symbol.proofs.RunLaws.{nodes_later}
-use Rattle.mz_model_laws.specs.Hands.{NameKind, ParName, OnePlace, ManyPlaces, kind_places, kind_domains, HeldName, cell_at, name_at, all_places, AreOne, array_value, places_value, IsAssigned, AreVars}
-use Rattle.mz_model_laws.specs.Variables.{IsPlacesLine, HasCell, place_cell, ArePlacesOf, IsMadeOf, is_var_kind, AreMadeOfNext, AreMadeOf, part_count, AllNoted}
+use Rattle.mz_model_laws.specs.Hands.{NameKind, ParName, OnePlace, ManyPlaces, kind_places, kind_domains, HeldName, cell_at, name_at, named_as, all_places, AreOne, array_value, places_value, IsAssigned, AreVars, SlotsFrom}
+use Rattle.mz_model_laws.specs.Variables.{IsPlacesLine, HasCell, place_cell, ArePlacesOf, kind_index, IsMadeOf, is_var_kind, AreMadeOfNext, AreMadeOf, HasParts, AreNamesOf, part_count, AllNoted}
+
+abbrev named_by : ℕ → Domains → Named
+named_by slot ds = record { slot = slot; domains = ds }
 
 -- ---- a variable's cell
 
@@ -90,41 +96,82 @@ cells_parts m (f ∷ fs) of =
     ∙ ap (λ o. parts_of o (value_part m (place_cell f)) ++ place_parts fs) (sym of.0.1)
     ∙ ap (λ (b : Base). parts_of (is_some f.symbol.occurs) (record { sort = sort_of b; set = f.set }) ++ place_parts fs) (sym of.0.0)
 
-made_ids : (fs : List Free) (m : ModelVar) → IsMadeOf fs m → var_ids m ≡ free_ids fs
-made_ids fs m made = ap (flat_map cell_ids) made.cells ∙ cells_ids fs
+made_ids : (k : NameKind) (m : ModelVar) → IsMadeOf k m → var_ids m ≡ free_ids (kind_places k)
+made_ids k m made = ap (flat_map cell_ids) made.cells ∙ cells_ids (kind_places k)
 
-made_parts : (fs : List Free) (m : ModelVar) → IsMadeOf fs m → var_parts m ≡ place_parts fs
-made_parts fs m made = ap (flat_map (λ c. parts_of m.opt (value_part m c))) made.cells ∙ cells_parts m fs made.places
+made_parts : (k : NameKind) (m : ModelVar) → IsMadeOf k m → var_parts m ≡ place_parts (kind_places k)
+made_parts k m made = ap (flat_map (λ c. parts_of m.opt (value_part m c))) made.cells ∙ cells_parts m (kind_places k) made.places
 
--- ids and parts of an instance's variables are those of these places
-record AreAt (ms : List ModelVar) (fs : List Free) : Type 0 where
-  ids : ids ms ≡ free_ids fs
-  parts : parts ms ≡ place_parts fs
+abbrev Makes : (List ModelVar → Type 0) → List Free → Type 0
+Makes Rest gs = (ms : List ModelVar) → Rest ms → HasParts ms gs
 
-made_next : (b : Bool) (fs gs : List Free) (Rest : List ModelVar → Type 0) (ms : List ModelVar) → (b ≡ false → fs ≡ []) → ((ms : List ModelVar) → Rest ms → AreAt ms gs) → AreMadeOfNext b fs Rest ms → AreAt ms (fs ++ gs)
-made_next false fs gs Rest ms none rest made = subst (λ fs. AreAt ms (fs ++ gs)) (sym (none refl)) (rest ms made)
-made_next true fs gs Rest [] none rest made = absurd made
-made_next true fs gs Rest (m ∷ ms) none rest made =
+var_made : (k : NameKind) (gs : List Free) (Rest : List ModelVar → Type 0) (ms : List ModelVar) → Makes Rest gs → AreMadeOfNext true k Rest ms → HasParts ms (kind_places k ++ gs)
+var_made k gs Rest [] rest made = absurd made
+var_made k gs Rest (m ∷ ms) rest made =
     let at = rest ms made.1 in
     record {
-      ids = ap (λ is. is ++ ids ms) (made_ids fs m made.0) ∙ ap (λ is. free_ids fs ++ is) at.ids ∙ sym (both_ids fs gs);
-      parts = ap (λ ps. ps ++ parts ms) (made_parts fs m made.0) ∙ ap (λ ps. place_parts fs ++ ps) at.parts ∙ sym (both_parts fs gs);
+      ids = ap (λ is. is ++ ids ms) (made_ids k m made.0) ∙ ap (λ is. free_ids (kind_places k) ++ is) at.ids ∙ sym (both_ids (kind_places k) gs);
+      parts = ap (λ ps. ps ++ parts ms) (made_parts k m made.0) ∙ ap (λ ps. place_parts (kind_places k) ++ ps) at.parts ∙ sym (both_parts (kind_places k) gs);
     }
 
-par_places : (k : NameKind) → is_var_kind k ≡ false → kind_places k ≡ []
-par_places ParName is = refl
-par_places (OnePlace f) is = absurd (cc)
-par_places (ManyPlaces ix fs) is = absurd (cc)
+next_made : (k : NameKind) (gs : List Free) (Rest : List ModelVar → Type 0) (ms : List ModelVar) → Makes Rest gs → AreMadeOfNext (is_var_kind k) k Rest ms → HasParts ms (kind_places k ++ gs)
+next_made ParName gs Rest ms rest made = rest ms made
+next_made (OnePlace f) gs Rest ms rest made = var_made (OnePlace f) gs Rest ms rest made
+next_made (ManyPlaces ix fs) gs Rest ms rest made = var_made (ManyPlaces ix fs) gs Rest ms rest made
 
-all_made : (ns : List HeldName) (ms : List ModelVar) → AreMadeOf ns ms → AreAt ms (all_places ns)
-all_made [] [] made = record { ids = refl; parts = refl }
-all_made [] (m ∷ ms) made = absurd made
-all_made (n ∷ ns) ms made = made_next (is_var_kind n.kind) (kind_places n.kind) (all_places ns) (AreMadeOf ns) ms (par_places n.kind) (all_made ns) made
+pub parts_made : (ns : List HeldName) (ms : List ModelVar) → AreMadeOf ns ms → HasParts ms (all_places ns)
+parts_made [] [] made = record { ids = refl; parts = refl }
+parts_made [] (m ∷ ms) made = absurd made
+parts_made (n ∷ ns) ms made = next_made n.kind (all_places ns) (AreMadeOf ns) ms (parts_made ns) made
 
 pub nodes_made : (s : Run) (ns : List HeldName) (ms : List ModelVar) → AreVars s ns → AreMadeOf ns ms → AreNodes s.arena false 0 (ids ms) (parts ms)
 nodes_made s ns ms vars made =
-    let at = all_made ns ms made in
+    let at = parts_made ns ms made in
     subst (λ is. AreNodes s.arena false 0 is (parts ms)) (sym at.ids) (subst (λ ps. AreNodes s.arena false 0 (free_ids (all_places ns)) ps) (sym at.parts) vars)
+
+-- ---- their names and domains
+
+place_domain : (m : ModelVar) (f : Free) → f.symbol.base ≡ base_of m.base → is_some f.symbol.occurs ≡ m.opt → cell_domain m (place_cell f) ≡ domain_of f
+place_domain m f base option =
+    ap (λ (b : Base). domain_by b m.opt f.set) (sym base) ∙ ap (λ o. domain_by f.symbol.base o f.set) (sym option)
+  where
+    domain_by : Base → Bool → List Range → Domain
+    domain_by b o u = record { base = b; opt = o; set = u }
+
+place_domains : (m : ModelVar) (fs : List Free) → ArePlacesOf m fs → map (cell_domain m) (map place_cell fs) ≡ map domain_of fs
+place_domains m [] of = refl
+place_domains m (f ∷ fs) of = ap (λ d. d ∷ map (cell_domain m) (map place_cell fs)) (place_domain m f of.0.0 of.0.1) ∙ ap (λ ds. domain_of f ∷ ds) (place_domains m fs of.1)
+
+domains_made : (k : NameKind) (m : ModelVar) → IsMadeOf k m → domains_of m ≡ domains_by (kind_index k) (map domain_of (kind_places k))
+domains_made k m made =
+    ap (λ ix. domains_by ix (map (cell_domain m) m.cells)) made.index
+    ∙ ap (λ cs. domains_by (kind_index k) (map (cell_domain m) cs)) made.cells
+    ∙ ap (domains_by (kind_index k)) (place_domains m (kind_places k) made.places)
+
+-- the domains of the next name, and what is left for the rest
+record IsNext (b : Bool) (k : NameKind) (Rest : List ModelVar → Type 0) (ms : List ModelVar) : Type 0 where
+  domains : kind_domains k ≡ var_head b ms
+  rest : Rest (var_tail b ms)
+
+next_name : (k : NameKind) (b : Bool) (Rest : List ModelVar → Type 0) (ms : List ModelVar) → is_var_kind k ≡ b → AreMadeOfNext (is_var_kind k) k Rest ms → IsNext b k Rest ms
+next_name ParName false Rest ms var made = record { domains = refl; rest = made }
+next_name ParName true Rest ms var made = absurd (cc)
+next_name (OnePlace f) false Rest ms var made = absurd (cc)
+next_name (OnePlace f) true Rest [] var made = absurd made
+next_name (OnePlace f) true Rest (m ∷ ms) var made = record { domains = sym (domains_made (OnePlace f) m made.0); rest = made.1 }
+next_name (ManyPlaces ix fs) false Rest ms var made = absurd (cc)
+next_name (ManyPlaces ix fs) true Rest [] var made = absurd made
+next_name (ManyPlaces ix fs) true Rest (m ∷ ms) var made = record { domains = sym (domains_made (ManyPlaces ix fs) m made.0); rest = made.1 }
+
+pub names_made : (ds : List Decl) (ns : List HeldName) (ms : List ModelVar) → AreNamesOf ds ns → AreMadeOf ns ms → map named_as ns ≡ names_of ds ms
+names_made [] [] ms names made = refl
+names_made [] (n ∷ ns) ms names made = absurd names
+names_made (d ∷ ds) [] ms names made = absurd names
+names_made (d ∷ ds) (n ∷ ns) ms names made =
+    let next = next_name n.kind d.ty.ty.var (AreMadeOf ns) ms names.0.var made in
+    ap (λ slot. named_by slot (kind_domains n.kind) ∷ map named_as ns) names.0.slot
+    ∙ ap (λ (x : Domains). named_by d.slot x ∷ map named_as ns) next.domains
+    ∙ ap (λ xs. named_by d.slot (var_head d.ty.ty.var ms) ∷ xs) (names_made ds ns (var_tail d.ty.ty.var ms) names.1 next.rest)
 
 -- ---- nodes are kept, and those of one more name come after them
 
@@ -147,6 +194,10 @@ more_vars s ns n vars next =
     let both = joined_nodes s.arena false 0 (free_ids fs) (free_ids gs) (place_parts fs) (place_parts gs) vars (subst (λ k. AreNodes s.arena false k (free_ids gs) (place_parts gs)) (omega arith) next) in
     subst (λ (hs : List Free). AreNodes s.arena false 0 (free_ids hs) (place_parts hs)) (sym (more_places ns n))
     (subst (λ is. AreNodes s.arena false 0 is (place_parts (fs ++ gs))) (sym (both_ids fs gs)) (subst (λ ps. AreNodes s.arena false 0 (free_ids fs ++ free_ids gs) ps) (sym (both_parts fs gs)) both))
+
+pub more_slots : (k : ℕ) (ns : List HeldName) (n : HeldName) → SlotsFrom k ns → n.slot ≡ k + length ns → SlotsFrom k (ns ++ n ∷ [])
+more_slots k [] n slots next = (omega (arith, next), tt)
+more_slots k (m ∷ ns) n slots next = (slots.0, more_slots (suc k) ns n slots.1 (omega (arith, next)))
 
 -- ---- the test at the end
 

@@ -1,7 +1,7 @@
 // What the walk over a model has in hand, and the boundary of the walk.
 
 ghost use Rattle.mz_model_laws.specs.Laws.{TellsAssigned, HandModels, HandStops};
-ghost use Rattle.mz_model_laws.specs.Variables.{VariablesSeen, NodesMade, VarsKept, MoreVars, WholeByTest};
+ghost use Rattle.mz_model_laws.specs.Variables.{VariablesSeen, PartsMade, NodesMade, NamesMade, VarsKept, MoreVars, MoreSlots, WholeByTest};
 ghost use Rattle.mz_model_laws.specs.Roots.{NumbersTested, SetsTested, TruthsTested, GuardedTruthsTested, OptionsTested, SymbolsTested, TruthsThere};
 ghost use Rattle.mz_model_laws.specs.Roots.{PlaceRoots, EqualRoots, TruthRoots, ArrayRoots, LineRoots, FalseRoots, NoRoots, ConstraintRoots};
 ghost use Rattle.mz_model_laws.specs.Roots.{MoreRooted, RootedKept, MoreMet, MetKept};
@@ -35,9 +35,12 @@ pub fn constraints_are_walked()
 /// The law of the variables: their cells, those of an instance, and their nodes as the run goes on.
 pub fn variables_are_made()
     ensures seen { VariablesSeen }
+    ensures parts { PartsMade }
     ensures nodes { NodesMade }
+    ensures names { NamesMade }
     ensures kept { VarsKept }
     ensures more { MoreVars }
+    ensures slots { MoreSlots }
 {}
 
 /// The law that one pass over the arena tells that each choice node is a choice's.
