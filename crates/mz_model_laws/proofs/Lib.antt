@@ -1,0 +1,9 @@
+mod Places
+mod Names
+mod Models
+mod Stopped
+mod Walking
+mod Variables
+mod Tests
+mod Roots
+mod SampleHeld

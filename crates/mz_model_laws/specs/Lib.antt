@@ -1,0 +1,6 @@
+pub mod Hands
+pub mod Laws
+pub mod Loops
+pub mod Variables
+pub mod Roots
+pub mod Sample
