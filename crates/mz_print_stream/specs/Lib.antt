@@ -1,0 +1,5 @@
+pub mod Reading
+pub mod Printing
+pub mod Driving
+pub mod StepsDrain
+pub mod Promises
