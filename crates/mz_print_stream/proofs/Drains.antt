@@ -169,3 +169,7 @@ counts_go old mid new (Err end) ok is c = absurd (ok end refl)
 
 pub counts_stop : (old mid new : SinkCounts) (end : Printed) → mid ≡ old → CountsOut mid new end → CountsOut old new end
 counts_stop old mid new end is c = subst (λ o. CountsOut o new end) is c
+
+-- where nothing is drained
+pub nothing_drained : (ts : Texts) (ended : Bool) (s : State) (n : ℕ) (h : Held) → Drain ts ended s n h h
+nothing_drained ts ended s n h = record { events = []; at = s; blocks = n; drained = drained_none ts ended s n h }

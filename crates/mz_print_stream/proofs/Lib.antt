@@ -3,3 +3,5 @@ pub mod Readings
 pub mod Feeding
 pub mod Outputs
 pub mod Drains
+pub mod Sources
+pub mod Streams

@@ -3,3 +3,4 @@ pub mod Printing
 pub mod Driving
 pub mod StepsDrain
 pub mod Promises
+pub mod StepsStream

@@ -1,6 +1,6 @@
 // What the bytes of a reader give, written.
 
-ghost use Rattle.std.specs.Prelude.{◌+◌, ◌<◌, ◌^◌, length};
+ghost use Rattle.std.specs.Prelude.{◌+◌, ◌<◌, ◌^◌, false, length};
 ghost use Rattle.soln_reader.specs.Reader.{fed};
 ghost use Rattle.soln_reader.specs.Views.{state};
 ghost use Rattle.mz_print_stream.specs.StepsDrain.{CountsSent, Drains, IsFew};
