@@ -43,6 +43,10 @@ pub no_line_there : has_line true [] ≡ false
 unfolding has_line
 no_line_there = refl
 
+pub no_line_yet : has_line false [] ≡ false
+unfolding has_line
+no_line_yet = refl
+
 -- a line with its newline, and more bytes after it
 
 same_len : (bs more : List ℕ) → line_len bs < length bs → line_len (bs ++ more) ≡ line_len bs

@@ -1,27 +1,32 @@
 -- From what is drained of the bytes taken to what is promised of the whole stream.
-use Rattle.std.proofs.Common.{◌≡◌, ℕ, ◌<◌, ◌≤◌, ◌+◌, ◌-◌, List, [], ◌∷◌, ◌++◌, length, take, min, Bool, true, false, leb, refl, sym, ap, ◌∙◌, arith, rules, tests, subst, Some, None, append_assoc, Result, Ok, Err, inl, inr}
+use Rattle.std.proofs.Common.{◌≡◌, ℕ, ◌<◌, ◌≤◌, ◌+◌, ◌-◌, List, [], ◌∷◌, ◌++◌, length, take, drop, min, Bool, true, false, leb, refl, sym, ap, ◌∙◌, arith, rules, tests, subst, Some, None, append_assoc, Result, Ok, Err, inl, inr}
 use Rattle.std.proofs.lemmas.List.{append-nil, length-append, length-take, length-take-le, take-append-le}
+use Rattle.std.proofs.Math.Seq.{take-append_seam}
 use Rattle.mz_base.specs.declared.fault.Fault.{Fault}
-use Rattle.mz_io.specs.Sink.{Held, Adds}
+use Rattle.mz_io.specs.Counts.{Rose}
+use Rattle.mz_io.specs.Sink.{Held, SinkCounts, Adds}
 use Rattle.mz_io.specs.Source.{Left, Gives}
 use Rattle.mz_io.specs.declared.source.Took.TheVariants as took
 use Rattle.mz_value.specs.Contents.{Content}
-use Rattle.soln_reader_items.specs.Forms.{Form}
+use Rattle.mz_value.specs.declared.value.Shape.{Shape}
+use Rattle.soln_reader_items.specs.Forms.{Form, forms}
+use Rattle.soln_reader.specs.Holding.{Holding, nothing_held}
+use Rattle.soln_reader.specs.Views.{state}
 use Rattle.soln_reader.specs.Stream.{Event, block}
 use Rattle.soln_reader.specs.Reader.{State, place, start, fed, GivesEvent, Needs, Ends, FindsBad, bad_line}
 use Rattle.mz_print_stream.specs.Reading.{Reads, no_line, Close, complete, bad_at, cut, first_place}
 use Rattle.mz_print_stream.specs.Printing.{Texts, Written, before, refuses, output, End, all_written, refused, end_by, too_long, PrintsSoFar, piece}
 use Rattle.mz_print_stream.specs.Driving.{Agrees, SoFar}
-use Rattle.mz_print_stream.specs.Promises.{Has, Gave, IsPrinted, IsPrintedSoFar, IsPrintedCut, Promises}
+use Rattle.mz_print_stream.specs.Promises.{Has, Gave, IsPrinted, IsPrintedSoFar, IsPrintedCut, Promises, CountsIn, CountsOut}
 use Rattle.mz_print_stream.specs.StepsDrain.{GivesAll, none_yet, one_more, Drained, Drain, CutIn, IsRefused, Drains, IsFew, Stands, StandsOn}
 use Rattle.mz_print_stream.specs.StepsStream.{Pieces, Reached}
 use Rattle.mz_print_stream.specs.declared.printed.Printed.{Printed}
 use Rattle.mz_print_stream.specs.declared.printed.Printed.TheVariants as printed
-use Rattle.mz_print_stream.proofs.Lines.{no_line_there}
+use Rattle.mz_print_stream.proofs.Lines.{no_line_yet}
 use Rattle.mz_print_stream.proofs.Readings.{each_is_read}
 use Rattle.mz_print_stream.proofs.Feeding.{begun, piece_fed, end_told, one_given, more_needed, cut_there, complete_there, bad_there_read}
 use Rattle.mz_print_stream.proofs.Outputs.{output_then, output_begins, refused_output, no_output}
-use Rattle.mz_print_stream.proofs.Drains.{adds_nothing, adds_more, nothing_drained}
+use Rattle.mz_print_stream.proofs.Drains.{adds_nothing, adds_more, nothing_drained, counts_stop}
 use Rattle.mz_print_stream.proofs.Sources.{gave_none, gave_more, gave_end, gave_failed, rest_of, whole_of, fed_is, all_fed}
 
 -- a drain
@@ -57,11 +62,7 @@ drained_on ts fs taken s u v n m base old new es k d needs =
 -- pieces
 
 nothing_read : (fs : List Form) → Reads fs false first_place [] [] cut
-nothing_read fs = no_line not_there
-  where
-    use Rattle.soln_reader.specs.Stream.{has_line}
-    not_there : has_line false [] ≡ false
-    not_there = refl
+nothing_read fs = no_line no_line_yet
 
 abbrev stands_first : (ts : Texts) (fs : List Form) (base : Held) → Stands ts false fs [] (start fs) 0 base base
 stands_first ts fs base =
@@ -94,8 +95,11 @@ stands_last ts fs taken s n base held k = record { events = k.events; so_far = e
 abbrev kept_of : (ts : Texts) (fs : List Form) (limit : ℕ) (source left : Left) (base held : Held) (s : State) (n room : ℕ) (p : Pieces ts fs limit source left base held s n room) → PrintsSoFar ts fs limit p.taken (output ts 0 p.stands.events).bytes
 kept_of ts fs limit source left base held s n room p = record { events = p.stands.events; within = omega (arith, p.counted); reads = p.reads; bytes = refl; goes_on = p.stands.goes_on }
 
+not_over : false ≡ true → ⊥
+not_over h = cc
+
 -- a piece of k bytes is taken
-pub reached_piece : (ts : Texts) (fs : List Form) (limit : ℕ) (source left new : Left) (base held : Held) (s : State) (n room k : ℕ) (buf : List ℕ) → Pieces ts fs limit source left base held s n room → Gives left new buf (took.Some k) → k ≤ piece → Reached ts false fs limit source new base held (fed s (take (min k room) buf)) n
+abbrev reached_piece : (ts : Texts) (fs : List Form) (limit : ℕ) (source left new : Left) (base held : Held) (s : State) (n room k : ℕ) (buf : List ℕ) → Pieces ts fs limit source left base held s n room → Gives left new buf (took.Some k) → k ≤ piece → Reached ts false fs limit source new base held (fed s (take (min k room) buf)) n
 reached_piece ts fs limit source left new base held s n room k buf p g low = record {
   earlier = p.taken;
   last = take k buf;
@@ -107,9 +111,6 @@ reached_piece ts fs limit source left new base held s n room k buf p g low = rec
   stands = stands_fed ts fs p.taken (take (min k room) buf) s n base held p.stands;
   kept = kept_of ts fs limit source left base held s n room p;
 }
-  where
-    not_over : false ≡ true → ⊥
-    not_over h = cc
 
 -- nothing more is taken
 pub reached_none : (ts : Texts) (fs : List Form) (limit : ℕ) (source left : Left) (base held : Held) (s : State) (n room : ℕ) → Pieces ts fs limit source left base held s n room → Reached ts false fs limit source left base held s n
@@ -124,9 +125,6 @@ reached_none ts fs limit source left base held s n room p = record {
   stands = p.stands;
   kept = kept_of ts fs limit source left base held s n room p;
 }
-  where
-    not_over : false ≡ true → ⊥
-    not_over h = cc
 
 pub reached_end : (ts : Texts) (fs : List Form) (limit : ℕ) (source left new : Left) (base held : Held) (s : State) (n room : ℕ) (buf : List ℕ) → Pieces ts fs limit source left base held s n room → Gives left new buf took.End → Reached ts true fs limit source new base held s n
 reached_end ts fs limit source left new base held s n room buf p g =
@@ -331,3 +329,73 @@ long_promise ts fs limit source left base held new s v n m x r long d =
   where
     not_within : (m n : ℕ) → n < m → leb m n ≡ false
     not_within m n h = search (rules, tests)
+
+-- what the code has at each return
+
+pub begins : (ts : Texts) (ss : List Shape) (limit : ℕ) (source : Left) (base : Held) (h : Holding) → h ≡ nothing_held ss → Pieces ts (forms ss) limit source source base base (state h) 0 limit
+begins ts ss limit source base h is = subst (λ k. Pieces ts (forms ss) limit source source base base (state k) 0 limit) (sym is) (pieces_first ts (forms ss) limit source base)
+
+pub stops : (ts : Texts) (fs : List Form) (limit : ℕ) (source left new : Left) (base held put : Held) (s v : State) (n m room k w : ℕ) (buf pc : List ℕ) (end : Printed) → Pieces ts fs limit source left base held s n room → Gives left new buf (took.Some k) → k ≤ length buf → length buf ≡ piece → w ≡ min k room → pc ≡ take w buf → Drains ts false (fed s pc) n held v m put (Err end) → Promises ts fs limit source new base put end
+stops ts fs limit source left new base held put s v n m room k w buf pc end p g fits full is from d =
+    let r : Reached ts false fs limit source new base held (fed s pc) n = subst (λ cs. Reached ts false fs limit source new base held (fed s cs) n) (sym (from ∙ ap (λ j. take j buf) is)) (reached_piece ts fs limit source left new base held s n room k buf p g (omega (arith, fits, full))) in
+    stop_promise ts false fs limit source new base held put (fed s pc) v n m end r d
+
+pub is_too_long : (ts : Texts) (fs : List Form) (limit : ℕ) (source left new : Left) (base held put : Held) (s v : State) (n m room k w : ℕ) (buf pc : List ℕ) (x : Unit {0}) (f : Fault) → f ≡ too_long → Pieces ts fs limit source left base held s n room → Gives left new buf (took.Some k) → k ≤ length buf → length buf ≡ piece → w ≡ min k room → w < k → pc ≡ take w buf → Drains ts false (fed s pc) n held v m put (Ok x) → IsPrinted ts fs limit source base put (refused f)
+is_too_long ts fs limit source left new base held put s v n m room k w buf pc x f why p g fits full is less from d =
+    let r = reached_piece ts fs limit source left new base held s n room k buf p g (omega (arith, fits, full)) in
+    let l : length (take k buf) ≡ k = length-take-le k buf fits in
+    let d' : Drains ts false (fed s (take (min k room) buf)) n held v m put (Ok x) = subst (λ cs. Drains ts false (fed s cs) n held v m put (Ok x)) (from ∙ ap (λ j. take j buf) is) d in
+    subst (λ e. IsPrinted ts fs limit source base put (refused e)) (sym why) (long_promise ts fs limit source new base held put (fed s (take (min k room) buf)) v n m x r (omega (arith, p.counted, l, less, is, length-append p.taken (take k buf))) d')
+
+pub goes_on : (ts : Texts) (fs : List Form) (limit : ℕ) (source left new : Left) (base held put : Held) (s v : State) (n m room k w : ℕ) (buf pc : List ℕ) (x : Unit {0}) → Pieces ts fs limit source left base held s n room → Gives left new buf (took.Some k) → k ≤ length buf → w ≡ min k room → k ≤ w → pc ≡ take w buf → Drains ts false (fed s pc) n held v m put (Ok x) → IsFew (fed s pc) n v m → Pieces ts fs limit source new base put v m (room - w)
+goes_on ts fs limit source left new base held put s v n m room k w buf pc x p g fits is low from d few =
+    let same : w ≡ k = omega (arith, is, low) in
+    let whole : pc ≡ take k buf = from ∙ ap (λ j. take j buf) same in
+    let d' : Drains ts false (fed s (take k buf)) n held v m put (Ok x) = subst (λ cs. Drains ts false (fed s cs) n held v m put (Ok x)) whole d in
+    let f : IsFew (fed s (take k buf)) n v m = subst (λ cs. IsFew (fed s cs) n v m) whole few in
+    subst (λ j. Pieces ts fs limit source new base put v m (room - j)) (sym same)
+    (pieces_on ts fs limit source left new base held put s v n m room k buf x p g fits (omega (arith, is, low)) d' f)
+
+-- the last drain
+
+pub last_done : (ts : Texts) (fs : List Form) (limit : ℕ) (source left new : Left) (base held put : Held) (s v : State) (n m room : ℕ) (buf : List ℕ) (x : Unit {0}) (end : Printed) → Pieces ts fs limit source left base held s n room → Gives left new buf took.End → end ≡ printed.Done → Drains ts true s n held v m put (Ok x) → Promises ts fs limit source new base put end
+last_done ts fs limit source left new base held put s v n m room buf x end p g is d =
+    subst (λ e. Promises ts fs limit source new base put e) (sym is)
+    (done_promise ts fs limit source new base held put s v n m x (reached_end ts fs limit source left new base held s n room buf p g) d)
+
+pub last_stops : (ts : Texts) (fs : List Form) (limit : ℕ) (source left new : Left) (base held put : Held) (s v : State) (n m room : ℕ) (buf : List ℕ) (why end : Printed) → Pieces ts fs limit source left base held s n room → Gives left new buf took.End → end ≡ why → Drains ts true s n held v m put (Err why) → Promises ts fs limit source new base put end
+last_stops ts fs limit source left new base held put s v n m room buf why end p g is d =
+    subst (λ e. Promises ts fs limit source new base put e) (sym is)
+    (stop_promise ts true fs limit source new base held put s v n m why (reached_end ts fs limit source left new base held s n room buf p g) d)
+
+-- counts
+
+pub no_read_fault : (ts : Texts) (ended : Bool) (s v : State) (n m : ℕ) (held put : Held) (old mid new : ℕ) (why end : Printed) → end ≡ why → Drains ts ended s n held v m put (Err why) → mid ≡ old → new ≡ mid → CountsIn old new end
+no_read_fault ts ended s v n m held put old mid new why end e d is same = subst (λ x. CountsIn old new x) (sym e) (go why d)
+  where
+    go : (why : Printed) → Drains ts ended s n held v m put (Err why) → CountsIn old new why
+    go (printed.Refused f) h = same ∙ is
+    go printed.WriteFault h = same ∙ is
+    go printed.Memory h = same ∙ is
+    go printed.Done h = absurd h
+    go printed.ReadFault h = absurd h
+
+pub in_done : (old mid new : ℕ) (end : Printed) → end ≡ printed.Done → mid ≡ old → new ≡ mid → CountsIn old new end
+in_done old mid new end e is same = subst (λ x. CountsIn old new x) (sym e) (same ∙ is)
+
+pub out_done : (old mid new : SinkCounts) (end : Printed) → end ≡ printed.Done → mid ≡ old → new ≡ mid → CountsOut old new end
+out_done old mid new end e is same = subst (λ x. CountsOut old new x) (sym e) (same ∙ is)
+
+pub out_stops : (old mid new : SinkCounts) (why end : Printed) → end ≡ why → mid ≡ old → CountsOut mid new why → CountsOut old new end
+out_stops old mid new why end e is c = subst (λ x. CountsOut old new x) (sym e) (counts_stop old mid new why is c)
+
+pub rose_from : (old mid new : ℕ) → mid ≡ old → Rose mid new → Rose old new
+rose_from old mid new is r = subst (λ k. Rose k new) is r
+
+-- the buffer after bytes were taken into it, and what is fed of it
+pub buffer_is : (n : ℕ) (new old : List ℕ) → n ≡ length new → take n (new ++ drop (length new) old) ≡ new
+buffer_is n new old size = ap (λ k. take k (new ++ drop (length new) old)) size ∙ take-append_seam new (drop (length new) old)
+
+pub fed_slice : (w n : ℕ) (new old all : List ℕ) → all ≡ take n (new ++ drop (length new) old) → n ≡ length new → take w all ≡ take w new
+fed_slice w n new old all is size =
+    ap (λ cs. take w cs) (is ∙ buffer_is n new old size)
