@@ -1,5 +1,5 @@
 -- A drain, event by event.
-use Rattle.std.proofs.Common.{◌≡◌, ℕ, ◌<◌, ◌≤◌, ◌+◌, List, [], ◌∷◌, ◌++◌, length, Bool, true, false, refl, sym, ap, ◌∙◌, arith, subst, Some, None, append_assoc, Result, Ok, Err, inl, inr}
+use Rattle.std.proofs.Common.{◌≡◌, ℕ, ◌≤◌, ◌+◌, List, [], ◌∷◌, ◌++◌, length, Bool, true, false, refl, sym, ap, ◌∙◌, arith, subst, Some, None, append_assoc, Result, Ok, Err, inl, inr}
 use Rattle.std.proofs.lemmas.List.{append-nil}
 use Rattle.mz_base.specs.declared.fault.Fault.{Fault}
 use Rattle.mz_io.specs.Sink.{Held, SinkCounts, Adds, AddsPrefix}
@@ -7,9 +7,9 @@ use Rattle.mz_value.specs.Contents.{Content}
 use Rattle.soln_reader.specs.declared.next.Mark.{Mark}
 use Rattle.soln_reader.specs.Stream.{Event, block, mark}
 use Rattle.soln_reader.specs.Reader.{State, GivesEvent, Needs, Ends, FindsBad, bad_line}
-use Rattle.mz_print_stream.specs.Printing.{Text, says, Texts, Written, before, block_lines, mark_line, output}
+use Rattle.mz_print_stream.specs.Printing.{Texts, before, block_lines, mark_line, output}
 use Rattle.mz_print_stream.specs.Promises.{CountsOut}
-use Rattle.mz_print_stream.specs.StepsDrain.{GivesAll, none_yet, one_more, Drained, CutIn, Drain, Waits, Drains, IsFew, Keeps, Sends, SendsBlock, CountsSent}
+use Rattle.mz_print_stream.specs.StepsDrain.{none_yet, one_more, Drained, CutIn, Drain, Drains, IsFew, Keeps, Sends, SendsBlock, CountsSent}
 use Rattle.mz_print_stream.specs.declared.printed.Printed.{Printed}
 use Rattle.mz_print_stream.specs.declared.printed.Printed.TheVariants as printed
 use Rattle.mz_print_stream.proofs.Feeding.{event_takes, need_takes, bad_takes}

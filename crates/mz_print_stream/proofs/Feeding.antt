@@ -5,9 +5,9 @@ use Rattle.std.proofs.lemmas.List.{append-nil}
 use Rattle.soln_reader_items.specs.Forms.{Form}
 use Rattle.soln_reader.specs.Blocks.{Block}
 use Rattle.soln_reader.specs.Stream.{Place, next_place, Event, leaves, gives, is_bad, Passes, no_line as none_passes, a_line, has_line, after_line, line_outcome}
-use Rattle.soln_reader.specs.Reader.{State, place, fed, GivesEvent, Needs, IsFirstBad, a_bad_line as bad_there, left_open, FindsBad, first, again}
+use Rattle.soln_reader.specs.Reader.{State, place, GivesEvent, Needs, IsFirstBad, a_bad_line as bad_there, left_open, FindsBad, first, again}
 use Rattle.mz_print_stream.specs.Reading.{Close, complete, bad_at, cut, at_end, Reads, no_line, passes, an_event, a_bad_line, first_place}
-use Rattle.mz_print_stream.specs.Driving.{Agrees, SoFar, BeginsSo, StaysAsFed, StaysAtTheEnd, StaysAsGiven, StaysAsNeeded, IsCutThere, IsCompleteThere, IsBadThere}
+use Rattle.mz_print_stream.specs.Driving.{Agrees, BeginsSo, StaysAsFed, StaysAtTheEnd, StaysAsGiven, StaysAsNeeded, IsCutThere, IsCompleteThere, IsBadThere}
 use Rattle.mz_print_stream.proofs.Lines.{line_takes, no_line_there}
 use Rattle.mz_print_stream.proofs.Readings.{passes_on, gives_on, bad_on}
 
@@ -55,8 +55,8 @@ piece_fed fs taken piece es s k = record {
   fresh = k.fresh;
   forms = k.forms;
   on = λ e more ds x a r.
-    subst (λ cs. Reads fs e first_place cs (es ++ ds) x) (sym (append_assoc taken piece more))
-    (k.on e (piece ++ more) ds x tt (subst (λ cs. Reads fs e (place s) cs ds x) (append_assoc s.bytes piece more) r));
+      subst (λ cs. Reads fs e first_place cs (es ++ ds) x) (sym (append_assoc taken piece more))
+      (k.on e (piece ++ more) ds x tt (subst (λ cs. Reads fs e (place s) cs ds x) (append_assoc s.bytes piece more) r));
 }
 
 pub end_told : StaysAtTheEnd
@@ -67,10 +67,10 @@ one_given ended fs taken es s u ev k g = record {
   fresh = ap (λ v. v.bad) g.after;
   forms = ap (λ v. v.forms) g.after ∙ k.forms;
   on = λ e more ds x a r.
-    let from = by_forms s.forms fs e (next_place g.before None) (after_line g.from ++ more) ds x (sym k.forms) (subst (λ v. Reads fs e (place v) (v.bytes ++ more) ds x) g.after r) in
-    let all = lines_pass s.forms ended e (place s) s.bytes g.before g.from more (ev ∷ ds) x a g.passed (line_gives s.forms ended e g.before g.from more ev ds x a g.line g.outcome from) in
-    subst (λ js. Reads fs e first_place (taken ++ more) js x) (sym (append_assoc es (ev ∷ []) ds))
-    (k.on e more (ev ∷ ds) x a (by_forms fs s.forms e (place s) (s.bytes ++ more) (ev ∷ ds) x k.forms all));
+      let from = by_forms s.forms fs e (next_place g.before None) (after_line g.from ++ more) ds x (sym k.forms) (subst (λ v. Reads fs e (place v) (v.bytes ++ more) ds x) g.after r) in
+      let all = lines_pass s.forms ended e (place s) s.bytes g.before g.from more (ev ∷ ds) x a g.passed (line_gives s.forms ended e g.before g.from more ev ds x a g.line g.outcome from) in
+      subst (λ js. Reads fs e first_place (taken ++ more) js x) (sym (append_assoc es (ev ∷ []) ds))
+      (k.on e more (ev ∷ ds) x a (by_forms fs s.forms e (place s) (s.bytes ++ more) (ev ∷ ds) x k.forms all));
 }
 
 pub more_needed : StaysAsNeeded
@@ -78,8 +78,8 @@ more_needed fs taken es s u k n = record {
   fresh = ap (λ v. v.bad) n.after;
   forms = ap (λ v. v.forms) n.after ∙ k.forms;
   on = λ e more ds x a r.
-    k.on e more ds x a (by_forms fs s.forms e (place s) (s.bytes ++ more) ds x k.forms
-    (lines_pass s.forms false e (place s) s.bytes (place u) u.bytes more ds x a n.passed (by_forms s.forms fs e (place u) (u.bytes ++ more) ds x (sym k.forms) r)));
+      k.on e more ds x a (by_forms fs s.forms e (place s) (s.bytes ++ more) ds x k.forms
+      (lines_pass s.forms false e (place s) s.bytes (place u) u.bytes more ds x a n.passed (by_forms s.forms fs e (place u) (u.bytes ++ more) ds x (sym k.forms) r)));
 }
 
 -- what it tells

@@ -1,5 +1,5 @@
 -- The first line of some bytes, and of these with more bytes after them.
-use Rattle.std.proofs.Common.{◌≡◌, ℕ, ◌<◌, ◌≤◌, ◌+◌, List, [], ◌∷◌, ◌++◌, length, take, drop, Bool, true, false, cond, eqb, ltb, refl, sym, ap, ◌∙◌, arith, rules, tests, ◌⊎◌, inl, inr}
+use Rattle.std.proofs.Common.{◌≡◌, ℕ, ◌<◌, ◌+◌, List, [], ◌∷◌, ◌++◌, length, take, drop, Bool, true, false, cond, eqb, ltb, refl, sym, ap, ◌∙◌, arith, rules, tests, inl, inr}
 use Rattle.std.proofs.lemmas.Bool.{false≢true, eqb-true}
 use Rattle.std.proofs.lemmas.List.{drop-append-le, take-append-le, length-append, length-drop}
 use Rattle.std.proofs.lemmas.List.Folds.{prefix_len-append}
@@ -84,9 +84,9 @@ pub begins : (fs : List Form) (ended : Bool) (b : Block) (bs more : List ℕ) �
 begins fs ended b bs more line =
     elim (newline_or_bad fs b bs line) [
       | inl h ↦ record {
-          line = ended_line ended (bs ++ more) (omega (arith, same_len bs more h, length-append bs more));
-          outcome = same_outcome fs b bs more h;
-        }
+        line = ended_line ended (bs ++ more) (omega (arith, same_len bs more h, length-append bs more));
+        outcome = same_outcome fs b bs more h;
+      }
       | inr h ↦
           let long : line_limit < line_len (bs ++ more) = omega (arith, len_grows bs more) in
           record {

@@ -1,5 +1,5 @@
 -- What is written of events, and of these with more events after them.
-use Rattle.std.proofs.Common.{◌≡◌, ℕ, ◌+◌, List, [], ◌∷◌, ◌++◌, length, refl, sym, ap, ◌∙◌, Some, None, append_assoc}
+use Rattle.std.proofs.Common.{◌≡◌, ℕ, ◌+◌, List, [], ◌∷◌, ◌++◌, refl, sym, ap, ◌∙◌, Some, None, append_assoc}
 use Rattle.std.proofs.lemmas.List.{append-nil}
 use Rattle.mz_base.specs.declared.fault.Fault.{Fault}
 use Rattle.mz_value.specs.Contents.{Content}
@@ -7,14 +7,15 @@ use Rattle.soln_reader.specs.Stream.{Event, block, mark, mark_of}
 use Rattle.soln_reader.specs.declared.next.Mark.{Mark}
 use Rattle.soln_reader.specs.declared.next.Mark.TheVariants.{Complete, Unsatisfiable, Unknown, Unbounded, UnsatOrUnbounded, Error}
 use Rattle.mz_print_stream.specs.Reading.{first_place}
-use Rattle.mz_print_stream.specs.Printing.{Text, says, refuses, Texts, Written, before, block_before, block_lines, mark_line, mark_text, output, end_by, Prints, HasOnePrinting, MarksAreRead}
+use Rattle.mz_print_stream.specs.Printing.{Text, says, refuses, Texts, Written, before, block_before, block_lines, mark_line, output, end_by, HasOnePrinting, MarksAreRead}
 use Rattle.mz_print_stream.proofs.Readings.{one_reading}
 
 pub one_printing : HasOnePrinting
 one_printing ts fs limit stream out other x y p q =
-    let r = one_reading fs _ first_place _ p.events q.events p.close q.close p.reads q.reads in
-    ( p.bytes ∙ (ap (λ es. (output ts 0 es).bytes) r.0 ∙ sym q.bytes)
-    , p.ends ∙ (ap (λ es. end_by (output ts 0 es).fault p.close) r.0 ∙ (ap (λ c. end_by (output ts 0 q.events).fault c) r.1 ∙ sym q.ends)))
+    let r = one_reading fs _ first_place _ p.events q.events p.close q.close p.reads q.reads in (
+      p.bytes ∙ (ap (λ es. (output ts 0 es).bytes) r.0 ∙ sym q.bytes),
+      p.ends ∙ (ap (λ es. end_by (output ts 0 es).fault p.close) r.0 ∙ (ap (λ c. end_by (output ts 0 q.events).fault c) r.1 ∙ sym q.ends)),
+    )
 
 pub marks_are_read : MarksAreRead
 unfolding mark_of

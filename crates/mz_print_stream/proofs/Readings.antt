@@ -120,6 +120,6 @@ events_are_added fs ended p bs more es ds x y (an_event {e = e} {es = fewer} lin
     let i = begins fs ended p.block bs more line in
     let f = giving_read fs ended p (bs ++ more) ds y e i.line (i.outcome ∙ out) s in
     let k = events_are_added fs ended (next_place p None) (after_line bs) more fewer f.later x y r
-      (subst (λ cs. Reads fs ended (next_place p None) cs f.later y) (rest_stays fs p.block bs more (gives e) line out (gives_not_bad e)) f.reads) in
+    (subst (λ cs. Reads fs ended (next_place p None) cs f.later y) (rest_stays fs p.block bs more (gives e) line out (gives_not_bad e)) f.reads) in
     (k.0, f.is ∙ ap (λ js. e ∷ js) k.1)
 events_are_added fs ended p bs more es ds x y (a_bad_line line out) s = (ds, refl)

@@ -1,5 +1,5 @@
 -- What a source gave, and what it may still have.
-use Rattle.std.proofs.Common.{◌≡◌, ℕ, zero, suc, ◌<◌, ◌≤◌, ◌+◌, List, [], ◌∷◌, ◌++◌, length, take, min, Bool, true, false, leb, refl, sym, ap, ◌∙◌, arith, rules, tests, subst, Some, None, append_assoc}
+use Rattle.std.proofs.Common.{◌≡◌, ℕ, zero, suc, ◌≤◌, ◌+◌, List, [], ◌∷◌, ◌++◌, length, take, min, Bool, true, false, leb, refl, sym, ap, ◌∙◌, arith, rules, tests, subst, Some, None, append_assoc}
 use Rattle.std.proofs.lemmas.List.{append-nil, take_all, take-take, length-take}
 use Rattle.std.proofs.Math.Seq.{take-append-add}
 use Rattle.mz_io.specs.Source.{Left, Gives}

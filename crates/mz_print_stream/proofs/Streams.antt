@@ -1,5 +1,5 @@
 -- From what is drained of the bytes taken to what is promised of the whole stream.
-use Rattle.std.proofs.Common.{◌≡◌, ℕ, ◌<◌, ◌≤◌, ◌+◌, ◌-◌, List, [], ◌∷◌, ◌++◌, length, take, drop, min, Bool, true, false, leb, refl, sym, ap, ◌∙◌, arith, rules, tests, subst, Some, None, append_assoc, Result, Ok, Err, inl, inr}
+use Rattle.std.proofs.Common.{◌≡◌, ℕ, ◌<◌, ◌≤◌, ◌+◌, ◌-◌, List, [], ◌∷◌, ◌++◌, length, take, drop, min, Bool, true, false, leb, refl, sym, ap, ◌∙◌, arith, rules, tests, subst, Some, None, append_assoc, Ok, Err, inl, inr}
 use Rattle.std.proofs.lemmas.List.{append-nil, length-append, length-take, length-take-le, take-append-le}
 use Rattle.std.proofs.Math.Seq.{take-append_seam}
 use Rattle.mz_base.specs.declared.fault.Fault.{Fault}
@@ -7,15 +7,14 @@ use Rattle.mz_io.specs.Counts.{Rose}
 use Rattle.mz_io.specs.Sink.{Held, SinkCounts, Adds}
 use Rattle.mz_io.specs.Source.{Left, Gives}
 use Rattle.mz_io.specs.declared.source.Took.TheVariants as took
-use Rattle.mz_value.specs.Contents.{Content}
 use Rattle.mz_value.specs.declared.value.Shape.{Shape}
 use Rattle.soln_reader_items.specs.Forms.{Form, forms}
 use Rattle.soln_reader.specs.Holding.{Holding, nothing_held}
 use Rattle.soln_reader.specs.Views.{state}
 use Rattle.soln_reader.specs.Stream.{Event, block}
-use Rattle.soln_reader.specs.Reader.{State, place, start, fed, GivesEvent, Needs, Ends, FindsBad, bad_line}
-use Rattle.mz_print_stream.specs.Reading.{Reads, no_line, Close, complete, bad_at, cut, first_place}
-use Rattle.mz_print_stream.specs.Printing.{Texts, Written, before, refuses, output, End, all_written, refused, end_by, too_long, PrintsSoFar, piece}
+use Rattle.soln_reader.specs.Reader.{State, place, start, fed, Needs}
+use Rattle.mz_print_stream.specs.Reading.{Reads, no_line, complete, bad_at, cut, first_place}
+use Rattle.mz_print_stream.specs.Printing.{Texts, before, output, all_written, refused, end_by, too_long, PrintsSoFar, piece}
 use Rattle.mz_print_stream.specs.Driving.{Agrees, SoFar}
 use Rattle.mz_print_stream.specs.Promises.{Has, Gave, IsPrinted, IsPrintedSoFar, IsPrintedCut, Promises, CountsIn, CountsOut}
 use Rattle.mz_print_stream.specs.StepsDrain.{GivesAll, none_yet, one_more, Drained, Drain, CutIn, IsRefused, Drains, IsFew, Stands, StandsOn}
@@ -189,9 +188,9 @@ cut_promise ts ended fs limit source left base held new s n r d =
         reads = subst (λ cs. Reads fs ended first_place cs ((es ++ d.events) ++ later.events) later.close) (append-nil r.bytes ∙ r.is) all;
         unwritten = d.adds.back ++ back.0;
         prefix =
-          back.1
-          ∙ (ap (λ bs. bs ++ back.0) (ap (λ w. w.bytes) whole ∙ ap (λ bs. text ++ bs) d.adds.whole)
-          ∙ four text d.adds.prefix d.adds.back back.0);
+            back.1
+            ∙ (ap (λ bs. bs ++ back.0) (ap (λ w. w.bytes) whole ∙ ap (λ bs. text ++ bs) d.adds.whole)
+            ∙ four text d.adds.prefix d.adds.back back.0);
         earlier = r.earlier;
         last = r.last;
         pieces = refl;
@@ -239,9 +238,9 @@ refused_promise ts ended fs limit source left base held new s n f r d (inr b) =
     let es = (k.events ++ block b.0 ∷ []) ++ later.events in
     let all = j.on e w.more later.events later.close w.agrees later.reads in
     let is : output ts 0 es ≡ record { bytes = (output ts 0 k.events).bytes ++ []; blocks = d.blocks + 1; fault = Some f } =
-        ap (λ ds. output ts 0 ds) (append_assoc k.events (block b.0 ∷ []) later.events)
-        ∙ (written_on ts d.blocks k.events (block b.0 ∷ later.events) k.goes_on k.blocks
-        ∙ ap (λ v. before (output ts 0 k.events).bytes v) (refused_output ts d.blocks b.0 f later.events b.3)) in
+    ap (λ ds. output ts 0 ds) (append_assoc k.events (block b.0 ∷ []) later.events)
+    ∙ (written_on ts d.blocks k.events (block b.0 ∷ later.events) k.goes_on k.blocks
+    ∙ ap (λ v. before (output ts 0 k.events).bytes v) (refused_output ts d.blocks b.0 f later.events b.3)) in
     record {
       stream = w.stream;
       told = w.told;
@@ -287,8 +286,8 @@ done_promise ts fs limit source left base held new s v n m x r d =
     let k = after_drain ts true fs r.bytes s d.1 n m base held new d.0 r.stands d.2 in
     let w = whole_of true limit source left (r.earlier ++ r.last) r.gave r.over in
     let all = complete_there fs r.bytes k.events d.1 v k.so_far d.3 in
-    let same : take limit w.stream ≡ r.bytes = w.is ∙ (ap (λ cs. take limit (r.earlier ++ r.last) ++ cs) (w.agrees).1 ∙ (append-nil (take limit (r.earlier ++ r.last)) ∙ sym r.is)) in
-    ( record {
+    let same : take limit w.stream ≡ r.bytes = w.is ∙ (ap (λ cs. take limit (r.earlier ++ r.last) ++ cs) (w.agrees).1 ∙ (append-nil (take limit (r.earlier ++ r.last)) ∙ sym r.is)) in (
+      record {
         stream = w.stream;
         told = w.told;
         out = (output ts 0 k.events).bytes;
@@ -300,8 +299,9 @@ done_promise ts fs limit source left base held new s v n m x r d =
           ends = sym (ap (λ g. end_by g complete) k.goes_on);
         };
         adds = k.adds;
-      }
-    , (r.over refl).0)
+      },
+      (r.over refl).0,
+    )
 
 -- more bytes come than there may be
 pub long_promise : (ts : Texts) (fs : List Form) (limit : ℕ) (source left : Left) (base held new : Held) (s v : State) (n m : ℕ) (x : Unit {0}) → (r : Reached ts false fs limit source left base held s n) → limit < length (r.earlier ++ r.last) → Drains ts false s n held v m new (Ok x) → IsPrinted ts fs limit source base new (refused too_long)

@@ -1,5 +1,5 @@
 -- What is written of a solver's stream.
-use Rattle.std.specs.Prelude.{◌≡◌, ℕ, ◌+◌, ◌-◌, ◌≤◌, List, [], ◌∷◌, ◌++◌, length, take, Bool, true, false, nat_eq, nat_le, nat_lt, not, ◌&&◌, Option, Some, None, codes, if◌then◌else◌, slice_index, pos, Result, Ok, Err, Vec}
+use Rattle.std.specs.Prelude.{◌≡◌, ℕ, ◌+◌, ◌-◌, ◌≤◌, List, [], ◌∷◌, ◌++◌, length, take, Bool, false, nat_eq, nat_le, nat_lt, not, ◌&&◌, Option, Some, None, codes, if◌then◌else◌, slice_index, pos, Result, Ok, Err, Vec}
 use Rattle.std.specs.declared.alloc.Global.{Global}
 use Rattle.mz_base.specs.declared.fault.Fault.{Fault}
 use Rattle.mz_base.specs.declared.kind.Kind.TheVariants.{TooLong}

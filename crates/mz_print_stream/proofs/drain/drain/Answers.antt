@@ -1,7 +1,6 @@
 use Rattle.std.proofs.Common.{map}
 use Rattle.mz_value.specs.Contents.{content}
 use Rattle.soln_reader.specs.Views.{state}
-use Rattle.soln_reader.specs.Stream.{block, mark}
 use Rattle.mz_print_stream.proofs.Drains.{keeps_none, block_stops, mark_stops, bad_stops, need_waits, end_waits, block_goes, mark_goes, few_event, few_need, few_end, few_bad, counts_go, counts_stop}
 use Rattle.mz_print_stream.proofs.Feeding.{event_takes}
 use Rattle.std.proofs.Common.{refl, arith}

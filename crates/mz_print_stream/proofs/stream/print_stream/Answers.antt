@@ -1,5 +1,4 @@
-use Rattle.std.proofs.Common.{◌≡◌, ◌≤◌, ◌∙◌, refl, sym, ap, arith, length}
-use Rattle.soln_reader_items.specs.Forms.{forms}
+use Rattle.std.proofs.Common.{◌≡◌, ◌≤◌, ◌∙◌, refl, ap, arith, length}
 use Rattle.soln_reader.specs.Views.{state}
 use Rattle.mz_print_stream.proofs.Drains.{counts_stop}
 use Rattle.mz_print_stream.proofs.Streams.{memory_promise, begins, fault_promise, stops, is_too_long, goes_on, last_done, last_stops, no_read_fault, in_done, out_done, out_stops, rose_from, fed_slice, buffer_is}
@@ -27,15 +26,15 @@ returns-in-Failed g c = record {
 pub returns-in-End : goal.returns-in-End
 returns-in-End g c = elim c.match-drain.branch [
   | in-Ok-drain w ↦ record {
-      printed = last_done _ _ _ _ (g.I.Source.left c.pieces.input) _ _ _ _ (state c.pieces.reader) (state c.drain.new.reader) c.pieces.blocks c.drain.new.blocks c.pieces.room c.take.new.buf tt _ c.pieces.invariant.pieces c.in-End.ensures.told w.result-is w.in-Ok-drain.ensures.drains;
-      counted = in_done _ _ _ _ w.result-is c.pieces.invariant.faults c.in-End.ensures.counted;
-      counted_out = out_done _ _ _ _ w.result-is c.pieces.invariant.counts w.in-Ok-drain.ensures.counted;
-    }
+    printed = last_done _ _ _ _ (g.I.Source.left c.pieces.input) _ _ _ _ (state c.pieces.reader) (state c.drain.new.reader) c.pieces.blocks c.drain.new.blocks c.pieces.room c.take.new.buf tt _ c.pieces.invariant.pieces c.in-End.ensures.told w.result-is w.in-Ok-drain.ensures.drains;
+    counted = in_done _ _ _ _ w.result-is c.pieces.invariant.faults c.in-End.ensures.counted;
+    counted_out = out_done _ _ _ _ w.result-is c.pieces.invariant.counts w.in-Ok-drain.ensures.counted;
+  }
   | in-Err w ↦ record {
-      printed = last_stops _ _ _ _ (g.I.Source.left c.pieces.input) _ _ _ _ (state c.pieces.reader) (state c.drain.new.reader) c.pieces.blocks c.drain.new.blocks c.pieces.room c.take.new.buf w.in-Err.end _ c.pieces.invariant.pieces c.in-End.ensures.told w.result-is w.in-Err.ensures.drains;
-      counted = no_read_fault _ _ _ (state c.drain.new.reader) _ c.drain.new.blocks _ _ _ _ _ w.in-Err.end _ w.result-is w.in-Err.ensures.drains c.pieces.invariant.faults c.in-End.ensures.counted;
-      counted_out = out_stops _ _ _ w.in-Err.end _ w.result-is c.pieces.invariant.counts w.in-Err.ensures.counted;
-    }
+    printed = last_stops _ _ _ _ (g.I.Source.left c.pieces.input) _ _ _ _ (state c.pieces.reader) (state c.drain.new.reader) c.pieces.blocks c.drain.new.blocks c.pieces.room c.take.new.buf w.in-Err.end _ c.pieces.invariant.pieces c.in-End.ensures.told w.result-is w.in-Err.ensures.drains;
+    counted = no_read_fault _ _ _ (state c.drain.new.reader) _ c.drain.new.blocks _ _ _ _ _ w.in-Err.end _ w.result-is w.in-Err.ensures.drains c.pieces.invariant.faults c.in-End.ensures.counted;
+    counted_out = out_stops _ _ _ w.in-Err.end _ w.result-is c.pieces.invariant.counts w.in-Err.ensures.counted;
+  }
 ]
 
 pub returns-in-Err-print_piece : goal.returns-in-Err-print_piece
