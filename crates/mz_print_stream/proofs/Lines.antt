@@ -1,0 +1,104 @@
+-- The first line of some bytes, and of these with more bytes after them.
+use Rattle.std.proofs.Common.{◌≡◌, ℕ, ◌<◌, ◌+◌, List, [], ◌∷◌, ◌++◌, length, take, drop, Bool, true, false, cond, eqb, ltb, refl, sym, ap, ◌∙◌, arith, rules, tests, inl, inr}
+use Rattle.std.proofs.lemmas.Bool.{false≢true, eqb-true}
+use Rattle.std.proofs.lemmas.List.{drop-append-le, take-append-le, length-append, length-drop}
+use Rattle.std.proofs.lemmas.List.Folds.{prefix_len-append}
+use Rattle.soln_reader_items.specs.Bytes.{is_no_newline}
+use Rattle.soln_reader_items.specs.Forms.{Form}
+use Rattle.soln_reader.specs.Blocks.{Block}
+use Rattle.soln_reader.specs.Stream.{Event, Outcome, leaves, gives, is_bad, line_len, line_limit, is_too_long, has_line, first_line, chopped, after_line, line_outcome, outcome}
+use Rattle.soln_reader.proofs.LineLemmas.{last_line, long_outcome, long_line, ended_line, len_grows}
+use Rattle.soln_reader.proofs.CutLemmas.{newline_or_bad, some_line}
+
+-- outcomes are apart
+
+pub leaves_not_bad : (b : Block) → leaves b ≡ is_bad → ⊥
+leaves_not_bad b e = cc
+
+pub gives_not_bad : (e : Event) → gives e ≡ is_bad → ⊥
+gives_not_bad e h = cc
+
+pub leaves_not_gives : (b : Block) (e : Event) → leaves b ≡ gives e → ⊥
+leaves_not_gives b e h = cc
+
+pub block_left : (b c : Block) → leaves b ≡ leaves c → b ≡ c
+block_left b c e = cc
+
+pub event_given : (d e : Event) → gives d ≡ gives e → d ≡ e
+event_given d e h = cc
+
+pub both : {A : Type 0} (t : Bool) → t ≡ true → t ≡ false → A
+both t is isnt = absurd (false≢true (sym isnt ∙ is))
+
+-- how much a line takes
+
+pub line_takes : (ended : Bool) (bs : List ℕ) → has_line ended bs ≡ true → length (after_line bs) < length bs
+line_takes ended bs h = omega (arith, some_line ended bs h, length-drop (line_len bs + 1) bs)
+
+pub none_at_the_end : (bs : List ℕ) → has_line true bs ≡ false → bs ≡ []
+none_at_the_end [] h = refl
+none_at_the_end (c ∷ cs) h = both _ (last_line (c ∷ cs) (omega arith)) h
+
+pub no_line_there : has_line true [] ≡ false
+unfolding has_line
+no_line_there = refl
+
+pub no_line_yet : has_line false [] ≡ false
+unfolding has_line
+no_line_yet = refl
+
+-- a line with its newline, and more bytes after it
+
+same_len : (bs more : List ℕ) → line_len bs < length bs → line_len (bs ++ more) ≡ line_len bs
+same_len bs more h = prefix_len-append is_no_newline bs more ∙ go (eqb (line_len bs) (length bs)) refl
+  where
+    go : (t : Bool) → eqb (line_len bs) (length bs) ≡ t → cond t (length bs + line_len more) (line_len bs) ≡ line_len bs
+    go false is = refl
+    go true is = absurd (omega (arith, eqb-true (line_len bs) (length bs) is))
+
+same_after : (bs more : List ℕ) → line_len bs < length bs → after_line (bs ++ more) ≡ after_line bs ++ more
+same_after bs more h = ap (λ n. drop (n + 1) (bs ++ more)) (same_len bs more h) ∙ drop-append-le (line_len bs + 1) bs more (omega arith)
+
+is_below : (m n : ℕ) → m < n → ltb m n ≡ true
+is_below m n h = search (rules, tests)
+
+same_first : (bs more : List ℕ) → line_len bs < length bs → first_line (bs ++ more) ≡ first_line bs
+unfolding first_line
+same_first bs more h =
+    let n : line_len (bs ++ more) ≡ line_len bs = same_len bs more h in
+    rw (is_below (line_len (bs ++ more)) (length (bs ++ more)) (omega (arith, n, length-append bs more)), is_below (line_len bs) (length bs) h)
+    (ap chopped (ap (λ k. take k (bs ++ more)) n ∙ take-append-le (line_len bs) bs more (omega arith)))
+
+same_outcome : (fs : List Form) (b : Block) (bs more : List ℕ) → line_len bs < length bs → line_outcome fs b (bs ++ more) ≡ line_outcome fs b bs
+unfolding line_outcome
+same_outcome fs b bs more h =
+    ap (λ t. cond t is_bad (outcome fs b (first_line (bs ++ more)))) (ap (λ n. ltb line_limit n) (same_len bs more h))
+    ∙ ap (λ l. cond (is_too_long bs) is_bad (outcome fs b l)) (same_first bs more h)
+
+-- a line that is there stays, and does what it does, whichever bytes come after it
+pub record Begins (fs : List Form) (ended : Bool) (b : Block) (bs more : List ℕ) : Type 0 where
+  pub line : has_line ended (bs ++ more) ≡ true
+  pub outcome : line_outcome fs b (bs ++ more) ≡ line_outcome fs b bs
+
+pub begins : (fs : List Form) (ended : Bool) (b : Block) (bs more : List ℕ) → has_line false bs ≡ true → Begins fs ended b bs more
+begins fs ended b bs more line =
+    elim (newline_or_bad fs b bs line) [
+      | inl h ↦ record {
+        line = ended_line ended (bs ++ more) (omega (arith, same_len bs more h, length-append bs more));
+        outcome = same_outcome fs b bs more h;
+      }
+      | inr h ↦
+          let long : line_limit < line_len (bs ++ more) = omega (arith, len_grows bs more) in
+          record {
+            line = long_line ended (bs ++ more) long;
+            outcome = long_outcome fs b (bs ++ more) long ∙ sym (long_outcome fs b bs h);
+          }
+    ]
+
+-- and where it isn't bad, the bytes after it stay too
+pub rest_stays : (fs : List Form) (b : Block) (bs more : List ℕ) (o : Outcome) → has_line false bs ≡ true → line_outcome fs b bs ≡ o → (o ≡ is_bad → ⊥) → after_line (bs ++ more) ≡ after_line bs ++ more
+rest_stays fs b bs more o line is good =
+    elim (newline_or_bad fs b bs line) [
+      | inl h ↦ same_after bs more h
+      | inr h ↦ absurd (good (sym is ∙ long_outcome fs b bs h))
+    ]

@@ -1,0 +1,21 @@
+// What makes a solution's text.
+
+use mz_base::Stop;
+use mz_value::Assign;
+use std::alloc::Global;
+
+/// What makes a solution's text.
+pub trait Printer {
+    ghost use Rattle.std.specs.Prelude.{map};
+    ghost use Rattle.mz_value.specs.Contents.{content};
+    ghost use Rattle.mz_print_stream.specs.Printing.{Texts, Says};
+
+    // The text of each solution, by its values and its number.
+    ghost texts: { Self → Texts };
+
+    /// The text of a solution, which is the stream's block with this number, from 1.
+    ///
+    /// `assign` has a value for each shape, in the shapes' order.
+    fn text(&self, alloc: Global, assign: &Assign, block: u64) -> Result<Vec<u8>, Stop>
+        ensures { Says (texts self.now (map content assign.now.values.items) block) result };
+}
