@@ -2,7 +2,7 @@ use Rattle.std.proofs.Common.{subst}
 use Rattle.fz_program.specs.Arguments.{plain}
 use Rattle.flat_reif_folds.specs.Folds.{IsFold}
 use Rattle.flat_reif.specs.States.{state, plain_args}
-use Rattle.flat_reif.proofs.Given.{have_two, operands_two, divisor_of, on_ok}
+use Rattle.flat_reif.proofs.Given.{have_two, operands_two, on_ok}
 use Rattle.flat_reif.proofs.Folding.{first_given, second_given, constant_given}
 use Rattle.flat_reif.proofs.flat.Flat.flatten_two.Goals as goal
 
@@ -14,9 +14,6 @@ argument-requires-2 c = (have_two (state c.args.self.now) c.args.id c.args.n.now
 
 pub fold_of_two-requires : goal.fold_of_two-requires
 fold_of_two-requires c = operands_two (state c.args.self.now) c.args.id c.args.n.now c.requires.state c.requires.ready c.args.name (plain c.in-Ok.x) (plain c.in-Ok-argument.x) c.requires.row c.in-Ok.ensures c.in-Ok-argument.ensures
-
-pub give_two-requires-clause-divisor : goal.give_two-requires-clause-divisor
-give_two-requires-clause-divisor c = divisor_of c.args.self.now.build.vars c.args.n.now.kind (plain c.in-Ok-argument.x) c.requires.whole
 
 pub returns-in-Truth : goal.returns-in-Truth
 returns-in-Truth c = on_ok c.put.result _ _ (constant_given (state c.args.self.now) c.args.id c.args.n.now c.requires.state c.requires.ready c.args.name c.requires.row (plain c.in-Ok.x) (plain c.in-Ok-argument.x) (plain c.truth.result) c.in-Truth.b (plain_args c.put.new.args.items) c.truth.ensures c.in-Ok.ensures c.in-Ok-argument.ensures (subst (IsFold c.args.self.now.build.vars c.args.n.now.kind (plain c.in-Ok.x) (plain c.in-Ok-argument.x)) c.in-Truth.is c.fold_of_two.ensures)) c.put.ensures
