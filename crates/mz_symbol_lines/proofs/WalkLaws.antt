@@ -174,11 +174,11 @@ walks_more r old mid new w k i j first acc s e h a = subst (λ n. Walks r old ne
 })
 
 -- what the steps so far cost, with one more
-pub goes_more : (i n : ℕ) (old mid new : Run) → i < n → GoesOnBy (70 * i) old mid → GoesOnBy 70 mid new → GoesOnBy (70 * n) old new
-goes_more i n old mid new h f g = goes_most (70 * i + 70) (70 * n) old new (omega (arith, h)) (goes_both (70 * i) 70 old mid new f g)
+pub goes_more : (i n : ℕ) (old mid new : Run) → i < n → GoesOnBy (58 * i) old mid → GoesOnBy 58 mid new → GoesOnBy (58 * n) old new
+goes_more i n old mid new h f g = goes_most (58 * i + 58) (58 * n) old new (omega (arith, h)) (goes_both (58 * i) 58 old mid new f g)
 
-pub goes_same : (i n : ℕ) (old new : Run) → i ≡ n → GoesOnBy (70 * i) old new → GoesOnBy (70 * n) old new
-goes_same i n old new h f = subst (λ m. GoesOnBy (70 * m) old new) h f
+pub goes_same : (i n : ℕ) (old new : Run) → i ≡ n → GoesOnBy (58 * i) old new → GoesOnBy (58 * n) old new
+goes_same i n old new h f = subst (λ m. GoesOnBy (58 * m) old new) h f
 
 pub goes_none : (s : Run) → GoesOnBy 0 s s
 goes_none s = record { back = λ r h. h; paid = omega arith }

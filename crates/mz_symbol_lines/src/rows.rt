@@ -27,7 +27,7 @@ use mz_symbol_rows::logic;
 /// Out of memory too where there is no such array, or an element isn't a truth value.
 #[tactic(auto, using(mz_symbol_rows::proofs::GoingOn::goes_both, mz_symbol_rows::proofs::GoingOn::goes_most))]
 pub fn quantified(run: &mut Run, op: Quantifier, line: u64) -> Result<Symbol, Stop>
-    ensures goes { GoesOnBy (70 * count_of (slice_get run.old.lines line) + 20) run.old run.new }
+    ensures goes { GoesOnBy (58 * count_of (slice_get run.old.lines line) + 20) run.old run.new }
     ensures means { (ix : List Range) → Means symbol_seen result run.old run.new (λ r. give (held r.mode (truth_of (array_row r (row.Quantified op) ix line)))) }
 {
     let found = defined(run, line)?;
@@ -46,7 +46,7 @@ pub fn quantified(run: &mut Run, op: Quantifier, line: u64) -> Result<Symbol, St
 /// Out of memory too where there is no such array, or an element isn't a truth value.
 #[tactic(auto, using(mz_symbol_rows::proofs::GoingOn::goes_both, mz_symbol_rows::proofs::GoingOn::goes_most))]
 pub fn count(run: &mut Run, line: u64) -> Result<Symbol, Stop>
-    ensures goes { GoesOnBy (70 * count_of (slice_get run.old.lines line) + 20) run.old run.new }
+    ensures goes { GoesOnBy (58 * count_of (slice_get run.old.lines line) + 20) run.old run.new }
     ensures means { (ix : List Range) → Means symbol_seen result run.old run.new (λ r. give (held r.mode (array_row r row.Count ix line))) }
 {
     let found = defined(run, line)?;

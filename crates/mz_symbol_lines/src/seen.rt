@@ -75,7 +75,7 @@ fn true_or_absent(run: &mut Run, item: Symbol) -> Result<Symbol, Stop>
 /// What is made of the elements before, with one more.
 #[tactic(auto, using(mz_symbol_rows::proofs::GoingOn::goes_both, mz_symbol_rows::proofs::GoingOn::goes_most))]
 pub(crate) fn joined(run: &mut Run, walk: Walk, acc: Symbol, truth: Symbol) -> Result<Symbol, Stop>
-    ensures goes { GoesOnBy 40 run.old run.new }
+    ensures goes { GoesOnBy 28 run.old run.new }
     ensures joined { IfOk result (λ s. (r : Reading) → Reads r run.new → IsJoined r run.old run.new walk acc truth s) }
 {
     match walk {

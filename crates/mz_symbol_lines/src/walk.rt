@@ -38,7 +38,7 @@ pub(crate) fn defined(run: &Run, line: u64) -> Result<(Id, u64), Memory>
 /// An element more.
 #[tactic(auto, using(mz_symbol_rows::proofs::GoingOn::goes_both))]
 fn advanced(run: &mut Run, walk: Walk, line: u64, i: u64, acc: Symbol) -> Result<Symbol, Stop>
-    ensures goes { GoesOnBy 70 run.old run.new }
+    ensures goes { GoesOnBy 58 run.old run.new }
     ensures advances { IfOk result (λ s. (r : Reading) → Reads r run.new → Advances r run.old run.new walk line i acc s) }
 {
     let Some(item) = run.element(line, i) else {
@@ -57,7 +57,7 @@ pub(crate) fn walked(
     count: u64,
     first: Symbol,
 ) -> Result<Symbol, Stop>
-    ensures goes { GoesOnBy (70 * count) run.old run.new }
+    ensures goes { GoesOnBy (58 * count) run.old run.new }
     ensures walks { IfOk result (λ s. (r : Reading) → Reads r run.new → Walks r run.old run.new walk line count first s) }
 {
     let mut acc = first;
