@@ -1,6 +1,5 @@
 -- Roots of declared values and of constraints.
 use Rattle.std.proofs.Common.{◌≡◌, ◌≢◌, ◌⊎◌, inl, inr, ◌∙◌, ℕ, Bool, true, false, ◌&&◌, List, [], ◌∷◌, ◌++◌, map, Option, Some, None, is_some, IsSome, refl, sym, ap, subst, if◌then◌else◌}
-use Rattle.std.specs.List.{list_all}
 use Rattle.std.specs.Option.{option_map, option_and_then}
 use Rattle.mz_value.specs.Ranges.{Range}
 use Rattle.mz_value.specs.Contents.{Content, Contents, contents}
@@ -10,7 +9,7 @@ use Rattle.mz_core.specs.declared.types.Base.TheVariants as base
 use Rattle.mz_arena.specs.Values.{Term, is_true, iff_term}
 use Rattle.mz_meaning.specs.Cells.{value_of}
 use Rattle.mz_meaning.specs.Cells as cells
-use Rattle.mz_meaning.specs.Solutions.{MatchesValue, HasValue, IsValue}
+use Rattle.mz_meaning.specs.Solutions.{MatchesValue, IsValue}
 use Rattle.mz_meaning.specs.Walk.{Assignment}
 use Rattle.mz_instance.specs.Parts.{sort_of}
 use Rattle.mz_symbol.specs.declared.types.Free.{Free}
@@ -19,7 +18,7 @@ use Rattle.mz_symbol.specs.declared.types.Symbol.{Symbol}
 use Rattle.mz_symbol.specs.Symbols.{value_by, value_at, symbol_value, all_there, elements_value, AreItems}
 use Rattle.mz_symbol.specs.Runs.{Run, IsRun}
 use Rattle.mz_symbol.specs.Readings.{Reading, IsGiven, Reads}
-use Rattle.mz_model_laws.specs.Hands.{View, NameKind, ParName, OnePlace, ManyPlaces, kind_domains, HeldName, HeldConstraint, cell_at, name_at, AreOne, array_value, places_value, IsAssigned, AllAssigned, AllTrue, Iff, IsRootedName, IsRooted, AreRootedNames, AreRooted}
+use Rattle.mz_model_laws.specs.Hands.{View, NameKind, ParName, OnePlace, ManyPlaces, kind_domains, HeldName, HeldConstraint, cell_at, name_at, array_value, places_value, IsAssigned, AllAssigned, AllTrue, Iff, IsRootedName, IsRooted, AreRootedNames, AreRooted}
 use Rattle.mz_model_laws.specs.Loops.{ReadBack}
 use Rattle.mz_model_laws.specs.Roots.{TestsOne, equal_term, IsPlaceRoot, IsEqualRoot, IsTruthRoot, TestElements, AreArrayRoots, AreAlike, AreEqualTerms, AreLineRoots, IsFalseRoot, are_all_true}
 use Rattle.mz_model_laws.proofs.Names.{one_more_there}
