@@ -1,6 +1,7 @@
 // What the walk over a model has in hand, and the boundary of the walk.
 
 ghost use Rattle.mz_model_laws.specs.Laws.{TellsAssigned, HandModels, HandStops};
+ghost use Rattle.mz_model_laws.specs.Made.{InstanceMade};
 ghost use Rattle.mz_model_laws.specs.Variables.{VariablesSeen, PartsMade, NodesMade, NamesMade, VarsKept, MoreVars, MoreSlots, WholeByTest};
 ghost use Rattle.mz_model_laws.specs.Roots.{NumbersTested, SetsTested, TruthsTested, GuardedTruthsTested, OptionsTested, SymbolsTested, TruthsThere};
 ghost use Rattle.mz_model_laws.specs.Roots.{PlaceRoots, EqualRoots, TruthRoots, ArrayRoots, LineRoots, FalseRoots, NoRoots, ConstraintRoots};
@@ -41,6 +42,11 @@ pub fn variables_are_made()
     ensures kept { VarsKept }
     ensures more { MoreVars }
     ensures slots { MoreSlots }
+{}
+
+/// The law that what is made of what the walk has in hand is an instance.
+pub fn instances_are_made()
+    ensures { InstanceMade }
 {}
 
 /// The law that one pass over the arena tells that each choice node is a choice's.
