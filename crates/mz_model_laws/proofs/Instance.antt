@@ -1,14 +1,12 @@
 -- What is made of what is in hand is an instance.
 use Rattle.std.proofs.Common.{◌≡◌, ◌≢◌, ◌∙◌, ℕ, zero, suc, Bool, true, false, List, [], ◌∷◌, ◌++◌, map, Option, Some, slice_get, refl, sym, ap, subst, arith}
 use Rattle.std.proofs.lemmas.Int.{ints}
-use Rattle.mz_arena.specs.Entries.{Entry, is_free, is_local}
-use Rattle.mz_arena.specs.FreeNodes.{is_set_kind}
+use Rattle.mz_arena.specs.Entries.{Entry}
 use Rattle.mz_arena.specs.Instances.{Instance}
 use Rattle.mz_instance.specs.Instance.{IsInstance, IsPart, AreParts, CanTake, AreTruths, IsObjective}
-use Rattle.mz_instance.specs.Parts.{Part, occurrence, parts_of, is_subset_sort, ids, parts, IsNode, AreNodes}
+use Rattle.mz_instance.specs.Parts.{Part, occurrence, parts_of, is_subset_sort, IsNode, AreNodes}
 use Rattle.mz_meaning.specs.Domains.{Domain}
 use Rattle.mz_model_meaning.specs.Decoded.{AreShaped}
-use Rattle.mz_symbol.specs.declared.types.Free.{Free}
 use Rattle.mz_symbol.specs.Choices.{value_part, all_parts, AreChoosable}
 use Rattle.mz_symbol.specs.Symbols.{domain_of, free_ids}
 use Rattle.mz_symbol.specs.Runs.{Run, taken}
