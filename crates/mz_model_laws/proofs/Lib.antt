@@ -4,6 +4,7 @@ mod Models
 mod Stopped
 mod Walking
 mod Variables
+mod Instance
 mod Tests
 mod Roots
 mod SampleHeld

@@ -1,5 +1,5 @@
 -- The boundary of the walk, by what the walk has in hand.
-use Rattle.std.proofs.Common.{◌≡◌, ◌∙◌, ℕ, ℤ, Bool, List, [], ◌∷◌, ◌++◌, map, Option, Some, None, true, false, refl, sym, ap, subst}
+use Rattle.std.proofs.Common.{◌≡◌, ◌∙◌, ℕ, ℤ, List, [], ◌∷◌, ◌++◌, map, Option, Some, None, true, refl, sym, ap, subst}
 use Rattle.std.specs.Option.{option_map}
 use Rattle.mz_value.specs.Contents.{Content}
 use Rattle.mz_value.specs.Contents as values
@@ -14,16 +14,16 @@ use Rattle.mz_arena.specs.Values.{Values, Term, number, set, numbers, sets, empt
 use Rattle.mz_meaning.specs.Domains.{Domain}
 use Rattle.mz_meaning.specs.Solutions.{Each, MatchesValue, IsMet, Aims}
 use Rattle.mz_meaning.specs.Walk.{Limits, Assignment, ordered}
-use Rattle.mz_instance.specs.Instance.{IsInstance, IsTruthOver, IsPart}
+use Rattle.mz_instance.specs.Instance.{IsInstance, IsTruthOver}
 use Rattle.mz_instance.specs.Parts.{Sort, Whole, Truth, Subset, truths, sort_of, AreNodes}
 use Rattle.mz_instance.specs.Solved.{AreTrue, GoalAt, Holds}
-use Rattle.mz_model_meaning.specs.Decoded.{Named, named, part_of, IsShaped, AreShaped, all_parts, Tells, Chooses}
-use Rattle.mz_model_meaning.specs.Modeled.{AreVarsOf, names_in, IsSatisfied, IsWalked, Modeled}
+use Rattle.mz_model_meaning.specs.Decoded.{Named, named, IsShaped, AreShaped, all_parts, Tells, Chooses}
+use Rattle.mz_model_meaning.specs.Modeled.{AreVarsOf, names_in, IsWalked, Modeled}
 use Rattle.mz_symbol.specs.Choices.{IsChoosable, AreChoosable}
 use Rattle.mz_symbol.specs.Runs.{Run, taken}
 use Rattle.mz_symbol.specs.Readings.{Reading, IsGiven, Reads, reading, state_of}
 use Rattle.mz_symbol.proofs.ReadingLaws.{choices_read}
-use Rattle.mz_model_laws.specs.Hands.{View, HeldName, HeldConstraint, cell_at, name_at, names_at, cells_at, named_as, AllAssigned, AllTrue, AreRootedNames, AreRooted, IsAimed, Hand, walked_at, name_roots, constraint_roots, IsHeld}
+use Rattle.mz_model_laws.specs.Hands.{View, HeldName, HeldConstraint, cell_at, names_at, cells_at, named_as, AllAssigned, AllTrue, AreRootedNames, AreRooted, IsAimed, Hand, walked_at, name_roots, constraint_roots, IsHeld}
 use Rattle.mz_model_laws.proofs.Names.{all_assigned}
 
 -- ---- choosable domains are shaped

@@ -1,8 +1,7 @@
 -- An assignment that has the values of the parts has those of the names' places.
 use Rattle.std.proofs.Common.{◌≡◌, ◌∙◌, ℕ, List, [], ◌∷◌, ◌++◌, map, Option, Some, false, refl, ap, subst}
 use Rattle.std.specs.Option.{option_map}
-use Rattle.mz_value.specs.Contents.{Content, contents}
-use Rattle.mz_value.specs.Contents as values
+use Rattle.mz_value.specs.Contents.{Content}
 use Rattle.mz_arena.specs.Numbering.{by_id}
 use Rattle.mz_arena.specs.Terms.{term}
 use Rattle.mz_arena.specs.Values.{Values, Term}

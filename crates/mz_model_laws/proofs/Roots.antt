@@ -1,16 +1,15 @@
 -- Roots of declared values and of constraints.
 use Rattle.std.proofs.Common.{◌≡◌, ◌≢◌, ◌⊎◌, inl, inr, ◌∙◌, ℕ, Bool, true, false, ◌&&◌, List, [], ◌∷◌, ◌++◌, map, Option, Some, None, is_some, IsSome, refl, sym, ap, subst, if◌then◌else◌}
-use Rattle.std.specs.List.{list_all}
 use Rattle.std.specs.Option.{option_map, option_and_then}
 use Rattle.mz_value.specs.Ranges.{Range}
 use Rattle.mz_value.specs.Contents.{Content, Contents, contents}
 use Rattle.mz_value.specs.Contents as values
 use Rattle.mz_core.specs.declared.types.Base.{Base}
 use Rattle.mz_core.specs.declared.types.Base.TheVariants as base
-use Rattle.mz_arena.specs.Values.{Term, is_true, iff_term}
+use Rattle.mz_arena.specs.Values.{Term, is_true, and_term, or_term, not_term, iff_term}
 use Rattle.mz_meaning.specs.Cells.{value_of}
 use Rattle.mz_meaning.specs.Cells as cells
-use Rattle.mz_meaning.specs.Solutions.{MatchesValue, HasValue, IsValue}
+use Rattle.mz_meaning.specs.Solutions.{MatchesValue, IsValue}
 use Rattle.mz_meaning.specs.Walk.{Assignment}
 use Rattle.mz_instance.specs.Parts.{sort_of}
 use Rattle.mz_symbol.specs.declared.types.Free.{Free}
@@ -19,11 +18,11 @@ use Rattle.mz_symbol.specs.declared.types.Symbol.{Symbol}
 use Rattle.mz_symbol.specs.Symbols.{value_by, value_at, symbol_value, all_there, elements_value, AreItems}
 use Rattle.mz_symbol.specs.Runs.{Run, IsRun}
 use Rattle.mz_symbol.specs.Readings.{Reading, IsGiven, Reads}
-use Rattle.mz_model_laws.specs.Hands.{View, NameKind, ParName, OnePlace, ManyPlaces, kind_domains, HeldName, HeldConstraint, cell_at, name_at, AreOne, array_value, places_value, IsAssigned, AllAssigned, AllTrue, Iff, IsRootedName, IsRooted, AreRootedNames, AreRooted}
+use Rattle.mz_model_laws.specs.Hands.{View, NameKind, ParName, OnePlace, ManyPlaces, kind_domains, HeldName, HeldConstraint, cell_at, name_at, array_value, places_value, IsAssigned, AllAssigned, AllTrue, Iff, IsRootedName, IsRooted, AreRootedNames, AreRooted}
 use Rattle.mz_model_laws.specs.Loops.{ReadBack}
-use Rattle.mz_model_laws.specs.Roots.{TestsOne, equal_term, IsPlaceRoot, IsEqualRoot, IsTruthRoot, TestElements, AreArrayRoots, AreAlike, AreEqualTerms, AreLineRoots, IsFalseRoot, are_all_true}
+use Rattle.mz_model_laws.specs.Roots.{TestsOne, option_value, equal_term, IsPlaceRoot, IsEqualRoot, IsTruthRoot, IsOptionTruthRoot, TestElements, AreArrayRoots, AreAlike, AreEqualTerms, AreLineRoots, IsFalseRoot, are_all_true}
 use Rattle.mz_model_laws.proofs.Names.{one_more_there}
-use Rattle.mz_model_laws.proofs.Tests.{symbols_tested, truths_tested, truth_number}
+use Rattle.mz_model_laws.proofs.Tests.{symbols_tested, truths_tested, guarded_truths_tested, options_tested, occurring, truth_number}
 use Rattle.mz_model_laws.proofs.Variables.{if_defined}
 use Rattle.mz_model_laws.proofs.Walking.{first_assigned}
 
@@ -78,11 +77,27 @@ truth_roots s ns n f v w id root = place_roots s ns n f v id (record {
   value = root.value;
   roots = root.roots;
   tests = λ r given reads some.
-      let value : symbol_value r.term f.symbol ≡ value_by base.Bool (r.term f.symbol.term) = ap (λ (b : Base). value_at r.term b f.symbol.occurs f.symbol.term) root.base ∙ ap (λ o. value_at r.term base.Bool o f.symbol.term) root.plain in
+      let value : symbol_value r.term f.symbol ≡ value_by base.Bool (r.term f.symbol.term) = ap (λ (b : Base). value_at r.term b f.symbol.occurs f.symbol.term) root.truth ∙ ap (λ o. value_at r.term base.Bool o f.symbol.term) root.plain in
       let tests = truths_tested (r.term f.symbol.term) (r.term w) (subst (λ x. IsSome x) value some) in
       let seen = root.there r given reads ∙ ap (λ q. Some (values.bool q)) (root.seen r given reads) in
       subst (λ (t : Term). TestsOne t (symbol_value r.term f.symbol) (value_of (v r))) (sym (root.root r reads))
       (subst (λ x. TestsOne (iff_term (r.term f.symbol.term) (r.term w)) x (value_of (v r))) (sym value) (subst (λ y. TestsOne (iff_term (r.term f.symbol.term) (r.term w)) (value_by base.Bool (r.term f.symbol.term)) y) (sym seen) tests));
+})
+
+pub option_truth_roots : (s : Run) (ns : List HeldName) (n : HeldName) (f : Free) (v : View) (o p d w id : ℕ) → IsOptionTruthRoot s n f v o p d w id → IsRootedName s (ns ++ n ∷ []) n
+option_truth_roots s ns n f v o p d w id root = place_roots s ns n f v id (record {
+  kind = root.kind;
+  value = root.value;
+  roots = root.roots;
+  tests = λ r given reads some.
+      let x : Term = r.term f.symbol.term in
+      let y : Term = r.term w in
+      let t : Term = and_term (r.term d) (iff_term x y) in
+      let value : symbol_value r.term f.symbol ≡ option_value base.Bool (r.term o) x = ap (λ (b : Base). value_at r.term b f.symbol.occurs f.symbol.term) root.truth ∙ ap (λ o. value_at r.term base.Bool o f.symbol.term) root.option in
+      let there : IsSome (option_value base.Bool (r.term o) x) = subst (λ x. IsSome x) value some in
+      let tests = options_tested base.Bool (r.term o) (r.term p) x y t (λ first second. guarded_truths_tested (r.term d) x y (root.defined r given reads) (occurring (is_true (r.term o)) (value_by base.Bool x) first there)) in
+      subst (λ (t : Term). TestsOne t (symbol_value r.term f.symbol) (value_of (v r))) (sym (root.root r reads))
+      (subst (λ z. TestsOne (and_term (iff_term (r.term o) (r.term p)) (or_term (not_term (r.term o)) t)) z (value_of (v r))) (sym value) (subst (λ z. TestsOne (and_term (iff_term (r.term o) (r.term p)) (or_term (not_term (r.term o)) t)) (option_value base.Bool (r.term o) x) z) (sym (root.seen r given reads)) tests));
 })
 
 -- ---- lists of values that are there

@@ -1,5 +1,5 @@
 -- The worked example is held, and so its instance is the model's.
-use Rattle.std.proofs.Common.{◌≡◌, ◌∙◌, refl, ℕ, pos, true, false, Bool, ◌&&◌, List, [], ◌∷◌, Option, Some, None, inr, sym, ap, arith}
+use Rattle.std.proofs.Common.{◌≡◌, ◌∙◌, refl, ℕ, pos, true, false, Bool, ◌&&◌, List, [], ◌∷◌, map, Option, Some, None, inr, sym, ap, arith}
 use Rattle.std.specs.Ordering.{int_eq}
 use Rattle.std.proofs.lemmas.Int.{ints}
 use Rattle.mz_value.specs.Shown.{range_elements}
@@ -29,12 +29,14 @@ use Rattle.mz_arena.specs.Numbering.{local_ids, local_ids_from}
 use Rattle.mz_arena.specs.Values.{Term, number, set, numbers, sets, empty, is_true, comparison_term}
 use Rattle.mz_instance.specs.Sample.{sample}
 use Rattle.mz_instance.proofs.SampleHolds.{is_instance, nodes}
+use Rattle.mz_model_meaning.specs.Decoded.{AreShaped}
 use Rattle.mz_model_meaning.specs.Modeled.{AreVarsOf, Modeled}
 use Rattle.mz_symbol.specs.Choices.{IsChoosable}
 use Rattle.mz_symbol.specs.Symbols.{value_by, symbol_value, domain_of}
 use Rattle.mz_symbol.specs.Runs.{IsRun}
 use Rattle.mz_symbol.specs.Readings.{Reading, IsGiven, Reads, no_values, taken_in, weight_in, state_of}
-use Rattle.mz_model_laws.specs.Hands.{AreOne, Assigned, walked_at, IsRooted, IsHeld}
+use Rattle.mz_model_laws.specs.Hands.{AreOne, Assigned, walked_at, all_places, IsRooted, IsHeld}
+use Rattle.mz_model_laws.specs.Made.{IsMade}
 use Rattle.mz_model_laws.specs.Sample.{limits, o, s, b, model, choice, run, given_name, truth_cell, is_two, o_name, s_name, b_name, constraint, hand}
 use Rattle.mz_model_laws.proofs.Models.{models}
 use Rattle.mz_model_laws.proofs.Roots.{no_roots, constraint_roots}
@@ -150,3 +152,33 @@ vars = (record { name = refl; base = refl; opt = refl; index = refl }, (record {
 
 pub is_modeled : Modeled limits model sample
 is_modeled = models limits model sample hand is_instance vars is_held
+
+-- ---- and the instance is made of it
+
+shaped : AreShaped (map domain_of (all_places hand.names))
+shaped =
+    let suited = is_instance.suited in (
+      record { base = refl; part = suited.1.0; allowed = λ h. refl },
+      (
+        record { base = refl; part = suited.1.1.0; allowed = λ h. absurd (cc) },
+        (record { base = refl; part = suited.1.1.1.0; allowed = λ h. refl }, (record { base = refl; part = suited.1.1.1.1.0; allowed = λ h. refl }, tt)),
+      ),
+    )
+
+pub is_made : IsMade run hand.names sample
+unfolding local_ids local_ids_from
+is_made = record {
+  run = is_run;
+  arena = refl;
+  made = (
+    record { index = refl; cells = refl; places = ((refl, refl), tt) },
+    (record { index = refl; cells = refl; places = ((refl, refl), tt) }, (record { index = refl; cells = refl; places = ((refl, refl), ((refl, refl), tt)) }, tt)),
+  );
+  nodes = nodes;
+  shaped = shaped;
+  vars = is_instance.vars;
+  placed = is_instance.no_more;
+  noted = λ id e stands local. is_instance.arena.numbered.all id e stands local;
+  roots = is_instance.roots;
+  goal = tt;
+}

@@ -186,7 +186,7 @@ sorts_tested (base.SetEnum k) x y truth some = sets_tested (base.SetEnum k) x y 
 sorts_tested (base.Enum k) x y truth some = numbers_tested (base.Enum k) x y refl
 sorts_tested b x y truth some = numbers_tested b x y refl
 
-occurring : (q : Bool) (v : Option Content) → q ≡ true → IsSome (if q then v else Some values.absent) → IsSome v
+pub occurring : (q : Bool) (v : Option Content) → q ≡ true → IsSome (if q then v else Some values.absent) → IsSome v
 occurring true v is some = some
 occurring false v is some = absurd (cc)
 

@@ -20,10 +20,8 @@ use Rattle.mz_instance.specs.Parts.{Part, base_of, sort_of, parts_of, cell_ids, 
 use Rattle.mz_model_meaning.specs.Decoded.{Named}
 use Rattle.mz_model_meaning.specs.Modeled.{cell_domain, domains_by, domains_of, var_head, var_tail, names_of}
 use Rattle.mz_symbol.specs.declared.types.Free.{Free}
-use Rattle.mz_symbol.specs.declared.types.Symbol.{Symbol}
-use Rattle.mz_symbol.specs.declared.types.Line.{Line}
 use Rattle.mz_symbol.specs.Choices.{domain_parts, all_parts}
-use Rattle.mz_symbol.specs.Symbols.{symbol_ids, symbol_value, domain_of, free_ids, all_there, elements_value, line_value}
+use Rattle.mz_symbol.specs.Symbols.{symbol_ids, symbol_value, domain_of, free_ids, all_there, elements_value}
 use Rattle.mz_symbol.specs.Runs.{Run, IsRun, taken}
 use Rattle.mz_symbol.specs.Readings.{Reading, IsGiven, Reads}
 use Rattle.mz_symbol.proofs.RunLaws.{nodes_later}

@@ -9,12 +9,10 @@ use Rattle.mz_core.specs.Tree.{Tree, Decl}
 use Rattle.mz_arena.specs.Values.{Term}
 use Rattle.mz_meaning.specs.Cells.{Cell, Mode, Blank, Given}
 use Rattle.mz_meaning.specs.Contexts.{Positive}
-use Rattle.mz_meaning.specs.Domains.{Domain}
-use Rattle.mz_meaning.specs.Runs.{State, Answer, Out, Stopped, then_do, loop, fault, start}
+use Rattle.mz_meaning.specs.Runs.{State, Answer, Out, then_do, loop, fault, start}
 use Rattle.mz_meaning.specs.Unbounded.{first_unbounded}
 use Rattle.mz_meaning.specs.Walk.{Limits, Assignment, Declared, Walked, bounded, ordered, declare, constrain, walk}
 use Rattle.mz_symbol.specs.declared.types.Free.{Free}
-use Rattle.mz_symbol.specs.Symbols.{domain_of}
 use Rattle.mz_symbol.specs.Runs.{Run}
 use Rattle.mz_symbol.specs.Readings.{Reading, Reads, taken_in, weight_in, state_of}
 use Rattle.mz_model_laws.specs.Hands.{HeldName, HeldConstraint, Hand, name_at, names_at, cells_at, walked_at, AllAssigned, Assigned, WalkStops}

@@ -4,3 +4,4 @@ pub mod Loops
 pub mod Variables
 pub mod Roots
 pub mod Sample
+pub mod Made

@@ -106,7 +106,7 @@ pub record IsTruthRoot (s : Run) (n : HeldName) (f : Free) (v : View) (w id : �
   pub kind : n.kind ≡ OnePlace f
   pub value : n.value ≡ Some v
   pub roots : n.roots ≡ id ∷ []
-  pub base : f.symbol.base ≡ base.Bool
+  pub truth : f.symbol.base ≡ base.Bool
   pub plain : f.symbol.occurs ≡ None
   pub there : (r : Reading) → IsGiven r.mode → Reads r s → value_of (v r) ≡ Some (values.bool (cells.is_true (value_of (v r))))
   pub seen : (r : Reading) → IsGiven r.mode → Reads r s → cells.is_true (value_of (v r)) ≡ is_true (r.term w)
@@ -114,6 +114,20 @@ pub record IsTruthRoot (s : Run) (n : HeldName) (f : Free) (v : View) (w id : �
 
 abbrev pub TruthRoots : Type 0
 TruthRoots = (s : Run) (ns : List HeldName) (n : HeldName) (f : Free) (v : View) (w id : ℕ) → IsTruthRoot s n f v w id → IsRootedName s (ns ++ n ∷ []) n
+
+-- the root of an option of a Boolean, whose value may be undefined: a node is true where the value's own node has a value
+pub record IsOptionTruthRoot (s : Run) (n : HeldName) (f : Free) (v : View) (o p d w id : ℕ) : Type 0 where
+  pub kind : n.kind ≡ OnePlace f
+  pub value : n.value ≡ Some v
+  pub roots : n.roots ≡ id ∷ []
+  pub truth : f.symbol.base ≡ base.Bool
+  pub option : f.symbol.occurs ≡ Some o
+  pub defined : (r : Reading) → IsGiven r.mode → Reads r s → is_true (r.term d) ≡ is_some (as_number (r.term w))
+  pub seen : (r : Reading) → IsGiven r.mode → Reads r s → value_of (v r) ≡ option_value base.Bool (r.term p) (r.term w)
+  pub root : (r : Reading) → Reads r s → r.term id ≡ and_term (iff_term (r.term o) (r.term p)) (or_term (not_term (r.term o)) (and_term (r.term d) (iff_term (r.term f.symbol.term) (r.term w))))
+
+abbrev pub OptionTruthRoots : Type 0
+OptionTruthRoots = (s : Run) (ns : List HeldName) (n : HeldName) (f : Free) (v : View) (o p d w id : ℕ) → IsOptionTruthRoot s n f v o p d w id → IsRootedName s (ns ++ n ∷ []) n
 
 -- each of these terms tests a place, where it has a value, and the element at it
 abbrev pub TestElements : (ℕ → Term) → List Free → List Symbol → List ℕ → Type 0

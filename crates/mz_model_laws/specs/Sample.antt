@@ -1,6 +1,6 @@
 -- A WORKED EXAMPLE: what the walk has in hand of a small model, whose instance is `sample` of mz_instance.
 -- var opt 1..2: o; var set of 1..2: s; array[1..2] of var bool: b; constraint let { var 1..2: y } in y = 2;
-use Rattle.std.specs.Prelude.{ℕ, pos, true, false, Bool, List, [], ◌∷◌, Option, Some, None}
+use Rattle.std.specs.Prelude.{ℕ, pos, Bool, List, [], ◌∷◌, Option, Some, None}
 use Rattle.std.specs.Option.{option_map}
 use Rattle.mz_value.specs.Ranges.{Range}
 use Rattle.mz_value.specs.Contents.{Content}
@@ -22,7 +22,6 @@ use Rattle.mz_meaning.specs.Written.{list_of, var_int, var_bool, var_opt_int, va
 use Rattle.mz_instance.specs.Parts.{truths}
 use Rattle.mz_instance.specs.Sample.{one_or_two, arena}
 use Rattle.mz_symbol.specs.declared.types.Free.{Free}
-use Rattle.mz_symbol.specs.declared.types.Symbol.{Symbol}
 use Rattle.mz_symbol.specs.Symbols.{symbol_value}
 use Rattle.mz_symbol.specs.Runs.{Run}
 use Rattle.mz_symbol.specs.Readings.{Reading}

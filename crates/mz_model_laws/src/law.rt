@@ -1,9 +1,10 @@
 // What the walk over a model has in hand, and the boundary of the walk.
 
 ghost use Rattle.mz_model_laws.specs.Laws.{TellsAssigned, HandModels, HandStops};
+ghost use Rattle.mz_model_laws.specs.Made.{InstanceMade};
 ghost use Rattle.mz_model_laws.specs.Variables.{VariablesSeen, PartsMade, NodesMade, NamesMade, VarsKept, MoreVars, MoreSlots, WholeByTest};
 ghost use Rattle.mz_model_laws.specs.Roots.{NumbersTested, SetsTested, TruthsTested, GuardedTruthsTested, OptionsTested, SymbolsTested, TruthsThere};
-ghost use Rattle.mz_model_laws.specs.Roots.{PlaceRoots, EqualRoots, TruthRoots, ArrayRoots, LineRoots, FalseRoots, NoRoots, ConstraintRoots};
+ghost use Rattle.mz_model_laws.specs.Roots.{PlaceRoots, EqualRoots, TruthRoots, OptionTruthRoots, ArrayRoots, LineRoots, FalseRoots, NoRoots, ConstraintRoots};
 ghost use Rattle.mz_model_laws.specs.Roots.{MoreRooted, RootedKept, MoreMet, MetKept};
 ghost use Rattle.mz_model_laws.specs.Loops.{Started, UnboundedStops, OneMoreDeclared, OneStops, AllDeclared, OneMoreConstrained, ConstraintStops, ObjectiveStops, WholeWalk};
 
@@ -43,6 +44,11 @@ pub fn variables_are_made()
     ensures slots { MoreSlots }
 {}
 
+/// The law that what is made of what the walk has in hand is an instance.
+pub fn instances_are_made()
+    ensures { InstanceMade }
+{}
+
 /// The law that one pass over the arena tells that each choice node is a choice's.
 pub fn one_pass_tells_choices()
     ensures { WholeByTest }
@@ -64,6 +70,7 @@ pub fn roots_tell_values()
     ensures place { PlaceRoots }
     ensures equal { EqualRoots }
     ensures truth { TruthRoots }
+    ensures option_truth { OptionTruthRoots }
     ensures array { ArrayRoots }
     ensures line { LineRoots }
     ensures undefined { FalseRoots }
