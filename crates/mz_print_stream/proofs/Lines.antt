@@ -8,7 +8,7 @@ use Rattle.soln_reader_items.specs.Forms.{Form}
 use Rattle.soln_reader.specs.Blocks.{Block}
 use Rattle.soln_reader.specs.Stream.{Event, Outcome, leaves, gives, is_bad, line_len, line_limit, is_too_long, has_line, first_line, chopped, after_line, line_outcome, outcome}
 use Rattle.soln_reader.proofs.LineLemmas.{last_line, long_outcome, long_line, ended_line, len_grows}
-use Rattle.soln_reader.proofs.CutLemmas.{newline_or_bad, some_line}
+use Rattle.soln_reader.proofs.CutLemmas.{len_more, after_more, outcome_more, newline_or_bad, some_line}
 
 -- outcomes are apart
 
@@ -49,32 +49,6 @@ no_line_yet = refl
 
 -- a line with its newline, and more bytes after it
 
-same_len : (bs more : List ℕ) → line_len bs < length bs → line_len (bs ++ more) ≡ line_len bs
-same_len bs more h = prefix_len-append is_no_newline bs more ∙ go (eqb (line_len bs) (length bs)) refl
-  where
-    go : (t : Bool) → eqb (line_len bs) (length bs) ≡ t → cond t (length bs + line_len more) (line_len bs) ≡ line_len bs
-    go false is = refl
-    go true is = absurd (omega (arith, eqb-true (line_len bs) (length bs) is))
-
-same_after : (bs more : List ℕ) → line_len bs < length bs → after_line (bs ++ more) ≡ after_line bs ++ more
-same_after bs more h = ap (λ n. drop (n + 1) (bs ++ more)) (same_len bs more h) ∙ drop-append-le (line_len bs + 1) bs more (omega arith)
-
-is_below : (m n : ℕ) → m < n → ltb m n ≡ true
-is_below m n h = search (rules, tests)
-
-same_first : (bs more : List ℕ) → line_len bs < length bs → first_line (bs ++ more) ≡ first_line bs
-unfolding first_line
-same_first bs more h =
-    let n : line_len (bs ++ more) ≡ line_len bs = same_len bs more h in
-    rw (is_below (line_len (bs ++ more)) (length (bs ++ more)) (omega (arith, n, length-append bs more)), is_below (line_len bs) (length bs) h)
-    (ap chopped (ap (λ k. take k (bs ++ more)) n ∙ take-append-le (line_len bs) bs more (omega arith)))
-
-same_outcome : (fs : List Form) (b : Block) (bs more : List ℕ) → line_len bs < length bs → line_outcome fs b (bs ++ more) ≡ line_outcome fs b bs
-unfolding line_outcome
-same_outcome fs b bs more h =
-    ap (λ t. cond t is_bad (outcome fs b (first_line (bs ++ more)))) (ap (λ n. ltb line_limit n) (same_len bs more h))
-    ∙ ap (λ l. cond (is_too_long bs) is_bad (outcome fs b l)) (same_first bs more h)
-
 -- a line that is there stays, and does what it does, whichever bytes come after it
 pub record Begins (fs : List Form) (ended : Bool) (b : Block) (bs more : List ℕ) : Type 0 where
   pub line : has_line ended (bs ++ more) ≡ true
@@ -84,8 +58,8 @@ pub begins : (fs : List Form) (ended : Bool) (b : Block) (bs more : List ℕ) �
 begins fs ended b bs more line =
     elim (newline_or_bad fs b bs line) [
       | inl h ↦ record {
-        line = ended_line ended (bs ++ more) (omega (arith, same_len bs more h, length-append bs more));
-        outcome = same_outcome fs b bs more h;
+        line = ended_line ended (bs ++ more) (omega (arith, len_more bs more h, length-append bs more));
+        outcome = outcome_more fs b bs more h;
       }
       | inr h ↦
           let long : line_limit < line_len (bs ++ more) = omega (arith, len_grows bs more) in
@@ -99,6 +73,6 @@ begins fs ended b bs more line =
 pub rest_stays : (fs : List Form) (b : Block) (bs more : List ℕ) (o : Outcome) → has_line false bs ≡ true → line_outcome fs b bs ≡ o → (o ≡ is_bad → ⊥) → after_line (bs ++ more) ≡ after_line bs ++ more
 rest_stays fs b bs more o line is good =
     elim (newline_or_bad fs b bs line) [
-      | inl h ↦ same_after bs more h
+      | inl h ↦ after_more bs more h
       | inr h ↦ absurd (good (sym is ∙ long_outcome fs b bs h))
     ]

@@ -13,14 +13,14 @@ use Rattle.soln_reader.proofs.LineLemmas.{long_outcome, len_grows}
 
 -- a line with its newline stays so, whatever follows
 
-len_more : (bs more : List ℕ) → line_len bs < length bs → line_len (bs ++ more) ≡ line_len bs
+pub len_more : (bs more : List ℕ) → line_len bs < length bs → line_len (bs ++ more) ≡ line_len bs
 len_more bs more h = prefix_len-append is_no_newline bs more ∙ go (eqb (line_len bs) (length bs)) refl
   where
     go : (t : Bool) → eqb (line_len bs) (length bs) ≡ t → cond t (length bs + line_len more) (line_len bs) ≡ line_len bs
     go false is = refl
     go true is = absurd (omega (arith, eqb-true (line_len bs) (length bs) is))
 
-after_more : (bs more : List ℕ) → line_len bs < length bs → after_line (bs ++ more) ≡ after_line bs ++ more
+pub after_more : (bs more : List ℕ) → line_len bs < length bs → after_line (bs ++ more) ≡ after_line bs ++ more
 after_more bs more h = ap (λ n. drop (n + 1) (bs ++ more)) (len_more bs more h) ∙ drop-append-le (line_len bs + 1) bs more (omega arith)
 
 lt_of : (m n : ℕ) → m < n → ltb m n ≡ true
@@ -37,7 +37,7 @@ first_more bs more h =
     rw (lt_of (line_len (bs ++ more)) (length (bs ++ more)) long, lt_of (line_len bs) (length bs) h)
     (ap chopped (ap (λ k. take k (bs ++ more)) n ∙ take-append-le (line_len bs) bs more (omega arith)))
 
-outcome_more : (fs : List Form) (b : Block) (bs more : List ℕ) → line_len bs < length bs → line_outcome fs b (bs ++ more) ≡ line_outcome fs b bs
+pub outcome_more : (fs : List Form) (b : Block) (bs more : List ℕ) → line_len bs < length bs → line_outcome fs b (bs ++ more) ≡ line_outcome fs b bs
 unfolding line_outcome
 outcome_more fs b bs more h =
     ap (λ t. cond t is_bad (outcome fs b (first_line (bs ++ more)))) (ap (λ n. ltb line_limit n) (len_more bs more h))

@@ -4,3 +4,4 @@ pub mod LineLemmas
 pub mod ReaderLemmas
 pub mod CutLemmas
 pub mod Soundness
+pub mod Values

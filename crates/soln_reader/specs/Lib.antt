@@ -1,5 +1,6 @@
 pub mod Blocks
 pub mod Cuts
+pub mod Values
 pub mod Holding
 pub mod Reader
 pub mod StepsLines

@@ -11,7 +11,7 @@ mod step;
 mod undo;
 mod walk;
 
-pub use laws::{cut_freely, one_reading, same_events};
+pub use laws::{cut_freely, one_reading, same_events, values_fit};
 pub use line::LINE_LIMIT;
 pub use next::{Mark, Next};
 pub use reader::SolnReader;
