@@ -11,7 +11,7 @@ use Rattle.mz_eval_scopes.specs.Views.{world_of}
 use Rattle.mz_meaning.specs.Runs.{State, Answer, Out, Stopped, Run, ◌>>=◌, then_do, give, loop}
 use Rattle.mz_meaning.specs.Cells.{Cell, Env, Sure, both_sure, bind, bind_all}
 use Rattle.mz_meaning.specs.Arrays.{Anything, fitted}
-use Rattle.mz_meaning.specs.Contexts.{Untested}
+use Rattle.mz_meaning.specs.Contexts.{Context}
 use Rattle.mz_meaning.specs.Forms.{World, Eval, part, parts}
 use Rattle.mz_meaning.specs.Lets.{Names, nothing_bound, names_in, with_local, index_wants, want, all_have_sets}
 use Rattle.mz_meaning.specs.Calls.{argument_suits, arguments, parameter, called, call_of, call}
@@ -21,39 +21,39 @@ use Rattle.mz_eval.specs.PlainCalls.{IsPlain, ArePlain, IsPlainAt, all_suit, wit
 
 -- ---- parts, the first one apart
 
-abbrev loop_parts : Eval → Env → List Cell → List Tree → Run (List Cell)
-loop_parts go env cs es = loop (part go Untested env) cs es
+abbrev loop_parts : Eval → Context → Env → List Cell → List Tree → Run (List Cell)
+loop_parts go ctx env cs es = loop (part go ctx env) cs es
 
-more_parts : (go : Eval) (env : Env) (acc : List Cell) (es : List Tree) (s : State) → loop_parts go env acc es s ≡ then_do (loop_parts go env [] es s) (λ cs. give (acc ++ cs))
-more_parts go env acc [] s = ap (λ cs. Out cs s) (sym (append-nil acc))
-more_parts go env acc (e ∷ es) s = by (λ cs. more_parts go env cs es) (go Untested e env s)
+more_parts : (go : Eval) (ctx : Context) (env : Env) (acc : List Cell) (es : List Tree) (s : State) → loop_parts go ctx env acc es s ≡ then_do (loop_parts go ctx env [] es s) (λ cs. give (acc ++ cs))
+more_parts go ctx env acc [] s = ap (λ cs. Out cs s) (sym (append-nil acc))
+more_parts go ctx env acc (e ∷ es) s = by (λ cs. more_parts go ctx env cs es) (go ctx e env s)
   where
-    by : ((cs : List Cell) (t : State) → loop_parts go env cs es t ≡ then_do (loop_parts go env [] es t) (λ xs. give (cs ++ xs))) → (a : Answer Cell) → then_do (then_do a (λ c. give (acc ++ c ∷ []))) (λ next. loop_parts go env next es) ≡ then_do (then_do (then_do a (λ c. give (c ∷ []))) (λ next. loop_parts go env next es)) (λ cs. give (acc ++ cs))
+    by : ((cs : List Cell) (t : State) → loop_parts go ctx env cs es t ≡ then_do (loop_parts go ctx env [] es t) (λ xs. give (cs ++ xs))) → (a : Answer Cell) → then_do (then_do a (λ c. give (acc ++ c ∷ []))) (λ next. loop_parts go ctx env next es) ≡ then_do (then_do (then_do a (λ c. give (c ∷ []))) (λ next. loop_parts go ctx env next es)) (λ cs. give (acc ++ cs))
     by more (Out c t) =
         more (acc ++ c ∷ []) t
-        ∙ then_same (loop_parts go env [] es t) (λ cs. give ((acc ++ c ∷ []) ++ cs)) (λ cs. give (acc ++ c ∷ cs)) (λ cs u. ap (λ xs. Out xs u) (append_assoc acc (c ∷ []) cs))
-        ∙ sym (then_again (loop_parts go env [] es t) (λ cs. give (c ∷ cs)) (λ cs. give (acc ++ cs)))
+        ∙ then_same (loop_parts go ctx env [] es t) (λ cs. give ((acc ++ c ∷ []) ++ cs)) (λ cs. give (acc ++ c ∷ cs)) (λ cs u. ap (λ xs. Out xs u) (append_assoc acc (c ∷ []) cs))
+        ∙ sym (then_again (loop_parts go ctx env [] es t) (λ cs. give (c ∷ cs)) (λ cs. give (acc ++ cs)))
         ∙ sym (ap (λ a. then_do a (λ cs. give (acc ++ cs))) (more (c ∷ []) t))
     by more (Stopped f) = refl
 
-parts_then : {B : Type 0} (go : Eval) (env : Env) (e : Tree) (es : List Tree) (k : List Cell → Run B) (s : State) → then_do (parts go Untested (e ∷ es) env s) k ≡ then_do (go Untested e env s) (λ c t. then_do (parts go Untested es env t) (λ cs. k (c ∷ cs)))
-parts_then go env e es k s = by (go Untested e env s)
+parts_then : {B : Type 0} (go : Eval) (ctx : Context) (env : Env) (e : Tree) (es : List Tree) (k : List Cell → Run B) (s : State) → then_do (parts go ctx (e ∷ es) env s) k ≡ then_do (go ctx e env s) (λ c t. then_do (parts go ctx es env t) (λ cs. k (c ∷ cs)))
+parts_then go ctx env e es k s = by (go ctx e env s)
   where
-    by : (a : Answer Cell) → then_do (then_do (then_do a (λ c. give (c ∷ []))) (λ next. loop_parts go env next es)) k ≡ then_do a (λ c t. then_do (parts go Untested es env t) (λ cs. k (c ∷ cs)))
+    by : (a : Answer Cell) → then_do (then_do (then_do a (λ c. give (c ∷ []))) (λ next. loop_parts go ctx env next es)) k ≡ then_do a (λ c t. then_do (parts go ctx es env t) (λ cs. k (c ∷ cs)))
     by (Out c t) =
-        ap (λ a. then_do a k) (more_parts go env (c ∷ []) es t)
-        ∙ then_again (loop_parts go env [] es t) (λ cs. give (c ∷ cs)) k
+        ap (λ a. then_do a k) (more_parts go ctx env (c ∷ []) es t)
+        ∙ then_again (loop_parts go ctx env [] es t) (λ cs. give (c ∷ cs)) k
     by (Stopped f) = refl
 
 -- ---- a call, an argument more
 
-pub called_next : (w : World) (go : Eval) (f : Function) (at : Span) (d : Decl) (ds : List Decl) (e : Tree) (es : List Tree) (holds : Sure) (env inner : Env) (s : State) → called_on w go f at (d ∷ ds) (e ∷ es) holds env inner s ≡ then_do (go Untested e env s) (λ c. called_on w go f at ds es (both_sure holds (argument_suits f.result.ty.var d.ty.ty.var Anything c)) env (bind d.slot c inner))
-called_next w go f at d ds e es holds env inner s = parts_then go env e es (λ cs. called_in w go f at (all_suit f.result.ty.var (d ∷ ds) cs holds) (with_arguments (d ∷ ds) cs inner)) s
+pub called_next : (w : World) (go : Eval) (ctx : Context) (f : Function) (at : Span) (d : Decl) (ds : List Decl) (e : Tree) (es : List Tree) (holds : Sure) (env inner : Env) (s : State) → called_on w go ctx f at (d ∷ ds) (e ∷ es) holds env inner s ≡ then_do (go ctx e env s) (λ c. called_on w go ctx f at ds es (both_sure holds (argument_suits f.result.ty.var d.ty.ty.var Anything c)) env (bind d.slot c inner))
+called_next w go ctx f at d ds e es holds env inner s = parts_then go ctx env e es (λ cs. called_in w go ctx f at (all_suit f.result.ty.var (d ∷ ds) cs holds) (with_arguments (d ∷ ds) cs inner)) s
 
-pub called_last : (w : World) (go : Eval) (f : Function) (at : Span) (ds : List Decl) (es : List Core) (holds : Sure) (env inner : Env) (s : State) → length es ≡ 0 → called_on w go f at ds (map tree es) holds env inner s ≡ called_in w go f at holds inner s
-called_last w go f at [] [] holds env inner s h = refl
-called_last w go f at (d ∷ ds) [] holds env inner s h = refl
-called_last w go f at ds (e ∷ es) holds env inner s h = absurd (omega arith)
+pub called_last : (w : World) (go : Eval) (ctx : Context) (f : Function) (at : Span) (ds : List Decl) (es : List Core) (holds : Sure) (env inner : Env) (s : State) → length es ≡ 0 → called_on w go ctx f at ds (map tree es) holds env inner s ≡ called_in w go ctx f at holds inner s
+called_last w go ctx f at [] [] holds env inner s h = refl
+called_last w go ctx f at (d ∷ ds) [] holds env inner s h = refl
+called_last w go ctx f at ds (e ∷ es) holds env inner s h = absurd (omega arith)
 
 pub no_decls : (ds : List CoreDecl) → length ds ≡ 0 → map decl ds ≡ []
 no_decls [] h = refl
@@ -78,20 +78,20 @@ trees_apart es e h = first_apart tree es e h
 -- ---- the definition of calls, for such parameters
 
 -- a parameter with these index sets and this set
-abbrev parameter_by : Eval → Bool → Env → Names → Decl → Tree → Cell → List (Option Tree) → Option Tree → Run Names
-parameter_by go var top b d e k is o = do
-  ixs ← index_wants go Untested is (names_in b top)
-  x ← want go Untested o (names_in b top)
+abbrev parameter_by : Eval → Context → Bool → Env → Names → Decl → Tree → Cell → List (Option Tree) → Option Tree → Run Names
+parameter_by go ctx var top b d e k is o = do
+  ixs ← index_wants go ctx is (names_in b top)
+  x ← want go ctx o (names_in b top)
   c ← fitted (place_of e) ixs k
   give (with_local b d.slot (c, both_sure (all_have_sets ixs) (argument_suits var d.ty.ty.var x c)))
 
 abbrev named : Bool → Names → Decl → Cell → Names
 named var b d c = with_local b d.slot (c, argument_suits var d.ty.ty.var Anything c)
 
-plain_parameter : (go : Eval) (var : Bool) (top : Env) (b : Names) (d : Decl) (e : Tree) (c : Cell) (s : State) → IsPlain d → parameter go Untested var top b (d, e, c) s ≡ Out (named var b d c) s
-plain_parameter go var top b d e c s p =
-    ap (λ is. parameter_by go var top b d e c is d.ty.set s) p.index
-    ∙ ap (λ o. parameter_by go var top b d e c [] o s) p.set
+plain_parameter : (go : Eval) (ctx : Context) (var : Bool) (top : Env) (b : Names) (d : Decl) (e : Tree) (c : Cell) (s : State) → IsPlain d → parameter go ctx var top b (d, e, c) s ≡ Out (named var b d c) s
+plain_parameter go ctx var top b d e c s p =
+    ap (λ is. parameter_by go ctx var top b d e c is d.ty.set s) p.index
+    ∙ ap (λ o. parameter_by go ctx var top b d e c [] o s) p.set
 
 names_last : (ss : List ℕ) (cs : List Cell) (slot : ℕ) (c : Cell) (env : Env) → length ss ≡ length cs → bind_all (ss ++ slot ∷ []) (cs ++ c ∷ []) env ≡ bind slot c (bind_all ss cs env)
 names_last [] [] slot c env h = refl
@@ -104,30 +104,30 @@ length_last [] x = refl
 length_last (y ∷ xs) x = ap suc (length_last xs x)
 
 -- what follows the arguments: the parameters after those of `b`, and the call
-abbrev bound_then : World → Eval → Function → Span → Names → List Decl → List Tree → List Cell → Run Cell
-bound_then w go f at b ds es cs = loop (parameter go Untested f.result.ty.var w.top) b (arguments ds es cs) >>= called w go Untested f at
+abbrev bound_then : World → Eval → Context → Function → Span → Names → List Decl → List Tree → List Cell → Run Cell
+bound_then w go ctx f at b ds es cs = loop (parameter go ctx f.result.ty.var w.top) b (arguments ds es cs) >>= called w go ctx f at
 
-bound_all : (w : World) (go : Eval) (f : Function) (at : Span) (env : Env) (ds : List Decl) (es : List Tree) (b : Names) (s : State) → ArePlain ds → length b.slots ≡ length b.cells → then_do (parts go Untested es env s) (bound_then w go f at b ds es) ≡ called_on w go f at ds es b.holds env (names_in b w.top) s
-bound_all w go f at env [] [] b s p h = refl
-bound_all w go f at env (d ∷ ds) [] b s p h = refl
-bound_all w go f at env [] (e ∷ es) b s p h = refl
-bound_all w go f at env (d ∷ ds) (e ∷ es) b s p h =
-    parts_then go env e es (bound_then w go f at b (d ∷ ds) (e ∷ es)) s
-    ∙ then_same (go Untested e env s) (λ c t. then_do (parts go Untested es env t) (λ cs. bound_then w go f at b (d ∷ ds) (e ∷ es) (c ∷ cs))) (λ c. called_on w go f at ds es (both_sure b.holds (argument_suits f.result.ty.var d.ty.ty.var Anything c)) env (bind d.slot c (names_in b w.top))) (next (bound_all w go f at env ds es))
-    ∙ sym (called_next w go f at d ds e es b.holds env (names_in b w.top) s)
+bound_all : (w : World) (go : Eval) (ctx : Context) (f : Function) (at : Span) (env : Env) (ds : List Decl) (es : List Tree) (b : Names) (s : State) → ArePlain ds → length b.slots ≡ length b.cells → then_do (parts go ctx es env s) (bound_then w go ctx f at b ds es) ≡ called_on w go ctx f at ds es b.holds env (names_in b w.top) s
+bound_all w go ctx f at env [] [] b s p h = refl
+bound_all w go ctx f at env (d ∷ ds) [] b s p h = refl
+bound_all w go ctx f at env [] (e ∷ es) b s p h = refl
+bound_all w go ctx f at env (d ∷ ds) (e ∷ es) b s p h =
+    parts_then go ctx env e es (bound_then w go ctx f at b (d ∷ ds) (e ∷ es)) s
+    ∙ then_same (go ctx e env s) (λ c t. then_do (parts go ctx es env t) (λ cs. bound_then w go ctx f at b (d ∷ ds) (e ∷ es) (c ∷ cs))) (λ c. called_on w go ctx f at ds es (both_sure b.holds (argument_suits f.result.ty.var d.ty.ty.var Anything c)) env (bind d.slot c (names_in b w.top))) (next (bound_all w go ctx f at env ds es))
+    ∙ sym (called_next w go ctx f at d ds e es b.holds env (names_in b w.top) s)
   where
-    next : ((x : Names) (t : State) → ArePlain ds → length x.slots ≡ length x.cells → then_do (parts go Untested es env t) (bound_then w go f at x ds es) ≡ called_on w go f at ds es x.holds env (names_in x w.top) t) → (c : Cell) (t : State) → then_do (parts go Untested es env t) (λ cs. bound_then w go f at b (d ∷ ds) (e ∷ es) (c ∷ cs)) ≡ called_on w go f at ds es (both_sure b.holds (argument_suits f.result.ty.var d.ty.ty.var Anything c)) env (bind d.slot c (names_in b w.top)) t
+    next : ((x : Names) (t : State) → ArePlain ds → length x.slots ≡ length x.cells → then_do (parts go ctx es env t) (bound_then w go ctx f at x ds es) ≡ called_on w go ctx f at ds es x.holds env (names_in x w.top) t) → (c : Cell) (t : State) → then_do (parts go ctx es env t) (λ cs. bound_then w go ctx f at b (d ∷ ds) (e ∷ es) (c ∷ cs)) ≡ called_on w go ctx f at ds es (both_sure b.holds (argument_suits f.result.ty.var d.ty.ty.var Anything c)) env (bind d.slot c (names_in b w.top)) t
     next rest c t =
         let more : Names = named f.result.ty.var b d c in
         let longer : length more.slots ≡ length more.cells = length_last b.slots d.slot ∙ ap suc h ∙ sym (length_last b.cells c) in
-        then_same (parts go Untested es env t) (λ cs. bound_then w go f at b (d ∷ ds) (e ∷ es) (c ∷ cs)) (bound_then w go f at more ds es) (λ cs u. ap (λ a. then_do (then_do a (λ x. loop (parameter go Untested f.result.ty.var w.top) x (arguments ds es cs))) (called w go Untested f at)) (plain_parameter go f.result.ty.var w.top b d e c u p.0))
+        then_same (parts go ctx es env t) (λ cs. bound_then w go ctx f at b (d ∷ ds) (e ∷ es) (c ∷ cs)) (bound_then w go ctx f at more ds es) (λ cs u. ap (λ a. then_do (then_do a (λ x. loop (parameter go ctx f.result.ty.var w.top) x (arguments ds es cs))) (called w go ctx f at)) (plain_parameter go ctx f.result.ty.var w.top b d e c u p.0))
         ∙ rest more t p.1 longer
-        ∙ ap (λ x. called_on w go f at ds es more.holds env x t) (names_last b.slots b.cells d.slot c w.top h)
+        ∙ ap (λ x. called_on w go ctx f at ds es more.holds env x t) (names_last b.slots b.cells d.slot c w.top h)
 
-abbrev call_by : World → Eval → Span → List Tree → Env → Option Function → Run Cell
-call_by w go at es env o = parts go Untested es env >>= λ cells. call_of w go Untested o es cells at
+abbrev call_by : World → Eval → Context → Span → List Tree → Env → Option Function → Run Cell
+call_by w go ctx at es env o = parts go ctx es env >>= λ cells. call_of w go ctx o es cells at
 
-pub plain_call : (x : FrameWorld) (go : Eval) (n : ℕ) (f : Function) (es : List Tree) (at : Span) (env : Env) (s : State) → IsPlainAt (world_of x).functions n f → call (world_of x) go Untested n es at env s ≡ called_on_all (world_of x) go f at es env s
-plain_call x go n f es at env s p =
-    ap (λ o. call_by (world_of x) go at es env o s) p.found
-    ∙ bound_all (world_of x) go f at env f.params es nothing_bound s p.plain refl
+pub plain_call : (x : FrameWorld) (go : Eval) (ctx : Context) (n : ℕ) (f : Function) (es : List Tree) (at : Span) (env : Env) (s : State) → IsPlainAt (world_of x).functions n f → call (world_of x) go ctx n es at env s ≡ called_on_all (world_of x) go ctx f at es env s
+plain_call x go ctx n f es at env s p =
+    ap (λ o. call_by (world_of x) go ctx at es env o s) p.found
+    ∙ bound_all (world_of x) go ctx f at env f.params es nothing_bound s p.plain refl

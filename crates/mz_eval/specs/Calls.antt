@@ -10,7 +10,7 @@ use Rattle.mz_core.specs.TreeViews.{tree, decl}
 use Rattle.mz_meaning.specs.Runs.{Run, ◌>>=◌, ◌>>◌}
 use Rattle.mz_meaning.specs.Cells.{Mode, Cell, Env, Sure, both_sure, guarded}
 use Rattle.mz_meaning.specs.Arrays.{Want, fitted, suits}
-use Rattle.mz_meaning.specs.Contexts.{Untested}
+use Rattle.mz_meaning.specs.Contexts.{Context}
 use Rattle.mz_meaning.specs.Forms.{World, Eval, done, handed}
 use Rattle.mz_meaning.specs.Lets.{want, index_wants, all_have_sets}
 use Rattle.mz_meaning.specs.Calls.{arguments}
@@ -26,11 +26,11 @@ abbrev pub resulting : Mode → PlainType → Sure → List Want → Want → Ce
 resulting m t holds ixs x r = guarded m t (both_sure holds (both_sure (all_have_sets ixs) (suits x r))) r
 
 -- in the scope of the parameters, of which `holds` tells whether all that is declared of them holds
-abbrev pub called_in : World → Eval → Function → Span → Sure → Env → Run Cell
-called_in w go f at holds env = do
-  c ← go Untested f.body env
-  ixs ← index_wants go Untested f.result.index env
-  x ← want go Untested f.result.set env
+abbrev pub called_in : World → Eval → Context → Function → Span → Sure → Env → Run Cell
+called_in w go ctx f at holds env = do
+  c ← go ctx f.body env
+  ixs ← index_wants go ctx f.result.index env
+  x ← want go ctx f.result.set env
   r ← fitted (place_of f.body) ixs c
   handed w.mode r
   done w at (resulting w.mode f.result.ty holds ixs x r)

@@ -6,10 +6,12 @@ use Rattle.mz_core.specs.Tree.{Tree, Decl}
 use Rattle.mz_meaning.specs.Runs.{Run, ◌>>=◌}
 use Rattle.mz_meaning.specs.Cells.{Cell, Env, Sure, sure, both_sure, bind}
 use Rattle.mz_meaning.specs.Arrays.{Anything}
-use Rattle.mz_meaning.specs.Contexts.{Untested}
+use Rattle.mz_meaning.specs.Contexts.{Context}
 use Rattle.mz_meaning.specs.Forms.{World, Eval, parts}
 use Rattle.mz_meaning.specs.Calls.{argument_suits}
 use Rattle.mz_eval_cells.specs.Views.{sure_of}
+use Rattle.mz_symbol.specs.Readings.{Reading}
+use Rattle.mz_eval_scopes.specs.Seen.{ctx_of}
 use Rattle.mz_eval.specs.declared.types.Level.{Level}
 use Rattle.mz_eval.specs.declared.types.Call.{Call}
 use Rattle.mz_eval.specs.declared.types.CallScope.{CallScope}
@@ -42,15 +44,15 @@ with_arguments (d ∷ ds) [] env = env
 with_arguments (d ∷ ds) (c ∷ cs) env = with_arguments ds cs (bind d.slot c env)
 
 -- a call on the arguments that are left, after others that are bound in `inner`
-abbrev pub called_on : World → Eval → Function → Span → List Decl → List Tree → Sure → Env → Env → Run Cell
-called_on w go f at ds es holds env inner = do
-  cs ← parts go Untested es env
-  called_in w go f at (all_suit f.result.ty.var ds cs holds) (with_arguments ds cs inner)
+abbrev pub called_on : World → Eval → Context → Function → Span → List Decl → List Tree → Sure → Env → Env → Run Cell
+called_on w go ctx f at ds es holds env inner = do
+  cs ← parts go ctx es env
+  called_in w go ctx f at (all_suit f.result.ty.var ds cs holds) (with_arguments ds cs inner)
 
 -- on all its arguments
-abbrev pub called_on_all : World → Eval → Function → Span → List Tree → Env → Run Cell
-called_on_all w go f at es env = called_on w go f at f.params es sure env w.top
+abbrev pub called_on_all : World → Eval → Context → Function → Span → List Tree → Env → Run Cell
+called_on_all w go ctx f at es env = called_on w go ctx f at f.params es sure env w.top
 
 -- the same in the code's words
-abbrev pub call_goes_on : Level → Call → List Decl → List Tree → CallScope → Run Cell
-call_goes_on l c ds es b = called_on (world_in l) (go_of l) (function c.function.now) c.at ds es (sure_of b.holds) (scope_of l c.scope.now) (scope_of l b.scope.now)
+abbrev pub call_goes_on : Reading → Level → Call → List Decl → List Tree → CallScope → Run Cell
+call_goes_on r l c ds es b = called_on (world_in r l) (go_of r l) (ctx_of l.ctx) (function c.function.now) c.at ds es (sure_of b.holds) (scope_of r l c.scope.now) (scope_of r l b.scope.now)

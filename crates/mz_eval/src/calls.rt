@@ -6,14 +6,14 @@ ghost use Rattle.mz_core.specs.Program.{function};
 ghost use Rattle.mz_core.specs.TreeViews.{tree, decl};
 ghost use Rattle.mz_meaning.specs.Runs.{loop};
 ghost use Rattle.mz_meaning.specs.Cells.{Bare};
-ghost use Rattle.mz_meaning.specs.Contexts.{Untested};
 ghost use Rattle.mz_meaning.specs.Lets.{all_have_sets, names_in};
 ghost use Rattle.mz_meaning.specs.Calls.{argument_suits, parameter, call_of, call};
-ghost use Rattle.mz_eval_cells.specs.Views.{cell_of, cells_of, sure_of};
+ghost use Rattle.mz_eval_cells.specs.Views.{cell_of, sure_of};
 ghost use Rattle.mz_eval_domains.specs.Wants.{wanted, wants_of, local_of};
-ghost use Rattle.mz_eval_scopes.specs.Runs.{Meets, at_work};
+ghost use Rattle.mz_symbol.specs.Makes.{GoesOn, MeansBare};
+ghost use Rattle.mz_eval_scopes.specs.Seen.{seen, all_seen};
 ghost use Rattle.mz_eval.specs.Levels.{at_level, in_scope};
-ghost use Rattle.mz_eval_nodes.specs.Views.{names_of};
+ghost use Rattle.mz_eval_nodes.specs.Views.{names_seen, local_seen};
 ghost use Rattle.mz_eval_nodes.specs.Operators.{argument};
 ghost use Rattle.mz_eval.specs.Calls.{arguments_of, resulting, called_in};
 ghost use Rattle.mz_meaning.specs.Lets as lets;
@@ -30,6 +30,7 @@ use mz_eval_chains::place_of;
 use mz_eval_domains::{Want, all_have_sets, argument_suits, fitted, suits};
 use mz_eval_nodes::{Names, nothing_bound, with_local};
 use mz_eval_scopes::{Scope, done};
+use mz_symbol::Run;
 use std::alloc::{AllocError, Global};
 
 // A call of a function of the program.
@@ -40,13 +41,14 @@ pub(crate) fn eval_call(
     all: &[Core],
     at: Span,
     scope: &Scope,
-    work: &mut u64,
+    run: &mut Run,
 ) -> Result<Known, Stop>
-    ensures { Meets cell_of result work.new (in_scope level.now scope.now (λ w go env. call w go Untested f (map tree all.now) at env) (at_work work.old)) }
+    ensures goes { GoesOn run.old run.new }
+    ensures means { MeansBare seen result run.old run.new (λ r. in_scope r level.now scope.now (λ w go ctx env. call w go ctx f (map tree all.now) at env)) }
 {
     match plain_function(level.world.program, f) {
-        Some(function) => eval_plain_call(level, function, all, at, scope, work),
-        None => eval_declared_call(level, f, all, at, scope, work),
+        Some(function) => eval_plain_call(level, function, all, at, scope, run),
+        None => eval_declared_call(level, f, all, at, scope, run),
     }
 }
 
@@ -58,12 +60,13 @@ fn eval_declared_call(
     all: &[Core],
     at: Span,
     scope: &Scope,
-    work: &mut u64,
+    run: &mut Run,
 ) -> Result<Known, Stop>
-    ensures { Meets cell_of result work.new (in_scope level.now scope.now (λ w go env. call w go Untested f (map tree all.now) at env) (at_work work.old)) }
+    ensures goes { GoesOn run.old run.new }
+    ensures means { MeansBare seen result run.old run.new (λ r. in_scope r level.now scope.now (λ w go ctx env. call w go ctx f (map tree all.now) at env)) }
 {
-    let cells = eval_parts(level, all, scope, work)?;
-    eval_call_of(level, f, all, &cells, at, work)
+    let cells = eval_parts(level, all, scope, run)?;
+    eval_call_of(level, f, all, &cells, at, run)
 }
 
 fn function_in(functions: &[CoreFunction], f: u64) -> Option<&CoreFunction>
@@ -90,13 +93,14 @@ fn eval_call_of(
     all: &[Core],
     cells: &[Known],
     at: Span,
-    work: &mut u64,
+    run: &mut Run,
 ) -> Result<Known, Stop>
-    ensures { Meets cell_of result work.new (at_level level.now (λ w go. call_of w go Untested (slice_get w.functions f) (map tree all.now) (cells_of cells.now) at) (at_work work.old)) }
+    ensures goes { GoesOn run.old run.new }
+    ensures means { MeansBare seen result run.old run.new (λ r. at_level r level.now (λ w go ctx. call_of w go ctx (slice_get w.functions f) (map tree all.now) (all_seen r cells.now) at)) }
 {
     match function_at(level.world.program, f) {
-        None => done(level.world, at, undefined(), work),
-        Some(function) => eval_function(level, function, all, cells, at, work),
+        None => done(level.world, at, undefined(), run),
+        Some(function) => eval_function(level, function, all, cells, at, run),
     }
 }
 
@@ -108,18 +112,19 @@ fn eval_function(
     all: &[Core],
     cells: &[Known],
     at: Span,
-    work: &mut u64,
+    run: &mut Run,
 ) -> Result<Known, Stop>
-    ensures { Meets cell_of result work.new (at_level level.now (λ w go. call_of w go Untested (Some (function f.now)) (map tree all.now) (cells_of cells.now) at) (at_work work.old)) }
+    ensures goes { GoesOn run.old run.new }
+    ensures means { MeansBare seen result run.old run.new (λ r. at_level r level.now (λ w go ctx. call_of w go ctx (Some (function f.now)) (map tree all.now) (all_seen r cells.now) at)) }
 {
-    let b = eval_parameters(level, f.result.ty.var, &f.params, all, cells, work)?;
+    let b = eval_parameters(level, f.result.ty.var, &f.params, all, cells, run)?;
     let top = Scope::Top;
     let frame = Scope::Frame(&b.slots, &b.cells, &top);
     let bound = CallScope {
         scope: &frame,
         holds: b.holds,
     };
-    eval_called(level, f, at, &bound, work)
+    eval_called(level, f, at, &bound, run)
 }
 
 // The parameters, whose sets may name those before.
@@ -131,14 +136,16 @@ fn eval_parameters(
     params: &[CoreDecl],
     all: &[Core],
     cells: &[Known],
-    work: &mut u64,
+    run: &mut Run,
 ) -> Result<Names, Stop>
-    ensures { Meets names_of result work.new (at_level level.now (λ w go. loop (parameter go Untested var w.top) lets.nothing_bound (arguments_of params.now all.now cells.now)) (at_work work.old)) }
+    ensures goes { GoesOn run.old run.new }
+    ensures means { MeansBare names_seen result run.old run.new
+        (λ r. at_level r level.now (λ w go ctx. loop (parameter go ctx var w.top) lets.nothing_bound (arguments_of params.now all.now cells.now))) }
 {
     let mut b = nothing_bound(level.alloc);
     let count = params.len().min(all.len()).min(cells.len());
     for i in 0..count {
-        b = eval_parameter(level, var, &params[i], &all[i], &cells[i], b, work)?;
+        b = eval_parameter(level, var, &params[i], &all[i], &cells[i], b, run)?;
     }
     Ok(b)
 }
@@ -152,11 +159,12 @@ fn eval_parameter(
     e: &Core,
     k: &Known,
     b: Names,
-    work: &mut u64,
+    run: &mut Run,
 ) -> Result<Names, Stop>
-    ensures { Meets names_of result work.new (at_level level.now (λ w go. parameter go Untested var w.top (names_of b) (decl d.now, tree e.now, cell_of k.now)) (at_work work.old)) }
+    ensures goes { GoesOn run.old run.new }
+    ensures means { MeansBare names_seen result run.old run.new (λ r. at_level r level.now (λ w go ctx. parameter go ctx var w.top (names_seen r b) (decl d.now, tree e.now, seen r k.now))) }
 {
-    let x = eval_suited(level, var, d, e, k, &b, work)?;
+    let x = eval_suited(level, var, d, e, k, &b, run)?;
     Ok(with_local(b, d.slot, x)?)
 }
 
@@ -168,13 +176,15 @@ fn eval_suited(
     e: &Core,
     k: &Known,
     b: &Names,
-    work: &mut u64,
+    run: &mut Run,
 ) -> Result<(Known, Sure), Stop>
-    ensures { Meets local_of result work.new (at_level level.now (λ w go. argument go var (names_in (names_of b.now) w.top) (decl d.now) (tree e.now) (cell_of k.now)) (at_work work.old)) }
+    ensures goes { GoesOn run.old run.new }
+    ensures means { MeansBare local_seen result run.old run.new
+        (λ r. at_level r level.now (λ w go ctx. argument go ctx var (names_in (names_seen r b.now) w.top) (decl d.now) (tree e.now) (seen r k.now))) }
 {
     let top = Scope::Top;
     let frame = Scope::Frame(&b.slots, &b.cells, &top);
-    eval_argument(level, var, d, e, k, &frame, work)
+    eval_argument(level, var, d, e, k, &frame, run)
 }
 
 // An argument under its parameter's sets.
@@ -187,12 +197,13 @@ fn eval_argument(
     e: &Core,
     k: &Known,
     scope: &Scope,
-    work: &mut u64,
+    run: &mut Run,
 ) -> Result<(Known, Sure), Stop>
-    ensures { Meets local_of result work.new (in_scope level.now scope.now (λ w go env. argument go var env (decl d.now) (tree e.now) (cell_of k.now)) (at_work work.old)) }
+    ensures goes { GoesOn run.old run.new }
+    ensures means { MeansBare local_seen result run.old run.new (λ r. in_scope r level.now scope.now (λ w go ctx env. argument go ctx var env (decl d.now) (tree e.now) (seen r k.now))) }
 {
-    let index = eval_indices(level, &d.ty.index, scope, work)?;
-    let set = eval_want(level, &d.ty.set, scope, work)?;
+    let index = eval_indices(level, &d.ty.index, scope, run)?;
+    let set = eval_want(level, &d.ty.set, scope, run)?;
     let shared = share(k)?;
     let c = fitted(level.alloc, place_of(e), &index, shared)?;
     Ok(suited(level.alloc, var, d.ty.ty.var, &index, &set, c)?)
@@ -220,16 +231,17 @@ pub(crate) fn eval_called(
     f: &CoreFunction,
     at: Span,
     bound: &CallScope,
-    work: &mut u64,
+    run: &mut Run,
 ) -> Result<Known, Stop>
-    ensures { Meets cell_of result work.new (in_scope level.now bound.now.scope.now (λ w go env. called_in w go (function f.now) at (sure_of bound.now.holds) env) (at_work work.old)) }
+    ensures goes { GoesOn run.old run.new }
+    ensures means { MeansBare seen result run.old run.new (λ r. in_scope r level.now bound.now.scope.now (λ w go ctx env. called_in w go ctx (function f.now) at (sure_of bound.now.holds) env)) }
 {
-    let c = eval_expression(level, &f.body, bound.scope, work)?;
-    let index = eval_indices(level, &f.result.index, bound.scope, work)?;
-    let set = eval_want(level, &f.result.set, bound.scope, work)?;
+    let c = eval_expression(level, &f.body, bound.scope, run)?;
+    let index = eval_indices(level, &f.result.index, bound.scope, run)?;
+    let set = eval_want(level, &f.result.set, bound.scope, run)?;
     let r = fitted(level.alloc, place_of(&f.body), &index, c)?;
     let cell = resulting(level.alloc, &f.result.ty, &index, &set, bound.holds, r)?;
-    done(level.world, at, cell, work)
+    done(level.world, at, cell, run)
 }
 
 // a call's cell, undefined where something doesn't hold

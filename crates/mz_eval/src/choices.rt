@@ -4,11 +4,11 @@ ghost use Rattle.std.specs.Prelude.{◌≡◌, [], map};
 ghost use Rattle.mz_core.specs.Types.{plain_type};
 ghost use Rattle.mz_core.specs.TreeViews.{tree, branch};
 ghost use Rattle.mz_meaning.specs.Cells.{Open};
-ghost use Rattle.mz_meaning.specs.Contexts.{Untested};
 ghost use Rattle.mz_meaning.specs.Forms.{is_met, last_branch, otherwise, branches};
-ghost use Rattle.mz_eval_cells.specs.Views.{cell_of, test_if};
-ghost use Rattle.mz_eval_arrays.specs.Gathered.{pairs_of};
-ghost use Rattle.mz_eval_scopes.specs.Runs.{Meets, at_work};
+ghost use Rattle.mz_eval_cells.specs.Views.{test_if};
+ghost use Rattle.mz_symbol.specs.Makes.{GoesOn, MeansBare};
+ghost use Rattle.mz_eval_scopes.specs.Seen.{seen};
+ghost use Rattle.mz_eval_nodes.specs.Views.{pairs_seen};
 ghost use Rattle.mz_eval.specs.Choices.{else_tree, branch_cell, open_branch};
 ghost use Rattle.mz_eval.specs.Levels.{world_in, at_node};
 
@@ -18,8 +18,9 @@ use mz_base::Stop;
 use mz_core::Core;
 use mz_eval_arrays::branch_cell;
 use mz_eval_cells::{Item, Known, one, test_of};
-use mz_eval_nodes::with_branch;
-use mz_eval_scopes::{Scope, spend};
+use mz_eval_nodes::{elsewhere, with_branch};
+use mz_eval_scopes::Scope;
+use mz_symbol::Run;
 
 // Branches with their conditions.
 #[cycle(forms)]
@@ -29,20 +30,28 @@ pub(crate) fn eval_if(
     all: &[(Core, Core)],
     last: &Option<Box<Core>>,
     scope: &Scope,
-    work: &mut u64,
+    run: &mut Run,
 ) -> Result<Known, Stop>
-    ensures { Meets cell_of result work.new (at_node level.now scope.now node.now (λ w go at t env. branches w go Untested (map branch all.now) (else_tree last.now) at t env []) (at_work work.old)) }
+    ensures goes { GoesOn run.old run.new }
+    ensures means { MeansBare seen result run.old run.new (λ r. at_node r level.now scope.now node.now (λ w go ctx at t env. branches w go ctx (map branch all.now) (else_tree last.now) at t env [])) }
 {
+    let ctx = elsewhere(level.ctx);
+    let outside = Level {
+        alloc: level.alloc,
+        world: level.world,
+        left: level.left,
+        ctx,
+    };
     let mut others = Vec::new(level.alloc);
     for b in all {
-        let cond = eval_expression(level, &b.0, scope, work)?;
+        let cond = eval_expression(&outside, &b.0, scope, run)?;
         let test = test_of(&cond);
         if is_met(test) {
-            return eval_last(level, node, &b.1, others, scope, work);
+            return eval_last(level, node, &b.1, others, scope, run);
         }
-        others = eval_open(level, &b.1, others, cond, test, scope, work)?;
+        others = eval_open(level, &b.1, others, cond, test, scope, run)?;
     }
-    eval_otherwise(level, node, last, others, scope, work)
+    eval_otherwise(level, node, last, others, scope, run)
 }
 
 // whether a branch is the last: a par condition that is true
@@ -60,11 +69,12 @@ fn chosen_branch(
     node: &Core,
     others: Vec<(Known, Known)>,
     cell: Known,
-    work: &mut u64,
+    run: &mut Run,
 ) -> Result<Known, Stop>
-    ensures { Meets cell_of result work.new (branch_cell (world_in level.now) node.now.span (plain_type node.now.ty) (pairs_of others.items) (cell_of cell) (at_work work.old)) }
+    ensures goes { GoesOn run.old run.new }
+    ensures means { MeansBare seen result run.old run.new (λ r. branch_cell (world_in r level.now) node.now.span (plain_type node.now.ty) (pairs_seen r others.items) (seen r cell)) }
 {
-    spend(level.world.budget, node.span, 1, work)?;
+    run.spend(level.world.budget, node.span, 1)?;
     branch_cell(level.alloc, &node.ty, node.span, &others, cell)
 }
 
@@ -76,12 +86,13 @@ fn eval_last(
     e: &Core,
     others: Vec<(Known, Known)>,
     scope: &Scope,
-    work: &mut u64,
+    run: &mut Run,
 ) -> Result<Known, Stop>
-    ensures { Meets cell_of result work.new (at_node level.now scope.now node.now (λ w go at t env. last_branch w go Untested (tree e.now) at t env (pairs_of others.items)) (at_work work.old)) }
+    ensures goes { GoesOn run.old run.new }
+    ensures means { MeansBare seen result run.old run.new (λ r. at_node r level.now scope.now node.now (λ w go ctx at t env. last_branch w go ctx (tree e.now) at t env (pairs_seen r others.items))) }
 {
-    let cell = eval_expression(level, e, scope, work)?;
-    chosen_branch(level, node, others, cell, work)
+    let cell = eval_expression(level, e, scope, run)?;
+    chosen_branch(level, node, others, cell, run)
 }
 
 // What follows `else`; without it, true.
@@ -92,13 +103,15 @@ fn eval_otherwise(
     last: &Option<Box<Core>>,
     others: Vec<(Known, Known)>,
     scope: &Scope,
-    work: &mut u64,
+    run: &mut Run,
 ) -> Result<Known, Stop>
-    ensures { Meets cell_of result work.new (at_node level.now scope.now node.now (λ w go at t env. otherwise w go Untested (else_tree last.now) at t env (pairs_of others.items)) (at_work work.old)) }
+    ensures goes { GoesOn run.old run.new }
+    ensures means { MeansBare seen result run.old run.new
+        (λ r. at_node r level.now scope.now node.now (λ w go ctx at t env. otherwise w go ctx (else_tree last.now) at t env (pairs_seen r others.items))) }
 {
     match last {
-        None => chosen_branch(level, node, others, one(Item::Bool(true)), work),
-        Some(e) => eval_last(level, node, e, others, scope, work),
+        None => chosen_branch(level, node, others, one(Item::Bool(true)), run),
+        Some(e) => eval_last(level, node, e, others, scope, run),
     }
 }
 
@@ -111,13 +124,14 @@ fn eval_open(
     cond: Known,
     test: Option<bool>,
     scope: &Scope,
-    work: &mut u64,
+    run: &mut Run,
 ) -> Result<Vec<(Known, Known)>, Stop>
-    ensures { Meets (λ v. pairs_of v.items) result work.new (open_branch level.now scope.now e.now others.items cond (test_if test) (at_work work.old)) }
+    ensures goes { GoesOn run.old run.new }
+    ensures means { MeansBare (λ r v. pairs_seen r v.items) result run.old run.new (λ r. open_branch r level.now scope.now e.now others.items cond (test_if test)) }
 {
     match test {
         Some(_) => Ok(others),
-        None => eval_branch(level, e, others, cond, scope, work),
+        None => eval_branch(level, e, others, cond, scope, run),
     }
 }
 
@@ -128,10 +142,11 @@ fn eval_branch(
     others: Vec<(Known, Known)>,
     cond: Known,
     scope: &Scope,
-    work: &mut u64,
+    run: &mut Run,
 ) -> Result<Vec<(Known, Known)>, Stop>
-    ensures { Meets (λ v. pairs_of v.items) result work.new (open_branch level.now scope.now e.now others.items cond Open (at_work work.old)) }
+    ensures goes { GoesOn run.old run.new }
+    ensures means { MeansBare (λ r v. pairs_seen r v.items) result run.old run.new (λ r. open_branch r level.now scope.now e.now others.items cond Open) }
 {
-    let cell = eval_expression(level, e, scope, work)?;
+    let cell = eval_expression(level, e, scope, run)?;
     Ok(with_branch(others, cond, cell)?)
 }

@@ -2,12 +2,11 @@
 
 ghost use Rattle.std.specs.Prelude.{◌≡◌, ◌∷◌, [], map, MatchOption, Some};
 ghost use Rattle.mz_core.specs.TreeViews.{tree, gen};
-ghost use Rattle.mz_meaning.specs.Contexts.{Untested};
 ghost use Rattle.mz_meaning.specs.Comprehensions.{comprehension};
-ghost use Rattle.mz_eval_cells.specs.Views.{cell_of};
 ghost use Rattle.mz_eval_arrays.specs.Gathered.{occurs_if};
-ghost use Rattle.mz_eval_scopes.specs.Runs.{Meets, at_work};
-ghost use Rattle.mz_eval_nodes.specs.Views.{made_of, turn_of};
+ghost use Rattle.mz_symbol.specs.Makes.{GoesOn, MeansBare};
+ghost use Rattle.mz_eval_scopes.specs.Seen.{seen};
+ghost use Rattle.mz_eval_nodes.specs.Views.{made_seen, turn_seen};
 ghost use Rattle.mz_eval.specs.Levels.{scope_of, at_node};
 ghost use Rattle.mz_eval.specs.Comprehensions.{from_head, from_generators, from_condition, from_own_condition, from_names, from_value};
 
@@ -19,9 +18,11 @@ use mz_eval_arrays::elements_in;
 use mz_eval_cells::{Known, test_of};
 use mz_eval_chains::base_of;
 use mz_eval_nodes::{
-    Made, Turn, add_element, add_set, all_turns, both_surely, comprehended, next_turn, nothing_made,
+    Made, Turn, add_element, add_set, all_turns, both_surely, comprehended, elsewhere, next_turn,
+    nothing_made,
 };
-use mz_eval_scopes::{Scope, done, spend};
+use mz_eval_scopes::{Scope, done};
+use mz_symbol::Run;
 
 // A comprehension.
 #[cycle(forms)]
@@ -33,18 +34,20 @@ pub(crate) fn eval_comprehension(
     head: &Core,
     all: &[CoreGen],
     scope: &Scope,
-    work: &mut u64,
+    run: &mut Run,
 ) -> Result<Known, Stop>
-    ensures { Meets cell_of result work.new (at_node level.now scope.now node.now (λ w go at t env. comprehension w go Untested braces (tree head.now) (map gen all.now) at t env) (at_work work.old)) }
+    ensures goes { GoesOn run.old run.new }
+    ensures means { MeansBare seen result run.old run.new
+        (λ r. at_node r level.now scope.now node.now (λ w go ctx at t env. comprehension w go ctx braces (tree head.now) (map gen all.now) at t env)) }
 {
     let whole = Comprehension {
         head: &*head,
         at: node.span,
     };
     let start = nothing_made(level.alloc);
-    let made = eval_generators(level, &whole, all, true, start, scope, work)?;
+    let made = eval_generators(level, &whole, all, true, start, scope, run)?;
     let cell = comprehended(level.alloc, braces, &node.ty, made)?;
-    done(level.world, node.span, cell, work)
+    done(level.world, node.span, cell, run)
 }
 
 // The generators from one on, and the head.
@@ -57,15 +60,16 @@ fn eval_generators(
     surely: bool,
     made: Made,
     scope: &Scope,
-    work: &mut u64,
+    run: &mut Run,
 ) -> Result<Made, Stop>
-    ensures { Meets made_of result work.new (from_generators level.now whole.now (map gen all.now) (scope_of level.now scope.now) (occurs_if surely) (made_of made) (at_work work.old)) }
+    ensures goes { GoesOn run.old run.new }
+    ensures means { MeansBare made_seen result run.old run.new (λ r. from_generators r level.now whole.now (map gen all.now) (scope_of r level.now scope.now) (occurs_if surely) (made_seen r made)) }
 {
     let n = all.len();
     if n == 0 {
-        return eval_head(level, whole, surely, made, scope, work);
+        return eval_head(level, whole, surely, made, scope, run);
     }
-    eval_generator(level, whole, &all[0], &all[1..], surely, made, scope, work)
+    eval_generator(level, whole, &all[0], &all[1..], surely, made, scope, run)
 }
 
 // One element.
@@ -76,11 +80,12 @@ fn eval_head(
     surely: bool,
     made: Made,
     scope: &Scope,
-    work: &mut u64,
+    run: &mut Run,
 ) -> Result<Made, Stop>
-    ensures { Meets made_of result work.new (from_head level.now whole.now (scope_of level.now scope.now) (occurs_if surely) (made_of made) (at_work work.old)) }
+    ensures goes { GoesOn run.old run.new }
+    ensures means { MeansBare made_seen result run.old run.new (λ r. from_head r level.now whole.now (scope_of r level.now scope.now) (occurs_if surely) (made_seen r made)) }
 {
-    let c = eval_expression(level, whole.head, scope, work)?;
+    let c = eval_expression(level, whole.head, scope, run)?;
     Ok(add_element(level.alloc, made, surely, c)?)
 }
 
@@ -94,11 +99,20 @@ fn eval_generator(
     surely: bool,
     made: Made,
     scope: &Scope,
-    work: &mut u64,
+    run: &mut Run,
 ) -> Result<Made, Stop>
-    ensures { Meets made_of result work.new (from_generators level.now whole.now (gen g.now ∷ map gen others.now) (scope_of level.now scope.now) (occurs_if surely) (made_of made) (at_work work.old)) }
+    ensures goes { GoesOn run.old run.new }
+    ensures means { MeansBare made_seen result run.old run.new
+        (λ r. from_generators r level.now whole.now (gen g.now ∷ map gen others.now) (scope_of r level.now scope.now) (occurs_if surely) (made_seen r made)) }
 {
-    let c = eval_expression(level, &g.set, scope, work)?;
+    let ctx = elsewhere(level.ctx);
+    let outside = Level {
+        alloc: level.alloc,
+        world: level.world,
+        left: level.left,
+        ctx,
+    };
+    let c = eval_expression(&outside, &g.set, scope, run)?;
     let made = add_set(made, surely, &c);
     let elements = elements_in(base_of(&g.set), &c);
     let generator = Generator {
@@ -107,7 +121,7 @@ fn eval_generator(
         others: &*others,
         whole: &*whole,
     };
-    eval_names(level, &generator, &g.slots, surely, made, scope, work)
+    eval_names(level, &generator, &g.slots, surely, made, scope, run)
 }
 
 // The names that are left, the first of which varies slowest.
@@ -119,13 +133,14 @@ fn eval_names(
     surely: bool,
     made: Made,
     scope: &Scope,
-    work: &mut u64,
+    run: &mut Run,
 ) -> Result<Made, Stop>
-    ensures { Meets made_of result work.new (from_names level.now g.now slots.now (scope_of level.now scope.now) (occurs_if surely) (made_of made) (at_work work.old)) }
+    ensures goes { GoesOn run.old run.new }
+    ensures means { MeansBare made_seen result run.old run.new (λ r. from_names r level.now g.now slots.now (scope_of r level.now scope.now) (occurs_if surely) (made_seen r made)) }
 {
     match parted(slots) {
-        None => eval_where(level, g, surely, made, scope, work),
-        Some(s) => eval_name(level, g, &s, surely, made, scope, work),
+        None => eval_where(level, g, surely, made, scope, run),
+        Some(s) => eval_name(level, g, &s, surely, made, scope, run),
     }
 }
 
@@ -151,14 +166,16 @@ fn eval_name(
     surely: bool,
     made: Made,
     scope: &Scope,
-    work: &mut u64,
+    run: &mut Run,
 ) -> Result<Made, Stop>
-    ensures { Meets made_of result work.new (from_names level.now g.now (slots.now.first ∷ slots.now.others.now) (scope_of level.now scope.now) (occurs_if surely) (made_of made) (at_work work.old)) }
+    ensures goes { GoesOn run.old run.new }
+    ensures means { MeansBare made_seen result run.old run.new
+        (λ r. from_names r level.now g.now (slots.now.first ∷ slots.now.others.now) (scope_of r level.now scope.now) (occurs_if surely) (made_seen r made)) }
 {
     let mut made = made;
     let mut left_turns = all_turns(&*g.elements);
     while let Some(x) = next_turn(level.alloc, &mut left_turns)? {
-        made = eval_turn(level, g, slots, x, surely, made, scope, work)?;
+        made = eval_turn(level, g, slots, x, surely, made, scope, run)?;
     }
     Ok(made)
 }
@@ -172,14 +189,15 @@ fn eval_turn(
     surely: bool,
     made: Made,
     scope: &Scope,
-    work: &mut u64,
+    run: &mut Run,
 ) -> Result<Made, Stop>
-    ensures { Meets made_of result work.new (from_value level.now g.now slots.now (scope_of level.now scope.now) (occurs_if surely) (made_of made) (turn_of x) (at_work work.old)) }
+    ensures goes { GoesOn run.old run.new }
+    ensures means { MeansBare made_seen result run.old run.new (λ r. from_value r level.now g.now slots.now (scope_of r level.now scope.now) (occurs_if surely) (made_seen r made) (turn_seen r x)) }
 {
-    spend(level.world.budget, g.whole.at, 1, work)?;
+    run.spend(level.world.budget, g.whole.at, 1)?;
     let inner = Scope::Bound(slots.first, &x.cell, &*scope);
     let occurs = both_surely(surely, x.surely);
-    eval_names(level, g, slots.others, occurs, made, &inner, work)
+    eval_names(level, g, slots.others, occurs, made, &inner, run)
 }
 
 // The condition of a generator.
@@ -190,13 +208,14 @@ fn eval_where(
     surely: bool,
     made: Made,
     scope: &Scope,
-    work: &mut u64,
+    run: &mut Run,
 ) -> Result<Made, Stop>
-    ensures { Meets made_of result work.new (from_own_condition level.now g.now (scope_of level.now scope.now) (occurs_if surely) (made_of made) (at_work work.old)) }
+    ensures goes { GoesOn run.old run.new }
+    ensures means { MeansBare made_seen result run.old run.new (λ r. from_own_condition r level.now g.now (scope_of r level.now scope.now) (occurs_if surely) (made_seen r made)) }
 {
     match g.cond {
-        None => eval_generators(level, g.whole, g.others, surely, made, scope, work),
-        Some(e) => eval_filtered(level, g, e, surely, made, scope, work),
+        None => eval_generators(level, g.whole, g.others, surely, made, scope, run),
+        Some(e) => eval_filtered(level, g, e, surely, made, scope, run),
     }
 }
 
@@ -208,17 +227,25 @@ fn eval_filtered(
     surely: bool,
     made: Made,
     scope: &Scope,
-    work: &mut u64,
+    run: &mut Run,
 ) -> Result<Made, Stop>
-    ensures { Meets made_of result work.new (from_condition level.now g.now (Some (tree e.now)) (scope_of level.now scope.now) (occurs_if surely) (made_of made) (at_work work.old)) }
+    ensures goes { GoesOn run.old run.new }
+    ensures means { MeansBare made_seen result run.old run.new (λ r. from_condition r level.now g.now (Some (tree e.now)) (scope_of r level.now scope.now) (occurs_if surely) (made_seen r made)) }
 {
-    let c = eval_expression(level, e, scope, work)?;
+    let ctx = elsewhere(level.ctx);
+    let outside = Level {
+        alloc: level.alloc,
+        world: level.world,
+        left: level.left,
+        ctx,
+    };
+    let c = eval_expression(&outside, e, scope, run)?;
     match test_of(&c) {
-        Some(true) => eval_generators(level, g.whole, g.others, surely, made, scope, work),
+        Some(true) => eval_generators(level, g.whole, g.others, surely, made, scope, run),
         Some(false) => Ok(made),
         None => {
             let occurs = both_surely(surely, false);
-            eval_generators(level, g.whole, g.others, occurs, made, scope, work)
+            eval_generators(level, g.whole, g.others, occurs, made, scope, run)
         }
     }
 }

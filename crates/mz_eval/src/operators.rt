@@ -1,16 +1,17 @@
 // Chains of operators of one level.
 
-ghost use Rattle.std.specs.Prelude.{map, true, false};
+ghost use Rattle.std.specs.Prelude.{◌≡◌, is_some, map, true, false};
 ghost use Rattle.mz_core.specs.TreeViews.{tree, step};
-ghost use Rattle.mz_meaning.specs.Contexts.{Untested};
-ghost use Rattle.mz_meaning.specs.Chains.{chained};
+ghost use Rattle.mz_meaning.specs.Chains as chains;
+ghost use Rattle.mz_meaning.specs.Chains.{chain_level, chained};
 ghost use Rattle.mz_meaning.specs.Forms.{chain, chain_by, operators, append_operand};
-ghost use Rattle.mz_eval_cells.specs.Views.{cell_of};
-ghost use Rattle.mz_eval_scopes.specs.Runs.{Meets, at_work};
+ghost use Rattle.mz_symbol.specs.Makes.{GoesOn, MeansBare};
+ghost use Rattle.mz_eval_scopes.specs.Seen.{seen, ctx_of};
 ghost use Rattle.mz_eval.specs.Chains.{own_operators, operands};
 ghost use Rattle.mz_eval.specs.Levels.{in_scope};
 ghost use Rattle.mz_eval_chains.specs.Innermosts.{operator_of, innermost_of};
-ghost use Rattle.mz_eval_nodes.specs.Operators.{operator_step, appended_of};
+ghost use Rattle.mz_eval_nodes.specs.Contexts.{later, settled};
+ghost use Rattle.mz_eval_nodes.specs.Operators.{operator_step, appended_seen};
 
 use crate::forms::eval_expression;
 use crate::types::Level;
@@ -19,9 +20,11 @@ use mz_core::{Core, CoreStep};
 use mz_eval_cells::Known;
 use mz_eval_chains::{Innermost, Operator, all_operators, has_innermost, is_appended, place_of};
 use mz_eval_nodes::{
-    Appended, append_operand, appended_nodes, nothing_appended, operated_on, prepared,
+    Appended, append_operand, appended_nodes, contexts_before, first_within, is_settled,
+    nothing_appended, operand_within, operated_on, prepared, right_within,
 };
-use mz_eval_scopes::Scope;
+use mz_eval_scopes::{Context, Scope};
+use mz_symbol::Run;
 
 // The operators of a chain.
 #[cycle(forms)]
@@ -31,36 +34,47 @@ pub(crate) fn eval_chain(
     all: &[CoreStep],
     at: Span,
     scope: &Scope,
-    work: &mut u64,
+    run: &mut Run,
 ) -> Result<Known, Stop>
-    ensures { Meets cell_of result work.new (in_scope level.now scope.now (λ w go env. chain w go Untested (tree first.now) (map step all.now) at env) (at_work work.old)) }
+    ensures goes { GoesOn run.old run.new }
+    ensures means { MeansBare seen result run.old run.new (λ r. in_scope r level.now scope.now (λ w go ctx env. chain w go ctx (tree first.now) (map step all.now) at env)) }
 {
     if is_appended(all) {
-        return eval_appended(level, first, all, at, scope, work);
+        return eval_appended(level, first, all, at, scope, run);
     }
-    if has_innermost(first, all) {
-        return eval_with_innermost(level, first, all, at, scope, work);
+    if is_plain(level.ctx, first, all) {
+        return eval_plain(level, first, all, at, scope, run);
     }
-    eval_plain(level, first, all, at, scope, work)
+    eval_with_innermost(level, first, all, at, scope, run)
 }
 
-// Where no operator of the first operand belongs to the chain.
+// whether no operator of the first operand belongs to a chain, and all operands have its context
+fn is_plain(ctx: Context, first: &Core, all: &[CoreStep]) -> bool
+    ensures settled { result ≡ true → settled (ctx_of ctx) ≡ true }
+    ensures plain { result ≡ true → is_some (chains.innermost_of (chain_level (map step all.now)) (tree first.now)) ≡ false }
+{
+    is_settled(ctx) && !has_innermost(first, all)
+}
+
+// Where no operator of the first operand belongs to the chain, and all operands have its context.
 #[cycle(forms)]
-#[tactic(auto, using(crate::proofs::Chains::operators_next))]
+#[tactic(auto, using(crate::proofs::Chains::chain_settled, crate::proofs::Chains::operators_settled))]
 fn eval_plain(
     level: &Level,
     first: &Core,
     all: &[CoreStep],
     at: Span,
     scope: &Scope,
-    work: &mut u64,
+    run: &mut Run,
 ) -> Result<Known, Stop>
-    ensures { Meets cell_of result work.new (in_scope level.now scope.now (λ w go env. chain_by w go Untested env false (own_operators at first.now all.now)) (at_work work.old)) }
+    requires { settled (ctx_of level.now.ctx) ≡ true }
+    ensures goes { GoesOn run.old run.new }
+    ensures means { MeansBare seen result run.old run.new (λ r. in_scope r level.now scope.now (λ w go ctx env. chain_by w go ctx env false (own_operators at first.now all.now))) }
 {
-    let mut cell = eval_expression(level, first, scope, work)?;
+    let mut cell = eval_expression(level, first, scope, run)?;
     let mut place = place_of(first);
     for s in all {
-        cell = eval_step(level, place, cell, at, s, scope, work)?;
+        cell = eval_step(level, place, cell, at, s, scope, run)?;
         place = at;
     }
     Ok(cell)
@@ -74,9 +88,11 @@ fn eval_step(
     at: Span,
     s: &CoreStep,
     scope: &Scope,
-    work: &mut u64,
+    run: &mut Run,
 ) -> Result<Known, Stop>
-    ensures { Meets cell_of result work.new (in_scope level.now scope.now (λ w go env. operator_step w go env place (cell_of cell) (record { at = at; step = step s.now })) (at_work work.old)) }
+    ensures goes { GoesOn run.old run.new }
+    ensures means { MeansBare seen result run.old run.new
+        (λ r. in_scope r level.now scope.now (λ w go ctx env. operator_step w go ctx env place (seen r cell) (record { at = at; step = step s.now }))) }
 {
     let o = Operator {
         at,
@@ -85,7 +101,7 @@ fn eval_step(
         operand: &s.operand,
         after: None,
     };
-    eval_operator(level, place, cell, &o, scope, work)
+    eval_operator(level, place, cell, &o, scope, run)
 }
 
 #[cycle(forms)]
@@ -95,13 +111,14 @@ fn eval_operator(
     cell: Known,
     o: &Operator,
     scope: &Scope,
-    work: &mut u64,
+    run: &mut Run,
 ) -> Result<Known, Stop>
-    ensures { Meets cell_of result work.new (in_scope level.now scope.now (λ w go env. operator_step w go env place (cell_of cell) (operator_of o.now)) (at_work work.old)) }
+    ensures goes { GoesOn run.old run.new }
+    ensures means { MeansBare seen result run.old run.new (λ r. in_scope r level.now scope.now (λ w go ctx env. operator_step w go ctx env place (seen r cell) (operator_of o.now))) }
 {
-    let a = prepared(level.alloc, level.world, place, o, cell, work)?;
-    let c = eval_expression(level, o.operand, scope, work)?;
-    operated_on(level.alloc, level.world, o, a, c, work)
+    let a = prepared(level.alloc, level.world, place, o, cell, run)?;
+    let c = eval_expression(level, o.operand, scope, run)?;
+    operated_on(level.alloc, level.world, o, a, c, run)
 }
 
 // With the operators of the first operand.
@@ -112,26 +129,30 @@ fn eval_with_innermost(
     all: &[CoreStep],
     at: Span,
     scope: &Scope,
-    work: &mut u64,
+    run: &mut Run,
 ) -> Result<Known, Stop>
-    ensures { Meets cell_of result work.new (in_scope level.now scope.now (λ w go env. chain_by w go Untested env false (chained at (tree first.now) (map step all.now))) (at_work work.old)) }
+    ensures goes { GoesOn run.old run.new }
+    ensures means { MeansBare seen result run.old run.new (λ r. in_scope r level.now scope.now (λ w go ctx env. chain_by w go ctx env false (chained at (tree first.now) (map step all.now)))) }
 {
     let f = all_operators(level.alloc, at, &*first, &*all)?;
-    eval_innermost(level, &f, scope, work)
+    eval_innermost(level, &f, scope, run)
 }
 
 #[cycle(forms)]
-fn eval_innermost(
-    level: &Level,
-    f: &Innermost,
-    scope: &Scope,
-    work: &mut u64,
-) -> Result<Known, Stop>
-    ensures { Meets cell_of result work.new (in_scope level.now scope.now (λ w go env. chain_by w go Untested env false (innermost_of f.now)) (at_work work.old)) }
+fn eval_innermost(level: &Level, f: &Innermost, scope: &Scope, run: &mut Run) -> Result<Known, Stop>
+    ensures goes { GoesOn run.old run.new }
+    ensures means { MeansBare seen result run.old run.new (λ r. in_scope r level.now scope.now (λ w go ctx env. chain_by w go ctx env false (innermost_of f.now))) }
 {
-    let cell = eval_expression(level, f.first, scope, work)?;
+    let (ctx, contexts) = contexts_before(level.alloc, level.ctx, &f.operators)?;
+    let first = Level {
+        alloc: level.alloc,
+        world: level.world,
+        left: level.left,
+        ctx,
+    };
+    let cell = eval_expression(&first, f.first, scope, run)?;
     let place = place_of(f.first);
-    eval_operators(level, place, cell, &f.operators, scope, work)
+    eval_operators(level, place, cell, &f.operators, contexts, scope, run)
 }
 
 #[cycle(forms)]
@@ -141,15 +162,27 @@ fn eval_operators(
     first: Span,
     left_cell: Known,
     all: &[Operator],
+    contexts: Vec<Context>,
     scope: &Scope,
-    work: &mut u64,
+    run: &mut Run,
 ) -> Result<Known, Stop>
-    ensures { Meets cell_of result work.new (in_scope level.now scope.now (λ w go env. operators w go Untested env first (cell_of left_cell) (map operator_of all.now)) (at_work work.old)) }
+    requires { map ctx_of contexts.items ≡ later (ctx_of level.now.ctx) (map operator_of all.now) }
+    ensures goes { GoesOn run.old run.new }
+    ensures means { MeansBare seen result run.old run.new (λ r. in_scope r level.now scope.now (λ w go ctx env. operators w go ctx env first (seen r left_cell) (map operator_of all.now))) }
 {
     let mut cell = left_cell;
     let mut place = first;
-    for o in all {
-        cell = eval_operator(level, place, cell, o, scope, work)?;
+    let mut stack = contexts;
+    for i in 0..all.len() {
+        let o = &all[i];
+        let ctx = operand_within(level.ctx, &mut stack, o, &all[i + 1..]);
+        let inside = Level {
+            alloc: level.alloc,
+            world: level.world,
+            left: level.left,
+            ctx,
+        };
+        cell = eval_operator(&inside, place, cell, o, scope, run)?;
         place = o.at;
     }
     Ok(cell)
@@ -163,22 +196,31 @@ fn eval_appended(
     all: &[CoreStep],
     at: Span,
     scope: &Scope,
-    work: &mut u64,
+    run: &mut Run,
 ) -> Result<Known, Stop>
-    ensures { Meets cell_of result work.new (in_scope level.now scope.now (λ w go env. chain_by w go Untested env true (chained at (tree first.now) (map step all.now))) (at_work work.old)) }
+    ensures goes { GoesOn run.old run.new }
+    ensures means { MeansBare seen result run.old run.new (λ r. in_scope r level.now scope.now (λ w go ctx env. chain_by w go ctx env true (chained at (tree first.now) (map step all.now)))) }
 {
     let f = all_operators(level.alloc, at, &*first, &*all)?;
-    eval_back(level, &f, scope, work)
+    eval_back(level, &f, scope, run)
 }
 
 #[cycle(forms)]
-fn eval_back(level: &Level, f: &Innermost, scope: &Scope, work: &mut u64) -> Result<Known, Stop>
-    ensures { Meets cell_of result work.new (in_scope level.now scope.now (λ w go env. chain_by w go Untested env true (innermost_of f.now)) (at_work work.old)) }
+fn eval_back(level: &Level, f: &Innermost, scope: &Scope, run: &mut Run) -> Result<Known, Stop>
+    ensures goes { GoesOn run.old run.new }
+    ensures means { MeansBare seen result run.old run.new (λ r. in_scope r level.now scope.now (λ w go ctx env. chain_by w go ctx env true (innermost_of f.now))) }
 {
-    let cell = eval_expression(level, f.first, scope, work)?;
+    let ctx = first_within(level.ctx, &f.operators);
+    let first = Level {
+        alloc: level.alloc,
+        world: level.world,
+        left: level.left,
+        ctx,
+    };
+    let cell = eval_expression(&first, f.first, scope, run)?;
     let place = place_of(f.first);
-    let x = eval_operands(level, place, cell, &f.operators, scope, work)?;
-    appended_nodes(level.alloc, level.world, x, work)
+    let x = eval_operands(level, place, cell, &f.operators, scope, run)?;
+    appended_nodes(level.alloc, level.world, x, run)
 }
 
 #[cycle(forms)]
@@ -188,13 +230,24 @@ fn eval_operands<'a>(
     cell: Known,
     all: &[Operator<'a>],
     scope: &Scope,
-    work: &mut u64,
+    run: &mut Run,
 ) -> Result<Appended<'a>, Stop>
-    ensures { Meets appended_of result work.new (in_scope level.now scope.now (λ w go env. operands w go env first (cell_of cell) (map operator_of all.now)) (at_work work.old)) }
+    ensures goes { GoesOn run.old run.new }
+    ensures means { MeansBare appended_seen result run.old run.new (λ r. in_scope r level.now scope.now (λ w go ctx env. operands w go ctx env first (seen r cell) (map operator_of all.now))) }
 {
     let mut x = nothing_appended(level.alloc, first, cell);
-    for o in all {
-        x = eval_operand(level, x, *o, scope, work)?;
+    let mut ctx = level.ctx;
+    for i in 0..all.len() {
+        let o = all[i];
+        ctx = right_within(ctx, &o);
+        let place = first_within(ctx, &all[i + 1..]);
+        let inside = Level {
+            alloc: level.alloc,
+            world: level.world,
+            left: level.left,
+            ctx: place,
+        };
+        x = eval_operand(&inside, x, o, scope, run)?;
     }
     Ok(x)
 }
@@ -205,12 +258,13 @@ fn eval_operand<'a>(
     x: Appended<'a>,
     o: Operator<'a>,
     scope: &Scope,
-    work: &mut u64,
+    run: &mut Run,
 ) -> Result<Appended<'a>, Stop>
-    ensures { Meets appended_of result work.new (in_scope level.now scope.now (λ w go env. append_operand w go Untested env (appended_of x.entry) (operator_of o.entry)) (at_work work.old)) }
+    ensures goes { GoesOn run.old run.new }
+    ensures means { MeansBare appended_seen result run.old run.new (λ r. in_scope r level.now scope.now (λ w go ctx env. append_operand w go ctx env (appended_seen r x.entry) (operator_of o.entry))) }
 {
     let Appended { lefts, place, last } = x;
-    let a = prepared(level.alloc, level.world, place, &o, last, work)?;
-    let c = eval_expression(level, o.operand, scope, work)?;
+    let a = prepared(level.alloc, level.world, place, &o, last, run)?;
+    let c = eval_expression(level, o.operand, scope, run)?;
     Ok(append_operand(lefts, o, a, place_of(o.operand), c)?)
 }

@@ -7,7 +7,8 @@ ghost use Rattle.mz_core.specs.TreeViews.{tree, decl};
 ghost use Rattle.mz_meaning.specs.Arrays.{Anything};
 ghost use Rattle.mz_meaning.specs.Calls.{argument_suits};
 ghost use Rattle.mz_eval_cells.specs.Views.{cell_of, sure_of};
-ghost use Rattle.mz_eval_scopes.specs.Runs.{Meets, at_work};
+ghost use Rattle.mz_symbol.specs.Makes.{GoesOn, MeansBare};
+ghost use Rattle.mz_eval_scopes.specs.Seen.{seen};
 ghost use Rattle.mz_eval.specs.Levels.{in_scope};
 ghost use Rattle.mz_eval.specs.PlainCalls.{IsPlain, ArePlain, IsPlainAt, called_on_all, call_goes_on};
 
@@ -18,6 +19,7 @@ use mz_base::{Span, Stop};
 use mz_core::{Core, CoreDecl, CoreFunction, Program};
 use mz_eval_cells::{Known, Sure, both_sure, surely, there};
 use mz_eval_scopes::Scope;
+use mz_symbol::Run;
 
 // whether an argument suits its parameter, which has no declared set
 fn plain_suits(var: bool, of_var: bool, k: &Known) -> Sure
@@ -66,9 +68,10 @@ pub(crate) fn eval_plain_call(
     all: &[Core],
     at: Span,
     scope: &Scope,
-    work: &mut u64,
+    run: &mut Run,
 ) -> Result<Known, Stop>
-    ensures { Meets cell_of result work.new (in_scope level.now scope.now (λ w go env. called_on_all w go (function f.now) at (map tree all.now) env) (at_work work.old)) }
+    ensures goes { GoesOn run.old run.new }
+    ensures means { MeansBare seen result run.old run.new (λ r. in_scope r level.now scope.now (λ w go ctx env. called_on_all w go ctx (function f.now) at (map tree all.now) env)) }
 {
     let call = Call {
         function: &*f,
@@ -80,7 +83,7 @@ pub(crate) fn eval_plain_call(
         scope: &top,
         holds: surely(),
     };
-    eval_bound(level, &call, &f.params, all, &bound, work)
+    eval_bound(level, &call, &f.params, all, &bound, run)
 }
 
 // The arguments that are left; the parameters so far are bound.
@@ -92,17 +95,18 @@ fn eval_bound(
     params: &[CoreDecl],
     all: &[Core],
     bound: &CallScope,
-    work: &mut u64,
+    run: &mut Run,
 ) -> Result<Known, Stop>
-    ensures { Meets cell_of result work.new (call_goes_on level.now call.now (map decl params.now) (map tree all.now) bound.now (at_work work.old)) }
+    ensures goes { GoesOn run.old run.new }
+    ensures means { MeansBare seen result run.old run.new (λ r. call_goes_on r level.now call.now (map decl params.now) (map tree all.now) bound.now) }
 {
     let count = all.len();
     if count == 0 {
-        return eval_called(level, call.function, call.at, bound, work);
+        return eval_called(level, call.function, call.at, bound, run);
     }
     let declared = params.len();
     if declared == 0 {
-        return eval_unbound(level, call, all, bound, work);
+        return eval_unbound(level, call, all, bound, run);
     }
     eval_first(
         level,
@@ -112,7 +116,7 @@ fn eval_bound(
         &all[0],
         &all[1..],
         bound,
-        work,
+        run,
     )
 }
 
@@ -123,12 +127,13 @@ fn eval_unbound(
     call: &Call,
     all: &[Core],
     bound: &CallScope,
-    work: &mut u64,
+    run: &mut Run,
 ) -> Result<Known, Stop>
-    ensures { Meets cell_of result work.new (call_goes_on level.now call.now [] (map tree all.now) bound.now (at_work work.old)) }
+    ensures goes { GoesOn run.old run.new }
+    ensures means { MeansBare seen result run.old run.new (λ r. call_goes_on r level.now call.now [] (map tree all.now) bound.now) }
 {
-    let _cells = eval_parts(level, all, call.scope, work)?;
-    eval_called(level, call.function, call.at, bound, work)
+    let _cells = eval_parts(level, all, call.scope, run)?;
+    eval_called(level, call.function, call.at, bound, run)
 }
 
 // An argument, and then those after it.
@@ -142,16 +147,17 @@ fn eval_first(
     e: &Core,
     all: &[Core],
     bound: &CallScope,
-    work: &mut u64,
+    run: &mut Run,
 ) -> Result<Known, Stop>
-    ensures { Meets cell_of result work.new (call_goes_on level.now call.now (decl d.now ∷ map decl params.now) (tree e.now ∷ map tree all.now) bound.now (at_work work.old)) }
+    ensures goes { GoesOn run.old run.new }
+    ensures means { MeansBare seen result run.old run.new (λ r. call_goes_on r level.now call.now (decl d.now ∷ map decl params.now) (tree e.now ∷ map tree all.now) bound.now) }
 {
-    let cell = eval_expression(level, e, call.scope, work)?;
+    let cell = eval_expression(level, e, call.scope, run)?;
     let suits = plain_suits(call.function.result.ty.var, d.ty.ty.var, &cell);
     let more = Scope::Bound(d.slot, &cell, bound.scope);
     let inner = CallScope {
         scope: &more,
         holds: both_sure(bound.holds, suits),
     };
-    eval_bound(level, call, params, all, &inner, work)
+    eval_bound(level, call, params, all, &inner, run)
 }

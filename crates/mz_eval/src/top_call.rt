@@ -19,7 +19,8 @@ use crate::types::Level;
 use mz_base::{Depth, Steps, Stop};
 use mz_core::{Core, Program};
 use mz_eval_cells::Known;
-use mz_eval_scopes::{Env, Scope, World};
+use mz_eval_scopes::{Context, Env, Scope, World};
+use mz_symbol::Run;
 use mz_value::Value;
 use std::alloc::Global;
 
@@ -81,9 +82,13 @@ pub fn evaluated(
         alloc,
         world: &*world,
         left,
+        ctx: Context::Untested,
     };
     let top = Scope::Top;
-    eval_expression(&level, e, &top, work)
+    let mut run = Run::after(alloc, *work);
+    let cell = eval_expression(&level, e, &top, &mut run);
+    *work = run.work();
+    cell
 }
 
 /// The value of a par expression, `None` exactly where it is undefined, with the work that the

@@ -4,15 +4,17 @@ use mz_base::Span;
 use mz_core::{Core, CoreFunction, CoreGen};
 use mz_eval_arrays::Elements;
 use mz_eval_cells::Sure;
-use mz_eval_scopes::{Scope, World};
+use mz_eval_scopes::{Context, Scope, World};
 use std::alloc::Global;
 
-/// An evaluation at one level of nesting: its memory, its world, and how many levels are left below.
+/// An evaluation at one level of nesting and in one place: its memory, its world, how many levels are
+/// left below, and whether free locals may be evaluated.
 #[derive(Clone, Copy)]
 pub struct Level<'a> {
     pub alloc: Global,
     pub world: &'a World<'a>,
     pub left: u64,
+    pub ctx: Context,
 }
 
 /// A call of a function: its place, and the scope in which its arguments are evaluated.

@@ -7,7 +7,7 @@ use Rattle.mz_core.specs.Coercions.{PathLink}
 use Rattle.mz_core.specs.Tree.{root_coercions}
 use Rattle.mz_core.specs.TreeViews.{form_layer, tree}
 use Rattle.mz_core.specs.Types.{plain_type}
-use Rattle.mz_meaning.specs.Cells.{Bare, Cell, typed}
+use Rattle.mz_meaning.specs.Cells.{Cell, typed}
 use Rattle.mz_meaning.specs.Evaluation.{is_name}
 use Rattle.mz_meaning.specs.Forms.{World, coerced_by}
 use Rattle.mz_meaning.specs.Runs.{Run}
@@ -20,4 +20,4 @@ links_round (Some e) = root_coercions (tree e.now)
 -- the cell of an expression whose node below its coercions has this cell so far
 abbrev pub finished_by : World → Core → Core → Cell → Run Cell
 finished_by w e b c =
-    coerced_by w b.span (root_coercions (tree e)) (typed Bare (is_name (form_layer (out-CoreForm b.form))) (plain_type b.ty) c)
+    coerced_by w b.span (root_coercions (tree e)) (typed w.mode (is_name (form_layer (out-CoreForm b.form))) (plain_type b.ty) c)

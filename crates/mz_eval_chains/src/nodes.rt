@@ -10,14 +10,15 @@ ghost use Rattle.mz_meaning.specs.Cells.{Bare, typed};
 ghost use Rattle.mz_meaning.specs.Forms.{coerced_once, coerced_by};
 ghost use Rattle.mz_meaning.specs.Evaluation.{is_name};
 ghost use Rattle.mz_eval_cells.specs.Views.{cell_of};
-ghost use Rattle.mz_eval_scopes.specs.Runs.{Meets, at_work};
-ghost use Rattle.mz_eval_scopes.specs.Views.{world_of};
+ghost use Rattle.mz_symbol.specs.Makes.{GoesOn, MeansBare};
+ghost use Rattle.mz_eval_scopes.specs.Seen.{seen, world_seen};
 ghost use Rattle.mz_eval_chains.specs.Links.{finished_by, links_round};
 
 use mz_base::{Span, Stop};
 use mz_core::{Coercion, Core, CoreForm, TypeInst};
 use mz_eval_cells::{Known, coerced_to, coercion_work, stays, typed};
-use mz_eval_scopes::{World, spend};
+use mz_eval_scopes::World;
+use mz_symbol::Run;
 use std::alloc::{AllocError, Global};
 
 /// The node below the coercions of an expression. Takes no memory.
@@ -47,11 +48,12 @@ fn coerce_once(
     c: Coercion,
     t: &TypeInst,
     k: Known,
-    work: &mut u64,
+    run: &mut Run,
 ) -> Result<Known, Stop>
-    ensures { Meets cell_of result work.new (coerced_once (world_of world.now) at (cell_of k) (c, plain_type t.now) (at_work work.old)) }
+    ensures goes { GoesOn run.old run.new }
+    ensures means { MeansBare seen result run.old run.new (λ r. coerced_once (world_seen r world.now) at (seen r k) (c, plain_type t.now)) }
 {
-    spend(world.budget, at, coercion_work(c, &k), work)?;
+    run.spend(world.budget, at, coercion_work(c, &k))?;
     Ok(coerced_to(alloc, c, t, k)?)
 }
 
@@ -62,13 +64,14 @@ fn coerce_all(
     at: Span,
     links: &[(Coercion, TypeInst)],
     k: Known,
-    work: &mut u64,
+    run: &mut Run,
 ) -> Result<Known, Stop>
-    ensures { Meets cell_of result work.new (coerced_by (world_of world.now) at (path_links links.now) (cell_of k) (at_work work.old)) }
+    ensures goes { GoesOn run.old run.new }
+    ensures means { MeansBare seen result run.old run.new (λ r. coerced_by (world_seen r world.now) at (path_links links.now) (seen r k)) }
 {
     let mut cell = k;
     for link in links {
-        cell = coerce_once(alloc, world, at, link.0, &link.1, cell, work)?;
+        cell = coerce_once(alloc, world, at, link.0, &link.1, cell, run)?;
     }
     Ok(cell)
 }
@@ -81,14 +84,15 @@ fn coerce_round(
     at: Span,
     e: &Core,
     k: Known,
-    work: &mut u64,
+    run: &mut Run,
 ) -> Result<Known, Stop>
-    ensures { Meets cell_of result work.new (coerced_by (world_of world.now) at (root_coercions (tree e.now)) (cell_of k) (at_work work.old)) }
+    ensures goes { GoesOn run.old run.new }
+    ensures means { MeansBare seen result run.old run.new (λ r. coerced_by (world_seen r world.now) at (root_coercions (tree e.now)) (seen r k)) }
 {
     match &e.form {
         CoreForm::Coerce(c, part) => {
-            let cell = coerce_round(alloc, world, at, part, k, work)?;
-            coerce_once(alloc, world, at, *c, &e.ty, cell, work)
+            let cell = coerce_round(alloc, world, at, part, k, run)?;
+            coerce_once(alloc, world, at, *c, &e.ty, cell, run)
         }
         _ => Ok(k),
     }
@@ -103,15 +107,16 @@ pub fn coerce_both(
     round: Option<&Core>,
     links: &[(Coercion, TypeInst)],
     k: Known,
-    work: &mut u64,
+    run: &mut Run,
 ) -> Result<Known, Stop>
-    ensures { Meets cell_of result work.new (coerced_by (world_of world.now) at (links_round round.entry ++ path_links links.now) (cell_of k) (at_work work.old)) }
+    ensures goes { GoesOn run.old run.new }
+    ensures means { MeansBare seen result run.old run.new (λ r. coerced_by (world_seen r world.now) at (links_round round.entry ++ path_links links.now) (seen r k)) }
 {
     match round {
-        None => coerce_all(alloc, world, at, links, k, work),
+        None => coerce_all(alloc, world, at, links, k, run),
         Some(e) => {
-            let cell = coerce_round(alloc, world, at, e, k, work)?;
-            coerce_all(alloc, world, at, links, cell, work)
+            let cell = coerce_round(alloc, world, at, e, k, run)?;
+            coerce_all(alloc, world, at, links, cell, run)
         }
     }
 }
@@ -172,13 +177,14 @@ pub fn finished(
     e: &Core,
     b: &Core,
     k: Known,
-    work: &mut u64,
+    run: &mut Run,
 ) -> Result<Known, Stop>
-    ensures { Meets cell_of result work.new (finished_by (world_of world.now) e.now b.now (cell_of k) (at_work work.old)) }
+    ensures goes { GoesOn run.old run.new }
+    ensures means { MeansBare seen result run.old run.new (λ r. finished_by (world_seen r world.now) e.now b.now (seen r k)) }
 {
     if is_finished(e, b, &k) {
         return Ok(k);
     }
     let cell = typed_node(alloc, b, k)?;
-    coerce_round(alloc, world, b.span, e, cell, work)
+    coerce_round(alloc, world, b.span, e, cell, run)
 }

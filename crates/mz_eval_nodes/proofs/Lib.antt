@@ -1,3 +1,4 @@
 pub mod Elements
 pub mod Lefts
 pub mod Work
+pub mod ContextLaws

@@ -7,7 +7,7 @@ use Rattle.mz_eval_cells.specs.declared.types.Known.{Known}
 use Rattle.mz_meaning.specs.Runs.{Run, ◌>>=◌, ◌>>◌, give, loop, spend}
 use Rattle.mz_meaning.specs.Cells.{Cell, Env, Sure, both_sure, bind}
 use Rattle.mz_meaning.specs.Arrays.{Want, fitted}
-use Rattle.mz_meaning.specs.Contexts.{Untested}
+use Rattle.mz_meaning.specs.Contexts.{Context}
 use Rattle.mz_meaning.specs.Chains as chains
 use Rattle.mz_meaning.specs.Chains.{operand_base}
 use Rattle.mz_meaning.specs.Forms as forms
@@ -17,6 +17,8 @@ use Rattle.mz_meaning.specs.Calls.{argument_suits}
 use Rattle.mz_meaning.specs.Comprehensions.{Rest, Made, Element, Presence, names, both_occur}
 use Rattle.mz_eval_chains.specs.declared.types.Operator.{Operator}
 use Rattle.mz_eval_chains.specs.Innermosts.{operator_of}
+use Rattle.mz_symbol.specs.Readings.{Reading}
+use Rattle.mz_eval_scopes.specs.Seen.{seen}
 use Rattle.mz_eval_nodes.specs.declared.types.Appended.{Appended}
 
 -- ---- one operator: its left operand's coercions, its right operand with its coercions, its node
@@ -29,10 +31,11 @@ operated_on w a o c = do
   b ← coerced_by w (operand_place o.step) o.step.right c
   operator_node w o a b
 
-abbrev pub operator_step : World → Eval → Env → Span → Cell → chains.Operator → Run Cell
-operator_step w go env at left o = do
+-- its right operand stands in a place of this context
+abbrev pub operator_step : World → Eval → Context → Env → Span → Cell → chains.Operator → Run Cell
+operator_step w go ctx env at left o = do
   a ← coerced_by w at o.step.left left
-  c ← go Untested o.step.operand env
+  c ← go ctx o.step.operand env
   operated_on w a o c
 
 -- ---- `++`: operators with their left operands, the last one first
@@ -41,12 +44,15 @@ abbrev pub reversed_onto : {A : Type 0} → List A → List A → List A
 reversed_onto acc [] = acc
 reversed_onto acc (x ∷ xs) = reversed_onto (x ∷ acc) xs
 
--- a cell with the place of its node
-abbrev pub placed : Span → Known → Span × Cell
-placed at k = (at, cell_of k)
-
 abbrev pub left_of : Operator × Known → chains.Operator × Cell
 left_of p = (operator_of p.0, cell_of p.1)
+
+-- a cell with the place of its node
+abbrev pub placed_seen : Reading → Span → Known → Span × Cell
+placed_seen r at k = (at, seen r k)
+
+abbrev pub left_seen : Reading → Operator × Known → chains.Operator × Cell
+left_seen r p = (operator_of p.0, seen r p.1)
 
 abbrev pub lefts_of : List (Operator × Known) → List (chains.Operator × Cell)
 lefts_of ps = reversed_onto [] (map left_of ps)
@@ -57,6 +63,9 @@ nothing_appended place first = record { lefts = []; place = place; last = first 
 
 abbrev pub appended_of : Appended → forms.Appended
 appended_of x = record { lefts = lefts_of x.lefts.items; place = x.place; last = cell_of x.last }
+
+abbrev pub appended_seen : Reading → Appended → forms.Appended
+appended_seen r x = appended_of x
 
 -- the nodes of its operators, from the last one on
 abbrev pub appended_nodes : World → forms.Appended → Run Cell
@@ -74,9 +83,9 @@ turn w at es s ss rest env occurs made x = spend w.budget at 1 >> names w at es 
 abbrev pub suited : Bool → Decl → List Want → Want → Cell → Cell × Sure
 suited var d ixs x c = (c, both_sure (all_have_sets ixs) (argument_suits var d.ty.ty.var x c))
 
-abbrev pub argument : Eval → Bool → Env → Decl → Tree → Cell → Run (Cell × Sure)
-argument go var env d e k = do
-  ixs ← index_wants go Untested d.ty.index env
-  x ← want go Untested d.ty.set env
+abbrev pub argument : Eval → Context → Bool → Env → Decl → Tree → Cell → Run (Cell × Sure)
+argument go ctx var env d e k = do
+  ixs ← index_wants go ctx d.ty.index env
+  x ← want go ctx d.ty.set env
   c ← fitted (place_of e) ixs k
   give (suited var d ixs x c)

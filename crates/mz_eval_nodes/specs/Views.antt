@@ -7,11 +7,17 @@ use Rattle.mz_value.specs.Shown.{numbers_from, range_elements, elements}
 use Rattle.mz_operations.specs.Arrays.{element_of}
 use Rattle.mz_operations.specs.Bounds as bounds
 use Rattle.mz_eval_cells.specs.declared.types.Bound.{Bound}
+use Rattle.mz_eval_cells.specs.declared.types.Known.{Known}
+use Rattle.mz_eval_cells.specs.declared.types.Sure.{Sure}
 use Rattle.mz_eval_cells.specs.Views.{cell_of, cells_of, sure_of, known_bound}
+use Rattle.mz_eval_arrays.specs.declared.gathering.Gathered.{Gathered}
 use Rattle.mz_eval_arrays.specs.declared.running.Elements.{Elements}
 use Rattle.mz_eval_arrays.specs.declared.running.Elements.TheVariants as source
-use Rattle.mz_eval_arrays.specs.Gathered.{gathered, occurs_if}
-use Rattle.mz_meaning.specs.Cells.{Var, par_value}
+use Rattle.mz_eval_arrays.specs.Gathered.{gathered, pairs_of, occurs_if}
+use Rattle.mz_meaning.specs.Cells as cells
+use Rattle.mz_meaning.specs.Cells.{Cell, Var, par_value}
+use Rattle.mz_eval_domains.specs.Wants.{local_of}
+use Rattle.mz_symbol.specs.Readings.{Reading}
 use Rattle.mz_meaning.specs.Lets as lets
 use Rattle.mz_meaning.specs.Comprehensions as comps
 use Rattle.mz_eval_nodes.specs.declared.types.Names.{Names}
@@ -25,6 +31,23 @@ names_of b = record { slots = b.slots.items; cells = cells_of b.cells.items; hol
 abbrev pub made_of : Made → comps.Made
 made_of m = record { cells = gathered m.cells; whole = sure_of m.whole }
 
+-- ---- the same under a reading
+
+abbrev pub names_seen : Reading → Names → lets.Names
+names_seen r b = names_of b
+
+abbrev pub made_seen : Reading → Made → comps.Made
+made_seen r m = made_of m
+
+abbrev pub local_seen : Reading → Known × Sure → Cell × cells.Sure
+local_seen r p = local_of p
+
+abbrev pub gathered_seen : Reading → Gathered → List Cell
+gathered_seen r g = gathered g
+
+abbrev pub pairs_seen : Reading → List (Known × Known) → List (Cell × Cell)
+pairs_seen r ps = pairs_of ps
+
 -- ---- the elements of a generator that are left
 
 -- the next of a list, and those after it; nothing where none is left
@@ -33,6 +56,9 @@ GivesNext see r left after = MatchOption r (left ≡ []) (λ x. left ≡ see x �
 
 abbrev pub turn_of : Turn → comps.Element
 turn_of x = (cell_of x.cell, occurs_if x.surely)
+
+abbrev pub turn_seen : Reading → Turn → comps.Element
+turn_seen r x = turn_of x
 
 -- the integers above n, up to hi
 unfoldable pub above : ℤ → ℤ → List ℤ

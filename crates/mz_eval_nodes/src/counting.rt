@@ -2,14 +2,15 @@
 
 ghost use Rattle.mz_meaning.specs.Runs.{spend};
 ghost use Rattle.mz_meaning.specs.Arrays.{declared_count};
-ghost use Rattle.mz_eval_cells.specs.Views.{cell_of};
 ghost use Rattle.mz_eval_domains.specs.Wants.{wants_of};
-ghost use Rattle.mz_eval_scopes.specs.Runs.{Meets, at_work};
+ghost use Rattle.mz_symbol.specs.Makes.{GoesOn, MeansBare};
+ghost use Rattle.mz_eval_scopes.specs.Seen.{seen};
 
 use mz_base::{Span, Stop};
 use mz_eval_cells::Known;
 use mz_eval_domains::{Want, declared_count};
-use mz_eval_scopes::{World, spend};
+use mz_eval_scopes::World;
+use mz_symbol::Run;
 use std::alloc::Global;
 
 /// The work of a declaration: the elements of its array type, with its declared index sets and its
@@ -21,10 +22,11 @@ pub fn counted(
     at: Span,
     index: &[Want],
     k: &Known,
-    work: &mut u64,
+    run: &mut Run,
 ) -> Result<(), Stop>
-    ensures { Meets (λ _. tt) result work.new (spend world.now.budget at (declared_count (wants_of index.now) (cell_of k.now)) (at_work work.old)) }
+    ensures goes { GoesOn run.old run.new }
+    ensures means { MeansBare (λ _ _. tt) result run.old run.new (λ r. spend world.now.budget at (declared_count (wants_of index.now) (seen r k.now))) }
 {
     let n = declared_count(alloc, index, k)?;
-    spend(world.budget, at, n, work)
+    run.spend(world.budget, at, n)
 }

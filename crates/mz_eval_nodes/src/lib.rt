@@ -2,6 +2,7 @@
 // names of lets and calls, the branches of an `if`, and the elements of comprehensions.
 #![tactic(auto)]
 
+mod contexts;
 mod counting;
 mod joins;
 mod operands;
@@ -9,6 +10,10 @@ mod rows;
 mod turns;
 mod types;
 
+pub use contexts::{
+    arguments_within, contexts_before, elsewhere, first_within, is_settled, operand_within,
+    right_within, within,
+};
 pub use counting::counted;
 pub use joins::{
     add_element, add_set, both_surely, comprehended, constrained, nothing_bound, nothing_made,

@@ -5,10 +5,10 @@ ghost use Rattle.mz_core.specs.Types.{plain_type};
 ghost use Rattle.mz_meaning.specs.Cells.{Bare, typed};
 ghost use Rattle.mz_meaning.specs.Forms.{coerced_by, append_node};
 ghost use Rattle.mz_eval_cells.specs.Views.{cell_of};
-ghost use Rattle.mz_eval_scopes.specs.Runs.{Meets, at_work};
-ghost use Rattle.mz_eval_scopes.specs.Views.{world_of};
+ghost use Rattle.mz_symbol.specs.Makes.{GoesOn, MeansBare};
+ghost use Rattle.mz_eval_scopes.specs.Seen.{seen, world_seen};
 ghost use Rattle.mz_eval_chains.specs.Innermosts.{operator_of};
-ghost use Rattle.mz_eval_nodes.specs.Operators.{operator_node, operated_on, placed, nothing_appended, appended_of, appended_nodes, left_of, lefts_of};
+ghost use Rattle.mz_eval_nodes.specs.Operators.{operator_node, operated_on, placed_seen, nothing_appended, appended_of, appended_seen, appended_nodes, left_seen, lefts_of};
 
 use crate::rows::operated_two;
 use crate::types::Appended;
@@ -18,6 +18,7 @@ use mz_eval_cells::{Known, stays, typed};
 use mz_eval_chains::{Operator, coerce_both, is_uncoerced, operand_base, place_of};
 use mz_eval_rows::row_at;
 use mz_eval_scopes::World;
+use mz_symbol::Run;
 use std::alloc::{AllocError, Global};
 
 /// The left operand of an operator under its coercions, which have the place of the node before.
@@ -27,14 +28,15 @@ pub fn prepared(
     at: Span,
     o: &Operator,
     left: Known,
-    work: &mut u64,
+    run: &mut Run,
 ) -> Result<Known, Stop>
-    ensures { Meets cell_of result work.new (coerced_by (world_of world.now) at (operator_of o.now).step.left (cell_of left) (at_work work.old)) }
+    ensures goes { GoesOn run.old run.new }
+    ensures means { MeansBare seen result run.old run.new (λ r. coerced_by (world_seen r world.now) at (operator_of o.now).step.left (seen r left)) }
 {
     if is_uncoerced(o.before, &o.step.left) {
         return Ok(left);
     }
-    coerce_both(alloc, world, at, o.before, &o.step.left, left, work)
+    coerce_both(alloc, world, at, o.before, &o.step.left, left, run)
 }
 
 fn typed_row(alloc: Global, t: &TypeInst, k: Known) -> Result<Known, AllocError>
@@ -53,12 +55,13 @@ fn node_of(
     o: &Operator,
     a: Known,
     b: Known,
-    work: &mut u64,
+    run: &mut Run,
 ) -> Result<Known, Stop>
-    ensures { Meets cell_of result work.new (operator_node (world_of world.now) (operator_of o.now) (cell_of a) (cell_of b) (at_work work.old)) }
+    ensures goes { GoesOn run.old run.new }
+    ensures means { MeansBare seen result run.old run.new (λ r. operator_node (world_seen r world.now) (operator_of o.now) (seen r a) (seen r b)) }
 {
     let row = row_at(o.step.row, operand_base(o));
-    let c = operated_two(alloc, world, o.at, &o.step.ty, row, a, b, work)?;
+    let c = operated_two(alloc, world, o.at, &o.step.ty, row, a, b, run)?;
     Ok(typed_row(alloc, &o.step.ty, c)?)
 }
 
@@ -69,16 +72,17 @@ pub fn operated_on(
     o: &Operator,
     a: Known,
     c: Known,
-    work: &mut u64,
+    run: &mut Run,
 ) -> Result<Known, Stop>
-    ensures { Meets cell_of result work.new (operated_on (world_of world.now) (cell_of a) (operator_of o.now) (cell_of c) (at_work work.old)) }
+    ensures goes { GoesOn run.old run.new }
+    ensures means { MeansBare seen result run.old run.new (λ r. operated_on (world_seen r world.now) (seen r a) (operator_of o.now) (seen r c)) }
 {
     if is_uncoerced(o.after, &o.step.right) {
-        return node_of(alloc, world, o, a, c, work);
+        return node_of(alloc, world, o, a, c, run);
     }
     let place = place_of(o.operand);
-    let b = coerce_both(alloc, world, place, o.after, &o.step.right, c, work)?;
-    node_of(alloc, world, o, a, b, work)
+    let b = coerce_both(alloc, world, place, o.after, &o.step.right, c, run)?;
+    node_of(alloc, world, o, a, b, run)
 }
 
 /// The first operand alone.
@@ -116,12 +120,13 @@ fn node_before(
     o: &Operator,
     left: Known,
     last: Known,
-    work: &mut u64,
+    run: &mut Run,
 ) -> Result<Known, Stop>
-    ensures { Meets (placed o.now.at) result work.new (append_node (world_of world.now) (place, cell_of last) (operator_of o.now, cell_of left) (at_work work.old)) }
+    ensures goes { GoesOn run.old run.new }
+    ensures means { MeansBare (λ r. placed_seen r o.now.at) result run.old run.new (λ r. append_node (world_seen r world.now) (place, seen r last) (operator_of o.now, seen r left)) }
 {
-    let b = coerce_both(alloc, world, place, o.after, &o.step.right, last, work)?;
-    let next = node_of(alloc, world, o, left, b, work)?;
+    let b = coerce_both(alloc, world, place, o.after, &o.step.right, last, run)?;
+    let next = node_of(alloc, world, o, left, b, run)?;
     Ok(next)
 }
 
@@ -131,12 +136,13 @@ fn append_node(
     place: Span,
     p: (Operator, Known),
     last: Known,
-    work: &mut u64,
+    run: &mut Run,
 ) -> Result<Known, Stop>
-    ensures { Meets (placed p.entry.0.at) result work.new (append_node (world_of world.now) (place, cell_of last) (left_of p.entry) (at_work work.old)) }
+    ensures goes { GoesOn run.old run.new }
+    ensures means { MeansBare (λ r. placed_seen r p.entry.0.at) result run.old run.new (λ r. append_node (world_seen r world.now) (place, seen r last) (left_seen r p.entry)) }
 {
     let (o, left) = p;
-    node_before(alloc, world, place, &o, left, last, work)
+    node_before(alloc, world, place, &o, left, last, run)
 }
 
 /// The nodes of a chain of `++`, from the last operator on.
@@ -145,9 +151,10 @@ pub fn appended_nodes(
     alloc: Global,
     world: &World,
     x: Appended,
-    work: &mut u64,
+    run: &mut Run,
 ) -> Result<Known, Stop>
-    ensures { Meets cell_of result work.new (appended_nodes (world_of world.now) (appended_of x.entry) (at_work work.old)) }
+    ensures goes { GoesOn run.old run.new }
+    ensures means { MeansBare seen result run.old run.new (λ r. appended_nodes (world_seen r world.now) (appended_seen r x.entry)) }
 {
     let Appended {
         mut lefts,
@@ -156,7 +163,7 @@ pub fn appended_nodes(
     } = x;
     while let Some(p) = lefts.pop() {
         let at = p.0.at;
-        last = append_node(alloc, world, place, p, last, work)?;
+        last = append_node(alloc, world, place, p, last, run)?;
         place = at;
     }
     Ok(last)

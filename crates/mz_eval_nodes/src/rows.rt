@@ -5,17 +5,17 @@ ghost use Rattle.mz_core.specs.Types.{plain_type};
 ghost use Rattle.mz_core.specs.TreeViews.{tree};
 ghost use Rattle.mz_meaning.specs.Forms.{operated_by, arguments_base};
 ghost use Rattle.mz_operations.specs.declared.row.Row.{Row};
-ghost use Rattle.mz_eval_cells.specs.Views.{cell_of, cells_of};
-ghost use Rattle.mz_eval_scopes.specs.Runs.{Meets, at_work};
-ghost use Rattle.mz_eval_scopes.specs.Views.{world_of};
+ghost use Rattle.mz_symbol.specs.Makes.{GoesOn, MeansBare};
+ghost use Rattle.mz_eval_scopes.specs.Seen.{seen, all_seen, world_seen};
 
 use mz_base::{Span, Stop};
 use mz_core::{Base, Core, TypeInst};
 use mz_eval_cells::{Known, undefined};
 use mz_eval_chains::base_of;
 use mz_eval_rows::{cost_of_all, cost_of_one, cost_of_two, row_of_all, row_of_one, row_of_two};
-use mz_eval_scopes::{World, done, spend};
+use mz_eval_scopes::{World, done};
 use mz_operations::Row;
+use mz_symbol::Run;
 use std::alloc::Global;
 
 /// The base of a row's arguments: the first one's, and without arguments the node's.
@@ -35,15 +35,16 @@ fn row_one(
     world: &World,
     at: Span,
     t: &TypeInst,
-    r: Row,
+    row: Row,
     a: Known,
-    work: &mut u64,
+    run: &mut Run,
 ) -> Result<Known, Stop>
-    ensures { Meets cell_of result work.new (operated_by (world_of world.now) at (plain_type t.now) (cell_of a ∷ []) (Some r) (at_work work.old)) }
+    ensures goes { GoesOn run.old run.new }
+    ensures means { MeansBare seen result run.old run.new (λ r. operated_by (world_seen r world.now) at (plain_type t.now) (seen r a ∷ []) (Some row)) }
 {
-    let cost = cost_of_one(r, &a);
-    spend(world.budget, at, 1 + cost, work)?;
-    row_of_one(alloc, &world.program.cases, r, t, at, a)
+    let cost = cost_of_one(row, &a);
+    run.spend(world.budget, at, 1 + cost)?;
+    row_of_one(alloc, &world.program.cases, row, t, at, a)
 }
 
 /// The node of a row with one argument, before it takes its type; undefined where there is no row.
@@ -54,13 +55,14 @@ pub fn operated_one(
     t: &TypeInst,
     row: Option<Row>,
     a: Known,
-    work: &mut u64,
+    run: &mut Run,
 ) -> Result<Known, Stop>
-    ensures { Meets cell_of result work.new (operated_by (world_of world.now) at (plain_type t.now) (cell_of a ∷ []) row (at_work work.old)) }
+    ensures goes { GoesOn run.old run.new }
+    ensures means { MeansBare seen result run.old run.new (λ r. operated_by (world_seen r world.now) at (plain_type t.now) (seen r a ∷ []) row) }
 {
     match row {
-        None => done(world, at, undefined(), work),
-        Some(r) => row_one(alloc, world, at, t, r, a, work),
+        None => done(world, at, undefined(), run),
+        Some(r) => row_one(alloc, world, at, t, r, a, run),
     }
 }
 
@@ -70,16 +72,17 @@ fn row_two(
     world: &World,
     at: Span,
     t: &TypeInst,
-    r: Row,
+    row: Row,
     a: Known,
     b: Known,
-    work: &mut u64,
+    run: &mut Run,
 ) -> Result<Known, Stop>
-    ensures { Meets cell_of result work.new (operated_by (world_of world.now) at (plain_type t.now) (cell_of a ∷ cell_of b ∷ []) (Some r) (at_work work.old)) }
+    ensures goes { GoesOn run.old run.new }
+    ensures means { MeansBare seen result run.old run.new (λ r. operated_by (world_seen r world.now) at (plain_type t.now) (seen r a ∷ seen r b ∷ []) (Some row)) }
 {
-    let cost = cost_of_two(r, &a, &b);
-    spend(world.budget, at, 1 + cost, work)?;
-    row_of_two(alloc, &world.program.cases, r, t, at, a, b)
+    let cost = cost_of_two(row, &a, &b);
+    run.spend(world.budget, at, 1 + cost)?;
+    row_of_two(alloc, &world.program.cases, row, t, at, a, b)
 }
 
 /// The node of a row with two arguments, before it takes its type; undefined where there is no row.
@@ -91,13 +94,14 @@ pub fn operated_two(
     row: Option<Row>,
     a: Known,
     b: Known,
-    work: &mut u64,
+    run: &mut Run,
 ) -> Result<Known, Stop>
-    ensures { Meets cell_of result work.new (operated_by (world_of world.now) at (plain_type t.now) (cell_of a ∷ cell_of b ∷ []) row (at_work work.old)) }
+    ensures goes { GoesOn run.old run.new }
+    ensures means { MeansBare seen result run.old run.new (λ r. operated_by (world_seen r world.now) at (plain_type t.now) (seen r a ∷ seen r b ∷ []) row) }
 {
     match row {
-        None => done(world, at, undefined(), work),
-        Some(r) => row_two(alloc, world, at, t, r, a, b, work),
+        None => done(world, at, undefined(), run),
+        Some(r) => row_two(alloc, world, at, t, r, a, b, run),
     }
 }
 
@@ -107,15 +111,16 @@ fn row_all(
     world: &World,
     at: Span,
     t: &TypeInst,
-    r: Row,
+    row: Row,
     all: Vec<Known>,
-    work: &mut u64,
+    run: &mut Run,
 ) -> Result<Known, Stop>
-    ensures { Meets cell_of result work.new (operated_by (world_of world.now) at (plain_type t.now) (cells_of all.items) (Some r) (at_work work.old)) }
+    ensures goes { GoesOn run.old run.new }
+    ensures means { MeansBare seen result run.old run.new (λ r. operated_by (world_seen r world.now) at (plain_type t.now) (all_seen r all.items) (Some row)) }
 {
-    let cost = cost_of_all(alloc, r, &all)?;
-    spend(world.budget, at, 1 + cost, work)?;
-    row_of_all(alloc, &world.program.cases, r, t, at, all)
+    let cost = cost_of_all(alloc, row, &all)?;
+    run.spend(world.budget, at, 1 + cost)?;
+    row_of_all(alloc, &world.program.cases, row, t, at, all)
 }
 
 /// The node of a row, before it takes its type; undefined where there is no row.
@@ -126,12 +131,13 @@ pub fn operated_all(
     t: &TypeInst,
     row: Option<Row>,
     all: Vec<Known>,
-    work: &mut u64,
+    run: &mut Run,
 ) -> Result<Known, Stop>
-    ensures { Meets cell_of result work.new (operated_by (world_of world.now) at (plain_type t.now) (cells_of all.items) row (at_work work.old)) }
+    ensures goes { GoesOn run.old run.new }
+    ensures means { MeansBare seen result run.old run.new (λ r. operated_by (world_seen r world.now) at (plain_type t.now) (all_seen r all.items) row) }
 {
     match row {
-        None => done(world, at, undefined(), work),
-        Some(r) => row_all(alloc, world, at, t, r, all, work),
+        None => done(world, at, undefined(), run),
+        Some(r) => row_all(alloc, world, at, t, r, all, run),
     }
 }

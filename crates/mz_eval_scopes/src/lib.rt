@@ -9,5 +9,5 @@ mod work;
 
 pub use literals::{all_cases, literal_text};
 pub use scopes::{at_slot, seek};
-pub use types::{Env, Scope, World};
-pub use work::{done, spend};
+pub use types::{Context, Env, Scope, World};
+pub use work::done;

@@ -29,6 +29,15 @@ pub struct World<'a> {
     ghost in_limit: { int_range ≤ℤ greatest },
 }
 
+/// Where a free local may be evaluated: in a positive place, and in no other one.
+#[derive(Clone, Copy)]
+pub enum Context {
+    /// No place is tested.
+    Untested,
+    Positive,
+    Other,
+}
+
 /// The cells of the slots that are in scope: the top-level ones; one more; or several more, of which
 /// the last of the same slot counts.
 #[derive(Drop)]

@@ -23,6 +23,7 @@ use mz_eval_cells::{Item, Known, share};
 use mz_eval_chains::{coerce_both, inner, place_of};
 use mz_eval_scopes::World;
 use mz_first_unbuilt::is_par_integer;
+use mz_symbol::Run;
 use std::alloc::Global;
 
 /// The levels of nesting below a constraint's own node.
@@ -43,7 +44,10 @@ fn coerced_round(
     ensures answer { Meets cell_of result work.new (coerced_by (world_of world.now) (place_of (tree b.now)) (root_coercions (tree e.now)) (cell_of k) (at_work work.old)) }
     ensures within { IfOk result (λ _. work.new ≤ world.now.budget + 1) }
 {
-    coerce_both(alloc, world, place_of(b), Some(&*e), &[], k, work)
+    let mut run = Run::after(alloc, *work);
+    let cell = coerce_both(alloc, world, place_of(b), Some(&*e), &[], k, &mut run);
+    *work = run.work();
+    cell
 }
 
 /// An operand's cell below the coercions round it, and with them.

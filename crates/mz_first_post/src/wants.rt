@@ -25,6 +25,7 @@ use mz_eval_chains::place_of;
 use mz_eval_domains::{Want, index_want};
 use mz_eval_nodes::counted;
 use mz_eval_scopes::World;
+use mz_symbol::Run;
 use mz_value::RangeSet;
 use std::alloc::Global;
 
@@ -123,5 +124,8 @@ pub(crate) fn count(
     ensures answer { Meets (λ _. tt) result work.new (spend world.now.budget at (declared_count (wants_of index.now) (cell_of k.now)) (at_work work.old)) }
     ensures within { IfOk result (λ _. work.new ≤ world.now.budget + 1) }
 {
-    counted(alloc, world, at, index, k, work)
+    let mut run = Run::after(alloc, *work);
+    let within = counted(alloc, world, at, index, k, &mut run);
+    *work = run.work();
+    within
 }

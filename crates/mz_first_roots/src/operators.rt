@@ -13,6 +13,7 @@ use mz_eval_cells::Known;
 use mz_eval_chains::Operator;
 use mz_eval_nodes::{operated_on, prepared};
 use mz_eval_scopes::World;
+use mz_symbol::Run;
 use std::alloc::Global;
 
 /// A left operand under the coercions of its operator. `work` is at most the budget and 1, before
@@ -29,7 +30,10 @@ pub fn coerced(
     ensures answer { Meets cell_of result work.new (coerced_by (world_of world.now) at (operator_of o.now).step.left (cell_of left) (at_work work.old)) }
     ensures within { IfOk result (λ _. work.new ≤ world.now.budget + 1) }
 {
-    prepared(alloc, world, at, o, left, work)
+    let mut run = Run::after(alloc, *work);
+    let cell = prepared(alloc, world, at, o, left, &mut run);
+    *work = run.work();
+    cell
 }
 
 /// An operator's node over its operands, the right one under its coercions. `work` is at most the
@@ -46,5 +50,8 @@ pub fn operated(
     ensures answer { Meets cell_of result work.new (operated_on (world_of world.now) (cell_of a) (operator_of o.now) (cell_of c) (at_work work.old)) }
     ensures within { IfOk result (λ _. work.new ≤ world.now.budget + 1) }
 {
-    operated_on(alloc, world, o, a, c, work)
+    let mut run = Run::after(alloc, *work);
+    let cell = operated_on(alloc, world, o, a, c, &mut run);
+    *work = run.work();
+    cell
 }

@@ -1,5 +1,5 @@
 -- Values of variables and choices read a run.
-use Rattle.std.proofs.Common.{◌≡◌, ◌∙◌, ℕ, zero, suc, ◌+◌, ℤ, Bool, true, false, List, [], ◌∷◌, ◌++◌, length, map, Option, Some, None, is_some, Result, slice_get, refl, sym, ap, arith, if◌then◌else◌}
+use Rattle.std.proofs.Common.{◌≡◌, ◌∙◌, ℕ, zero, suc, ◌+◌, ℤ, Bool, true, false, List, [], ◌∷◌, ◌++◌, length, map, Option, Some, None, is_some, Result, slice_get, refl, sym, ap, subst, arith, if◌then◌else◌}
 use Rattle.mz_base.specs.declared.stop.Stop.{Stop}
 use Rattle.mz_value.specs.Ranges.{Range}
 use Rattle.mz_value.specs.Contents.{Content}
@@ -23,8 +23,9 @@ use Rattle.mz_instance.specs.Contents.{is_one, content_by}
 use Rattle.mz_symbol.specs.Choices.{content_at, cell_content, all_parts, domain_parts, Chooses, IsChoosable}
 use Rattle.mz_symbol.specs.Symbols.{with_id, symbol_ids, value_by, value_at, symbol_value, domain_of, free_ids}
 use Rattle.mz_symbol.specs.Runs.{Run, taken, IsRun}
-use Rattle.mz_symbol.specs.Readings.{Reading, Reads, ReadsChoices, no_values, line_in, reading_in, reading, bare}
-use Rattle.mz_symbol.specs.Makes.{MeetsAt, MeansBare}
+use Rattle.mz_symbol.specs.Readings.{Reading, Reads, ReadsChoices, no_values, line_in, reading_in, reading, bare, blank, state_of}
+use Rattle.mz_symbol.specs.Makes.{MeetsAt, Means, MeansBare}
+use Rattle.mz_symbol.specs.Laws.{IsBlind}
 use Rattle.mz_symbol.proofs.RunLaws.{sound_later}
 use Rattle.mz_symbol.proofs.ChoiceLaws.{sound_more}
 
@@ -147,6 +148,9 @@ kept_choice old new f z a g c l n d = rw c (rw l (sound_more new.arena old.choic
 pub bare_reads : (s : Run) → IsArena s.arena → Reads (bare s) s
 bare_reads s a = terms_read no_values Bare s a refl
 
--- of any result
-pub bare_meets : {A B : Type 0} (see : Reading → A → B) (x : Result A Stop) (old new : Run) (m : Reading → runs.Run B) → IsArena new.arena → MeansBare see x old new m → MeetsAt (see (bare new)) x (record { work = new.work; taken = []; weight = 0 }) (m (bare new) (record { work = old.work; taken = []; weight = 0 }))
-bare_meets see x old new m a h = h (bare new) refl (bare_reads new a)
+-- of any result, where no term is seen
+pub bare_meets : {A B : Type 0} (see : Reading → A → B) (x : Result A Stop) (old new : Run) (m : Reading → runs.Run B) → IsArena new.arena → IsBlind see new m → Means see x old new m → MeansBare see x old new m
+bare_meets see x old new m a b h =
+    subst (λ f. MeetsAt f x (state_of blank new) (m blank (state_of blank old))) b.seen
+    (subst (λ n. MeetsAt (see (bare new)) x (state_of blank new) (n (state_of blank old))) b.made
+    (h (bare new) (bare_reads new a)))

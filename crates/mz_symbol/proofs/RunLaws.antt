@@ -14,7 +14,7 @@ use Rattle.mz_symbol.specs.Choices.{all_parts}
 use Rattle.mz_symbol.specs.Symbols.{domain_of, free_ids, waiting}
 use Rattle.mz_symbol.specs.Runs.{Run, ReadsNodes, AreLines, IsSound, IsCounted}
 use Rattle.mz_symbol.specs.Readings.{Reading, Reads, no_values, node_meaning}
-use Rattle.mz_symbol.specs.Makes.{GoesOnBy}
+use Rattle.mz_symbol.specs.Makes.{GoesOnBy, GoesOn, owed, earned}
 use Rattle.mz_symbol.specs.StepsNodes.{AddsNodes}
 
 -- ---- an arena that goes on
@@ -80,3 +80,14 @@ nodes_go n old new a = record {
 
 pub node_means : (r : Reading) (new : Run) (n : Node) (id : ℕ) → Made new.arena (entry n) id → is_free n.kind ≡ false → Reads r new → node_meaning r n ≡ r.term id
 node_means r new n id m f h = sym (h.nodes id (entry n) m.stands f no_values)
+
+-- ---- runs that go on, one after the other
+
+pub goes_on : (old mid new : Run) → GoesOn old mid → GoesOn mid new → GoesOn old new
+goes_on old mid new f g = record {
+  back = λ r h. f.back r (g.back r h);
+  paid = sums (owed old) (owed mid) (owed new) (earned old) (earned mid) (earned new) f.paid g.paid;
+}
+  where
+    sums : (a b c x y z : ℕ) → b + x ≤ a + y + 0 → c + y ≤ b + z + 0 → c + x ≤ a + z + 0
+    sums a b c x y z p q = omega (arith, p, q)

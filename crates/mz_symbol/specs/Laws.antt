@@ -14,7 +14,7 @@ use Rattle.mz_instance.specs.Parts.{AreNodes}
 use Rattle.mz_symbol.specs.Choices.{domain_parts, Chooses, IsChoosable}
 use Rattle.mz_symbol.specs.Symbols.{symbol_ids, domain_of, free_ids}
 use Rattle.mz_symbol.specs.Runs.{Run, taken, IsRun}
-use Rattle.mz_symbol.specs.Readings.{Reading, ReadsChoices, Reads, symbol_seen, reading_in, reading, bare}
+use Rattle.mz_symbol.specs.Readings.{Reading, ReadsChoices, Reads, symbol_seen, reading_in, reading, bare, blank}
 use Rattle.mz_symbol.specs.Makes.{MeetsAt, Means, MeansBare}
 
 -- EACH ASSIGNMENT READS A RUN, where the choices are the values of their nodes
@@ -37,10 +37,15 @@ KeptByChoice = (old new : Run) (f : Free) → IsRun old → IsArena new.arena �
 abbrev pub BareReads : Type 0
 BareReads = (s : Run) → IsArena s.arena → Reads (bare s) s
 
--- A CLAUSE UNDER EACH READING IS ONE UNDER READINGS WITHOUT VALUES, here of what makes a symbol
+-- AN EVALUATION WITHOUT VALUES SEES NO TERM: what it makes and what is seen of it are the same under this run's bare reading
+pub record IsBlind {A B : Type 0} (see : Reading → A → B) (new : Run) (m : Reading → runs.Run B) : Type 0 where
+  pub seen : see (bare new) ≡ see blank
+  pub made : m (bare new) ≡ m blank
+
+-- A CLAUSE UNDER EACH READING GIVES THAT OF AN EVALUATION WITHOUT VALUES, here of what makes a symbol, of which no term is seen
 abbrev pub MeansGivesBare : Type 0
-MeansGivesBare = (x : Result Symbol Stop) (old new : Run) (m : Reading → runs.Run (Option Content)) → Means symbol_seen x old new m → MeansBare symbol_seen x old new m
+MeansGivesBare = (x : Result Symbol Stop) (old new : Run) (m : Reading → runs.Run (Option Content)) → IsArena new.arena → m (bare new) ≡ m blank → Means symbol_seen x old new m → MeansBare symbol_seen x old new m
 
 -- and that one tells what the evaluation without values gives
 abbrev pub BareFollows : Type 0
-BareFollows = (x : Result Symbol Stop) (old new : Run) (m : Reading → runs.Run (Option Content)) → IsArena new.arena → MeansBare symbol_seen x old new m → MeetsAt (symbol_seen (bare new)) x (record { work = new.work; taken = []; weight = 0 }) (m (bare new) (record { work = old.work; taken = []; weight = 0 }))
+BareFollows = (x : Result Symbol Stop) (old new : Run) (m : Reading → runs.Run (Option Content)) → MeansBare symbol_seen x old new m → MeetsAt (symbol_seen blank) x (record { work = new.work; taken = []; weight = 0 }) (m blank (record { work = old.work; taken = []; weight = 0 }))

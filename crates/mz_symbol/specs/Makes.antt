@@ -5,10 +5,9 @@ use Rattle.mz_base.specs.declared.stop.Stop.TheVariants.{Refused, Memory}
 use Rattle.mz_arena.specs.Charges.{charges}
 use Rattle.mz_meaning.specs.Runs as runs
 use Rattle.mz_meaning.specs.Runs.{State, Answer, Out, Stopped}
-use Rattle.mz_meaning.specs.Cells.{Bare}
 use Rattle.mz_symbol.specs.Symbols.{waiting}
 use Rattle.mz_symbol.specs.Runs.{Run}
-use Rattle.mz_symbol.specs.Readings.{Reading, Reads, state_of}
+use Rattle.mz_symbol.specs.Readings.{Reading, Reads, state_of, blank}
 
 -- a result that is this answer, unless memory ran out: the state is the one given
 abbrev pub MeetsAt : {A B : Type 0} → (A → B) → Result A Stop → State → Answer B → Type 0
@@ -37,11 +36,16 @@ GoesOn old new = GoesOnBy 0 old new
 abbrev pub Means : {A B : Type 0} → (Reading → A → B) → Result A Stop → Run → Run → (Reading → runs.Run B) → Type 0
 Means see x old new m = (r : Reading) → Reads r new → MeetsAt (see r) x (state_of r new) (m r (state_of r old))
 
--- the same under readings without values alone
+-- the same of an evaluation without values, in which no term is read
 abbrev pub MeansBare : {A B : Type 0} → (Reading → A → B) → Result A Stop → Run → Run → (Reading → runs.Run B) → Type 0
-MeansBare see x old new m = (r : Reading) → r.mode ≡ Bare → Reads r new → MeetsAt (see r) x (state_of r new) (m r (state_of r old))
+MeansBare see x old new m = MeetsAt (see blank) x (state_of blank new) (m blank (state_of blank old))
 
 -- the whole evaluation from the first run on is what is left of it from the second on
 pub record Continues {B : Type 0} (old new : Run) (whole rest : Reading → runs.Run B) : Type 0 where
   pub goes : GoesOn old new
   pub so_far : (r : Reading) → Reads r new → whole r (state_of r old) ≡ rest r (state_of r new)
+
+-- the same of an evaluation without values
+pub record ContinuesBare {B : Type 0} (old new : Run) (whole rest : Reading → runs.Run B) : Type 0 where
+  pub goes : GoesOn old new
+  pub so_far : whole blank (state_of blank old) ≡ rest blank (state_of blank new)

@@ -60,6 +60,10 @@ weight_in (Given f) k = k
 abbrev pub state_of : Reading → Run → State
 state_of r s = record { work = s.work; taken = taken_in r.mode s.choices; weight = weight_in r.mode s.weight }
 
+-- the reading of a run without values: what no run reads isn't told
+abbrev pub blank : Reading
+blank = record { mode = Bare; term = λ id. None; line = λ k. None }
+
 -- ---- readings that there are: any values of the variables and the choices make one
 
 abbrev pub line_in : (ℕ → Term) → Option Line → Option (List Content)

@@ -40,25 +40,39 @@ impl Run {
     ghost use Rattle.mz_meaning.specs.Runs.{give};
     ghost use Rattle.mz_symbol.specs.Runs.{IsRun};
     ghost use Rattle.mz_symbol.specs.Readings.{node_meaning};
-    ghost use Rattle.mz_symbol.specs.Makes.{GoesOn, GoesOnBy, Means};
+    ghost use Rattle.mz_symbol.specs.Makes.{GoesOn, GoesOnBy, Means, MeansBare};
     ghost use Rattle.mz_symbol.specs.StepsNodes.{AddsNodes};
     ghost use Rattle.std.specs.Prelude.{IfOk, IfSome, true};
     ghost use Rattle.mz_arena.specs.Arenas.{IsChecked, IsConst, MadeAnew};
 
     /// Nothing is made yet.
-    #[tactic(auto, using(crate::proofs::RunLaws::nothing_counted))]
     pub fn new(alloc: Global) -> Run
         ensures { result ≡ record { work = 0; weight = 0; arena = []; choices = []; lines = [] } }
     {
+        Run::after(alloc, 0)
+    }
+
+    /// Nothing is made yet, and this much work is spent.
+    #[tactic(auto, using(crate::proofs::RunLaws::nothing_counted))]
+    pub fn after(alloc: Global, work: u64) -> Run
+        ensures { result ≡ record { work = work; weight = 0; arena = []; choices = []; lines = [] } }
+    {
         Run {
             alloc,
-            work: 0,
+            work,
             weight: 0,
             arena: Arena::new(alloc),
             choices: Vec::new(alloc),
             parts: 0,
             lines: Vec::new(alloc),
         }
+    }
+
+    /// The work so far.
+    pub fn work(&self) -> u64
+        ensures { result ≡ self.now.work }
+    {
+        self.work
     }
 
     /// The nodes.
@@ -81,6 +95,7 @@ impl Run {
     pub fn spend(&mut self, budget: u64, at: Span, n: u64) -> Result<(), Stop>
         ensures goes { GoesOn self.old self.new }
         ensures means { Means (λ _ _. tt) result self.old self.new (λ _. runs.spend budget at n) }
+        ensures bare { MeansBare (λ _ _. tt) result self.old self.new (λ _. runs.spend budget at n) }
     {
         if budget < n || self.work > budget - n {
             return Err(Stop::Refused(Fault {

@@ -3,19 +3,19 @@ use Rattle.std.specs.Option.{option_map}
 use Rattle.mz_core.specs.Types.{plain_type}
 use Rattle.mz_core.specs.TreeViews.{tree, branch, step, item}
 use Rattle.mz_meaning.specs.Runs.{loop}
-use Rattle.mz_meaning.specs.Contexts.{Untested}
 use Rattle.mz_meaning.specs.Chains.{operators_at}
 use Rattle.mz_meaning.specs.Forms.{part, parts, row_of_parts, chain_by, operators, append_operands, branches}
 use Rattle.mz_meaning.specs.Lets.{let_item, nothing_bound, index_wants, one_index}
 use Rattle.mz_meaning.specs.Calls.{parameter}
-use Rattle.mz_eval_cells.specs.Views.{cell_of, cells_of}
-use Rattle.mz_eval_arrays.specs.Gathered.{gathered, pairs_of, occurs_if, elements_of}
+use Rattle.mz_eval_arrays.specs.Gathered.{occurs_if, elements_of}
 use Rattle.mz_eval_domains.specs.Wants.{wants_of}
-use Rattle.mz_eval_scopes.specs.Runs.{at_work}
-use Rattle.mz_eval_nodes.specs.Views.{names_of, made_of, turns_left}
+use Rattle.mz_symbol.specs.Makes.{ContinuesBare}
+use Rattle.mz_eval_scopes.specs.Seen.{seen, all_seen, ctx_of}
+use Rattle.mz_eval_nodes.specs.Views.{names_seen, made_seen, gathered_seen, pairs_seen, turns_left}
 use Rattle.mz_eval_chains.specs.Innermosts.{operator_of}
-use Rattle.mz_eval_nodes.specs.Operators.{appended_of, turn}
-use Rattle.mz_eval.specs.Rows.{row_trees, row_cells}
+use Rattle.mz_eval_nodes.specs.Contexts.{later}
+use Rattle.mz_eval_nodes.specs.Operators.{appended_seen, turn}
+use Rattle.mz_eval.specs.Rows.{row_trees, row_cells_seen}
 use Rattle.mz_eval.specs.Chains.{own_operators, operands}
 use Rattle.mz_eval.specs.Choices.{else_tree}
 use Rattle.mz_eval.specs.Calls.{arguments_of}
@@ -213,59 +213,60 @@ abbrev pub decreases-comprehensions::eval_filtered : goal.decreases-comprehensio
 decreases-comprehensions::eval_filtered l = 2 ^ 140 * l.level.now.left + (2 ^ 70 * length l.g.now.others.now + 3)
 
 abbrev pub invariant-forms::eval_parts-loop-e : goal.invariant-forms::eval_parts-loop-e
-invariant-forms::eval_parts-loop-e l =
-    parts (go_of l.level) Untested (map tree l.all) (scope_of l.level l.scope) (at_work l.fn.work)
-    ≡ loop (part (go_of l.level) Untested (scope_of l.level l.scope)) (cells_of l.cells.items) (map tree (drop l.e-index l.all)) (at_work l.work)
+invariant-forms::eval_parts-loop-e l = ContinuesBare l.fn.run l.run
+    (λ r. parts (go_of r l.level) (ctx_of l.level.ctx) (map tree l.all) (scope_of r l.level l.scope))
+    (λ r. loop (part (go_of r l.level) (ctx_of l.level.ctx) (scope_of r l.level l.scope)) (all_seen r l.cells.items) (map tree (drop l.e-index l.all)))
 
 abbrev pub invariant-forms::eval_gathered-loop-e : goal.invariant-forms::eval_gathered-loop-e
-invariant-forms::eval_gathered-loop-e l =
-    parts (go_of l.level) Untested (map tree l.all) (scope_of l.level l.scope) (at_work l.fn.work)
-    ≡ loop (part (go_of l.level) Untested (scope_of l.level l.scope)) (gathered l.cells) (map tree (drop l.e-index l.all)) (at_work l.work)
+invariant-forms::eval_gathered-loop-e l = ContinuesBare l.fn.run l.run
+    (λ r. parts (go_of r l.level) (ctx_of l.level.ctx) (map tree l.all) (scope_of r l.level l.scope))
+    (λ r. loop (part (go_of r l.level) (ctx_of l.level.ctx) (scope_of r l.level l.scope)) (gathered_seen r l.cells) (map tree (drop l.e-index l.all)))
 
 abbrev pub invariant-forms::eval_rows-loop-row : goal.invariant-forms::eval_rows-loop-row
-invariant-forms::eval_rows-loop-row l =
-    loop (row_of_parts (go_of l.level) Untested (scope_of l.level l.scope)) [] (row_trees l.rows) (at_work l.fn.work)
-    ≡ loop (row_of_parts (go_of l.level) Untested (scope_of l.level l.scope)) (row_cells l.all.items) (row_trees (drop l.row-index l.rows)) (at_work l.work)
+invariant-forms::eval_rows-loop-row l = ContinuesBare l.fn.run l.run
+    (λ r. loop (row_of_parts (go_of r l.level) (ctx_of l.level.ctx) (scope_of r l.level l.scope)) [] (row_trees l.rows))
+    (λ r. loop (row_of_parts (go_of r l.level) (ctx_of l.level.ctx) (scope_of r l.level l.scope)) (row_cells_seen r l.all.items) (row_trees (drop l.row-index l.rows)))
 
 abbrev pub invariant-operators::eval_plain-loop-s : goal.invariant-operators::eval_plain-loop-s
-invariant-operators::eval_plain-loop-s l =
-    chain_by (world_in l.level) (go_of l.level) Untested (scope_of l.level l.scope) false (own_operators l.at l.first l.all) (at_work l.fn.work)
-    ≡ operators (world_in l.level) (go_of l.level) Untested (scope_of l.level l.scope) l.place (cell_of l.cell) (operators_at l.at (map step (drop l.s-index l.all))) (at_work l.work)
+invariant-operators::eval_plain-loop-s l = ContinuesBare l.fn.run l.run
+    (λ r. chain_by (world_in r l.level) (go_of r l.level) (ctx_of l.level.ctx) (scope_of r l.level l.scope) false (own_operators l.at l.first l.all))
+    (λ r. operators (world_in r l.level) (go_of r l.level) (ctx_of l.level.ctx) (scope_of r l.level l.scope) l.place (seen r l.cell) (operators_at l.at (map step (drop l.s-index l.all))))
 
-abbrev pub invariant-operators::eval_operators-loop-o : goal.invariant-operators::eval_operators-loop-o
-invariant-operators::eval_operators-loop-o l =
-    operators (world_in l.level) (go_of l.level) Untested (scope_of l.level l.scope) l.fn.first (cell_of l.fn.left_cell) (map operator_of l.all) (at_work l.fn.work)
-    ≡ operators (world_in l.level) (go_of l.level) Untested (scope_of l.level l.scope) l.place (cell_of l.cell) (map operator_of (drop l.o-index l.all)) (at_work l.work)
+abbrev pub invariant-operators::eval_operators-loop-i : goal.invariant-operators::eval_operators-loop-i
+invariant-operators::eval_operators-loop-i l = (ContinuesBare l.fn.run l.run
+    (λ r. operators (world_in r l.level) (go_of r l.level) (ctx_of l.level.ctx) (scope_of r l.level l.scope) l.fn.first (seen r l.fn.left_cell) (map operator_of l.all))
+    (λ r. operators (world_in r l.level) (go_of r l.level) (ctx_of l.level.ctx) (scope_of r l.level l.scope) l.place (seen r l.cell) (map operator_of (drop l.i l.all))))
+    × (map ctx_of l.stack.items ≡ later (ctx_of l.level.ctx) (map operator_of (drop l.i l.all)))
 
-abbrev pub invariant-operators::eval_operands-loop-o : goal.invariant-operators::eval_operands-loop-o
-invariant-operators::eval_operands-loop-o l =
-    operands (world_in l.level) (go_of l.level) (scope_of l.level l.scope) l.fn.first (cell_of l.fn.cell) (map operator_of l.all) (at_work l.fn.work)
-    ≡ append_operands (world_in l.level) (go_of l.level) Untested (scope_of l.level l.scope) (appended_of l.x) (map operator_of (drop l.o-index l.all)) (at_work l.work)
+abbrev pub invariant-operators::eval_operands-loop-i : goal.invariant-operators::eval_operands-loop-i
+invariant-operators::eval_operands-loop-i l = ContinuesBare l.fn.run l.run
+    (λ r. operands (world_in r l.level) (go_of r l.level) (ctx_of l.level.ctx) (scope_of r l.level l.scope) l.fn.first (seen r l.fn.cell) (map operator_of l.all))
+    (λ r. append_operands (world_in r l.level) (go_of r l.level) (ctx_of l.ctx) (scope_of r l.level l.scope) (appended_seen r l.x) (map operator_of (drop l.i l.all)))
 
 abbrev pub invariant-choices::eval_if-loop-b : goal.invariant-choices::eval_if-loop-b
-invariant-choices::eval_if-loop-b l =
-    branches (world_in l.level) (go_of l.level) Untested (map branch l.all) (else_tree l.last) l.node.span (plain_type l.node.ty) (scope_of l.level l.scope) [] (at_work l.fn.work)
-    ≡ branches (world_in l.level) (go_of l.level) Untested (map branch (drop l.b-index l.all)) (else_tree l.last) l.node.span (plain_type l.node.ty) (scope_of l.level l.scope) (pairs_of l.others.items) (at_work l.work)
+invariant-choices::eval_if-loop-b l = ContinuesBare l.fn.run l.run
+    (λ r. branches (world_in r l.level) (go_of r l.level) (ctx_of l.level.ctx) (map branch l.all) (else_tree l.last) l.node.span (plain_type l.node.ty) (scope_of r l.level l.scope) [])
+    (λ r. branches (world_in r l.level) (go_of r l.level) (ctx_of l.level.ctx) (map branch (drop l.b-index l.all)) (else_tree l.last) l.node.span (plain_type l.node.ty) (scope_of r l.level l.scope) (pairs_seen r l.others.items))
 
 abbrev pub invariant-comprehensions::eval_name-loop-made : goal.invariant-comprehensions::eval_name-loop-made
-invariant-comprehensions::eval_name-loop-made l =
-    loop (turn (world_in l.level) l.g.whole.now.at (elements_of l.g.elements.now) l.slots.first l.slots.others.now (from_own_condition l.level l.g) (scope_of l.level l.scope) (occurs_if l.surely)) (made_of l.fn.made) (elements_of l.g.elements.now) (at_work l.fn.work)
-    ≡ loop (turn (world_in l.level) l.g.whole.now.at (elements_of l.g.elements.now) l.slots.first l.slots.others.now (from_own_condition l.level l.g) (scope_of l.level l.scope) (occurs_if l.surely)) (made_of l.made) (turns_left l.left_turns) (at_work l.work)
+invariant-comprehensions::eval_name-loop-made l = ContinuesBare l.fn.run l.run
+    (λ r. loop (turn (world_in r l.level) l.g.whole.now.at (elements_of l.g.elements.now) l.slots.first l.slots.others.now (from_own_condition r l.level l.g) (scope_of r l.level l.scope) (occurs_if l.surely)) (made_seen r l.fn.made) (elements_of l.g.elements.now))
+    (λ r. loop (turn (world_in r l.level) l.g.whole.now.at (elements_of l.g.elements.now) l.slots.first l.slots.others.now (from_own_condition r l.level l.g) (scope_of r l.level l.scope) (occurs_if l.surely)) (made_seen r l.made) (turns_left l.left_turns))
 
 abbrev pub decreases-comprehensions::eval_name-loop-made : goal.decreases-comprehensions::eval_name-loop-made
 decreases-comprehensions::eval_name-loop-made l = length (turns_left l.left_turns)
 
 abbrev pub invariant-locals::eval_items-loop-i : goal.invariant-locals::eval_items-loop-i
-invariant-locals::eval_items-loop-i l =
-    loop (let_item (world_in l.level) (go_of l.level) Untested (scope_of l.level l.scope)) nothing_bound (map item l.items) (at_work l.fn.work)
-    ≡ loop (let_item (world_in l.level) (go_of l.level) Untested (scope_of l.level l.scope)) (names_of l.b) (map item (drop l.i-index l.items)) (at_work l.work)
+invariant-locals::eval_items-loop-i l = ContinuesBare l.fn.run l.run
+    (λ r. loop (let_item (world_in r l.level) (go_of r l.level) (ctx_of l.level.ctx) (scope_of r l.level l.scope)) nothing_bound (map item l.items))
+    (λ r. loop (let_item (world_in r l.level) (go_of r l.level) (ctx_of l.level.ctx) (scope_of r l.level l.scope)) (names_seen r l.b) (map item (drop l.i-index l.items)))
 
 abbrev pub invariant-locals::eval_indices-loop-e : goal.invariant-locals::eval_indices-loop-e
-invariant-locals::eval_indices-loop-e l =
-    index_wants (go_of l.level) Untested (map (option_map tree) l.all) (scope_of l.level l.scope) (at_work l.fn.work)
-    ≡ loop (one_index (go_of l.level) Untested (scope_of l.level l.scope)) (wants_of l.wants.items) (map (option_map tree) (drop l.e-index l.all)) (at_work l.work)
+invariant-locals::eval_indices-loop-e l = ContinuesBare l.fn.run l.run
+    (λ r. index_wants (go_of r l.level) (ctx_of l.level.ctx) (map (option_map tree) l.all) (scope_of r l.level l.scope))
+    (λ r. loop (one_index (go_of r l.level) (ctx_of l.level.ctx) (scope_of r l.level l.scope)) (wants_of l.wants.items) (map (option_map tree) (drop l.e-index l.all)))
 
 abbrev pub invariant-calls::eval_parameters-loop-i : goal.invariant-calls::eval_parameters-loop-i
-invariant-calls::eval_parameters-loop-i l =
-    loop (parameter (go_of l.level) Untested l.var (world_in l.level).top) nothing_bound (arguments_of l.params l.all l.cells) (at_work l.fn.work)
-    ≡ loop (parameter (go_of l.level) Untested l.var (world_in l.level).top) (names_of l.b) (arguments_of (drop l.i l.params) (drop l.i l.all) (drop l.i l.cells)) (at_work l.work)
+invariant-calls::eval_parameters-loop-i l = ContinuesBare l.fn.run l.run
+    (λ r. loop (parameter (go_of r l.level) (ctx_of l.level.ctx) l.var (world_in r l.level).top) nothing_bound (arguments_of l.params l.all l.cells))
+    (λ r. loop (parameter (go_of r l.level) (ctx_of l.level.ctx) l.var (world_in r l.level).top) (names_seen r l.b) (arguments_of (drop l.i l.params) (drop l.i l.all) (drop l.i l.cells)))

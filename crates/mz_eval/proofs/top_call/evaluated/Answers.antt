@@ -1,3 +1,4 @@
+use Rattle.std.proofs.Common.{◌≡◌, ◌+◌, ◌≤◌, IfOk, sym, ap, subst}
 use Rattle.mz_core.specs.TreeViews.{tree}
 use Rattle.mz_meaning.proofs.Causes.{eval_well}
 use Rattle.mz_meaning.specs.Contexts.{Untested}
@@ -12,10 +13,12 @@ pub returns-clause-kinds : goal.returns-clause-kinds
 returns-clause-kinds c =
     let w = world_of c.args.world.now in
     let env = env_cells c.args.world.now.env.now in
-    meets_few cell_of c.eval_expression.result c.eval_expression.new.work (at_work c.args.work.now) (eval w c.args.left Untested (tree c.args.e.now) env) (eval_well w c.args.left (tree c.args.e.now) env) c.eval_expression.ensures
+    meets_few cell_of c.eval_expression-cell.result c.eval_expression-cell.new.run.work (at_work c.after-run.result.work) (eval w c.args.left Untested (tree c.args.e.now) env) (eval_well w c.args.left (tree c.args.e.now) env) c.eval_expression-cell.ensures.means
 
 pub returns-clause-within : goal.returns-clause-within
 returns-clause-within c =
     let w = world_of c.args.world.now in
     let env = env_cells c.args.world.now.env.now in
-    within_budget cell_of c.eval_expression.result c.eval_expression.new.work w c.args.left (tree c.args.e.now) env c.args.work.now c.requires c.eval_expression.ensures
+    let spent : c.after-run.result.work ≡ c.args.work.now = ap (λ r. r.work) c.after-run.ensures in
+    subst (λ n. IfOk c.eval_expression-cell.result (λ _. n ≤ w.budget + 1)) (sym c.work.ensures)
+    (within_budget cell_of c.eval_expression-cell.result c.eval_expression-cell.new.run.work w c.args.left (tree c.args.e.now) env c.after-run.result.work (subst (λ k. k ≤ w.budget + 1) (sym spent) c.requires) c.eval_expression-cell.ensures.means)

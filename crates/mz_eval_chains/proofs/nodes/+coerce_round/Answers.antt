@@ -10,19 +10,19 @@ use Rattle.mz_eval_chains.proofs.Layers.{coerced_round}
 use Rattle.mz_eval_chains.proofs.Runs.{meets_is, meets_err}
 use Rattle.mz_eval_chains.proofs.nodes.+coerce_round.Goals as goal
 
-pub returns-in_ok-cell-in-Coerce : goal.returns-in_ok-cell-in-Coerce
-returns-in_ok-cell-in-Coerce t c =
+pub returns-in_ok-cell-in-Coerce-clause-means : goal.returns-in_ok-cell-in-Coerce-clause-means
+returns-in_ok-cell-in-Coerce-clause-means t c =
     let w = world_of c.args.world.now in
-    meets_is cell_of c.coerce_once.result c.coerce_once.new.work _ _
-    (coerced_round w c.args.at c.args.e.now c.deref.result.now _ _ (cell_of c.args.k) (at_work c.args.work.now) c.in-Coerce.is c.deref.ensures
-    ∙ ap (λ a. then_do a (λ next. coerced_once w c.args.at next (c.in-Coerce.c, plain_type c.args.e.now.ty))) c.in_ok-cell-in-Coerce.ensures)
-    c.coerce_once.ensures
+    meets_is cell_of c.coerce_once.result c.coerce_once.new.run.work _ _
+    (coerced_round w c.args.at c.args.e.now c.deref.result.now _ _ (cell_of c.args.k) (at_work c.args.run.now.work) c.in-Coerce.is c.deref.ensures
+    ∙ ap (λ a. then_do a (λ next. coerced_once w c.args.at next (c.in-Coerce.c, plain_type c.args.e.now.ty))) c.in_ok-cell-in-Coerce.ensures.means)
+    c.coerce_once.ensures.means
 
-pub returns-in_err-cell-in-Coerce : goal.returns-in_err-cell-in-Coerce
-returns-in_err-cell-in-Coerce t c =
+pub returns-in_err-cell-in-Coerce-clause-means : goal.returns-in_err-cell-in-Coerce-clause-means
+returns-in_err-cell-in-Coerce-clause-means t c =
     let p = err_from_is_err_and c.from_residual.result c.from_residual.ensures.1 in
     let w = world_of c.args.world.now in
-    let n = c.coerce_round.new.work in
+    let n = c.coerce_round.new.run.work in
     rw (p.1, p.2) (meets_is cell_of (Err c.in_err-cell-in-Coerce.field-0.0) n _ _
-    (coerced_round w c.args.at c.args.e.now c.deref.result.now _ _ (cell_of c.args.k) (at_work c.args.work.now) c.in-Coerce.is c.deref.ensures)
-    (meets_err cell_of cell_of c.in_err-cell-in-Coerce.field-0.0 n n _ (λ next. coerced_once w c.args.at next (c.in-Coerce.c, plain_type c.args.e.now.ty)) c.in_err-cell-in-Coerce.ensures))
+    (coerced_round w c.args.at c.args.e.now c.deref.result.now _ _ (cell_of c.args.k) (at_work c.args.run.now.work) c.in-Coerce.is c.deref.ensures)
+    (meets_err cell_of cell_of c.in_err-cell-in-Coerce.field-0.0 n n _ (λ next. coerced_once w c.args.at next (c.in-Coerce.c, plain_type c.args.e.now.ty)) c.in_err-cell-in-Coerce.ensures.means))
