@@ -4,3 +4,4 @@ pub mod Totaling
 pub mod Seeding
 pub mod Rooting
 pub mod Parting
+pub mod Aiming

@@ -1,12 +1,12 @@
 -- Posting roots, one after the other.
-use Rattle.std.proofs.Common.{◌≡◌, ℕ, zero, suc, ◌+◌, ◌<◌, ℤ, pos, Bool, true, false, List, [], ◌∷◌, ◌++◌, length, map, take, Option, Some, None, IsSome, slice_get, refl, sym, ap, subst, ◌∙◌, arith}
+use Rattle.std.proofs.Common.{◌≡◌, ℕ, zero, suc, ◌+◌, ◌<◌, pos, Bool, true, false, List, [], ◌∷◌, ◌++◌, length, map, take, Option, Some, None, IsSome, slice_get, refl, sym, ap, subst, ◌∙◌, arith}
 use Rattle.std.specs.Prelude.{Result, Ok, Err, IfOk, OnOk}
 use Rattle.std.specs.Ordering.{int_eq}
 use Rattle.std.specs.List.{AllByRecursion}
 use Rattle.mz_arena.specs.declared.node.Node.{Node}
 use Rattle.mz_arena.specs.declared.node.NodeKind.{NodeKind}
 use Rattle.mz_arena.specs.declared.node.NodeKind.TheVariants as kinds
-use Rattle.mz_arena.specs.Entries.{Entry, at, arity}
+use Rattle.mz_arena.specs.Entries.{Entry, at, arity, is_free, is_local}
 use Rattle.mz_arena.specs.Values as terms
 use Rattle.mz_arena.specs.Values.{is_true}
 use Rattle.mz_arena.specs.Terms.{term, kind_term}
@@ -25,7 +25,7 @@ use Rattle.flat_reif.specs.Below.{FlattenedBelow}
 use Rattle.flat_reif.specs.Roots.{Posted, IsTrueAt, Never, HasTest}
 use Rattle.flat_reif.proofs.Steps.{spreads_same}
 use Rattle.flat_reif.proofs.Nodes.{term_here}
-use Rattle.flat_root.specs.Keeps.{Keeps, IsReadyState, Leads, AllTrue}
+use Rattle.flat_root.specs.Keeps.{Keeps, IsReadyState, Leads, AllTrue, HasChoices, FlattenedFor}
 use Rattle.flat_root.specs.Marks.{AreMarked, AreTotalIds}
 use Rattle.flat_root.specs.Totals.{AreRoots, AreRootParts, Totals}
 use Rattle.flat_root.specs.Parts.{AreSplit}
@@ -33,7 +33,7 @@ use Rattle.flat_root.specs.Posts.{is_constant, seeds_by, seeds_of, seeds_at, all
 use Rattle.flat_root.proofs.Marking.{take_next}
 use Rattle.flat_root.proofs.Keeping.{keeps_spread, keeps_twice, keeps_where, fewer_domains}
 use Rattle.flat_root.proofs.Totaling.{true_later, root_later, true_both, true_first, true_second}
-use Rattle.flat_root.proofs.Seeding.{seeds_are, all_seeds_total, roots_of, postable, marked_given}
+use Rattle.flat_root.proofs.Seeding.{seeds_are, roots_of, postable, marked_given}
 
 -- ---- arguments are kept
 
@@ -153,21 +153,31 @@ posted_all s t parts k whole f = subst (λ is. Leads s t (AllTrue s.es is)) whol
 
 -- ---- all of it
 
-total_place : (es : List Entry) (id : ℕ) → IsTotal es id → id < length es
+pub total_place : (es : List Entry) (id : ℕ) → IsTotal es id → id < length es
 total_place es id (is_total _ e is some kids) = get-below es id e is
 
-total_places : (es : List Entry) (is : List ℕ) → AreTotalIds es is → AllByRecursion (λ i. i < length es) is
+pub total_places : (es : List Entry) (is : List ℕ) → AreTotalIds es is → AllByRecursion (λ i. i < length es) is
 total_places es [] h = tt
 total_places es (i ∷ is) h = (total_place es i h.0, total_places es is h.1)
 
 pub flat_ready : (t u : State) → IsReadyState t → Flattened t u → IsReadyState u
 flat_ready t u r f = record { state = f.state; front = front_spread t u Always f.spreads r.front }
 
-pub parts_postable : (t u : State) (parts : List ℕ) (need : List Bool) (upto : ℕ) → AreRootParts t.es parts → AreMarked need (all_seeds t.es parts) → upto ≡ length t.es → FlattenedBelow t u need upto → ArePostable u parts
-parts_postable t u parts need upto each marked count f =
+pub flattened_for : (t u : State) (need : List Bool) (upto : ℕ) (ids : List ℕ) → AreTotalIds t.es ids → AreMarked need ids → upto ≡ length t.es → FlattenedBelow t u need upto → FlattenedFor t u ids
+flattened_for t u need upto ids total marked count f =
     let same = f.flattened.spreads.same in
-    let given : AllByRecursion (IsGiven u) (all_seeds t.es parts) = marked_given t u need upto (all_seeds t.es parts) f (subst (λ m. AllByRecursion (λ i. i < m) (all_seeds t.es parts)) (sym count) (total_places t.es (all_seeds t.es parts) (all_seeds_total t.es parts each))) marked in
-    postable u f.flattened.state parts (subst (λ es. AreRoots es parts) (sym same) (roots_of t.es parts each)) (subst (λ es. AllByRecursion (IsGiven u) (all_seeds es parts)) (sym same) given)
+    record {
+      flattened = f.flattened;
+      given = marked_given t u need upto ids f (subst (λ m. AllByRecursion (λ i. i < m) ids) (sym count) (total_places t.es ids total)) marked;
+      choices = λ id e is local.
+          let was : slice_get t.es id ≡ Some e = ap (λ es. slice_get es id) (sym same) ∙ is in
+          f.choices id e (subst (λ m. id < m) (sym count) (get-below t.es id e was)) was local;
+    }
+
+pub parts_postable : (t u : State) (parts seeds : List ℕ) → AreRootParts t.es parts → seeds ≡ all_seeds t.es parts → FlattenedFor t u seeds → ArePostable u parts
+parts_postable t u parts seeds each are f =
+    let same = f.flattened.spreads.same in
+    postable u f.flattened.state parts (subst (λ es. AreRoots es parts) (sym same) (roots_of t.es parts each)) (subst (λ es. AllByRecursion (IsGiven u) (all_seeds es parts)) (sym same) (subst (AllByRecursion (IsGiven u)) are f.given))
 
 pub roots_posted : (s t u w : State) (roots parts : List ℕ) → Totals s t roots parts → Flattened t u → Leads u w (AllTrue u.es parts) → Leads s w (AllTrue s.es roots)
 roots_posted s t u w roots parts f g h =
@@ -202,3 +212,19 @@ totals_split s t roots terms parts f p = record {
   to = λ v d y. p.to v (f.to v d y);
   from = λ v d y. f.from v d (p.from v y);
 }
+
+-- ---- choices
+
+choice_free : (k : NodeKind) → is_local k ≡ true → is_free k ≡ true
+choice_free kinds.Local h = refl
+choice_free kinds.SetLocal h = refl
+choice_free _ h = absurd (cc)
+
+pub choices_later : (u w : State) (C : terms.Values → Type 0) → HasChoices u → Leads u w C → HasChoices w
+choices_later u w C h l id e is local =
+    let x = l.keeps.extends in
+    let below : id < length u.es = x.frees id e is (choice_free e.node.kind local) in
+    has_later u w l.keeps.keeps id (h id e (sym (x.grew.same id below) ∙ is) local)
+
+pub choices_flat : (u w : State) → HasChoices u → Flattened u w → HasChoices w
+choices_flat u w h f id e is local = has_later u w f.spreads.keeps id (h id e (ap (λ es. slice_get es id) (sym f.spreads.same) ∙ is) local)

@@ -1,5 +1,5 @@
 -- Roots as total terms, one after the other.
-use Rattle.std.proofs.Common.{◌≡◌, ℕ, zero, suc, ◌+◌, ◌<◌, Bool, true, false, ◌&&◌, List, [], ◌∷◌, ◌++◌, length, take, Some, None, IsSome, slice_get, refl, sym, ap, subst, ◌∙◌, arith}
+use Rattle.std.proofs.Common.{◌≡◌, ℕ, zero, suc, ◌+◌, ◌<◌, Bool, true, false, List, [], ◌∷◌, ◌++◌, length, take, Some, None, IsSome, slice_get, refl, sym, ap, subst, ◌∙◌, arith}
 use Rattle.std.specs.List.{AllByRecursion}
 use Rattle.mz_arena.specs.Entries.{Entry}
 use Rattle.mz_arena.specs.Values as terms
@@ -37,7 +37,7 @@ old_true : (d t o : Term) (b : Bool) (w : Val) → d ≡ bit b → t ≡ Some w 
 old_true d t o true w hd ht ho y z = ap is_true ho ∙ sym (ap is_true ht) ∙ z
 old_true d t o false w hd ht ho y z = let no : is_true (bit false) ≡ true = sym (ap is_true hd) ∙ y in absurd (cc)
 
-truth_node : (es : List Entry) (id : ℕ) → IsTruth es id → IsTruthNode es id
+pub truth_node : (es : List Entry) (id : ℕ) → IsTruth es id → IsTruthNode es id
 truth_node es id t = subst (λ (x : Known). IsSome (as_truth x)) (sym t.is) refl
 
 node_truth : (es : List Entry) (i j : ℕ) → extent es i ≡ extent es j → IsTruthNode es j → IsTruthNode es i

@@ -3,3 +3,4 @@ pub mod Keeps
 pub mod Totals
 pub mod Posts
 pub mod Parts
+pub mod Objectives

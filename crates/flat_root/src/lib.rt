@@ -11,10 +11,13 @@ macro_rules! given {
     };
 }
 
+mod given;
 mod marks;
+mod objective;
 mod parts;
 mod posts;
 mod totals;
 
 pub use marks::needed_for;
+pub use objective::post_objective;
 pub use posts::post_roots;

@@ -6,11 +6,11 @@ ghost use Rattle.mz_partial.specs.Totals.{AreParts};
 ghost use Rattle.flat_reif.specs.States.{state};
 ghost use Rattle.flat_reif.specs.Lists.{IsNode};
 ghost use Rattle.flat_reif.specs.Roots.{IsTrueAt};
-ghost use Rattle.flat_root.specs.Keeps.{AllTrue, IsReadyState, Leads};
+ghost use Rattle.flat_root.specs.Keeps.{AllTrue, HasChoices, IsReadyState, Leads};
 ghost use Rattle.flat_root.specs.Totals.{AreRoots, Totals};
 ghost use Rattle.flat_root.specs.Posts.{ArePostable, IsPostable, all_seeds, is_constant, seeds_at};
 
-use crate::marks::needed_for;
+use crate::given::flatten_for;
 use crate::parts::split;
 use crate::totals::totals;
 use flat_reif::Flat;
@@ -136,7 +136,7 @@ fn root_parts(
 ///
 /// Each is made total, and conjunctions are taken apart; what the rows of the parts take gets its arguments;
 /// and then each part is posted, once and in order. A comparison, a disjunction, an equivalence or another
-/// test is one row without a variable of its own.
+/// test is one row without a variable of its own. Each choice gets a variable.
 pub fn post_roots(
     alloc: Global,
     flat: &mut Flat,
@@ -147,12 +147,11 @@ pub fn post_roots(
     requires memo { AreParts (state flat.old).es memo.old }
     requires roots { AreRoots (state flat.old).es roots.now }
     ensures posted { IfOk result (λ _. Leads (state flat.old) (state flat.new) (AllTrue (state flat.old).es roots.now)) }
+    ensures choices { IfOk result (λ _. HasChoices (state flat.new)) }
     ensures memo { OnOk result (AreParts (state flat.new).es memo.new) }
 {
     let parts = given!(root_parts(alloc, flat, memo, roots));
     let seeds = given!(all_seeds(alloc, flat.arena(), parts.as_slice()));
-    let need = given!(needed_for(alloc, flat.arena(), seeds.as_slice()));
-    let count = flat.arena().len();
-    given!(flat.flatten_below(count, &need));
+    given!(flatten_for(alloc, flat, seeds.as_slice()));
     post_parts(flat, parts.as_slice())
 }

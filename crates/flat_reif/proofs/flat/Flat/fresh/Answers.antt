@@ -1,4 +1,4 @@
-use Rattle.std.proofs.Common.{◌≡◌, map, ap, subst, sym, ◌∙◌}
+use Rattle.std.proofs.Common.{map, ap, subst, sym, ◌∙◌}
 use Rattle.fz_program.specs.declared.row_name.RowName.TheVariants.{IntLinEq}
 use Rattle.fz_program.specs.Arguments.{argument, plain}
 use Rattle.flat_reif_rows.specs.Making.{MayGive, Gives}

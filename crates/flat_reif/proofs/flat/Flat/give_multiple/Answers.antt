@@ -1,4 +1,4 @@
-use Rattle.std.proofs.Common.{◌≡◌, ℤ, ◌∷◌, [], subst, sym, rules, w64, to_z, of_z}
+use Rattle.std.proofs.Common.{◌≡◌, ◌∷◌, [], subst, sym, rules, w64, to_z, of_z}
 use Rattle.std.proofs.lemmas.Int.{to_z-of_z}
 use Rattle.mz_arena.specs.declared.node.NodeKind.TheVariants.{Mul}
 use Rattle.fz_program.specs.Arguments.{plain, int}
