@@ -1,5 +1,5 @@
 -- Faults of output items.
-use Rattle.std.proofs.Common.{◌≡◌, ℕ, List, ap}
+use Rattle.std.proofs.Common.{ap}
 use Rattle.mz_meaning.specs.Runs.{then_do}
 use Rattle.mz_output.specs.Output.{joined_items, FaultsComeFirst}
 
