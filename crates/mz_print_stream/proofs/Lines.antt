@@ -1,12 +1,10 @@
 -- The first line of some bytes, and of these with more bytes after them.
-use Rattle.std.proofs.Common.{◌≡◌, ℕ, ◌<◌, ◌+◌, List, [], ◌∷◌, ◌++◌, length, take, drop, Bool, true, false, cond, eqb, ltb, refl, sym, ap, ◌∙◌, arith, rules, tests, inl, inr}
-use Rattle.std.proofs.lemmas.Bool.{false≢true, eqb-true}
-use Rattle.std.proofs.lemmas.List.{drop-append-le, take-append-le, length-append, length-drop}
-use Rattle.std.proofs.lemmas.List.Folds.{prefix_len-append}
-use Rattle.soln_reader_items.specs.Bytes.{is_no_newline}
+use Rattle.std.proofs.Common.{◌≡◌, ℕ, ◌<◌, ◌+◌, List, [], ◌∷◌, ◌++◌, length, Bool, true, false, refl, sym, ◌∙◌, arith, inl, inr}
+use Rattle.std.proofs.lemmas.Bool.{false≢true}
+use Rattle.std.proofs.lemmas.List.{length-append, length-drop}
 use Rattle.soln_reader_items.specs.Forms.{Form}
 use Rattle.soln_reader.specs.Blocks.{Block}
-use Rattle.soln_reader.specs.Stream.{Event, Outcome, leaves, gives, is_bad, line_len, line_limit, is_too_long, has_line, first_line, chopped, after_line, line_outcome, outcome}
+use Rattle.soln_reader.specs.Stream.{Event, Outcome, leaves, gives, is_bad, line_len, line_limit, has_line, after_line, line_outcome, outcome}
 use Rattle.soln_reader.proofs.LineLemmas.{last_line, long_outcome, long_line, ended_line, len_grows}
 use Rattle.soln_reader.proofs.CutLemmas.{len_more, after_more, outcome_more, newline_or_bad, some_line}
 
