@@ -1,0 +1,5 @@
+pub mod Arrays
+pub mod Caps
+pub mod Outside
+pub mod Parts
+pub mod Told
