@@ -15,7 +15,7 @@ use Rattle.mz_meaning.specs.Forms.{World}
 use Rattle.mz_eval_cells.specs.declared.types.Known.{Known}
 use Rattle.mz_symbol.specs.Readings.{Reading}
 use Rattle.mz_eval_scopes.specs.declared.types.Scope.{Scope}
-use Rattle.mz_eval_scopes.specs.Seen.{seen}
+use Rattle.mz_eval_cells.specs.Views.{seen}
 use Rattle.mz_eval_nodes.specs.Views.{pairs_seen}
 use Rattle.mz_eval.specs.declared.types.Level.{Level}
 use Rattle.mz_eval.specs.Levels.{in_scope}

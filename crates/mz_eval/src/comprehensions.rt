@@ -5,7 +5,7 @@ ghost use Rattle.mz_core.specs.TreeViews.{tree, gen};
 ghost use Rattle.mz_meaning.specs.Comprehensions.{comprehension};
 ghost use Rattle.mz_eval_arrays.specs.Gathered.{occurs_if};
 ghost use Rattle.mz_symbol.specs.Makes.{GoesOn, MeansBare};
-ghost use Rattle.mz_eval_scopes.specs.Seen.{seen};
+ghost use Rattle.mz_eval_cells.specs.Views.{seen};
 ghost use Rattle.mz_eval_nodes.specs.Views.{made_seen, turn_seen};
 ghost use Rattle.mz_eval.specs.Levels.{scope_of, at_node};
 ghost use Rattle.mz_eval.specs.Comprehensions.{from_head, from_generators, from_condition, from_own_condition, from_names, from_value};

@@ -6,9 +6,8 @@ ghost use Rattle.mz_core.specs.Program.{function};
 ghost use Rattle.mz_core.specs.TreeViews.{tree, decl};
 ghost use Rattle.mz_meaning.specs.Arrays.{Anything};
 ghost use Rattle.mz_meaning.specs.Calls.{argument_suits};
-ghost use Rattle.mz_eval_cells.specs.Views.{cell_of, sure_of};
+ghost use Rattle.mz_eval_cells.specs.Views.{cell_of, sure_of, seen};
 ghost use Rattle.mz_symbol.specs.Makes.{GoesOn, MeansBare};
-ghost use Rattle.mz_eval_scopes.specs.Seen.{seen};
 ghost use Rattle.mz_eval.specs.Levels.{in_scope};
 ghost use Rattle.mz_eval.specs.PlainCalls.{IsPlain, ArePlain, IsPlainAt, called_on_all, call_goes_on};
 

@@ -19,7 +19,8 @@ use crate::placing::{Places, with_reached};
 use mz_builtin_arguments::union;
 use mz_core::TypeInst;
 use mz_eval_cells::{
-    Bound, Item, Known, all_par, is_par, is_set_base, scalar_bound, seen, undefined,
+    Bound, Item, Known, all_par, copied_cell, is_par, is_set_base, scalar_bound, undefined,
+    var_value,
 };
 use mz_value::{RangeSet, Value};
 use std::alloc::{AllocError, Global};
@@ -36,7 +37,7 @@ fn value_at(alloc: Global, items: &[Value], n: u64) -> Result<Known, AllocError>
 {
     match nth(items, n) {
         None => Ok(undefined()),
-        Some(v) => seen(alloc, v),
+        Some(v) => copied_cell(alloc, v),
     }
 }
 
@@ -156,11 +157,11 @@ fn elements_reached(alloc: Global, a: &Known, ends: &[(i64, i64)]) -> Result<Vec
             array_reached(alloc, index.as_slice(), items.as_slice(), ends)
         }
         Known::Var(_) => Ok(Vec::new(alloc)),
-        Known::Row(index, bounds) => reached_in(
+        Known::Row(index, xs) => reached_in(
             alloc,
             index.as_slice(),
             ends,
-            Places::Bounds(bounds.as_slice()),
+            Places::Bounds(xs.bounds.as_slice()),
         ),
         Known::Unshaped(d) => Ok(unshaped_reached(alloc, *d, ends)),
     }
@@ -246,7 +247,8 @@ fn open_access(alloc: Global, t: &TypeInst, a: &Known, at: &[Known]) -> Result<K
 {
     let ends = index_ends(alloc, at)?;
     let reached = elements_reached(alloc, a, &ends)?;
-    Ok(Known::Var(hull_over(alloc, t, &reached)?))
+    let bound = hull_over(alloc, t, &reached)?;
+    var_value(alloc, bound)
 }
 
 /// The element of an array at these indices, of this type.

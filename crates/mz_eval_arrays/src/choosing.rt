@@ -264,7 +264,7 @@ fn branches_cell(alloc: Global, t: &TypeInst, at: Span, all: &[Bounds]) -> Resul
                 return Err(mismatch(at));
             }
             let b = if_bounds(alloc, first, rest)?;
-            Ok(var_cell(b))
+            Ok(var_cell(alloc, b)?)
         }
     }
 }

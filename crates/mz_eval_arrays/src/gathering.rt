@@ -6,7 +6,7 @@ ghost use Rattle.mz_meaning.specs.Cells.{par_value};
 ghost use Rattle.mz_eval_cells.specs.Views.{cell_of, cells_of, item_content};
 ghost use Rattle.mz_eval_arrays.specs.Gathered.{gathered};
 
-use mz_eval_cells::{Item, Known, seen};
+use mz_eval_cells::{Item, Known, copied_cell};
 use mz_value::Value;
 use std::alloc::{AllocError, Global};
 
@@ -67,7 +67,7 @@ fn all_seen(alloc: Global, items: &[Value]) -> Result<Vec<Known>, AllocError>
 {
     let mut all = Vec::new(alloc);
     for x in items {
-        let k = seen(alloc, x)?;
+        let k = copied_cell(alloc, x)?;
         all.push(k)?;
     }
     Ok(all)

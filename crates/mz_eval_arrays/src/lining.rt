@@ -19,10 +19,9 @@ use crate::gathering::Gathered;
 use crate::joining::{all_values, cell_bounds, from_one};
 use crate::numbering::{numbers_of_cells, numbers_of_values, set_of_numbers};
 use mz_core::TypeInst;
-use mz_eval_cells::{Known, all_par, array, enum_in, set, undefined};
+use mz_eval_cells::{Known, all_par, array, enum_in, set, undefined, var_items};
 use mz_value::Value;
 use std::alloc::{AllocError, Global};
-use std::rc::Rc;
 
 fn line_of_values(alloc: Global, items: Vec<Value>) -> Result<Known, AllocError>
     ensures { IfOk result (λ k. cell_of k ≡ par_value (line (map content items.items))) }
@@ -46,8 +45,7 @@ fn var_line(alloc: Global, all: &[Known]) -> Result<Known, AllocError>
 {
     let bounds = cell_bounds(alloc, all)?;
     let index = from_one(alloc, bounds.len())?;
-    let ranges = Rc::new(alloc, index)?;
-    Ok(Known::Row(ranges, Rc::new(alloc, bounds)?))
+    var_items(alloc, index, bounds)
 }
 
 fn line_of_cells(alloc: Global, all: &[Known]) -> Result<Known, AllocError>

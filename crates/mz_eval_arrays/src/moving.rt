@@ -7,7 +7,7 @@ ghost use Rattle.mz_meaning.specs.Comprehensions as comprehensions;
 ghost use Rattle.mz_eval_cells.specs.Views.{cell_of};
 ghost use Rattle.mz_eval_arrays.specs.Gathered.{occurs_if};
 
-use mz_eval_cells::{Known, bounds_in, share, var_cell};
+use mz_eval_cells::{Known, bounds_in, share, var_cell, var_items};
 use std::alloc::{AllocError, Global};
 use std::rc::Rc;
 
@@ -24,13 +24,12 @@ pub fn moved(alloc: Global, index: Vec<(i64, i64)>, k: &Known) -> Result<Known, 
             Ok(Known::Array(ranges, items.clone()?))
         }
         Known::Var(_) => {
-            let ranges = Rc::new(alloc, index)?;
-            let none = Rc::new(alloc, Vec::new(alloc))?;
-            Ok(Known::Row(ranges, none))
+            let none = Vec::new(alloc);
+            var_items(alloc, index, none)
         }
-        Known::Row(_, bounds) => {
+        Known::Row(_, items) => {
             let ranges = Rc::new(alloc, index)?;
-            Ok(Known::Row(ranges, bounds.clone()?))
+            Ok(Known::Row(ranges, items.clone()?))
         }
         Known::Unshaped(_) => share(k),
     }
@@ -44,6 +43,6 @@ pub fn present(alloc: Global, surely: bool, k: Known) -> Result<Known, AllocErro
         Ok(k)
     } else {
         let b = bounds_in(alloc, &k)?;
-        Ok(var_cell(b))
+        var_cell(alloc, b)
     }
 }

@@ -13,9 +13,9 @@ ghost use Rattle.mz_eval_cells.specs.Views.{cell_of, item_content, known_bound};
 ghost use Rattle.mz_eval_arrays.specs.Gathered.{elements_of};
 
 use mz_core::Base;
-use mz_eval_cells::{Bound, Item, Known, enum_in, one, ranges_of, share_bound};
+use mz_eval_cells::{Bound, Item, Known, enum_in, one, ranges_of, share_bound, var_value};
 use mz_value::{RangeSet, Value};
-use std::alloc::AllocError;
+use std::alloc::{AllocError, Global};
 
 /// What a generator runs over, in its order.
 #[derive(Clone, Copy)]
@@ -41,10 +41,11 @@ pub fn element(of: Option<u64>, n: i64) -> Known
 }
 
 /// An element of a var array with these bounds.
-pub fn place(b: &Bound) -> Result<Known, AllocError>
+pub fn place(alloc: Global, b: &Bound) -> Result<Known, AllocError>
     ensures { IfOk result (λ x. cell_of x ≡ Var (bounds.one (known_bound b.now)) None) }
 {
-    Ok(Known::Var(share_bound(b)?))
+    let bound = share_bound(b)?;
+    var_value(alloc, bound)
 }
 
 fn item_elements(base: Base, i: &Item) -> Elements<'_>
@@ -97,8 +98,8 @@ pub fn elements_in(base: Base, k: &Known) -> Elements<'_>
         Known::Undefined => Elements::Nothing,
         Known::One(i) => item_elements(base, i),
         Known::Array(_, items) => array_elements(items.as_slice()),
-        Known::Var(b) => bound_elements(base, b),
-        Known::Row(_, all) => row_elements(all.as_slice()),
+        Known::Var(v) => bound_elements(base, &v.bound),
+        Known::Row(_, xs) => row_elements(xs.bounds.as_slice()),
         Known::Unshaped(_) => Elements::Nothing,
     }
 }

@@ -11,9 +11,8 @@ ghost use Rattle.mz_eval_cells.specs.Views.{cell_of, cells_of};
 
 use crate::joining::{all_values, cell_bounds};
 use mz_base::{Fault, Kind, Span, Stop};
-use mz_eval_cells::{Known, all_par, array, share, undefined};
+use mz_eval_cells::{Known, all_par, array, share, undefined, var_items};
 use std::alloc::{AllocError, Global};
-use std::rc::Rc;
 
 fn push_shared(all: &mut Vec<Known>, row: &[Known]) -> Result<(), AllocError>
     ensures { OnOk result (cells_of all.new.items ≡ cells_of all.old.items ++ cells_of row.now) }
@@ -82,8 +81,7 @@ fn var_table(alloc: Global, ranges: Vec<(i64, i64)>, all: &[Known]) -> Result<Kn
     ensures { IfOk result (λ k. cell_of k ≡ Var (bounds.many ranges.items (map (λ c. cells.scalar_bound (cells.bounds_in c)) (cells_of all.now))) None) }
 {
     let bounds = cell_bounds(alloc, all)?;
-    let index = Rc::new(alloc, ranges)?;
-    Ok(Known::Row(index, Rc::new(alloc, bounds)?))
+    var_items(alloc, ranges, bounds)
 }
 
 fn mismatch(at: Span) -> Stop

@@ -15,7 +15,7 @@ widened_par false k e = refl
 widened_par true known.Undefined e = refl
 widened_par true (known.One i) e = refl
 widened_par true (known.Array ix xs) e = refl
-widened_par true (known.Var b) e = absurd (cc)
+widened_par true (known.Var x) e = absurd (cc)
 widened_par true (known.Row ix bs) e = absurd (cc)
 widened_par true (known.Unshaped d) e = absurd (cc)
 
@@ -24,7 +24,7 @@ widened_other false k e = refl
 widened_other true known.Undefined e = refl
 widened_other true (known.One i) e = refl
 widened_other true (known.Array ix xs) e = refl
-widened_other true (known.Var b) e = absurd (cc)
+widened_other true (known.Var x) e = absurd (cc)
 widened_other true (known.Row ix bs) e = absurd (cc)
 widened_other true (known.Unshaped d) e = refl
 
@@ -32,7 +32,7 @@ pub widened_var : (k : Known) → has_bounds (cell_of k) ≡ true → widened tr
 widened_var known.Undefined e = absurd (cc)
 widened_var (known.One i) e = absurd (cc)
 widened_var (known.Array ix xs) e = absurd (cc)
-widened_var (known.Var b) e = refl
+widened_var (known.Var x) e = refl
 widened_var (known.Row ix bs) e = refl
 widened_var (known.Unshaped d) e = absurd (cc)
 
@@ -40,7 +40,7 @@ pub kept_true : (k : Known) → kept_if Bare true (cell_of k) ≡ cell_of k
 kept_true known.Undefined = refl
 kept_true (known.One i) = refl
 kept_true (known.Array ix xs) = refl
-kept_true (known.Var b) = refl
+kept_true (known.Var x) = refl
 kept_true (known.Row ix bs) = refl
 kept_true (known.Unshaped d) = refl
 

@@ -1,10 +1,13 @@
--- What cells in code stand for. No var cell has a value here.
+-- What cells in code stand for: without values, and under a reading.
 use Rattle.std.specs.Prelude.{Bool, List, map, Option, Some, None}
+use Rattle.mz_value.specs.Ranges.{Range}
 use Rattle.mz_value.specs.Contents.{Content, content, contents, text_bytes}
 use Rattle.mz_value.specs.Contents as values
 use Rattle.mz_operations.specs.Bounds as bounds
 use Rattle.mz_meaning.specs.Cells as cells
 use Rattle.mz_meaning.specs.Cells.{Cell, Par, Var, Unshaped, Test, Settled, Open}
+use Rattle.mz_symbol.specs.Readings.{Reading}
+use Rattle.mz_symbol.specs.Sights.{Sight, blind, sight}
 use Rattle.mz_eval_cells.specs.declared.types.Item.{Item}
 use Rattle.mz_eval_cells.specs.declared.types.Item.TheVariants as item
 use Rattle.mz_eval_cells.specs.declared.types.Bound.{Bound}
@@ -31,13 +34,29 @@ item_content item.Absent = values.absent
 item_content (item.Set s) = values.set s.value.of s.value.ranges
 item_content (item.Text t) = values.text (text_bytes t.value)
 
+abbrev pub array_of : List Range → Option (List Content) → Option Content
+array_of ix None = None
+array_of ix (Some xs) = Some (values.array ix (contents xs))
+
+-- what is told of var cells by their symbols and the numbers of their arrays
+abbrev pub cell_by : Sight → Known → Cell
+cell_by v known.Undefined = Par None
+cell_by v (known.One i) = Par (Some (item_content i))
+cell_by v (known.Array ix xs) = Par (Some (values.array ix.value.items (contents (map content xs.value.items))))
+cell_by v (known.Var x) = Var (bounds.one (known_bound x.value.bound)) (v.symbol x.value.symbol)
+cell_by v (known.Row ix xs) = Var (bounds.many ix.value.items (map known_bound xs.value.bounds.value.items)) (array_of ix.value.items (v.line xs.value.line))
+cell_by v (known.Unshaped d) = Unshaped d
+
+-- without values
 abbrev pub cell_of : Known → Cell
-cell_of known.Undefined = Par None
-cell_of (known.One i) = Par (Some (item_content i))
-cell_of (known.Array ix xs) = Par (Some (values.array ix.value.items (contents (map content xs.value.items))))
-cell_of (known.Var b) = Var (bounds.one (known_bound b)) None
-cell_of (known.Row ix bs) = Var (bounds.many ix.value.items (map known_bound bs.value.items)) None
-cell_of (known.Unshaped d) = Unshaped d
+cell_of k = cell_by blind k
+
+-- under a reading
+abbrev pub seen : Reading → Known → Cell
+seen r k = cell_by (sight r) k
+
+abbrev pub all_seen : Reading → List Known → List Cell
+all_seen r ks = map (seen r) ks
 
 abbrev pub cells_of : List Known → List Cell
 cells_of ks = map cell_of ks

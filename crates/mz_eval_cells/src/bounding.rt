@@ -164,8 +164,8 @@ pub fn bounds_in(alloc: Global, k: &Known) -> Result<Bounds, AllocError>
         Known::Undefined => Ok(Bounds::One(Bound::Number(0, 0))),
         Known::One(i) => item_bounds(alloc, i),
         Known::Array(index, items) => array_bounds(alloc, index, items),
-        Known::Var(b) => Ok(Bounds::One(share_bound(b)?)),
-        Known::Row(index, all) => many_shared(index, all),
+        Known::Var(v) => Ok(Bounds::One(share_bound(&v.bound)?)),
+        Known::Row(index, xs) => many_shared(index, &xs.bounds),
         Known::Unshaped(d) => no_array(alloc, *d),
     }
 }
@@ -193,7 +193,7 @@ pub fn scalar_bound(alloc: Global, k: &Known) -> Result<Bound, AllocError>
         Known::Undefined => Ok(Bound::Number(0, 0)),
         Known::One(i) => item_bound(alloc, i),
         Known::Array(_, _) => Ok(Bound::Number(0, 0)),
-        Known::Var(b) => share_bound(b),
+        Known::Var(v) => share_bound(&v.bound),
         Known::Row(_, _) => Ok(Bound::Number(0, 0)),
         Known::Unshaped(_) => Ok(Bound::Number(0, 0)),
     }

@@ -4,11 +4,12 @@ ghost use Rattle.std.specs.Prelude.{◌≡◌, IfOk, None, map};
 ghost use Rattle.std.specs.Option.{option_map};
 ghost use Rattle.mz_value.specs.Contents as values;
 ghost use Rattle.mz_value.specs.Contents.{content, contents, text_bytes};
+ghost use Rattle.mz_operations.specs.Bounds as bounds;
 ghost use Rattle.mz_meaning.specs.Cells as cells;
 ghost use Rattle.mz_meaning.specs.Cells.{Par, Var, par_value};
-ghost use Rattle.mz_eval_cells.specs.Views.{cell_of, item_content, known_bounds};
+ghost use Rattle.mz_eval_cells.specs.Views.{cell_of, item_content, known_bound, known_bounds};
 
-use crate::types::{Bounds, Item, Known};
+use crate::types::{Bound, Bounds, Item, Known, VarItems, VarValue};
 use mz_builtin_arguments::{copied_items, copied_text};
 use mz_value::{ArrayValue, RangeSet, SetValue, TextValue, Value};
 use std::alloc::{AllocError, Global};
@@ -53,13 +54,53 @@ pub fn text(alloc: Global, t: TextValue) -> Result<Known, AllocError>
     Ok(Known::One(Item::Text(held)))
 }
 
-/// A var cell with these bounds.
-pub fn var_cell(b: Bounds) -> Known
-    ensures { cell_of result ≡ Var (known_bounds b) None }
+/// A var cell that is no array, with these bounds and without a term.
+pub fn var_value(alloc: Global, bound: Bound) -> Result<Known, AllocError>
+    ensures { IfOk result (λ k. cell_of k ≡ Var (bounds.one (known_bound bound)) None) }
+{
+    let value = VarValue {
+        bound,
+        symbol: None,
+    };
+    let held = Rc::new(alloc, value)?;
+    Ok(Known::Var(held))
+}
+
+fn row_held(
+    alloc: Global,
+    index: Rc<Vec<(i64, i64)>>,
+    all: Rc<Vec<Bound>>,
+) -> Result<Known, AllocError>
+    ensures { IfOk result (λ k. cell_of k ≡ Var (bounds.many index.value.items (map known_bound all.value.items)) None) }
+{
+    let items = VarItems {
+        bounds: all,
+        line: None,
+    };
+    let held = Rc::new(alloc, items)?;
+    Ok(Known::Row(index, held))
+}
+
+/// A var array with these index ranges and elements' bounds, and without terms.
+pub fn var_items(
+    alloc: Global,
+    index: Vec<(i64, i64)>,
+    all: Vec<Bound>,
+) -> Result<Known, AllocError>
+    ensures { IfOk result (λ k. cell_of k ≡ Var (bounds.many index.items (map known_bound all.items)) None) }
+{
+    let ranges = Rc::new(alloc, index)?;
+    let held = Rc::new(alloc, all)?;
+    row_held(alloc, ranges, held)
+}
+
+/// A var cell with these bounds, and without terms.
+pub fn var_cell(alloc: Global, b: Bounds) -> Result<Known, AllocError>
+    ensures { IfOk result (λ k. cell_of k ≡ Var (known_bounds b) None) }
 {
     match b {
-        Bounds::One(bound) => Known::Var(bound),
-        Bounds::Many(index, bounds) => Known::Row(index, bounds),
+        Bounds::One(bound) => var_value(alloc, bound),
+        Bounds::Many(index, bounds) => row_held(alloc, index, bounds),
     }
 }
 
@@ -123,7 +164,7 @@ fn array_seen(alloc: Global, a: &ArrayValue) -> Result<Known, AllocError>
 }
 
 /// The par cell of a value that an array holds: a set, a text and an inner array are copied.
-pub fn seen(alloc: Global, v: &Value) -> Result<Known, AllocError>
+pub fn copied_cell(alloc: Global, v: &Value) -> Result<Known, AllocError>
     ensures { IfOk result (λ k. cell_of k ≡ par_value (content v.now)) }
 {
     match v {

@@ -148,7 +148,7 @@ pub fn length_of(k: &Known) -> Option<u64>
 {
     match k {
         Known::Array(_, items) => Some(item_count(items.as_slice())),
-        Known::Row(_, bounds) => Some(bounds.len() as u64),
+        Known::Row(_, xs) => Some(xs.bounds.len() as u64),
         _ => None,
     }
 }

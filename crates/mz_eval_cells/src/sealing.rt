@@ -9,9 +9,9 @@ ghost use Rattle.mz_eval_cells.specs.StepsSeals.{has_bounds};
 ghost use Rattle.mz_eval_cells.specs.Views.{cell_of, item_content, sure_of};
 
 use crate::bounding::{array_bounds, item_bound, no_bounds};
-use crate::making::{undefined, var_cell};
+use crate::making::{undefined, var_cell, var_value};
 use crate::reading::{is_par, is_true_item};
-use crate::sharing::{row_shared, share, share_bound};
+use crate::sharing::{row_shared, share};
 use crate::types::{Bound, Item, Known, Sure};
 use mz_core::{Base, TypeInst};
 use std::alloc::{AllocError, Global};
@@ -36,7 +36,7 @@ fn undefined_var(alloc: Global, t: &TypeInst) -> Result<Known, AllocError>
 {
     if t.dims.is_empty() {
         let bounds = no_bounds(alloc, t)?;
-        Ok(var_cell(bounds))
+        var_cell(alloc, bounds)
     } else {
         Ok(Known::Unshaped(t.dims.len() as u64))
     }
@@ -47,7 +47,7 @@ fn item_to_var(alloc: Global, i: &Item) -> Result<Known, AllocError>
     ensures { IfOk result (λ k. cell_of k ≡ Var (bounds.bounds_of (item_content i.now)) None) }
 {
     let bound = item_bound(alloc, i)?;
-    Ok(Known::Var(bound))
+    var_value(alloc, bound)
 }
 
 /// A par cell of this type becomes var: it keeps its value's bounds. A var one stays.
@@ -57,8 +57,8 @@ pub fn to_var(alloc: Global, t: &TypeInst, k: &Known) -> Result<Known, AllocErro
     match k {
         Known::Undefined => undefined_var(alloc, t),
         Known::One(i) => item_to_var(alloc, i),
-        Known::Array(index, items) => Ok(var_cell(array_bounds(alloc, index, items)?)),
-        Known::Var(b) => Ok(Known::Var(share_bound(b)?)),
+        Known::Array(index, items) => var_cell(alloc, array_bounds(alloc, index, items)?),
+        Known::Var(v) => Ok(Known::Var(v.clone()?)),
         Known::Row(index, all) => row_shared(index, all),
         Known::Unshaped(d) => Ok(Known::Unshaped(*d)),
     }
@@ -122,34 +122,34 @@ fn has_bounds(k: &Known) -> bool
 }
 
 #[tactic(auto, using(crate::proofs::Seals::widened_other, crate::proofs::Seals::widened_var))]
-fn widened(wide: bool, k: Known) -> Known
-    ensures { cell_of result ≡ cells.widened wide (cell_of k) }
+fn widened(alloc: Global, wide: bool, k: Known) -> Result<Known, AllocError>
+    ensures { IfOk result (λ x. cell_of x ≡ cells.widened wide (cell_of k)) }
 {
     if wide && has_bounds(&k) {
-        Known::Var(Bound::Number(0, 1))
+        var_value(alloc, Bound::Number(0, 1))
     } else {
-        k
+        Ok(k)
     }
 }
 
 /// A Boolean's cell, which is false where it would be undefined.
-fn defined(k: &Known) -> Result<Known, AllocError>
+fn defined(alloc: Global, k: &Known) -> Result<Known, AllocError>
     ensures { IfOk result (λ x. cell_of x ≡ cells.risen Bare true (cell_of k.now)) }
 {
     match k {
         Known::Undefined => Ok(Known::One(Item::Bool(false))),
         Known::One(i) => Ok(Known::One(Item::Bool(is_true_item(i)))),
         Known::Array(_, _) => Ok(Known::One(Item::Bool(false))),
-        Known::Var(b) => Ok(Known::Var(share_bound(b)?)),
+        Known::Var(v) => Ok(Known::Var(v.clone()?)),
         Known::Row(index, all) => row_shared(index, all),
-        Known::Unshaped(_) => Ok(Known::Var(Bound::Number(0, 1))),
+        Known::Unshaped(_) => var_value(alloc, Bound::Number(0, 1)),
     }
 }
 
-fn risen(truth: bool, k: Known) -> Result<Known, AllocError>
+fn risen(alloc: Global, truth: bool, k: Known) -> Result<Known, AllocError>
     ensures { IfOk result (λ x. cell_of x ≡ cells.risen Bare truth (cell_of k)) }
 {
-    if truth { defined(&k) } else { Ok(k) }
+    if truth { defined(alloc, &k) } else { Ok(k) }
 }
 
 #[tactic(auto, unfolding(mz_core::specs::Types::plain_type))]
@@ -158,7 +158,8 @@ fn typed_anew(alloc: Global, name: bool, t: &TypeInst, k: &Known) -> Result<Know
 {
     let truth = is_truth(t);
     let first = sealed(alloc, t, k)?;
-    risen(truth, widened(!name && truth, first))
+    let wide = widened(alloc, !name && truth, first)?;
+    risen(alloc, truth, wide)
 }
 
 fn is_truth_item(i: &Item) -> bool

@@ -8,7 +8,7 @@ ghost use Rattle.mz_operations.specs.Bounds as bounds;
 ghost use Rattle.mz_meaning.specs.Cells.{Var, par_value, value_of};
 ghost use Rattle.mz_eval_cells.specs.Views.{cell_of, item_content, known_bound, known_bounds};
 
-use crate::types::{Bound, Bounds, Item, Known};
+use crate::types::{Bound, Bounds, Item, Known, VarItems};
 use mz_value::Value;
 use std::alloc::{AllocError, Global};
 use std::rc::Rc;
@@ -72,9 +72,9 @@ pub(crate) fn array_shared(
 
 pub(crate) fn row_shared(
     index: &Rc<Vec<(i64, i64)>>,
-    all: &Rc<Vec<Bound>>,
+    all: &Rc<VarItems>,
 ) -> Result<Known, AllocError>
-    ensures { IfOk result (λ k. cell_of k ≡ Var (bounds.many index.now.value.items (map known_bound all.now.value.items)) None) }
+    ensures { IfOk result (λ k. cell_of k ≡ Var (bounds.many index.now.value.items (map known_bound all.now.value.bounds.value.items)) None) }
 {
     let ranges = index.clone()?;
     Ok(Known::Row(ranges, all.clone()?))
@@ -88,7 +88,7 @@ pub fn share(k: &Known) -> Result<Known, AllocError>
         Known::Undefined => Ok(Known::Undefined),
         Known::One(i) => Ok(Known::One(share_item(i)?)),
         Known::Array(index, items) => array_shared(index, items),
-        Known::Var(b) => Ok(Known::Var(share_bound(b)?)),
+        Known::Var(v) => Ok(Known::Var(v.clone()?)),
         Known::Row(index, all) => row_shared(index, all),
         Known::Unshaped(d) => Ok(Known::Unshaped(*d)),
     }

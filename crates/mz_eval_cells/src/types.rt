@@ -5,6 +5,7 @@ ghost use Rattle.mz_value.specs.Contents as values;
 ghost use Rattle.mz_value.specs.Contents.{content, contents, text_bytes};
 
 use mz_builtin_arguments::{copied_items, copied_text};
+use mz_symbol::Symbol;
 use mz_value::{RangeSet, SetValue, TextValue, Value};
 use std::alloc::{AllocError, Global};
 use std::rc::Rc;
@@ -50,6 +51,22 @@ pub enum Bounds {
     Many(Rc<Vec<(i64, i64)>>, Rc<Vec<Bound>>),
 }
 
+/// A var value that is no array: its bounds, and what stands for it.
+#[derive(Drop)]
+pub struct VarValue {
+    pub bound: Bound,
+    /// None where no term is made for it; an evaluation without values makes none.
+    pub symbol: Option<Symbol>,
+}
+
+/// The elements of a var array: their bounds, and the number of their array in a run.
+#[derive(Drop)]
+pub struct VarItems {
+    pub bounds: Rc<Vec<Bound>>,
+    /// None where no terms are made for them; an evaluation without values makes none.
+    pub line: Option<u64>,
+}
+
 /// What an evaluation has for an expression.
 ///
 /// Index ranges stand beside the elements, so that other index ranges leave these alone. Elements
@@ -62,9 +79,9 @@ pub enum Known {
     /// A par array: its index ranges, and its elements, the last index moving first.
     Array(Rc<Vec<(i64, i64)>>, Rc<Vec<Value>>),
     /// A var value that is no array.
-    Var(Bound),
-    /// A var array: its index ranges, and its elements' bounds.
-    Row(Rc<Vec<(i64, i64)>>, Rc<Vec<Bound>>),
+    Var(Rc<VarValue>),
+    /// A var array: its index ranges, and its elements.
+    Row(Rc<Vec<(i64, i64)>>, Rc<VarItems>),
     /// An undefined par array of this many dimensions that has become var.
     Unshaped(u64),
 }
@@ -75,8 +92,8 @@ impl Drop for Known {
             Known::Undefined => {}
             Known::One(_item) => {}
             Known::Array(_index, _items) => {}
-            Known::Var(_bound) => {}
-            Known::Row(_index, _bounds) => {}
+            Known::Var(_value) => {}
+            Known::Row(_index, _items) => {}
             Known::Unshaped(_) => {}
         }
     }
@@ -180,8 +197,8 @@ impl Known {
             Known::Undefined => Ok(None),
             Known::One(i) => Ok(Some(i.into_value(alloc)?)),
             Known::Array(index, items) => Ok(Some(array_given(alloc, index, items)?)),
-            Known::Var(_bound) => Ok(None),
-            Known::Row(_index, _bounds) => Ok(None),
+            Known::Var(_value) => Ok(None),
+            Known::Row(_index, _items) => Ok(None),
             Known::Unshaped(_) => Ok(None),
         }
     }

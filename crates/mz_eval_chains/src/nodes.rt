@@ -9,9 +9,9 @@ ghost use Rattle.mz_core.specs.declared.tree.CoreForm.TheViews.{out-CoreForm};
 ghost use Rattle.mz_meaning.specs.Cells.{Bare, typed};
 ghost use Rattle.mz_meaning.specs.Forms.{coerced_once, coerced_by};
 ghost use Rattle.mz_meaning.specs.Evaluation.{is_name};
-ghost use Rattle.mz_eval_cells.specs.Views.{cell_of};
+ghost use Rattle.mz_eval_cells.specs.Views.{cell_of, seen};
 ghost use Rattle.mz_symbol.specs.Makes.{GoesOn, MeansBare};
-ghost use Rattle.mz_eval_scopes.specs.Seen.{seen, world_seen};
+ghost use Rattle.mz_eval_scopes.specs.Seen.{world_seen};
 ghost use Rattle.mz_eval_chains.specs.Links.{finished_by, links_round};
 
 use mz_base::{Span, Stop};

@@ -18,5 +18,8 @@ abbrev pub wants_of : List Want → List arrays.Want
 wants_of ws = map wanted ws
 
 -- a cell, and whether what is declared of it holds
+abbrev pub local_by : (Known → Cell) → Known × Sure → Cell × cells.Sure
+local_by see p = (see p.0, sure_of p.1)
+
 abbrev pub local_of : Known × Sure → Cell × cells.Sure
-local_of p = (cell_of p.0, sure_of p.1)
+local_of p = local_by cell_of p

@@ -20,7 +20,7 @@ use crate::ranges::{declared_ranges, own_ranges, place_count};
 use crate::suiting::suits;
 use crate::want::{Want, all_have_sets};
 use mz_base::{Fault, Kind, Span, Stop};
-use mz_eval_cells::{Bound, Known, Sure, both_sure, share};
+use mz_eval_cells::{Bound, Known, Sure, VarItems, both_sure, share, var_items};
 use mz_value::Value;
 use std::alloc::{AllocError, Global};
 use std::rc::Rc;
@@ -115,7 +115,7 @@ fn length_of(k: &Known) -> Option<u64>
 {
     match k {
         Known::Array(_, items) => Some(item_count(items.as_slice())),
-        Known::Row(_, bounds) => Some(bound_count(bounds.as_slice())),
+        Known::Row(_, xs) => Some(bound_count(xs.bounds.as_slice())),
         _ => None,
     }
 }
@@ -130,7 +130,7 @@ fn moved(alloc: Global, ranges: Vec<(i64, i64)>, k: &Known) -> Result<Known, All
         Known::One(_) => share(k),
         Known::Array(_, items) => array_moved(alloc, ranges, items),
         Known::Var(_) => no_row(alloc, ranges),
-        Known::Row(_, bounds) => row_moved(alloc, ranges, bounds),
+        Known::Row(_, xs) => row_moved(alloc, ranges, xs),
         Known::Unshaped(d) => Ok(Known::Unshaped(*d)),
     }
 }
@@ -149,9 +149,9 @@ fn array_moved(
 fn row_moved(
     alloc: Global,
     ranges: Vec<(i64, i64)>,
-    all: &Rc<Vec<Bound>>,
+    all: &Rc<VarItems>,
 ) -> Result<Known, AllocError>
-    ensures { IfOk result (λ x. cell_of x ≡ cells.Var (bounds.many ranges.items (map known_bound all.now.value.items)) None) }
+    ensures { IfOk result (λ x. cell_of x ≡ cells.Var (bounds.many ranges.items (map known_bound all.now.value.bounds.value.items)) None) }
 {
     let index = Rc::new(alloc, ranges)?;
     Ok(Known::Row(index, all.clone()?))
@@ -160,9 +160,8 @@ fn row_moved(
 fn no_row(alloc: Global, ranges: Vec<(i64, i64)>) -> Result<Known, AllocError>
     ensures { IfOk result (λ x. cell_of x ≡ cells.Var (bounds.many ranges.items []) None) }
 {
-    let index = Rc::new(alloc, ranges)?;
-    let none = Rc::new(alloc, Vec::new(alloc))?;
-    Ok(Known::Row(index, none))
+    let none = Vec::new(alloc);
+    var_items(alloc, ranges, none)
 }
 
 fn fits_shape(ws: &[Want], own: &[(i64, i64)], ranges: &[(i64, i64)], n: u64) -> bool

@@ -21,7 +21,9 @@ use crate::ranges::{declared_ranges, place_count};
 use crate::want::Want;
 use mz_builtin_arguments::end_of;
 use mz_core::{Base, TypeInst};
-use mz_eval_cells::{Bound, Known, Sure, empty_bound, share_bound, surely, unsure};
+use mz_eval_cells::{
+    Bound, Known, Sure, empty_bound, share_bound, surely, unsure, var_items, var_value,
+};
 use mz_operations::Side;
 use mz_value::RangeSet;
 use std::alloc::{AllocError, Global};
@@ -139,7 +141,8 @@ fn no_choice(alloc: Global, t: &TypeInst) -> Result<(Known, Sure), AllocError>
     ensures { IfOk result (λ p. (s : State) → lets.no_choice (plain_type t.now) s ≡ Out (local_of p) s) }
 {
     let b = empty_bound(alloc, t)?;
-    Ok((Known::Var(b), unsure()))
+    let k = var_value(alloc, b)?;
+    Ok((k, unsure()))
 }
 
 /// A free local that is no array.
@@ -150,7 +153,8 @@ fn choose(alloc: Global, t: &TypeInst, set: Option<RangeSet>) -> Result<(Known, 
         None => no_choice(alloc, t),
         Some(values) => {
             let b = bound_over(alloc, t, values)?;
-            Ok((Known::Var(b), surely()))
+            let k = var_value(alloc, b)?;
+            Ok((k, surely()))
         }
     }
 }
@@ -173,9 +177,7 @@ const MANY_PLACES: u64 = 1 << 63;
 fn row_of(alloc: Global, ranges: Vec<(i64, i64)>, all: Vec<Bound>) -> Result<Known, AllocError>
     ensures { IfOk result (λ k. cell_of k ≡ cells.Var (bounds.many ranges.items (map known_bound all.items)) None) }
 {
-    let index = Rc::new(alloc, ranges)?;
-    let elements = Rc::new(alloc, all)?;
-    Ok(Known::Row(index, elements))
+    var_items(alloc, ranges, all)
 }
 
 /// A var array with the same bounds at each place; out of memory where it has 2^63 places or more.
@@ -219,9 +221,9 @@ fn chosen_places(
 fn no_places(alloc: Global, ranges: Vec<(i64, i64)>) -> Result<(Known, Sure), AllocError>
     ensures { IfOk result (λ p. local_of p ≡ (cells.Var (bounds.many ranges.items []) None, cells.sure)) }
 {
-    let index = Rc::new(alloc, ranges)?;
-    let none = Rc::new(alloc, Vec::new(alloc))?;
-    Ok((Known::Row(index, none), surely()))
+    let none = Vec::new(alloc);
+    let k = var_items(alloc, ranges, none)?;
+    Ok((k, surely()))
 }
 
 /// A free local that is an array with places.

@@ -2,7 +2,7 @@
 use Rattle.std.specs.Prelude.{ℕ, Bool, List, [], ◌∷◌, map}
 use Rattle.mz_base.specs.declared.fault.Span.{Span}
 use Rattle.mz_core.specs.Tree.{Tree, Decl, place_of}
-use Rattle.mz_eval_cells.specs.Views.{cell_of}
+use Rattle.mz_eval_cells.specs.Views.{cell_of, seen}
 use Rattle.mz_eval_cells.specs.declared.types.Known.{Known}
 use Rattle.mz_meaning.specs.Runs.{Run, ◌>>=◌, ◌>>◌, give, loop, spend}
 use Rattle.mz_meaning.specs.Cells.{Cell, Env, Sure, both_sure, bind}
@@ -18,7 +18,6 @@ use Rattle.mz_meaning.specs.Comprehensions.{Rest, Made, Element, Presence, names
 use Rattle.mz_eval_chains.specs.declared.types.Operator.{Operator}
 use Rattle.mz_eval_chains.specs.Innermosts.{operator_of}
 use Rattle.mz_symbol.specs.Readings.{Reading}
-use Rattle.mz_eval_scopes.specs.Seen.{seen}
 use Rattle.mz_eval_nodes.specs.declared.types.Appended.{Appended}
 
 -- ---- one operator: its left operand's coercions, its right operand with its coercions, its node
@@ -44,28 +43,37 @@ abbrev pub reversed_onto : {A : Type 0} → List A → List A → List A
 reversed_onto acc [] = acc
 reversed_onto acc (x ∷ xs) = reversed_onto (x ∷ acc) xs
 
-abbrev pub left_of : Operator × Known → chains.Operator × Cell
-left_of p = (operator_of p.0, cell_of p.1)
-
 -- a cell with the place of its node
 abbrev pub placed_seen : Reading → Span → Known → Span × Cell
 placed_seen r at k = (at, seen r k)
 
+abbrev pub left_by : (Known → Cell) → Operator × Known → chains.Operator × Cell
+left_by see p = (operator_of p.0, see p.1)
+
+abbrev pub left_of : Operator × Known → chains.Operator × Cell
+left_of p = left_by cell_of p
+
 abbrev pub left_seen : Reading → Operator × Known → chains.Operator × Cell
-left_seen r p = (operator_of p.0, seen r p.1)
+left_seen r p = left_by (seen r) p
+
+abbrev pub lefts_by : (Known → Cell) → List (Operator × Known) → List (chains.Operator × Cell)
+lefts_by see ps = reversed_onto [] (map (left_by see) ps)
 
 abbrev pub lefts_of : List (Operator × Known) → List (chains.Operator × Cell)
-lefts_of ps = reversed_onto [] (map left_of ps)
+lefts_of ps = lefts_by cell_of ps
 
 -- the first operand alone
 abbrev pub nothing_appended : Span → Cell → forms.Appended
 nothing_appended place first = record { lefts = []; place = place; last = first }
 
+abbrev pub appended_by : (Known → Cell) → Appended → forms.Appended
+appended_by see x = record { lefts = lefts_by see x.lefts.items; place = x.place; last = see x.last }
+
 abbrev pub appended_of : Appended → forms.Appended
-appended_of x = record { lefts = lefts_of x.lefts.items; place = x.place; last = cell_of x.last }
+appended_of x = appended_by cell_of x
 
 abbrev pub appended_seen : Reading → Appended → forms.Appended
-appended_seen r x = appended_of x
+appended_seen r x = appended_by (seen r) x
 
 -- the nodes of its operators, from the last one on
 abbrev pub appended_nodes : World → forms.Appended → Run Cell

@@ -9,14 +9,14 @@ use Rattle.mz_operations.specs.Bounds as bounds
 use Rattle.mz_eval_cells.specs.declared.types.Bound.{Bound}
 use Rattle.mz_eval_cells.specs.declared.types.Known.{Known}
 use Rattle.mz_eval_cells.specs.declared.types.Sure.{Sure}
-use Rattle.mz_eval_cells.specs.Views.{cell_of, cells_of, sure_of, known_bound}
+use Rattle.mz_eval_cells.specs.Views.{cell_of, seen, sure_of, known_bound}
 use Rattle.mz_eval_arrays.specs.declared.gathering.Gathered.{Gathered}
 use Rattle.mz_eval_arrays.specs.declared.running.Elements.{Elements}
 use Rattle.mz_eval_arrays.specs.declared.running.Elements.TheVariants as source
-use Rattle.mz_eval_arrays.specs.Gathered.{gathered, pairs_of, occurs_if}
+use Rattle.mz_eval_arrays.specs.Gathered.{gathered_by, pairs_by, occurs_if}
 use Rattle.mz_meaning.specs.Cells as cells
 use Rattle.mz_meaning.specs.Cells.{Cell, Var, par_value}
-use Rattle.mz_eval_domains.specs.Wants.{local_of}
+use Rattle.mz_eval_domains.specs.Wants.{local_by}
 use Rattle.mz_symbol.specs.Readings.{Reading}
 use Rattle.mz_meaning.specs.Lets as lets
 use Rattle.mz_meaning.specs.Comprehensions as comps
@@ -25,28 +25,34 @@ use Rattle.mz_eval_nodes.specs.declared.types.Made.{Made}
 use Rattle.mz_eval_nodes.specs.declared.types.Turn.{Turn}
 use Rattle.mz_eval_nodes.specs.declared.types.Turns.{Turns}
 
+abbrev pub names_by : (Known → Cell) → Names → lets.Names
+names_by see b = record { slots = b.slots.items; cells = map see b.cells.items; holds = sure_of b.holds }
+
 abbrev pub names_of : Names → lets.Names
-names_of b = record { slots = b.slots.items; cells = cells_of b.cells.items; holds = sure_of b.holds }
+names_of b = names_by cell_of b
+
+abbrev pub made_by : (Known → Cell) → Made → comps.Made
+made_by see m = record { cells = gathered_by see m.cells; whole = sure_of m.whole }
 
 abbrev pub made_of : Made → comps.Made
-made_of m = record { cells = gathered m.cells; whole = sure_of m.whole }
+made_of m = made_by cell_of m
 
 -- ---- the same under a reading
 
 abbrev pub names_seen : Reading → Names → lets.Names
-names_seen r b = names_of b
+names_seen r b = names_by (seen r) b
 
 abbrev pub made_seen : Reading → Made → comps.Made
-made_seen r m = made_of m
+made_seen r m = made_by (seen r) m
 
 abbrev pub local_seen : Reading → Known × Sure → Cell × cells.Sure
-local_seen r p = local_of p
+local_seen r p = local_by (seen r) p
 
 abbrev pub gathered_seen : Reading → Gathered → List Cell
-gathered_seen r g = gathered g
+gathered_seen r g = gathered_by (seen r) g
 
 abbrev pub pairs_seen : Reading → List (Known × Known) → List (Cell × Cell)
-pairs_seen r ps = pairs_of ps
+pairs_seen r ps = pairs_by (seen r) ps
 
 -- ---- the elements of a generator that are left
 
@@ -58,7 +64,7 @@ abbrev pub turn_of : Turn → comps.Element
 turn_of x = (cell_of x.cell, occurs_if x.surely)
 
 abbrev pub turn_seen : Reading → Turn → comps.Element
-turn_seen r x = turn_of x
+turn_seen r x = (seen r x.cell, occurs_if x.surely)
 
 -- the integers above n, up to hi
 unfoldable pub above : ℤ → ℤ → List ℤ

@@ -4,9 +4,9 @@ ghost use Rattle.std.specs.Prelude.{◌≡◌, ◌∷◌, false, IfOk};
 ghost use Rattle.mz_core.specs.Types.{plain_type};
 ghost use Rattle.mz_meaning.specs.Cells.{Bare, typed};
 ghost use Rattle.mz_meaning.specs.Forms.{coerced_by, append_node};
-ghost use Rattle.mz_eval_cells.specs.Views.{cell_of};
+ghost use Rattle.mz_eval_cells.specs.Views.{cell_of, seen};
 ghost use Rattle.mz_symbol.specs.Makes.{GoesOn, MeansBare};
-ghost use Rattle.mz_eval_scopes.specs.Seen.{seen, world_seen};
+ghost use Rattle.mz_eval_scopes.specs.Seen.{world_seen};
 ghost use Rattle.mz_eval_chains.specs.Innermosts.{operator_of};
 ghost use Rattle.mz_eval_nodes.specs.Operators.{operator_node, operated_on, placed_seen, nothing_appended, appended_of, appended_seen, appended_nodes, left_seen, lefts_of};
 

@@ -6,7 +6,8 @@ ghost use Rattle.mz_core.specs.TreeViews.{tree};
 ghost use Rattle.mz_meaning.specs.Forms.{operated_by, arguments_base};
 ghost use Rattle.mz_operations.specs.declared.row.Row.{Row};
 ghost use Rattle.mz_symbol.specs.Makes.{GoesOn, MeansBare};
-ghost use Rattle.mz_eval_scopes.specs.Seen.{seen, all_seen, world_seen};
+ghost use Rattle.mz_eval_cells.specs.Views.{seen, all_seen};
+ghost use Rattle.mz_eval_scopes.specs.Seen.{world_seen};
 
 use mz_base::{Span, Stop};
 use mz_core::{Base, Core, TypeInst};

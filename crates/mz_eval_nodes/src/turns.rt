@@ -8,7 +8,7 @@ ghost use Rattle.mz_eval_nodes.specs.Views.{GivesNext, turn_of, turns_left, rang
 
 use crate::types::{Turn, Turns};
 use mz_eval_arrays::{Elements, element, place};
-use mz_eval_cells::{Bound, seen};
+use mz_eval_cells::{Bound, copied_cell};
 use mz_value::{RangeSet, Value};
 use std::alloc::{AllocError, Global};
 
@@ -93,18 +93,18 @@ fn next_value(alloc: Global, all: &[Value], place: &mut usize) -> Result<Option<
     if *place >= all.len() {
         return Ok(None);
     }
-    let cell = seen(alloc, &all[*place])?;
+    let cell = copied_cell(alloc, &all[*place])?;
     *place += 1;
     Ok(Some(Turn { cell, surely: true }))
 }
 
-fn next_place(all: &[Bound], index: &mut usize) -> Result<Option<Turn>, AllocError>
+fn next_place(alloc: Global, all: &[Bound], index: &mut usize) -> Result<Option<Turn>, AllocError>
     ensures { IfOk result (λ o. GivesNext turn_of o (map place_element (drop index.old all.now)) (map place_element (drop index.new all.now))) }
 {
     if *index >= all.len() {
         return Ok(None);
     }
-    let cell = place(&all[*index])?;
+    let cell = place(alloc, &all[*index])?;
     *index += 1;
     Ok(Some(Turn { cell, surely: true }))
 }
@@ -124,6 +124,6 @@ pub fn next_turn(alloc: Global, t: &mut Turns) -> Result<Option<Turn>, AllocErro
             &mut t.last,
         )),
         Elements::Values(all) => next_value(alloc, all, &mut t.place),
-        Elements::Places(all) => next_place(all, &mut t.place),
+        Elements::Places(all) => next_place(alloc, all, &mut t.place),
     }
 }

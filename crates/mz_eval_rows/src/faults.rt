@@ -87,7 +87,7 @@ fn count_of(k: &Known) -> Option<u64>
 {
     match k {
         Known::Array(_, items) => Some(item_count(items.as_slice())),
-        Known::Row(_, bounds) => Some(bound_count(bounds.as_slice())),
+        Known::Row(_, xs) => Some(bound_count(xs.bounds.as_slice())),
         _ => None,
     }
 }

@@ -1,6 +1,6 @@
 // The limit of the bounds of var cells.
 
-ghost use Rattle.std.specs.Prelude.{◌≡◌, None};
+ghost use Rattle.std.specs.Prelude.{◌≡◌, None, IfOk};
 ghost use Rattle.mz_base.specs.declared.kind.Kind.TheVariants as kind;
 ghost use Rattle.mz_operations.specs.Bounds as bounds;
 ghost use Rattle.mz_operations.specs.RowBounds.{as_ends};
@@ -14,8 +14,9 @@ ghost use Rattle.mz_eval_rows.specs.Steps as steps;
 
 use mz_base::{Fault, Kind, Span, Stop};
 use mz_builtin_arguments::is_number;
-use mz_eval_cells::{Bound, Bounds, Known, var_cell};
+use mz_eval_cells::{Bound, Bounds, Known, var_cell, var_value};
 use mz_eval_int_bounds::in_limit;
+use std::alloc::{AllocError, Global};
 
 /// The end that leaves the limit, the lower one first.
 fn first_outside(e: &(i128, i128)) -> i128
@@ -40,19 +41,19 @@ fn number_bound(e: (i64, i64)) -> Bound
     Bound::Number(e.0, e.1)
 }
 
-fn number_cell(e: (i64, i64)) -> Known
-    ensures { cell_of result ≡ Var (numbers e) None }
+fn number_cell(alloc: Global, e: (i64, i64)) -> Result<Known, AllocError>
+    ensures { IfOk result (λ k. cell_of k ≡ Var (numbers e) None) }
 {
-    var_cell(Bounds::One(number_bound(e)))
+    var_value(alloc, number_bound(e))
 }
 
 /// The var cell of a number with these bounds. Refused Bounds where an end leaves the limit, with
 /// this end, the lower one first.
-pub(crate) fn var_number(at: Span, e: &(i128, i128)) -> Result<Known, Stop>
+pub(crate) fn var_number(alloc: Global, at: Span, e: &(i128, i128)) -> Result<Known, Stop>
     ensures { Tells cell_of result (var_of at (numbers e.now)) }
 {
     match in_limit(e) {
-        Some(inside) => Ok(number_cell(inside)),
+        Some(inside) => Ok(number_cell(alloc, inside)?),
         None => Err(Stop::Refused(outside(at, e))),
     }
 }
@@ -77,12 +78,12 @@ fn ends_of_bound(b: &Bound) -> Option<(i128, i128)>
 
 /// The var cell with these bounds. Refused Bounds where they are a number's and an end leaves the
 /// limit, with this end, the lower one first.
-pub(crate) fn var_of(at: Span, b: Bounds) -> Result<Known, Stop>
+pub(crate) fn var_of(alloc: Global, at: Span, b: Bounds) -> Result<Known, Stop>
     ensures { Tells cell_of result (var_of at (known_bounds b)) }
 {
     let ends = ends_of(&b);
     match ends {
-        Some(e) => var_number(at, &e),
-        None => Ok(var_cell(b)),
+        Some(e) => var_number(alloc, at, &e),
+        None => Ok(var_cell(alloc, b)?),
     }
 }

@@ -30,7 +30,7 @@ fn unbounded(alloc: Global, t: &TypeInst, at: Span) -> Result<Known, Stop>
     ensures { Tells cell_of result (steps.var_of at (steps.bounds_or (plain_type t.now) None)) }
 {
     let b = no_bounds(alloc, t)?;
-    var_of(at, b)
+    var_of(alloc, at, b)
 }
 
 fn number_or(alloc: Global, t: &TypeInst, at: Span, e: Option<(i128, i128)>) -> Result<Known, Stop>
@@ -38,7 +38,7 @@ fn number_or(alloc: Global, t: &TypeInst, at: Span, e: Option<(i128, i128)>) -> 
 {
     match e {
         None => unbounded(alloc, t, at),
-        Some(ends) => var_number(at, &ends),
+        Some(ends) => var_number(alloc, at, &ends),
     }
 }
 
@@ -47,7 +47,7 @@ fn bounds_or(alloc: Global, t: &TypeInst, at: Span, b: Option<Bounds>) -> Result
 {
     match b {
         None => unbounded(alloc, t, at),
-        Some(bounds) => var_of(at, bounds),
+        Some(bounds) => var_of(alloc, at, bounds),
     }
 }
 

@@ -1,11 +1,9 @@
--- What cells, worlds and scopes are under a reading. No var cell has a symbol yet: so each reading sees of it what an evaluation without values does, and the clauses that cite these words are of such evaluations.
-use Rattle.std.specs.Prelude.{List, map}
+-- What worlds and scopes are under a reading.
+use Rattle.std.specs.Prelude.{map}
 use Rattle.mz_value.specs.Contents.{case_names}
 use Rattle.mz_core.specs.Program.{function}
-use Rattle.mz_eval_cells.specs.declared.types.Known.{Known}
-use Rattle.mz_eval_cells.specs.Views.{cell_of}
+use Rattle.mz_eval_cells.specs.Views.{seen}
 use Rattle.mz_meaning.specs.Cells as cells
-use Rattle.mz_meaning.specs.Cells.{Cell}
 use Rattle.mz_meaning.specs.Contexts as contexts
 use Rattle.mz_meaning.specs.Forms as forms
 use Rattle.mz_symbol.specs.Readings.{Reading}
@@ -13,13 +11,7 @@ use Rattle.mz_eval_scopes.specs.declared.types.Context.{Context}
 use Rattle.mz_eval_scopes.specs.declared.types.Context.TheVariants as context
 use Rattle.mz_eval_scopes.specs.declared.types.World.{World}
 use Rattle.mz_eval_scopes.specs.declared.types.Scope.{Scope}
-use Rattle.mz_eval_scopes.specs.Views.{text_entry, env_cells, env_of}
-
-abbrev pub seen : Reading → Known → Cell
-seen r k = cell_of k
-
-abbrev pub all_seen : Reading → List Known → List Cell
-all_seen r ks = map cell_of ks
+use Rattle.mz_eval_scopes.specs.Views.{text_entry, env_cells_by, env_by}
 
 abbrev pub world_seen : Reading → World → forms.World
 world_seen r w = record {
@@ -28,12 +20,12 @@ world_seen r w = record {
   texts = map text_entry w.program.now.texts.items;
   budget = w.budget;
   int_range = w.int_range;
-  top = env_cells w.env.now;
+  top = env_cells_by (seen r) w.env.now;
   mode = r.mode;
 }
 
 abbrev pub env_seen : Reading → World → Scope → cells.Env
-env_seen r w s = env_of w s
+env_seen r w s = env_by (seen r) w s
 
 abbrev pub ctx_of : Context → contexts.Context
 ctx_of context.Untested = contexts.Untested

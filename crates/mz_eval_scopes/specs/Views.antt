@@ -4,7 +4,7 @@ use Rattle.mz_value.specs.declared.value.TextValue.{TextValue}
 use Rattle.mz_value.specs.Contents.{case_names, text_bytes}
 use Rattle.mz_core.specs.Program.{PlainProgram, function}
 use Rattle.mz_eval_cells.specs.declared.types.Known.{Known}
-use Rattle.mz_eval_cells.specs.Views.{cell_of, cells_of}
+use Rattle.mz_eval_cells.specs.Views.{cell_of}
 use Rattle.mz_meaning.specs.Cells as cells
 use Rattle.mz_meaning.specs.Cells.{Cell, Bare, undefined, bind, bind_all}
 use Rattle.mz_meaning.specs.Forms as forms
@@ -13,13 +13,19 @@ use Rattle.mz_eval_scopes.specs.declared.types.World.{World}
 use Rattle.mz_eval_scopes.specs.declared.types.Scope.{Scope}
 use Rattle.mz_eval_scopes.specs.declared.types.Scope.TheVariants.{Top, Bound', Frame'}
 
+abbrev pub known_by : (Known → Cell) → Option Known → Cell
+known_by see None = undefined
+known_by see (Some k) = see k
+
 abbrev pub known_if : Option Known → Cell
-known_if None = undefined
-known_if (Some k) = cell_of k
+known_if o = known_by cell_of o
+
+abbrev pub env_cells_by : (Known → Cell) → Env → cells.Env
+env_cells_by see e = λ k. known_by see (slice_get e.cells.items k)
 
 -- the cell of each slot
 abbrev pub env_cells : Env → cells.Env
-env_cells e = λ k. known_if (slice_get e.cells.items k)
+env_cells e = env_cells_by cell_of e
 
 -- the world of an evaluation without values: a program, its budget, the range of a free `int`, and the cells of top-level names
 abbrev pub world_for : PlainProgram → ℕ → ℤ → cells.Env → forms.World
@@ -40,7 +46,10 @@ world_of w = record {
   mode = Bare;
 }
 
+abbrev pub env_by : (Known → Cell) → World → Scope → cells.Env
+env_by see w Top = env_cells_by see w.env.now
+env_by see w (Bound' slot k p rest) = bind slot (see k.now) (env_by see w rest)
+env_by see w (Frame' slots ks p rest) = bind_all slots.now (map see ks.now) (env_by see w rest)
+
 abbrev pub env_of : World → Scope → cells.Env
-env_of w Top = env_cells w.env.now
-env_of w (Bound' slot k p rest) = bind slot (cell_of k.now) (env_of w rest)
-env_of w (Frame' slots ks p rest) = bind_all slots.now (cells_of ks.now) (env_of w rest)
+env_of w s = env_by cell_of w s

@@ -2,7 +2,8 @@
 
 ghost use Rattle.mz_meaning.specs.Forms.{done};
 ghost use Rattle.mz_symbol.specs.Makes.{GoesOn, MeansBare};
-ghost use Rattle.mz_eval_scopes.specs.Seen.{seen, world_seen};
+ghost use Rattle.mz_eval_cells.specs.Views.{seen};
+ghost use Rattle.mz_eval_scopes.specs.Seen.{world_seen};
 
 use crate::types::World;
 use mz_base::{Span, Stop};

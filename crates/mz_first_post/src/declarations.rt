@@ -30,7 +30,7 @@ use mz_base::{Fault, Kind, Memory, Name, Names, Span, Stop};
 use mz_builtin_arguments::end_of;
 use mz_core::{Core, CoreDecl, Program};
 use mz_eval::evaluated;
-use mz_eval_cells::{Bound, Known, share, undefined};
+use mz_eval_cells::{Bound, Known, share, undefined, var_value};
 use mz_eval_chains::place_of;
 use mz_eval_domains::{Want, fitted, suits};
 use mz_eval_scopes::{Env, World};
@@ -177,12 +177,12 @@ fn hull_of(s: &RangeSet) -> Bound
 }
 
 // the cell of a name; what is large in it is shared
-fn cell_in(x: &Declared) -> Result<Known, AllocError>
+fn cell_in(alloc: Global, x: &Declared) -> Result<Known, AllocError>
     ensures { IfOk result (λ k. cell_of k ≡ (declared x.now).cell) }
 {
     match x {
         Declared::Constant(_, k) => share(k),
-        Declared::Variable(_, _, s) => Ok(Known::Var(hull_of(s))),
+        Declared::Variable(_, _, s) => var_value(alloc, hull_of(s)),
     }
 }
 
@@ -205,13 +205,13 @@ fn no_names(alloc: Global) -> Declarations
     }
 }
 
-fn with_declared(names: Declarations, x: Declared) -> Result<Declarations, Memory>
+fn with_declared(alloc: Global, names: Declarations, x: Declared) -> Result<Declarations, Memory>
     requires next { (declared x).slot ≡ length names.list.items }
     requires readable { AreReadable names }
     ensures more { IfOk result (λ all. all.list.items ≡ names.list.items ++ x ∷ []) }
     ensures readable { IfOk result AreReadable }
 {
-    let cell = cell_in(&x)?;
+    let cell = cell_in(alloc, &x)?;
     let slot = slot_in(&x);
     let Declarations { mut list, mut env } = names;
     env.set_cell(slot, cell)?;
@@ -268,7 +268,7 @@ fn declare_next(
     ensures within { IfOk result (λ _. work.new ≤ task.now.budget + 1) }
 {
     let x = next_name(alloc, task, &names, d, work)?;
-    Ok(with_declared(names, x)?)
+    Ok(with_declared(alloc, names, x)?)
 }
 
 fn decl_in(decls: &[CoreDecl], k: u64) -> Option<&CoreDecl>

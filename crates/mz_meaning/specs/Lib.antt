@@ -1,6 +1,7 @@
 pub mod Cells
 pub mod Domains
 pub mod Coerced
+pub mod Exact
 pub mod Runs
 pub mod Operations
 pub mod Arrays

@@ -16,7 +16,6 @@ use Rattle.mz_operations.specs.declared.row.MadeRow.TheVariants.{IndexSet, Line,
 use Rattle.mz_operations.specs.declared.row.Row.{Row}
 use Rattle.mz_operations.specs.declared.row.Row.TheVariants.{Scalar, Made, Bounding, Show, ShowArray}
 use Rattle.mz_operations.specs.Lines.{row_of}
-use Rattle.mz_operations.specs.Values.{value}
 use Rattle.mz_operations.specs.Answers.{Answer, Gives, Stops, is_mismatched, negative, is_failed, answer}
 use Rattle.mz_operations.specs.Costs.{cost}
 use Rattle.mz_operations.specs.Bounds.{Bounds, no_set}
@@ -25,6 +24,7 @@ use Rattle.mz_operations.specs.RowBounds.{row_bounds, value_by_bounds}
 use Rattle.mz_meaning.specs.Runs.{Run, give, stop, ◌>>=◌, ◌>>◌}
 use Rattle.mz_meaning.specs.Cells.{Cell, Par, Var, Unshaped, Mode, held, all_par, value_of, bounds_in, no_bounds, length_of}
 use Rattle.mz_meaning.specs.Coerced.{recast}
+use Rattle.mz_meaning.specs.Exact.{exact_value}
 
 -- ---- the rows by the numbers that the typed tree has for them: their places in the table
 
@@ -178,7 +178,7 @@ abbrev pub var_row : Mode → Names → Row → PlainType → Span → List Cell
 var_row m names r t at cs = do
   tested r at (map known cs)
   b ← limited at (unwrap_or (row_bounds r (argument_bounds r cs)) (no_bounds t))
-  give (with_shape r cs (Var b (held m (option_map (recast t.base) (value names r (map value_of cs))))))
+  give (with_shape r cs (Var b (held m (option_map (recast t.base) (exact_value names r (map value_of cs))))))
 
 -- A ROW OVER CELLS, at a node of this type
 abbrev pub row_cell : Mode → Names → Row → PlainType → Span → List Cell → Run Cell

@@ -10,7 +10,8 @@ use Rattle.mz_meaning.specs.Calls.{parameter}
 use Rattle.mz_eval_arrays.specs.Gathered.{occurs_if, elements_of}
 use Rattle.mz_eval_domains.specs.Wants.{wants_of}
 use Rattle.mz_symbol.specs.Makes.{ContinuesBare}
-use Rattle.mz_eval_scopes.specs.Seen.{seen, all_seen, ctx_of}
+use Rattle.mz_eval_cells.specs.Views.{seen, all_seen}
+use Rattle.mz_eval_scopes.specs.Seen.{ctx_of}
 use Rattle.mz_eval_nodes.specs.Views.{names_seen, made_seen, gathered_seen, pairs_seen, turns_left}
 use Rattle.mz_eval_chains.specs.Innermosts.{operator_of}
 use Rattle.mz_eval_nodes.specs.Contexts.{later}

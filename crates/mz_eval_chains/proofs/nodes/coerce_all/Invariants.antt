@@ -2,7 +2,8 @@ use Rattle.std.proofs.Common.{drop}
 use Rattle.mz_core.specs.Paths.{path_links}
 use Rattle.mz_meaning.specs.Forms.{coerced_by}
 use Rattle.mz_symbol.specs.Makes.{ContinuesBare}
-use Rattle.mz_eval_scopes.specs.Seen.{seen, world_seen}
+use Rattle.mz_eval_cells.specs.Views.{seen}
+use Rattle.mz_eval_scopes.specs.Seen.{world_seen}
 use Rattle.mz_eval_chains.proofs.nodes.coerce_all.Given as goal
 
 abbrev pub invariant-loop-link : goal.invariant-loop-link

@@ -2,7 +2,8 @@ use Rattle.std.proofs.Common.{length}
 use Rattle.mz_meaning.specs.Runs.{loop, then_do, give}
 use Rattle.mz_meaning.specs.Forms.{append_node}
 use Rattle.mz_symbol.specs.Makes.{ContinuesBare}
-use Rattle.mz_eval_scopes.specs.Seen.{seen, world_seen}
+use Rattle.mz_eval_cells.specs.Views.{seen}
+use Rattle.mz_eval_scopes.specs.Seen.{world_seen}
 use Rattle.mz_eval_nodes.specs.Operators.{lefts_of}
 use Rattle.mz_eval_nodes.proofs.operands.appended_nodes.Given as goal
 
