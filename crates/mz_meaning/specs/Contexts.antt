@@ -1,5 +1,5 @@
 -- Where a free local may be evaluated.
-use Rattle.std.specs.Prelude.{Bool, true, false, ◌||◌, List, [], ◌∷◌}
+use Rattle.std.specs.Prelude.{Bool, true, false, ◌||◌, List, [], ◌∷◌, Option, Some, None}
 use Rattle.mz_core.specs.declared.types.Base.{Base}
 use Rattle.mz_core.specs.declared.types.Coercion.{Coercion}
 use Rattle.mz_core.specs.declared.types.Coercion.TheVariants as coercion
@@ -9,6 +9,8 @@ use Rattle.mz_operations.specs.declared.row.Quantifier.TheVariants.{Xorall}
 use Rattle.mz_operations.specs.declared.row.ScalarRow.TheVariants.{Logic, Not, Order, Equal, Unequal, Quantified, Count, Clause, Ordinal}
 use Rattle.mz_operations.specs.declared.row.Row.{Row}
 use Rattle.mz_operations.specs.declared.row.Row.TheVariants.{Scalar}
+use Rattle.mz_globals.specs.declared.global.Global.{Global}
+use Rattle.mz_globals.specs.declared.global.Global.TheVariants.{Link}
 use Rattle.mz_meaning.specs.Cells.{is_bool}
 
 -- It is tested in a positive and in no other place; a run may leave it untested
@@ -49,6 +51,11 @@ closes_left r b = closes r b
 abbrev pub closes_right : Row → Base → Bool
 closes_right (Scalar (Logic IsImplied)) b = true
 closes_right r b = closes r b
+
+-- and of the globals `link_set_to_booleans`
+abbrev pub global_closes : Option Global → Bool
+global_closes (Some Link) = true
+global_closes _ = false
 
 -- the coercion from bool to int
 abbrev pub link_closes : Coercion → Bool

@@ -1,5 +1,5 @@
 -- What an expression means, form by form: names and literals, operators and built-ins, chains, arrays, sets, accesses and `if`. Parts are evaluated from left to right before the node; then the node's own work is counted, and then its own faults come.
-use Rattle.std.specs.Prelude.{ℕ, ◌+◌, ℤ, pos, Bool, true, false, List, [], ◌∷◌, ◌++◌, length, nat_eq, Option, Some, None, if◌then◌else◌}
+use Rattle.std.specs.Prelude.{ℕ, ◌+◌, ℤ, pos, Bool, true, false, ◌||◌, List, [], ◌∷◌, ◌++◌, length, nat_eq, Option, Some, None, if◌then◌else◌}
 use Rattle.mz_base.specs.declared.fault.Span.{Span}
 use Rattle.mz_value.specs.Ranges.{range_of}
 use Rattle.mz_value.specs.Contents as values
@@ -11,12 +11,14 @@ use Rattle.mz_core.specs.Coercions.{PathLink}
 use Rattle.mz_core.specs.Program.{Function}
 use Rattle.mz_core.specs.Tree.{Tree, Step, type_of, place_of}
 use Rattle.mz_operations.specs.declared.row.Row.{Row}
+use Rattle.mz_globals.specs.declared.global.Global.{Global}
 use Rattle.mz_meaning.specs.Runs.{Run, ◌>>=◌, ◌>>◌, give, spend, loop, when, weigh}
 use Rattle.mz_meaning.specs.Cells.{Cell, Mode, Env, Test, Settled, Open, test_of, undefined, par_value, typed, length_of, or_zero}
 use Rattle.mz_meaning.specs.Coerced.{coerced, coercion_work}
 use Rattle.mz_meaning.specs.Operations.{row_at, row_cost, row_cell}
+use Rattle.mz_meaning.specs.Globals.{global_of, call_cost, global_cell}
 use Rattle.mz_meaning.specs.Arrays.{line_cell, table_cell, set_cell, access_cell, branch_cell}
-use Rattle.mz_meaning.specs.Contexts.{Context, Untested, Positive, Other, elsewhere, elsewhere_if, closes}
+use Rattle.mz_meaning.specs.Contexts.{Context, Untested, Positive, Other, elsewhere, elsewhere_if, closes, global_closes}
 use Rattle.mz_meaning.specs.Chains.{Operator, Innermost, chained, same_level, before, first_in, right_in, closed_by, operand_base}
 
 -- WHAT STAYS THE SAME IN A RUN: the program's functions, the names of its enums' cases and its texts; the budget; the range of a free `int`, from -n to n; the cells of top-level names; and the mode
@@ -75,7 +77,7 @@ coerced_by w at ls c = loop (coerced_once w at) c ls
 
 -- ---- operators and built-ins
 
--- a node counts 1, and its row's cost besides; a global isn't defined yet
+-- a node counts 1, and its row's cost besides
 abbrev pub operated_by : World → Span → PlainType → List Cell → Option Row → Run Cell
 operated_by w at t cells None = done w at undefined
 operated_by w at t cells (Some r) = do
@@ -94,13 +96,25 @@ arguments_base (e ∷ es) t = (type_of e).base
 
 abbrev pub arguments_in : Context → ℕ → Base → Context
 arguments_in Untested n b = Untested
-arguments_in Positive n b = elsewhere_if (closed_by closes b (row_at n b)) Positive
+arguments_in Positive n b = elsewhere_if (closed_by closes b (row_at n b) || global_closes (global_of n)) Positive
 arguments_in Other n b = Other
+
+-- and so with a global
+abbrev pub global_by : World → Span → List Cell → Option Global → Run Cell
+global_by w at cells None = done w at undefined
+global_by w at cells (Some g) = do
+  spend w.budget at (1 + call_cost g cells)
+  global_cell w.mode g at cells
+
+-- a row, or a global where the number is none of a row
+abbrev pub row_or_global : World → Span → PlainType → List Cell → Option Global → Option Row → Run Cell
+row_or_global w at t cells g None = global_by w at cells g
+row_or_global w at t cells g (Some r) = operated_by w at t cells (Some r)
 
 abbrev pub builtin : World → Eval → Context → ℕ → List Tree → Span → PlainType → Env → Run Cell
 builtin w go ctx n es at t env = do
   cells ← parts go (arguments_in ctx n (arguments_base es t)) es env
-  operated_by w at t cells (row_at n (arguments_base es t))
+  row_or_global w at t cells (global_of n) (row_at n (arguments_base es t))
 
 -- ---- chains
 

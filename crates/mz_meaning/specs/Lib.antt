@@ -4,6 +4,7 @@ pub mod Coerced
 pub mod Exact
 pub mod Runs
 pub mod Operations
+pub mod Globals
 pub mod Arrays
 pub mod Contexts
 pub mod Chains
@@ -27,3 +28,4 @@ mod ChoiceExamples
 mod ArrayExamples
 mod SetExamples
 mod ModelExamples
+mod GlobalExamples

@@ -33,7 +33,7 @@ of_sets (Scalar Equal) = Scalar SetEqual
 of_sets (Scalar Unequal) = Scalar SetUnequal
 of_sets r = r
 
--- the row of a number whose arguments are of this base; a global is none of them, and isn't defined yet
+-- the row of a number whose arguments are of this base; a global is none of them
 abbrev pub row_at : ℕ → Base → Option Row
 row_at n b = option_map (λ r. if is_set b then of_sets r else r) (row_of n)
 

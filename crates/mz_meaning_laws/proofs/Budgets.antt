@@ -18,16 +18,21 @@ use Rattle.mz_core.specs.Tree as tree
 use Rattle.mz_operations.specs.declared.row.Row.{Row}
 use Rattle.mz_operations.specs.Answers as answers
 use Rattle.mz_operations.specs.Answers.{Answer as RowAnswer, Gives, Stops}
-use Rattle.mz_operations.specs.Values.{value}
 use Rattle.mz_operations.specs.Bounds.{Bounds}
 use Rattle.mz_operations.specs.Bounds as bounds
 use Rattle.mz_operations.specs.Arrays.{is_contiguous, place_count}
 use Rattle.mz_operations.specs.RowBounds.{row_bounds}
+use Rattle.mz_globals.specs.declared.global.Global.{Global}
+use Rattle.mz_globals.specs.declared.checks.Refusal.{Refusal}
+use Rattle.mz_globals.specs.declared.checks.Refusal.TheVariants.{Misfit, Negative, Outside}
+use Rattle.mz_globals.specs.Table.{refusal_of}
 use Rattle.mz_meaning.specs.Runs.{Run, State, Answer, Out, Stopped, then_do, give, stop, spend, loop, when, weigh, noted, fault}
 use Rattle.mz_meaning.specs.Cells.{Cell, Var, Mode, Blank, Given, Env, Test, Settled, Open, test_of, bind, undefined, held, all_par, value_of, no_bounds, set_in, length_of, or_zero, guarded, both_sure}
 use Rattle.mz_meaning.specs.Coerced.{recast}
 use Rattle.mz_meaning.specs.Domains.{Domain}
+use Rattle.mz_meaning.specs.Exact.{exact_value}
 use Rattle.mz_meaning.specs.Operations as operations
+use Rattle.mz_meaning.specs.Globals as globals
 use Rattle.mz_meaning.specs.Arrays as arrays
 use Rattle.mz_meaning.specs.Arrays.{Want, Anything, Missing, Within}
 use Rattle.mz_meaning.specs.Contexts.{Untested}
@@ -113,7 +118,7 @@ limited_well at (bounds.one (bounds.sets l u)) = give_well _
 limited_well at (bounds.many ix bs) = give_well _
 
 abbrev var_cell : Mode → Names → Row → PlainType → List Cell → Bounds → Cell
-var_cell mode names r t cs b = operations.with_shape r cs (Var b (held mode (option_map (recast t.base) (value names r (map value_of cs)))))
+var_cell mode names r t cs b = operations.with_shape r cs (Var b (held mode (option_map (recast t.base) (exact_value names r (map value_of cs)))))
 
 var_row_well : {budget : ℕ} (mode : Mode) (names : Names) (r : Row) (t : PlainType) (at : Span) (cs : List Cell) → Keeps budget (operations.var_row mode names r t at cs)
 var_row_well mode names r t at cs = then_well (tested_well r at _) (λ u. then_well (limited_well at (unwrap_or (row_bounds r (operations.argument_bounds r cs)) (no_bounds t))) (λ b. give_well (var_cell mode names r t cs b)))
@@ -121,6 +126,17 @@ var_row_well mode names r t at cs = then_well (tested_well r at _) (λ u. then_w
 row_cell_well : {budget : ℕ} (mode : Mode) (names : Names) (r : Row) (t : PlainType) (at : Span) (cs : List Cell) → Keeps budget (operations.row_cell mode names r t at cs)
 row_cell_well mode names r t at cs =
     if_well (all_par cs) _ _ (par_row_well names r t.base at (map value_of cs)) (if_well (operations.reads_bounds r) _ _ (give_well _) (var_row_well mode names r t at cs))
+
+-- ---- globals
+
+refused_well : {budget : ℕ} (r : Option Refusal) (at : Span) → Keeps budget (globals.refused r at)
+refused_well None at = give_well tt
+refused_well (Some Misfit) at = stop_well kind.IndexMismatch at (pos 0)
+refused_well (Some (Negative n)) at = stop_well kind.NegativeArgument at n
+refused_well (Some (Outside n)) at = stop_well kind.Bounds at n
+
+global_cell_well : {budget : ℕ} (mode : Mode) (g : Global) (at : Span) (cs : List Cell) → Keeps budget (globals.global_cell mode g at cs)
+global_cell_well mode g at cs = then_well (refused_well (refusal_of g (map globals.given_in cs)) at) (λ u. give_well (globals.global_result mode g cs))
 
 -- ---- nodes
 
@@ -133,6 +149,14 @@ coerced_well w at ls c = loop_well (forms.coerced_once w at) (λ acc l. then_wel
 operated_by_well : (w : World) (at : Span) (t : PlainType) (cs : List Cell) (r : Option Row) → Keeps w.budget (forms.operated_by w at t cs r)
 operated_by_well w at t cs None = done_well w at undefined
 operated_by_well w at t cs (Some r) = then_well (spend_well at (1 + operations.row_cost r cs)) (λ u. row_cell_well w.mode w.cases r t at cs)
+
+global_by_well : (w : World) (at : Span) (cs : List Cell) (g : Option Global) → Keeps w.budget (forms.global_by w at cs g)
+global_by_well w at cs None = done_well w at undefined
+global_by_well w at cs (Some g) = then_well (spend_well at (1 + globals.call_cost g cs)) (λ u. global_cell_well w.mode g at cs)
+
+row_or_global_well : (w : World) (at : Span) (t : PlainType) (cs : List Cell) (g : Option Global) (r : Option Row) → Keeps w.budget (forms.row_or_global w at t cs g r)
+row_or_global_well w at t cs g None = global_by_well w at cs g
+row_or_global_well w at t cs g (Some r) = operated_by_well w at t cs (Some r)
 
 operated_well : (w : World) (at : Span) (t : PlainType) (n : ℕ) (b : Base) (cs : List Cell) → Keeps w.budget (forms.operated w at t n b cs)
 operated_well w at t n b cs = then_well (operated_by_well w at t cs (operations.row_at n b)) (λ c. give_well _)
@@ -309,7 +333,7 @@ call_of_well w go g (Some f) es cs at = then_well (weigh_well w.mode (calls.all_
 
 node_well : (w : World) (go : Eval) → IsEvaluator w.budget go → (l : Layer) (at : Span) (t : PlainType) (env : Env) → Keeps w.budget (node w go Untested l at t env)
 node_well w go g (tree.chain_form e ss) at t env = chain_by_well w go g env (same_level 12 ss) (chained at e ss)
-node_well w go g (tree.builtin_form n es) at t env = then_well (parts_well go g es env) (λ cs. operated_by_well w at t cs (operations.row_at n (forms.arguments_base es t)))
+node_well w go g (tree.builtin_form n es) at t env = then_well (parts_well go g es env) (λ cs. row_or_global_well w at t cs (globals.global_of n) (operations.row_at n (forms.arguments_base es t)))
 node_well w go g (tree.call_form f es) at t env = then_well (parts_well go g es env) (λ cs. call_of_well w go g (slice_get w.functions f) es cs at)
 node_well w go g (tree.access_form e es) at t env = then_well (g.by e env) (λ a. then_well (parts_well go g es env) (λ cs. done_well w at _))
 node_well w go g (tree.array_form es) at t env = then_well (parts_well go g es env) (λ cs. done_well w at _)

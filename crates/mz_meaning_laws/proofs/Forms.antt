@@ -10,6 +10,7 @@ use Rattle.mz_meaning.specs.Runs.{then_do, give, when}
 use Rattle.mz_meaning.specs.Cells.{Cell, Mode, Blank, Env, Test, Settled, Open, test_of, par_value}
 use Rattle.mz_meaning.specs.Coerced.{coerced}
 use Rattle.mz_meaning.specs.Operations.{row_at}
+use Rattle.mz_meaning.specs.Globals.{global_of}
 use Rattle.mz_meaning.specs.Arrays.{line_cell, access_cell}
 use Rattle.mz_meaning.specs.Contexts.{Context, Untested, Other, elsewhere, within_links}
 use Rattle.mz_meaning.specs.Chains.{Operator, Innermost, chained, same_level, before, first_in, right_in, operand_base}
@@ -22,7 +23,8 @@ use Rattle.mz_meaning_laws.specs.Ties.{Tie, Equal, Untesting, Strict, Without, T
 use Rattle.mz_meaning_laws.proofs.Joins.{then_outlined, give_outlined, when_outlined, at_same, same, spend_outlined, spend_same, loop_outlined, loop_over_outlines, loop_each_outlined, weigh_outlined}
 use Rattle.mz_meaning_laws.proofs.Cells.{test_outline, push_outline, coerced_outline, work_outline}
 use Rattle.mz_meaning_laws.proofs.Allowed.{chained_allows}
-use Rattle.mz_meaning_laws.proofs.Rows.{done_outlined, operated_by_outlined, operated_outlined}
+use Rattle.mz_meaning_laws.proofs.Rows.{done_outlined, operated_outlined}
+use Rattle.mz_meaning_laws.proofs.Globals.{row_or_global_outlined}
 use Rattle.mz_meaning_laws.proofs.Arrays.{line_outline, table_cell_outlined, access_outline, elements_outline, branch_cell_outlined}
 
 -- ---- contexts: what leaves Untested and Other as they are keeps a tie
@@ -70,7 +72,7 @@ coerced_by_outlined {n = n} w top at ls c = loop_outlined (forms.coerced_once w 
 -- ---- operators and built-ins
 
 pub builtin_outlined : {t : Tie} {n : Bool} {w : World} {top : Env} {go go' : Eval} → EvalHasOutline t n w top go go' → {c d : Context} → Ties t c d → (k : ℕ) (es : List Tree) → Each (AllowsTree t) es → (at : Span) (ty : PlainType) {env env' : Env} → HasOutlines env env' → HasOutline t n outline (forms.builtin w go c k es at ty env) (forms.builtin (blank_world n w top) go' d k es at ty env')
-builtin_outlined {w = w} {top = top} g h k es z at ty i = then_outlined _ (parts_outlined g (ties_in_arguments k (forms.arguments_base es ty) h) es z i) (λ cs. operated_by_outlined w top at ty cs (row_at k (forms.arguments_base es ty)))
+builtin_outlined {w = w} {top = top} g h k es z at ty i = then_outlined _ (parts_outlined g (ties_in_arguments k (forms.arguments_base es ty) h) es z i) (λ cs. row_or_global_outlined w top at ty cs (global_of k) (row_at k (forms.arguments_base es ty)))
 
 -- ---- chains
 

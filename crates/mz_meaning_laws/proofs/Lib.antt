@@ -2,6 +2,7 @@ pub mod Joins
 pub mod Cells
 pub mod Allowed
 pub mod Rows
+pub mod Globals
 pub mod Arrays
 pub mod Forms
 pub mod Comprehensions

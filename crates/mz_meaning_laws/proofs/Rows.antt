@@ -16,7 +16,6 @@ use Rattle.mz_operations.specs.declared.row.Row.{Row}
 use Rattle.mz_operations.specs.declared.row.Row.TheVariants.{Made}
 use Rattle.mz_operations.specs.Answers as answers
 use Rattle.mz_operations.specs.Answers.{Answer as RowAnswer, Gives, Stops}
-use Rattle.mz_operations.specs.Values.{value}
 use Rattle.mz_operations.specs.Costs.{cost}
 use Rattle.mz_operations.specs.Bounds.{Bounds}
 use Rattle.mz_operations.specs.Bounds as bounds
@@ -24,6 +23,7 @@ use Rattle.mz_operations.specs.RowBounds.{row_bounds, value_by_bounds}
 use Rattle.mz_meaning.specs.Runs.{Run, then_do, give, spend}
 use Rattle.mz_meaning.specs.Cells.{Cell, Par, Var, Unshaped, Mode, Blank, held, undefined, all_par, value_of, bounds_in, no_bounds, typed, Env}
 use Rattle.mz_meaning.specs.Coerced.{recast}
+use Rattle.mz_meaning.specs.Exact.{exact_value}
 use Rattle.mz_meaning.specs.Operations as op
 use Rattle.mz_meaning.specs.Forms.{World, done, operated_by, operated}
 use Rattle.mz_meaning_laws.specs.Outlines.{outline, outlines, blank_world}
@@ -33,7 +33,7 @@ use Rattle.mz_meaning_laws.proofs.Cells.{both_equal, bounds_outline, all_par_out
 
 -- ---- what a row reads of its arguments
 
-size_outline : (c : Cell) → op.size_of (outline c) ≡ op.size_of c
+pub size_outline : (c : Cell) → op.size_of (outline c) ≡ op.size_of c
 size_outline (Par v) = refl
 size_outline (Var b v) = refl
 size_outline (Unshaped d) = refl
@@ -132,7 +132,7 @@ limited_outlined at (bounds.many ix bs) = give_outlined refl
 
 -- the cell of a row with a var argument, in these bounds
 abbrev var_cell : Mode → Names → Row → PlainType → List Cell → Bounds → Cell
-var_cell mode names r t cs b = op.with_shape r cs (Var b (held mode (option_map (recast t.base) (value names r (map value_of cs)))))
+var_cell mode names r t cs b = op.with_shape r cs (Var b (held mode (option_map (recast t.base) (exact_value names r (map value_of cs)))))
 
 -- a row's faults for what is known of its arguments, and then its cell in these bounds
 abbrev row_over : List (Option Content) → Row → Span → Bounds → (Bounds → Cell) → Run Cell

@@ -10,9 +10,11 @@ use Rattle.mz_core.specs.Program.{Function}
 use Rattle.mz_core.specs.Tree.{Tree, Layer, Gen, Decl, Item, declares, constrains, layer, shape_of, place_of, type_of, inner_tree, root_coercions}
 use Rattle.mz_core.specs.Tree as tree
 use Rattle.mz_operations.specs.declared.row.Row.{Row}
+use Rattle.mz_globals.specs.declared.global.Global.{Global}
 use Rattle.mz_meaning.specs.Runs.{Run, loop}
 use Rattle.mz_meaning.specs.Cells.{Cell, Env, Mode, Test, Settled, Open, test_of, bind, undefined, set_in, length_of, or_zero, guarded, both_sure}
 use Rattle.mz_meaning.specs.Operations as operations
+use Rattle.mz_meaning.specs.Globals as globals
 use Rattle.mz_meaning.specs.Arrays as arrays
 use Rattle.mz_meaning.specs.Arrays.{Want}
 use Rattle.mz_meaning.specs.Contexts.{Context, Untested, Positive, Other, elsewhere, within_links}
@@ -25,7 +27,7 @@ use Rattle.mz_meaning.specs.Calls as calls
 use Rattle.mz_meaning.specs.Evaluation.{node, eval}
 use Rattle.mz_meaning_places.proofs.Parts.{OfSome, found_all, IsPlaced, ArePlaced, IsPlacedMaybe, IsPlacedPair, IsPlacedGen, IsPlacedType, IsPlacedDecl, IsPlacedItem, IsPlacedFunction, IsPlacedLayer, placed_layer, place_placed, inner_placed}
 use Rattle.mz_meaning_places.proofs.Operators.{IsPlacedOperator, IsPlacedInnermost, chained_placed}
-use Rattle.mz_meaning_places.proofs.Stopping.{StopsThere, GivesThere, then_there, with_there, gives_there, both_there, give_there, given_there, stop_there, spend_there, loop_there, loop_anyway, loop_kept, if_there, when_there, weigh_there, row_cell_there, table_cell_there, branch_cell_there, contiguous_there, fitted_there, chosen_there}
+use Rattle.mz_meaning_places.proofs.Stopping.{StopsThere, GivesThere, then_there, with_there, gives_there, both_there, give_there, given_there, stop_there, spend_there, loop_there, loop_anyway, loop_kept, if_there, when_there, weigh_there, row_cell_there, global_cell_there, table_cell_there, branch_cell_there, contiguous_there, fitted_there, chosen_there}
 
 module _ (P : Span → Type 0) where
   -- ---- nodes
@@ -39,6 +41,14 @@ module _ (P : Span → Type 0) where
   operated_by_there : (w : World) (at : Span) (t : PlainType) (cs : List Cell) (r : Option Row) → P at → StopsThere P (forms.operated_by w at t cs r)
   operated_by_there w at t cs None p = done_there w at undefined p
   operated_by_there w at t cs (Some r) p = then_there P (spend_there P w.budget at (1 + operations.row_cost r cs) p) (λ u. row_cell_there P w.mode w.cases r t at cs p)
+
+  global_by_there : (w : World) (at : Span) (cs : List Cell) (g : Option Global) → P at → StopsThere P (forms.global_by w at cs g)
+  global_by_there w at cs None p = done_there w at undefined p
+  global_by_there w at cs (Some g) p = then_there P (spend_there P w.budget at (1 + globals.call_cost g cs) p) (λ u. global_cell_there P w.mode g at cs p)
+
+  row_or_global_there : (w : World) (at : Span) (t : PlainType) (cs : List Cell) (g : Option Global) (r : Option Row) → P at → StopsThere P (forms.row_or_global w at t cs g r)
+  row_or_global_there w at t cs g None p = global_by_there w at cs g p
+  row_or_global_there w at t cs g (Some r) p = operated_by_there w at t cs (Some r) p
 
   operated_there : (w : World) (at : Span) (t : PlainType) (n : ℕ) (b : Base) (cs : List Cell) → P at → StopsThere P (forms.operated w at t n b cs)
   operated_there w at t n b cs p = then_there P (operated_by_there w at t cs (operations.row_at n b) p) (λ c. give_there P _)
@@ -211,7 +221,7 @@ module _ (P : Span → Type 0) where
 
   node_there : (w : World) → AllBy (IsPlacedFunction P) w.functions → (go : Eval) → StopsInTrees go → (ctx : Context) (l : Layer) (at : Span) (t : PlainType) (env : Env) → P at → IsPlacedLayer P l → StopsThere P (node w go ctx l at t env)
   node_there w fs go g ctx (tree.chain_form e ss) at t env p h = chain_by_there w go g ctx env (same_level 12 ss) (chained at e ss) (chained_placed P at e ss p h.0 h.1)
-  node_there w fs go g ctx (tree.builtin_form n es) at t env p h = then_there P (parts_there go g (forms.arguments_in ctx n (forms.arguments_base es t)) es env h) (λ cs. operated_by_there w at t cs (operations.row_at n (forms.arguments_base es t)) p)
+  node_there w fs go g ctx (tree.builtin_form n es) at t env p h = then_there P (parts_there go g (forms.arguments_in ctx n (forms.arguments_base es t)) es env h) (λ cs. row_or_global_there w at t cs (globals.global_of n) (operations.row_at n (forms.arguments_base es t)) p)
   node_there w fs go g ctx (tree.call_form f es) at t env p h = then_there P (parts_there go g ctx es env h) (λ cs. call_of_there w go g ctx (slice_get w.functions f) es cs at p (found_all (IsPlacedFunction P) w.functions f fs) h)
   node_there w fs go g ctx (tree.access_form e es) at t env p h = then_there P (g.by ctx e env h.0) (λ a. then_there P (parts_there go g ctx es env h.1) (λ cs. done_there w at _ p))
   node_there w fs go g ctx (tree.array_form es) at t env p h = then_there P (parts_there go g ctx es env h) (λ cs. done_there w at _ p)

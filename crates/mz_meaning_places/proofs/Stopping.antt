@@ -15,16 +15,21 @@ use Rattle.mz_core.specs.Types.{PlainType}
 use Rattle.mz_operations.specs.declared.row.Row.{Row}
 use Rattle.mz_operations.specs.Answers as answers
 use Rattle.mz_operations.specs.Answers.{Answer as RowAnswer, Gives, Stops}
-use Rattle.mz_operations.specs.Values.{value}
 use Rattle.mz_operations.specs.Bounds.{Bounds}
 use Rattle.mz_operations.specs.Bounds as bounds
 use Rattle.mz_operations.specs.Arrays.{is_contiguous, place_count}
 use Rattle.mz_operations.specs.RowBounds.{row_bounds}
+use Rattle.mz_globals.specs.declared.global.Global.{Global}
+use Rattle.mz_globals.specs.declared.checks.Refusal.{Refusal}
+use Rattle.mz_globals.specs.declared.checks.Refusal.TheVariants.{Misfit, Negative, Outside}
+use Rattle.mz_globals.specs.Table.{refusal_of}
 use Rattle.mz_meaning.specs.Runs.{Run, State, Answer, Out, Stopped, then_do, give, stop, spend, loop, when, weigh, fault}
 use Rattle.mz_meaning.specs.Cells.{Cell, Var, Mode, undefined, held, all_par, value_of, no_bounds, length_of}
 use Rattle.mz_meaning.specs.Coerced.{recast}
 use Rattle.mz_meaning.specs.Domains.{Domain}
+use Rattle.mz_meaning.specs.Exact.{exact_value}
 use Rattle.mz_meaning.specs.Operations as operations
+use Rattle.mz_meaning.specs.Globals as globals
 use Rattle.mz_meaning.specs.Arrays as arrays
 use Rattle.mz_meaning.specs.Arrays.{Want, Anything, Missing, Within}
 use Rattle.mz_meaning.specs.Lets as lets
@@ -146,7 +151,7 @@ module _ (P : Span → Type 0) where
   limited_there at (bounds.many ix bs) p = give_there _
 
   abbrev var_cell : Mode → Names → Row → PlainType → List Cell → Bounds → Cell
-  var_cell mode names r t cs b = operations.with_shape r cs (Var b (held mode (option_map (recast t.base) (value names r (map value_of cs)))))
+  var_cell mode names r t cs b = operations.with_shape r cs (Var b (held mode (option_map (recast t.base) (exact_value names r (map value_of cs)))))
 
   var_row_there : (mode : Mode) (names : Names) (r : Row) (t : PlainType) (at : Span) (cs : List Cell) → P at → StopsThere (operations.var_row mode names r t at cs)
   var_row_there mode names r t at cs p =
@@ -155,6 +160,17 @@ module _ (P : Span → Type 0) where
   pub row_cell_there : (mode : Mode) (names : Names) (r : Row) (t : PlainType) (at : Span) (cs : List Cell) → P at → StopsThere (operations.row_cell mode names r t at cs)
   row_cell_there mode names r t at cs p =
       if_there (all_par cs) _ _ (par_row_there names r t.base at (map value_of cs) p) (if_there (operations.reads_bounds r) _ _ (give_there _) (var_row_there mode names r t at cs p))
+
+  -- ---- globals
+
+  refused_there : (r : Option Refusal) (at : Span) → P at → StopsThere (globals.refused r at)
+  refused_there None at p = give_there tt
+  refused_there (Some Misfit) at p = stop_there kind.IndexMismatch at (pos 0) p
+  refused_there (Some (Negative n)) at p = stop_there kind.NegativeArgument at n p
+  refused_there (Some (Outside n)) at p = stop_there kind.Bounds at n p
+
+  pub global_cell_there : (mode : Mode) (g : Global) (at : Span) (cs : List Cell) → P at → StopsThere (globals.global_cell mode g at cs)
+  global_cell_there mode g at cs p = then_there (refused_there (refusal_of g (map globals.given_in cs)) at p) (λ u. give_there (globals.global_result mode g cs))
 
   -- ---- arrays
 
