@@ -12,11 +12,12 @@ ghost use Rattle.mz_eval_cells.specs.Views.{seen, all_seen};
 ghost use Rattle.mz_eval_scopes.specs.Seen.{ctx_of};
 ghost use Rattle.mz_eval_nodes.specs.Views.{gathered_seen};
 ghost use Rattle.mz_eval.specs.Levels.{world_in, go_of, scope_of, in_scope, at_node};
-ghost use Rattle.mz_eval.specs.Rows.{with_row, row_trees, row_cells_seen};
+ghost use Rattle.mz_eval.specs.Rows.{with_row, with_row_or_global, row_trees, row_cells_seen};
 
 use crate::calls::eval_call;
 use crate::choices::eval_if;
 use crate::comprehensions::eval_comprehension;
+use crate::globals::eval_global;
 use crate::locals::eval_let;
 use crate::operators::eval_chain;
 use crate::types::Level;
@@ -166,9 +167,8 @@ fn eval_gathered(
     Ok(cells)
 }
 
-// A row of the table over its arguments.
+// A row of the table, or a global, over its arguments.
 #[cycle(forms)]
-#[tactic(auto, using(crate::proofs::Parts::trees_one, crate::proofs::Parts::trees_two))]
 fn eval_builtin(
     level: &Level,
     node: &Core,
@@ -189,14 +189,51 @@ fn eval_builtin(
         left: level.left,
         ctx,
     };
+    eval_called(&inside, node, n, row, all, scope, run)
+}
+
+// The row of this number, or where there is none its global, over its arguments.
+#[cycle(forms)]
+fn eval_called(
+    level: &Level,
+    node: &Core,
+    n: u32,
+    row: Option<Row>,
+    all: &[Core],
+    scope: &Scope,
+    run: &mut Run,
+) -> Result<Known, Stop>
+    ensures goes { GoesOn run.old run.new }
+    ensures means { MeansBare seen result run.old run.new (λ r. at_node r level.now scope.now node.now (λ w go ctx at t env. with_row_or_global w at t n row (parts go ctx (map tree all.now) env))) }
+{
+    match row {
+        None => eval_global(level, node, n, all, scope, run),
+        Some(r) => eval_row(level, node, Some(r), all, scope, run),
+    }
+}
+
+// A row of the table over its arguments.
+#[cycle(forms)]
+#[tactic(auto, using(crate::proofs::Parts::trees_one, crate::proofs::Parts::trees_two))]
+fn eval_row(
+    level: &Level,
+    node: &Core,
+    row: Option<Row>,
+    all: &[Core],
+    scope: &Scope,
+    run: &mut Run,
+) -> Result<Known, Stop>
+    ensures goes { GoesOn run.old run.new }
+    ensures means { MeansBare seen result run.old run.new (λ r. at_node r level.now scope.now node.now (λ w go ctx at t env. with_row w at t row (parts go ctx (map tree all.now) env))) }
+{
     let count = all.len();
     if count == 1 {
-        return eval_one(&inside, node, row, &all[0], scope, run);
+        return eval_one(level, node, row, &all[0], scope, run);
     }
     if count == 2 {
-        return eval_two(&inside, node, row, &all[0], &all[1], scope, run);
+        return eval_two(level, node, row, &all[0], &all[1], scope, run);
     }
-    let cells = eval_parts(&inside, all, scope, run)?;
+    let cells = eval_parts(level, all, scope, run)?;
     operated_all(
         level.alloc,
         level.world,

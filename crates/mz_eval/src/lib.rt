@@ -5,6 +5,7 @@ mod calls;
 mod choices;
 mod comprehensions;
 mod forms;
+mod globals;
 mod locals;
 mod operators;
 mod plain_calls;

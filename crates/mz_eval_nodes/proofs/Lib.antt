@@ -2,3 +2,4 @@ pub mod Elements
 pub mod Lefts
 pub mod Work
 pub mod ContextLaws
+pub mod Calls

@@ -14,8 +14,10 @@ ghost use Rattle.mz_eval_chains.specs.Innermosts.{operator_of};
 ghost use Rattle.mz_eval_chains.specs.Links.{links_round};
 ghost use Rattle.mz_eval_nodes.specs.Contexts.{IsLater, later, settled};
 
+use crate::globals::global_closes;
 use mz_core::{Base, Coercion, Core, CoreForm, TypeInst};
 use mz_eval_chains::{Operator, operand_base};
+use mz_eval_globals::global_numbered;
 use mz_eval_rows::row_at;
 use mz_eval_scopes::Context;
 use mz_operations::{Connective, Quantifier, Row, ScalarRow};
@@ -186,13 +188,17 @@ pub fn within(ctx: Context, e: &Core) -> Context
     }
 }
 
-/// The context of the arguments of the row with this number, which have this base. Takes no memory.
+/// The context of the arguments of the row or the global with this number, which have this base. Takes no memory.
 pub fn arguments_within(ctx: Context, n: u32, b: Base) -> Context
     ensures { ctx_of result ≡ arguments_in (ctx_of ctx) n b }
 {
     match ctx {
         Context::Untested => Context::Untested,
-        Context::Positive => elsewhere_if(all_close(row_at(n, b), b)),
+        Context::Positive => {
+            let by_row = all_close(row_at(n, b), b);
+            let by_global = global_closes(global_numbered(n));
+            elsewhere_if(by_row || by_global)
+        }
         Context::Other => Context::Other,
     }
 }

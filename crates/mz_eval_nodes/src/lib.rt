@@ -1,9 +1,10 @@
-// What an evaluation makes step by step: the nodes of operators and built-ins with their work, the
-// names of lets and calls, the branches of an `if`, and the elements of comprehensions.
+// What an evaluation makes step by step: the nodes of operators, built-ins and globals with their
+// work, the names of lets and calls, the branches of an `if`, and the elements of comprehensions.
 #![tactic(auto)]
 
 mod contexts;
 mod counting;
+mod globals;
 mod joins;
 mod operands;
 mod rows;
@@ -15,6 +16,7 @@ pub use contexts::{
     right_within, within,
 };
 pub use counting::counted;
+pub use globals::operated_global;
 pub use joins::{
     add_element, add_set, both_surely, comprehended, constrained, nothing_bound, nothing_made,
     with_branch, with_local,

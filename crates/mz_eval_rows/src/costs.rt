@@ -91,7 +91,8 @@ pub fn cost_of_two(row: Row, a: &Known, b: &Known) -> u64
     }
 }
 
-fn sizes_of(alloc: Global, cells: &[Known]) -> Result<Vec<u64>, AllocError>
+/// How many elements each argument has, or the value of a par integer that isn't negative.
+pub fn sizes_of(alloc: Global, cells: &[Known]) -> Result<Vec<u64>, AllocError>
     ensures { IfOk result (λ ns. ns.items ≡ map operations.size_of (cells_of cells.now)) }
 {
     let mut sizes = Vec::new(alloc);

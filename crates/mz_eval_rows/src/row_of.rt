@@ -184,7 +184,8 @@ pub fn row_of_two(
     }
 }
 
-fn all_given(alloc: Global, cells: Vec<Known>) -> Result<Vec<Option<Value>>, AllocError>
+/// The values of cells, `None` of an undefined or var one; what no other cell holds is moved.
+pub fn all_given(alloc: Global, cells: Vec<Known>) -> Result<Vec<Option<Value>>, AllocError>
     ensures { IfOk result (λ vs. arguments vs.items ≡ map value_of (cells_of cells.items)) }
 {
     let mut all = Vec::new(alloc);

@@ -7,13 +7,13 @@ use Rattle.mz_core.specs.Types.{PlainType, is_set}
 use Rattle.mz_core.specs.Order.{no_dims}
 use Rattle.mz_core.specs.Program.{Function, Goal, PlainProgram}
 use Rattle.mz_core.specs.Program as program
-use Rattle.mz_core.specs.Tree.{Tree, Shape, Trees, Maybe, Maybes, Rows, Branches, Steps, Gens, Items, Decl, DeclaredType, maybe, maybes, shape_of, type_of, inner_tree, inner_under}
+use Rattle.mz_core.specs.Tree.{Tree, Shape, Trees, Maybe, Maybes, Rows, Branches, Steps, Gens, Items, Decl, DeclaredType, maybe, maybes, all_trees, shape_of, type_of, inner_tree, inner_under}
 use Rattle.mz_core.specs.Tree as tree
 use Rattle.mz_meaning.specs.Unbounded as unbounded
 use Rattle.mz_meaning.specs.Unbounded.{unbounded_in, is_nothing, is_unbounded, only_if, first_unbounded, all_unbounded, first_of}
 use Rattle.mz_first_unbuilt.specs.Variables.{Named, is_int, is_integer, no_index, named_at}
 use Rattle.mz_first_unbuilt.specs.Comparisons.{is_name_of, is_name, is_par_constraint, is_compared}
-use Rattle.mz_first_unbuilt.specs.Unbuilt.{at_if, is_global, is_unbuilt_local, unbuilt_in, in_form, in_maybe, in_trees, in_maybes, in_rows, in_branches, in_steps, in_gens, in_items, in_if, in_type, in_declaration, in_param, in_function, in_operand, in_operands, in_constraint, in_goal, in_output, unbuilt_places}
+use Rattle.mz_first_unbuilt.specs.Unbuilt.{at_if, is_unbuilt_call, is_unbuilt_local, unbuilt_in, in_form, in_maybe, in_trees, in_maybes, in_rows, in_branches, in_steps, in_gens, in_items, in_if, in_type, in_declaration, in_param, in_function, in_operand, in_operands, in_constraint, in_goal, in_output, unbuilt_places}
 use Rattle.mz_first_meaning.proofs.Compared.{and_first, and_second}
 use Rattle.mz_first_meaning.proofs.Parts.{first_none, second_none, both_none, none_flat, any_variable, declaration_none, parts_none}
 
@@ -27,7 +27,7 @@ mutual
 
   bounded_in_form : (v : ℕ → Bool) (at : Span) (form : Shape) → in_form v at form ≡ [] → unbounded.in_form form ≡ []
   bounded_in_form v at (tree.chain e ss) h = both_none (bounded v e (first_none (unbuilt_in v e) (in_steps v ss) h)) (bounded_in_steps v ss (second_none (unbuilt_in v e) (in_steps v ss) h))
-  bounded_in_form v at (tree.builtin n es) h = bounded_in_trees v es (second_none (at_if (is_global n) at) (in_trees v es) h)
+  bounded_in_form v at (tree.builtin n es) h = bounded_in_trees v es (second_none (at_if (is_unbuilt_call n (all_trees es)) at) (in_trees v es) h)
   bounded_in_form v at (tree.call f es) h = bounded_in_trees v es h
   bounded_in_form v at (tree.access e es) h = both_none (bounded v e (first_none (unbuilt_in v e) (in_trees v es) h)) (bounded_in_trees v es (second_none (unbuilt_in v e) (in_trees v es) h))
   bounded_in_form v at (tree.array es) h = bounded_in_trees v es h

@@ -4,12 +4,12 @@ use Rattle.mz_base.specs.declared.fault.Span.{Span}
 use Rattle.mz_core.specs.Types.{PlainType}
 use Rattle.mz_core.specs.Program.{Function, Goal, PlainProgram}
 use Rattle.mz_core.specs.Program as program
-use Rattle.mz_core.specs.Tree.{Tree, Shape, Trees, Maybe, Maybes, Rows, Branches, Steps, Gens, Items, Decl, DeclaredType, shape_of, type_of, inner_tree, inner_under}
+use Rattle.mz_core.specs.Tree.{Tree, Shape, Trees, Maybe, Maybes, Rows, Branches, Steps, Gens, Items, Decl, DeclaredType, all_trees, shape_of, type_of, inner_tree, inner_under}
 use Rattle.mz_core.specs.Tree as tree
 use Rattle.mz_meaning_laws.specs.FreeLocals.{free_in, free_in_form, free_in_maybe, free_in_trees, free_in_maybes, free_in_rows, free_in_branches, free_in_steps, free_in_gens, free_in_value, free_in_items, free_if, free_in_decl, free_in_function, free_in_goal, free_locals}
 use Rattle.mz_first_unbuilt.specs.Variables.{Named, named_at}
 use Rattle.mz_first_unbuilt.specs.Comparisons.{is_name_of, is_name, is_par_constraint, is_compared}
-use Rattle.mz_first_unbuilt.specs.Unbuilt.{at_if, is_global, is_unbuilt_local, unbuilt_in, in_form, in_maybe, in_trees, in_maybes, in_rows, in_branches, in_steps, in_gens, in_items, in_if, in_type, in_declaration, in_param, in_function, in_operand, in_operands, in_constraint, in_goal, unbuilt_places}
+use Rattle.mz_first_unbuilt.specs.Unbuilt.{at_if, is_unbuilt_call, is_unbuilt_local, unbuilt_in, in_form, in_maybe, in_trees, in_maybes, in_rows, in_branches, in_steps, in_gens, in_items, in_if, in_type, in_declaration, in_param, in_function, in_operand, in_operands, in_constraint, in_goal, unbuilt_places}
 use Rattle.mz_first_meaning.proofs.Parts.{first_none, second_none, both_none, none_flat, any_variable, declaration_none, parts_none}
 
 -- ---- expressions
@@ -22,7 +22,7 @@ mutual
 
   no_local_in_form : (v : ℕ → Bool) (at : Span) (form : Shape) → in_form v at form ≡ [] → free_in_form form ≡ []
   no_local_in_form v at (tree.chain e ss) h = both_none (no_local v e (first_none (unbuilt_in v e) (in_steps v ss) h)) (no_local_in_steps v ss (second_none (unbuilt_in v e) (in_steps v ss) h))
-  no_local_in_form v at (tree.builtin n es) h = no_local_in_trees v es (second_none (at_if (is_global n) at) (in_trees v es) h)
+  no_local_in_form v at (tree.builtin n es) h = no_local_in_trees v es (second_none (at_if (is_unbuilt_call n (all_trees es)) at) (in_trees v es) h)
   no_local_in_form v at (tree.call f es) h = no_local_in_trees v es h
   no_local_in_form v at (tree.access e es) h = both_none (no_local v e (first_none (unbuilt_in v e) (in_trees v es) h)) (no_local_in_trees v es (second_none (unbuilt_in v e) (in_trees v es) h))
   no_local_in_form v at (tree.array es) h = no_local_in_trees v es h

@@ -5,13 +5,13 @@ use Rattle.std.proofs.lemmas.List.Elements.{All-from_recursion, recursion_from_A
 use Rattle.mz_base.specs.declared.fault.Span.{Span}
 use Rattle.mz_core.specs.Program.{Function, Goal, PlainProgram}
 use Rattle.mz_core.specs.Program as program
-use Rattle.mz_core.specs.Tree.{Tree, Shape, Trees, Maybe, Maybes, Rows, Branches, Steps, Gens, Items, Decl, DeclaredType, place_of}
+use Rattle.mz_core.specs.Tree.{Tree, Shape, Trees, Maybe, Maybes, Rows, Branches, Steps, Gens, Items, Decl, DeclaredType, all_trees, place_of}
 use Rattle.mz_core.specs.Tree as tree
 use Rattle.mz_core.specs.Nodes as nodes
 use Rattle.mz_core.specs.Nodes.{nodes_in}
 use Rattle.mz_first_unbuilt.specs.Variables.{Named, is_any_variable, is_declaration_built, named_at}
 use Rattle.mz_first_unbuilt.specs.Comparisons.{is_par_constraint, is_compared, is_name}
-use Rattle.mz_first_unbuilt.specs.Unbuilt.{at_if, is_global, is_unbuilt_local, unbuilt_in, in_form, in_maybe, in_trees, in_maybes, in_rows, in_branches, in_steps, in_gens, in_items, in_if, in_type, in_declaration, in_param, in_function, in_operand, in_operands, in_constraint, in_goal, in_output, places_in, unbuilt_places, first_unbuilt}
+use Rattle.mz_first_unbuilt.specs.Unbuilt.{at_if, is_unbuilt_call, is_unbuilt_local, unbuilt_in, in_form, in_maybe, in_trees, in_maybes, in_rows, in_branches, in_steps, in_gens, in_items, in_if, in_type, in_declaration, in_param, in_function, in_operand, in_operands, in_constraint, in_goal, in_output, places_in, unbuilt_places, first_unbuilt}
 use Rattle.mz_first_unbuilt.proofs.Laws.{found_place}
 use Rattle.mz_meaning_places.specs.Places.{item_places, local_places, places_of}
 use Rattle.mz_meaning_places.proofs.Parts.{left_all, right_all, both_all, OwnPlaces, IsPlaced, ArePlaced, IsPlacedMaybe, IsPlacedType, IsPlacedDecl, IsPlacedFunction, IsPlacedGoal, IsPlacedProgram, place_placed, program_placed}
@@ -42,7 +42,7 @@ module _ (P : Span → Type 0) where
 
       form_placed : (f : Shape) (at : Span) → P at → AllBy P (local_places f) → AllBy (OwnPlaces P) (nodes.in_form f) → AllBy P (in_form v at f)
       form_placed (tree.chain e ss) at here p h = joined (nodes_in e) (nodes.in_steps ss) (unbuilt_in v e) (in_steps v ss) (unbuilt_placed e) (steps_placed ss) h
-      form_placed (tree.builtin n es) at here p h = both_all P (at_if (is_global n) at) (in_trees v es) (one_placed (is_global n) at here) (trees_placed es h)
+      form_placed (tree.builtin n es) at here p h = both_all P (at_if (is_unbuilt_call n (all_trees es)) at) (in_trees v es) (one_placed (is_unbuilt_call n (all_trees es)) at here) (trees_placed es h)
       form_placed (tree.call f es) at here p h = trees_placed es h
       form_placed (tree.access e es) at here p h = joined (nodes_in e) (nodes.in_trees es) (unbuilt_in v e) (in_trees v es) (unbuilt_placed e) (trees_placed es) h
       form_placed (tree.array es) at here p h = trees_placed es h

@@ -16,13 +16,13 @@ use Rattle.mz_core.specs.Coercions.{PathLink}
 use Rattle.mz_operations.specs.declared.row.Row.{Row}
 use Rattle.mz_operations.specs.Answers as answers
 use Rattle.mz_operations.specs.Answers.{Answer as RowAnswer, Gives, Stops}
-use Rattle.mz_operations.specs.Values.{value}
 use Rattle.mz_operations.specs.Bounds.{Bounds}
 use Rattle.mz_operations.specs.Bounds as bounds
 use Rattle.mz_operations.specs.RowBounds.{row_bounds}
 use Rattle.mz_meaning.specs.Runs.{Run, State, Answer, Out, Stopped, then_do, give, stop, spend, fault}
 use Rattle.mz_meaning.specs.Cells.{Cell, Var, Mode, undefined, held, all_par, value_of, no_bounds}
 use Rattle.mz_meaning.specs.Coerced.{recast, coercion_work}
+use Rattle.mz_meaning.specs.Exact.{exact_value}
 use Rattle.mz_meaning.specs.Operations as operations
 use Rattle.mz_meaning.specs.Chains.{Operator, operand_base}
 use Rattle.mz_meaning.specs.Forms as forms
@@ -93,7 +93,7 @@ limited_keeps at (bounds.one (bounds.sets l u)) = give_keeps _
 limited_keeps at (bounds.many ix bs) = give_keeps _
 
 abbrev var_cell : Mode → Names → Row → PlainType → List Cell → Bounds → Cell
-var_cell mode names r t cs b = operations.with_shape r cs (Var b (held mode (option_map (recast t.base) (value names r (map value_of cs)))))
+var_cell mode names r t cs b = operations.with_shape r cs (Var b (held mode (option_map (recast t.base) (exact_value names r (map value_of cs)))))
 
 var_row_keeps : {b : ℕ} (mode : Mode) (names : Names) (r : Row) (t : PlainType) (at : Span) (cs : List Cell) → Keeps b (operations.var_row mode names r t at cs)
 var_row_keeps mode names r t at cs = then_keeps (tested_keeps r at _) (λ u. then_keeps (limited_keeps at (unwrap_or (row_bounds r (operations.argument_bounds r cs)) (no_bounds t))) (λ b. give_keeps (var_cell mode names r t cs b)))

@@ -13,6 +13,8 @@ use Rattle.mz_core.specs.Order.{no_dims}
 use Rattle.mz_core.specs.Tree as tree
 use Rattle.mz_core.specs.Tree.{Tree, Shape, Step, place_of, shape_of, type_of, inner_tree, root_coercions}
 use Rattle.mz_operations.specs.declared.row.ScalarRow.{ScalarRow}
+use Rattle.mz_operations.specs.declared.row.ScalarRow.TheVariants.{Equal, Unequal, Order}
+use Rattle.mz_operations.specs.declared.row.Comparison.TheVariants.{Less, AtMost, Greater, AtLeast}
 use Rattle.mz_operations.specs.declared.row.Row.TheVariants.{Scalar}
 use Rattle.mz_operations.specs.Bounds.{Bounds}
 use Rattle.mz_operations.specs.RowBounds.{row_bounds}
@@ -23,6 +25,7 @@ use Rattle.mz_meaning.specs.Chains.{before, right_in, operand_base, innermost_of
 use Rattle.mz_meaning.specs.Coerced.{coerced, coercion_work, recast}
 use Rattle.mz_meaning.specs.Contexts.{Context, within_links}
 use Rattle.mz_meaning.specs.Evaluation.{eval}
+use Rattle.mz_meaning.specs.Exact.{exact_value}
 use Rattle.mz_meaning.specs.Forms.{World, coerced_by, operated, operated_by}
 use Rattle.mz_meaning.specs.Operations as rows
 use Rattle.mz_meaning.specs.Operations.{row_at, row_cost, row_cell, reads_bounds}
@@ -153,20 +156,20 @@ name_mark m a names e c h i = cell_is_no_par m a (shape_of (inner_tree e)) c (su
 
 -- ---- the row of a comparison
 
-row_gives : (w : World) (g : ℕ → Content) (at : Span) (t : PlainType) (r : ScalarRow) (cs : List Cell) → w.mode ≡ Given g → reads_bounds (Scalar r) ≡ false → all_par cs ≡ false → Gives (λ c. value_of c ≡ option_map (recast t.base) (value w.cases (Scalar r) (map value_of cs))) (operated_by w at t cs (Some (Scalar r)))
+row_gives : (w : World) (g : ℕ → Content) (at : Span) (t : PlainType) (r : ScalarRow) (cs : List Cell) → w.mode ≡ Given g → reads_bounds (Scalar r) ≡ false → all_par cs ≡ false → Gives (λ c. value_of c ≡ option_map (recast t.base) (exact_value w.cases (Scalar r) (map value_of cs))) (operated_by w at t cs (Some (Scalar r)))
 row_gives w g at t r cs m h k =
-    after (spend w.budget at (1 + row_cost (Scalar r) cs)) (λ u. subst (Gives (λ c. value_of c ≡ option_map (recast t.base) (value w.cases (Scalar r) (map value_of cs)))) (sym by_tests) var_gives)
+    after (spend w.budget at (1 + row_cost (Scalar r) cs)) (λ u. subst (Gives (λ c. value_of c ≡ option_map (recast t.base) (exact_value w.cases (Scalar r) (map value_of cs)))) (sym by_tests) var_gives)
   where
     by_tests : row_cell w.mode w.cases (Scalar r) t at cs ≡ rows.var_row w.mode w.cases (Scalar r) t at cs
     by_tests = rw (k, h) refl
 
-    var_gives : Gives (λ c. value_of c ≡ option_map (recast t.base) (value w.cases (Scalar r) (map value_of cs))) (rows.var_row w.mode w.cases (Scalar r) t at cs)
-    var_gives = after (rows.tested (Scalar r) at (map rows.known cs)) (λ u. after (rows.limited at (unwrap_or (row_bounds (Scalar r) (rows.argument_bounds (Scalar r) cs)) (no_bounds t))) (λ b. given (held_given w.mode g (option_map (recast t.base) (value w.cases (Scalar r) (map value_of cs))) m)))
+    var_gives : Gives (λ c. value_of c ≡ option_map (recast t.base) (exact_value w.cases (Scalar r) (map value_of cs))) (rows.var_row w.mode w.cases (Scalar r) t at cs)
+    var_gives = after (rows.tested (Scalar r) at (map rows.known cs)) (λ u. after (rows.limited at (unwrap_or (row_bounds (Scalar r) (rows.argument_bounds (Scalar r) cs)) (no_bounds t))) (λ b. given (held_given w.mode g (option_map (recast t.base) (exact_value w.cases (Scalar r) (map value_of cs))) m)))
 
 relation_gives : (w : World) (g : ℕ → Content) (at : Span) (t : PlainType) (k : Relation) (l r : Cell) → w.mode ≡ Given g → all_par (l ∷ r ∷ []) ≡ false → Gives (λ c. value_of c ≡ option_map (recast t.base) (value w.cases (row_for k) (value_of l ∷ value_of r ∷ []))) (operated_by w at t (l ∷ r ∷ []) (Some (row_for k)))
 relation_gives w g at t k l r m h =
     by_relation (λ k. Gives (λ c. value_of c ≡ option_map (recast t.base) (value w.cases (row_for k) (value_of l ∷ value_of r ∷ []))) (operated_by w at t (l ∷ r ∷ []) (Some (row_for k))))
-    (row_gives w g at t _ (l ∷ r ∷ []) m refl h) (row_gives w g at t _ (l ∷ r ∷ []) m refl h) (row_gives w g at t _ (l ∷ r ∷ []) m refl h) (row_gives w g at t _ (l ∷ r ∷ []) m refl h) (row_gives w g at t _ (l ∷ r ∷ []) m refl h) (row_gives w g at t _ (l ∷ r ∷ []) m refl h) k
+    (row_gives w g at t Equal (l ∷ r ∷ []) m refl h) (row_gives w g at t Unequal (l ∷ r ∷ []) m refl h) (row_gives w g at t (Order Less) (l ∷ r ∷ []) m refl h) (row_gives w g at t (Order AtMost) (l ∷ r ∷ []) m refl h) (row_gives w g at t (Order Greater) (l ∷ r ∷ []) m refl h) (row_gives w g at t (Order AtLeast) (l ∷ r ∷ []) m refl h) k
 
 comparison_gives : (w : World) (g : ℕ → Content) (at : Span) (t : PlainType) (n : ℕ) (l r : Cell) → w.mode ≡ Given g → all_par (l ∷ r ∷ []) ≡ false → is_comparison n ≡ true → Gives (λ c. value_of c ≡ option_map (recast t.base) (value_by w.cases (row_at n base.Int) (value_of l) (value_of r))) (operated_by w at t (l ∷ r ∷ []) (row_at n base.Int))
 comparison_gives w g at t n l r m k h =

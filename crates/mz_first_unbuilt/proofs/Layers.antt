@@ -8,7 +8,7 @@ use Rattle.mz_core.specs.Tree as pure
 use Rattle.mz_core.specs.Tree.{Tree, Shape, Trees, Maybe, Maybes, Rows, Branches, Steps, Gens, Items, if_tree, maybe, all_trees, all_maybes, all_rows, all_branches, all_steps, all_gens, all_items, layer, shape_of, place_of}
 use Rattle.mz_core.specs.TreeViews.{tree, form_layer}
 use Rattle.mz_core.proofs.TreeLaws.{layer_tree, place_of_tree}
-use Rattle.mz_first_unbuilt.specs.Unbuilt.{unbuilt_in, in_form, in_maybe, in_trees, in_maybes, in_rows, in_branches, in_steps, in_gens, in_items, in_if, at_if, is_unbuilt_local, is_global}
+use Rattle.mz_first_unbuilt.specs.Unbuilt.{unbuilt_in, in_form, in_maybe, in_trees, in_maybes, in_rows, in_branches, in_steps, in_gens, in_items, in_if, at_if, is_unbuilt_local, is_unbuilt_call}
 use Rattle.mz_first_unbuilt.specs.StepsLayers.{in_all, in_sets, in_branch, in_step, in_generator, in_item, in_layer}
 
 module _ (v : ℕ → Bool) where
@@ -74,7 +74,7 @@ module _ (v : ℕ → Bool) where
   unfolding unbuilt_in
   layer_is at (pure.slot s) = refl
   layer_is at (pure.chain e ss) = ap (λ (ps : List Span). unbuilt_in v e ++ ps) (steps_are ss)
-  layer_is at (pure.builtin r es) = ap (λ (ps : List Span). at_if (is_global r) at ++ ps) (trees_are es)
+  layer_is at (pure.builtin r es) = ap (λ (ps : List Span). at_if (is_unbuilt_call r (all_trees es)) at ++ ps) (trees_are es)
   layer_is at (pure.call f es) = trees_are es
   layer_is at (pure.access e es) = ap (λ (ps : List Span). unbuilt_in v e ++ ps) (trees_are es)
   layer_is at (pure.array es) = trees_are es

@@ -14,7 +14,7 @@ use Rattle.mz_core.specs.declared.tree.CoreItem.{CoreItem}
 use Rattle.mz_core.specs.declared.tree.CoreStep.{CoreStep}
 use Rattle.mz_core.specs.TreeViews.{tree, gen, step, item, branch, form_layer}
 use Rattle.mz_first_unbuilt.specs.Places.{first_place}
-use Rattle.mz_first_unbuilt.specs.Unbuilt.{unbuilt_in, is_global, at_if, in_if}
+use Rattle.mz_first_unbuilt.specs.Unbuilt.{unbuilt_in, is_unbuilt_call, at_if, in_if}
 use Rattle.mz_first_unbuilt.specs.StepsLayers.{in_all, in_branch, in_step, in_generator, in_item, in_layer}
 use Rattle.mz_first_unbuilt.proofs.Firsts.{first_append, first_of_none}
 
@@ -68,10 +68,10 @@ module _ (v : ℕ → Bool) (at : Span) where
       ∙ ap (λ o. first_place start (in_layer v at (form_layer o))) (sym (forms.outs-Chain b w))
       ∙ ap (found_in start) (sym is)
 
-  pub in_builtin : (form : CoreForm) (r : ℕ) (w : Vec Core Global) (es : List Core) (start mid end : Option Span) → form ≡ forms.Builtin r w → es ≡ w.items → mid ≡ first_place start (at_if (is_global r) at) → end ≡ first_place mid (in_all v (map tree es)) → end ≡ found_in start form
+  pub in_builtin : (form : CoreForm) (r : ℕ) (w : Vec Core Global) (es : List Core) (start mid end : Option Span) → form ≡ forms.Builtin r w → es ≡ w.items → mid ≡ first_place start (at_if (is_unbuilt_call r (map tree es)) at) → end ≡ first_place mid (in_all v (map tree es)) → end ≡ found_in start form
   in_builtin form r w es start mid end is hs p q =
       both _ _ start mid end p q
-      ∙ ap (λ ys. first_place start (at_if (is_global r) at ++ in_all v (map tree ys))) hs
+      ∙ ap (λ ys. first_place start (at_if (is_unbuilt_call r (map tree ys)) at ++ in_all v (map tree ys))) hs
       ∙ ap (λ o. first_place start (in_layer v at (form_layer o))) (sym (forms.outs-Builtin r w))
       ∙ ap (found_in start) (sym is)
 

@@ -3,7 +3,7 @@ use Rattle.std.specs.Prelude.{ℕ, Bool, List, [], ◌++◌, Option}
 use Rattle.std.specs.List.{flat_map}
 use Rattle.mz_base.specs.declared.fault.Span.{Span}
 use Rattle.mz_core.specs.Tree.{Tree, Step, Gen, Decl, Item, declares, constrains, maybe, Layer, slot_form, chain_form, builtin_form, call_form, access_form, array_form, rows_form, set_form, comp_form, if_form, let_form, coerce_form}
-use Rattle.mz_first_unbuilt.specs.Unbuilt.{unbuilt_in, at_if, is_global, is_unbuilt_local, in_if, in_type}
+use Rattle.mz_first_unbuilt.specs.Unbuilt.{unbuilt_in, at_if, is_unbuilt_call, is_unbuilt_local, in_if, in_type}
 
 abbrev pub in_all : (ℕ → Bool) → List Tree → List Span
 in_all v es = flat_map (unbuilt_in v) es
@@ -30,7 +30,7 @@ in_item v (constrains e) = unbuilt_in v e
 abbrev pub in_layer : (ℕ → Bool) → Span → Layer → List Span
 in_layer v at (slot_form s) = at_if (v s) at
 in_layer v at (chain_form e ss) = unbuilt_in v e ++ flat_map (in_step v) ss
-in_layer v at (builtin_form r es) = at_if (is_global r) at ++ in_all v es
+in_layer v at (builtin_form r es) = at_if (is_unbuilt_call r es) at ++ in_all v es
 in_layer v at (call_form f es) = in_all v es
 in_layer v at (access_form e es) = unbuilt_in v e ++ in_all v es
 in_layer v at (array_form es) = in_all v es

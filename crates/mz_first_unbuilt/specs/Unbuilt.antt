@@ -1,11 +1,11 @@
--- WHAT ISN'T BUILT YET IN A TYPED PROGRAM, by places: a declaration at its name; a constraint, and an objective, at its expression; a local variable at its name; a call of a global constraint at the call; and, outside output items, a name of a top-level variable that is no operand of a comparison.
-use Rattle.std.specs.Prelude.{ℕ, Bool, true, false, not, List, [], ◌∷◌, ◌++◌, Option, Some, None, is_none, if◌then◌else◌}
-use Rattle.std.specs.List.{flat_map}
+-- WHAT ISN'T BUILT YET IN A TYPED PROGRAM, by places: a declaration at its name; a constraint, and an objective, at its expression; a local variable at its name; a call of a global with a var argument at the call; and, outside output items, a name of a top-level variable that is no operand of a comparison.
+use Rattle.std.specs.Prelude.{ℕ, Bool, true, false, not, ◌&&◌, List, [], ◌∷◌, ◌++◌, Option, Some, None, is_none, if◌then◌else◌}
+use Rattle.std.specs.List.{flat_map, list_any}
 use Rattle.mz_base.specs.declared.fault.Span.{Span}
 use Rattle.mz_core.specs.Types.{PlainType}
 use Rattle.mz_core.specs.Program.{Function, Goal, PlainProgram}
 use Rattle.mz_core.specs.Program as program
-use Rattle.mz_core.specs.Tree.{Tree, Shape, Trees, Maybe, Maybes, Rows, Branches, Steps, Gens, Items, Decl, DeclaredType, place_of}
+use Rattle.mz_core.specs.Tree.{Tree, Shape, Trees, Maybe, Maybes, Rows, Branches, Steps, Gens, Items, Decl, DeclaredType, all_trees, place_of, type_of}
 use Rattle.mz_core.specs.Tree as tree
 use Rattle.mz_operations.specs.Lines.{row_of}
 use Rattle.mz_first_unbuilt.specs.Places.{first_place}
@@ -16,9 +16,16 @@ abbrev pub at_if : Bool → Span → List Span
 at_if true at = at ∷ []
 at_if false at = []
 
--- a row that is no built-in is a global constraint
+-- what has the number of no operator and no built-in is a global
 abbrev pub is_global : ℕ → Bool
 is_global n = is_none (row_of n)
+
+abbrev pub is_var_tree : Tree → Bool
+is_var_tree e = (type_of e).var
+
+-- of par arguments a global has a value; with a var one it isn't built
+abbrev pub is_unbuilt_call : ℕ → List Tree → Bool
+is_unbuilt_call n es = is_global n && list_any is_var_tree es
 
 -- a local variable; and a par declaration of a let without a value, which typing refuses
 abbrev pub is_unbuilt_local : PlainType → Maybe → Bool
@@ -33,7 +40,7 @@ unfoldable mutual
   pub in_form : (ℕ → Bool) → Span → Shape → List Span
   in_form v at (tree.slot s) = at_if (v s) at
   in_form v at (tree.chain e ss) = unbuilt_in v e ++ in_steps v ss
-  in_form v at (tree.builtin n es) = at_if (is_global n) at ++ in_trees v es
+  in_form v at (tree.builtin n es) = at_if (is_unbuilt_call n (all_trees es)) at ++ in_trees v es
   in_form v at (tree.call f es) = in_trees v es
   in_form v at (tree.access e es) = unbuilt_in v e ++ in_trees v es
   in_form v at (tree.array es) = in_trees v es

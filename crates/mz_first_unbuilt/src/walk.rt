@@ -1,14 +1,14 @@
 // The first place of what isn't built in typed expressions, declarations and types.
 
 ghost use Rattle.std.specs.Prelude.{◌≡◌, map};
-ghost use Rattle.std.specs.List.{flat_map};
+ghost use Rattle.std.specs.List.{flat_map, list_any};
 ghost use Rattle.std.specs.Option.{option_map};
 ghost use Rattle.mz_core.specs.Types.{plain_type};
 ghost use Rattle.mz_core.specs.declared.tree.CoreForm.TheViews.{out-CoreForm};
 ghost use Rattle.mz_core.specs.Tree.{maybe};
 ghost use Rattle.mz_core.specs.TreeViews.{tree, declared_type, decl, gen, step, item, branch, form_layer};
 ghost use Rattle.mz_first_unbuilt.specs.Places.{first_place};
-ghost use Rattle.mz_first_unbuilt.specs.Unbuilt.{unbuilt_in, is_global, is_unbuilt_local, in_if, in_type};
+ghost use Rattle.mz_first_unbuilt.specs.Unbuilt.{unbuilt_in, is_global, is_var_tree, is_unbuilt_call, is_unbuilt_local, in_if, in_type};
 ghost use Rattle.mz_first_unbuilt.specs.StepsSlots.{is_marked};
 ghost use Rattle.mz_first_unbuilt.specs.StepsLayers.{in_all, in_sets, in_branch, in_step, in_generator, in_local, in_item, in_layer};
 
@@ -19,11 +19,37 @@ use mz_base::Span;
 use mz_core::{Core, CoreDecl, CoreForm, CoreGen, CoreItem, CoreStep, CoreType, TypeInst};
 use mz_operations::row_of;
 
-// whether a row is a global constraint
+// whether a number is that of a global
 fn is_global(row: u32) -> bool
     ensures { result ≡ is_global row }
 {
     row_of(row).is_none()
+}
+
+#[tactic(auto, using(mz_core::proofs::TreeLaws::type_of_tree))]
+fn is_var_tree(e: &Core) -> bool
+    ensures { result ≡ is_var_tree (tree e.now) }
+{
+    is_var(&e.ty)
+}
+
+// whether an argument is var
+fn has_var(es: &[Core]) -> bool
+    ensures { result ≡ list_any is_var_tree (map tree es.now) }
+{
+    for e in es {
+        if is_var_tree(e) {
+            return true;
+        }
+    }
+    false
+}
+
+// whether a call of what has this number isn't built
+fn is_unbuilt_call(row: u32, es: &[Core]) -> bool
+    ensures { result ≡ is_unbuilt_call row (map tree es.now) }
+{
+    is_global(row) && has_var(es)
 }
 
 // whether a local declaration isn't built
@@ -63,8 +89,9 @@ fn in_form(slots: &[Option<Naming>], found: &mut Option<Span>, at: &Span, form: 
             in_steps(slots, found, steps.as_slice());
         }
         CoreForm::Builtin(row, xs) => {
-            note_if(found, is_global(*row), at);
-            in_all(slots, found, xs.as_slice());
+            let all = xs.as_slice();
+            note_if(found, is_unbuilt_call(*row, all), at);
+            in_all(slots, found, all);
         }
         CoreForm::Call(_, xs) => in_all(slots, found, xs.as_slice()),
         CoreForm::Access(x, xs) => {

@@ -13,3 +13,4 @@ pub mod Walks
 pub mod Consequences
 pub mod Values
 pub mod Budgets
+pub mod Limits

@@ -3,3 +3,4 @@ pub mod FreeLocals
 pub mod Ties
 pub mod Independence
 pub mod Spending
+pub mod Limits

@@ -39,8 +39,17 @@ decreases-forms::eval_one l = 2 ^ 140 * l.level.now.left + 1
 abbrev pub decreases-forms::eval_two : goal.decreases-forms::eval_two
 decreases-forms::eval_two l = 2 ^ 140 * l.level.now.left + 1
 
+abbrev pub decreases-forms::eval_row : goal.decreases-forms::eval_row
+decreases-forms::eval_row l = 2 ^ 140 * l.level.now.left + 2
+
+abbrev pub decreases-globals::eval_global : goal.decreases-globals::eval_global
+decreases-globals::eval_global l = 2 ^ 140 * l.level.now.left + 2
+
+abbrev pub decreases-forms::eval_called : goal.decreases-forms::eval_called
+decreases-forms::eval_called l = 2 ^ 140 * l.level.now.left + 3
+
 abbrev pub decreases-forms::eval_builtin : goal.decreases-forms::eval_builtin
-decreases-forms::eval_builtin l = 2 ^ 140 * l.level.now.left + 2
+decreases-forms::eval_builtin l = 2 ^ 140 * l.level.now.left + 4
 
 abbrev pub decreases-forms::eval_array : goal.decreases-forms::eval_array
 decreases-forms::eval_array l = 2 ^ 140 * l.level.now.left + 2

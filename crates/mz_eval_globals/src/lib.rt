@@ -1,0 +1,11 @@
+// Calls of globals over cells: which global a number has, what a call costs, what it is refused for, and what it gives.
+#![tactic(auto)]
+
+mod calls;
+mod costs;
+mod givens;
+mod numbers;
+
+pub use calls::global_cell;
+pub use costs::cost_of_call;
+pub use numbers::global_numbered;
