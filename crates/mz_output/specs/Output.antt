@@ -1,6 +1,6 @@
 -- The text that is printed for a solution of a model.
-use Rattle.std.specs.Prelude.{◌≡◌, ℕ, ◌+◌, pos, not, ◌&&◌, Bool, List, [], ◌∷◌, ◌++◌, length, Option, Some, None, codes, if◌then◌else◌}
-use Rattle.std.specs.List.{flat_map}
+use Rattle.std.specs.Prelude.{◌≡◌, ℕ, ◌+◌, pos, not, ◌&&◌, map, nat_eq, Bool, true, List, [], ◌∷◌, ◌++◌, length, Option, Some, None, codes, if◌then◌else◌}
+use Rattle.std.specs.List.{flat_map, AllByRecursion}
 use Rattle.mz_base.specs.declared.fault.Fault.{Fault}
 use Rattle.mz_base.specs.declared.fault.Span.{Span}
 use Rattle.mz_base.specs.declared.kind.Kind.TheVariants.{OutputUndefined}
@@ -12,25 +12,57 @@ use Rattle.mz_value.specs.Shown.{Names, shown, shown_integers, bytes_of}
 use Rattle.mz_core.specs.Program.{PlainProgram}
 use Rattle.mz_core.specs.Tree.{Tree, Decl, place_of}
 use Rattle.mz_operations.specs.Views.{items_in}
-use Rattle.mz_meaning.specs.Runs.{Run, State, Stopped, ◌>>=◌, give, stop, loop}
-use Rattle.mz_meaning.specs.Cells.{Cell, Par, Env, Mode, no_names, bind, value_of, is_there}
+use Rattle.mz_meaning.specs.Runs.{Run, State, Answer, Out, Stopped, start, ◌>>=◌, give, stop, loop}
+use Rattle.mz_meaning.specs.Cells.{Cell, Par, Env, Mode, Bare, Given, no_names, bind, value_of, is_par, is_there}
 use Rattle.mz_meaning.specs.Contexts.{Untested}
 use Rattle.mz_meaning.specs.Domains.{Domains, Fixed, Scalar, Places}
 use Rattle.mz_meaning.specs.Forms.{World}
 use Rattle.mz_meaning.specs.Evaluation.{eval}
 use Rattle.mz_meaning.specs.Walk.{Limits, Assignment, Declared, world_at, levels}
+use Rattle.mz_meaning_laws.specs.Independence.{IsParTree}
 
 -- names
 
--- a decision variable is par, with its value; each other name has the cell that the walk gave it
-abbrev pub output_cell : Domains → Option Content → Cell → Cell
-output_cell Fixed v c = c
-output_cell (Scalar d) v c = Par v
-output_cell (Places index ds) v c = Par v
+-- a top-level name, as printing sees it: the cell that the walk gave it, and None of a decision variable
+pub record OutputName : Type 0 where
+  pub slot : ℕ
+  pub fixed : Option Cell
 
-abbrev pub output_env : Assignment → List Declared → Env
+abbrev pub fixed_cell : Domains → Cell → Option Cell
+fixed_cell Fixed c = Some c
+fixed_cell (Scalar d) c = None
+fixed_cell (Places index ds) c = None
+
+abbrev pub output_name : Declared → OutputName
+output_name x = record { slot = x.slot; fixed = fixed_cell x.domains x.cell }
+
+-- the names of a model, as its walk declares them
+abbrev pub output_names : List Declared → List OutputName
+output_names xs = map output_name xs
+
+-- a decision variable is par, with its value
+abbrev pub output_cell : Option Cell → Option Content → Cell
+output_cell (Some c) v = c
+output_cell None v = Par v
+
+unfoldable pub output_env : Assignment → List OutputName → Env
 output_env a [] = no_names
-output_env a (x ∷ xs) = bind x.slot (output_cell x.domains (a x.slot) x.cell) (output_env a xs)
+output_env a (x ∷ xs) = bind x.slot (output_cell x.fixed (a x.slot)) (output_env a xs)
+
+-- the slots of the decision variables
+abbrev pub slots_with : ℕ → Option Cell → List ℕ → List ℕ
+slots_with s None ss = s ∷ ss
+slots_with s (Some c) ss = ss
+
+unfoldable pub variable_slots : List OutputName → List ℕ
+variable_slots [] = []
+variable_slots (x ∷ xs) = slots_with x.slot x.fixed (variable_slots xs)
+
+-- THE ASSIGNMENT OF A SOLUTION: a value for each of these slots, in their order
+unfoldable pub assigned : List ℕ → List Content → Assignment
+assigned [] vs k = None
+assigned (s ∷ ss) [] k = None
+assigned (s ∷ ss) (v ∷ vs) k = if nat_eq s k then Some v else assigned ss vs k
 
 -- output items
 
@@ -86,17 +118,36 @@ default_text table p a = flat_map (default_of table p.cases a) p.decls
 
 -- the text
 
-abbrev pub text_by : List (List ℕ) → Limits → Mode → PlainProgram → List Declared → Assignment → ℕ → List Tree → Run (List ℕ)
+abbrev pub text_by : List (List ℕ) → Limits → Mode → PlainProgram → List OutputName → Assignment → ℕ → List Tree → Run (List ℕ)
 text_by table l m p xs a n [] = give (default_text table p a)
 text_by table l m p xs a n (e ∷ es) = output_items (world_at l m p (output_env a xs)) (e ∷ es) >>= joined_items n
 
--- THE TEXT OF A SOLUTION, which is the block with this number: of a program, of the names as the walk declares them, and
--- of the value of each decision variable. Its work begins at 0
-unfoldable pub output_text : List (List ℕ) → Limits → Mode → PlainProgram → List Declared → Assignment → ℕ → Run (List ℕ)
+-- THE TEXT OF A SOLUTION, which is the block with this number: of a program, of its top-level names, and of the value of
+-- each decision variable. Its work begins at 0
+unfoldable pub output_text : List (List ℕ) → Limits → Mode → PlainProgram → List OutputName → Assignment → ℕ → Run (List ℕ)
 output_text table l m p xs a n = text_by table l m p xs a n p.outputs
 
 -- laws
 
 -- where some item stops at a fault, so does the text, whether an item is undefined or not
 abbrev pub FaultsComeFirst : Type 0
-FaultsComeFirst = (table : List (List ℕ)) (l : Limits) (m : Mode) (p : PlainProgram) (xs : List Declared) (a : Assignment) (n : ℕ) (e : Tree) (es : List Tree) (s : State) (f : Fault) → output_items (world_at l m p (output_env a xs)) (e ∷ es) s ≡ Stopped f → text_by table l m p xs a n (e ∷ es) s ≡ Stopped f
+FaultsComeFirst = (table : List (List ℕ)) (l : Limits) (m : Mode) (p : PlainProgram) (xs : List OutputName) (a : Assignment) (n : ℕ) (e : Tree) (es : List Tree) (s : State) (f : Fault) → output_items (world_at l m p (output_env a xs)) (e ∷ es) s ≡ Stopped f → text_by table l m p xs a n (e ∷ es) s ≡ Stopped f
+
+-- a name that is no decision variable has a par cell, as the walk gives it
+abbrev pub IsParIf : Option Cell → Type 0
+IsParIf None = Unit {0}
+IsParIf (Some c) = is_par c ≡ true
+
+abbrev pub IsParName : OutputName → Type 0
+IsParName x = IsParIf x.fixed
+
+-- the same text by the same work, or the same fault
+abbrev pub AreSameTexts : Answer (List ℕ) → Answer (List ℕ) → Type 0
+AreSameTexts (Out t s) (Out u r) = (t ≡ u) × (s.work ≡ r.work)
+AreSameTexts (Stopped f) (Stopped g) = f ≡ g
+AreSameTexts (Out t s) (Stopped g) = ⊥
+AreSameTexts (Stopped f) (Out u r) = ⊥
+
+-- WHATEVER VALUES FREE LOCALS TAKE, the text is that of the run without values
+abbrev pub IsFreeOfChoices : Type 0
+IsFreeOfChoices = (table : List (List ℕ)) (l : Limits) (p : PlainProgram) (xs : List OutputName) (a : Assignment) (n : ℕ) (choices : ℕ → Content) → AllByRecursion IsParName xs → AllByRecursion IsParTree p.outputs → AreSameTexts (output_text table l Bare p xs a n start) (output_text table l (Given choices) p xs a n start)

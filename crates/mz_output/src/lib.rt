@@ -3,4 +3,4 @@
 
 mod laws;
 
-pub use laws::faults_come_first;
+pub use laws::{faults_come_first, free_of_choices};
