@@ -6,10 +6,11 @@ ghost use Rattle.mz_globals.specs.Table as table;
 ghost use Rattle.mz_globals_apply.specs.Views.{plain_given};
 ghost use Rattle.mz_meaning.specs.Cells.{Bare, Par, Var};
 ghost use Rattle.mz_meaning.specs.Globals as globals;
+ghost use Rattle.mz_meaning.specs.Runs.{give};
 ghost use Rattle.mz_operations.specs.Bounds as bounds;
 ghost use Rattle.mz_eval_cells.specs.Meets.{Tells};
 ghost use Rattle.mz_eval_cells.specs.Views.{cell_of, cells_of};
-ghost use Rattle.mz_eval_globals.specs.Steps.{is_count, global_result_by};
+ghost use Rattle.mz_eval_globals.specs.Steps.{is_count, global_result_by, call_by};
 
 use crate::givens::givens_in;
 use mz_base::{Fault, Kind, Span, Stop};
@@ -102,6 +103,27 @@ fn global_result(
     }
 }
 
+fn tested(g: Global, at: Span, gs: &[Given]) -> Result<(), Stop>
+    ensures { Tells (λ _. tt) result (globals.refused (table.refusal_of g (map plain_given gs.now)) at) }
+{
+    refused(refusal_of(g, gs), at)
+}
+
+fn result_by(alloc: Heap, g: Global, gs: &[Given], cells: Vec<Known>) -> Result<Known, Stop>
+    ensures { Tells cell_of result (give (global_result_by g (map plain_given gs.now) (cells_of cells.items))) }
+{
+    let k = global_result(alloc, g, gs, cells)?;
+    Ok(k)
+}
+
+/// A call by what is known of its arguments.
+fn call_by(alloc: Heap, g: Global, at: Span, gs: &[Given], cells: Vec<Known>) -> Result<Known, Stop>
+    ensures { Tells cell_of result (call_by g (map plain_given gs.now) at (cells_of cells.items)) }
+{
+    tested(g, at, gs)?;
+    result_by(alloc, g, gs, cells)
+}
+
 /// What a call of a global gives of these arguments: a par value where all are par, and else what
 /// has bounds alone.
 ///
@@ -114,7 +136,5 @@ pub fn global_cell(alloc: Heap, g: Global, at: Span, cells: Vec<Known>) -> Resul
     ensures { Tells cell_of result (globals.global_cell Bare g at (cells_of cells.items)) }
 {
     let givens = givens_in(alloc, cells.as_slice())?;
-    refused(refusal_of(g, &givens), at)?;
-    let result = global_result(alloc, g, &givens, cells)?;
-    Ok(result)
+    call_by(alloc, g, at, &givens, cells)
 }

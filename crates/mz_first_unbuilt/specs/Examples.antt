@@ -11,7 +11,7 @@ use Rattle.mz_core.specs.Tree as tree
 use Rattle.mz_operations.specs.Lines.{lines, line_at, place_in}
 use Rattle.mz_meaning.specs.Chains.{innermost_of}
 use Rattle.mz_meaning.specs.RowNumbers as op
-use Rattle.mz_meaning.specs.Written.{col, scalar, int, var_int, bool, var_bool, opt_int, var_opt_int, ints, var_ints, list_of, num, lit, slot, fun, call, chain, bin, choose, let_in, range, plain, within, decl, function, by_zero}
+use Rattle.mz_meaning.specs.Written.{col, scalar, int, var_int, bool, var_bool, opt_int, var_opt_int, ints, var_ints, list_of, num, lit, slot, fun, call, chain, bin, choose, let_in, range, plain, within, decl, function, by_zero, list}
 use Rattle.mz_first_unbuilt.specs.Places.{first_place}
 use Rattle.mz_first_unbuilt.specs.Variables.{named_in}
 use Rattle.mz_first_unbuilt.specs.Unbuilt.{unbuilt_in, places_in, first_unbuilt}
@@ -117,19 +117,27 @@ local = let_in 40 var_int (declares (decl 57 5 (within var_int (range 50 (pos 1)
 abbrev first_global : ℕ
 first_global = length lines
 
+-- all_different([f()]) of a function whose result is var, and all_different([1])
+abbrev of_var : Tree
+of_var = fun 43 var_bool first_global (list 57 var_int (call 58 var_int 0 [] ∷ []) ∷ [])
+
+abbrev of_par : Tree
+of_par = fun 43 bool first_global (list 57 int (num 58 (pos 1) ∷ []) ∷ [])
+
 pub record Others : Type 0 where
   -- solve minimize 3; solve minimize x
   pub minimized : first_of (whole [] (x ∷ []) (0 ∷ []) [] (minimize (num 30 (pos 3))) []) ≡ at 30
   pub minimized_name : first_of (whole [] (x ∷ []) (0 ∷ []) [] (minimize (x_at 30)) []) ≡ at 30
-  -- a function's body that names x, has a var local, or calls a global constraint
+  -- a function's body that names x, has a var local, or calls a global with a var argument
   pub body_name : first_of (with_function (x_at 41)) ≡ at 41
   pub body_local : first_of (with_function local) ≡ at 57
-  pub body_global : first_of (with_function (fun 43 var_bool first_global [])) ≡ at 43
+  pub body_global : first_of (with_function of_var) ≡ at 43
+  pub body_par_global : first_of (with_function of_par) ≡ None
   -- in an output item the name may stand, and the others may not
   pub output_name : first_of (with_output (x_at 41)) ≡ None
   pub output_local : first_of (with_output local) ≡ at 57
-  pub output_global : first_of (with_output (fun 43 var_bool first_global [])) ≡ at 43
+  pub output_global : first_of (with_output of_var) ≡ at 43
 
 pub others : Others
 unfolding first_place places_in named_in unbuilt_in is_keyword lines line_at place_in innermost_of
-others = record { minimized = refl; minimized_name = refl; body_name = refl; body_local = refl; body_global = refl; output_name = refl; output_local = refl; output_global = refl }
+others = record { minimized = refl; minimized_name = refl; body_name = refl; body_local = refl; body_global = refl; body_par_global = refl; output_name = refl; output_local = refl; output_global = refl }

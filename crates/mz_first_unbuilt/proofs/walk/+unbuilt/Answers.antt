@@ -91,7 +91,7 @@ in_form-returns-in-Chain t c =
 
 pub in_form-returns-in-Builtin : goal.in_form-returns-in-Builtin
 in_form-returns-in-Builtin t c =
-    in_builtin (is_marked c.args.slots.now) c.args.at.now c.args.form.now c.in-Builtin.row c.in-Builtin.xs c.as_slice-in-Builtin.result.now c.args.found.now c.note_if-in-Builtin.new.found c.in_all.new.found c.in-Builtin.is c.as_slice-in-Builtin.ensures.value
+    in_builtin (is_marked c.args.slots.now) c.args.at.now c.args.form.now c.in-Builtin.row c.in-Builtin.xs c.as_slice-all.result.now c.args.found.now c.note_if-in-Builtin.new.found c.in_all.new.found c.in-Builtin.is c.as_slice-all.ensures.value
     (c.note_if-in-Builtin.ensures ∙ ap (λ b. first_place c.args.found.now (at_if b c.args.at.now)) c.is_unbuilt_call.ensures)
     c.in_all.ensures
 

@@ -1,0 +1,5 @@
+use Rattle.mz_eval_rows.proofs.Told.{tells_given}
+use Rattle.mz_eval_globals.proofs.calls.result_by.Goals as goal
+
+pub returns : goal.returns
+returns c = tells_given c.in_ok-k.k _ c.in_ok-k.ensures
