@@ -50,13 +50,15 @@ output_env a [] = no_names
 output_env a (x ∷ xs) = bind x.slot (output_cell x.fixed (a x.slot)) (output_env a xs)
 
 -- the slots of the decision variables
-abbrev pub slots_with : ℕ → Option Cell → List ℕ → List ℕ
-slots_with s None ss = s ∷ ss
-slots_with s (Some c) ss = ss
+abbrev pub slot_if : ℕ → Option Cell → List ℕ
+slot_if s None = s ∷ []
+slot_if s (Some c) = []
 
-unfoldable pub variable_slots : List OutputName → List ℕ
-variable_slots [] = []
-variable_slots (x ∷ xs) = slots_with x.slot x.fixed (variable_slots xs)
+abbrev pub variable_slot : OutputName → List ℕ
+variable_slot x = slot_if x.slot x.fixed
+
+abbrev pub variable_slots : List OutputName → List ℕ
+variable_slots xs = flat_map variable_slot xs
 
 -- THE ASSIGNMENT OF A SOLUTION: a value for each of these slots, in their order
 unfoldable pub assigned : List ℕ → List Content → Assignment

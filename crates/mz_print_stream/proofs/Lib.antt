@@ -5,3 +5,4 @@ pub mod Outputs
 pub mod Drains
 pub mod Sources
 pub mod Streams
+pub mod Fits

@@ -10,6 +10,7 @@ use Rattle.soln_reader_items.specs.Forms.{Form}
 use Rattle.soln_reader.specs.declared.next.Mark.{Mark}
 use Rattle.soln_reader.specs.declared.next.Mark.TheVariants.{Complete, Unsatisfiable, Unknown, Unbounded, UnsatOrUnbounded, Error}
 use Rattle.soln_reader.specs.Stream.{Event, block, mark, mark_of}
+use Rattle.soln_reader.specs.Values.{AreValues}
 use Rattle.soln_reader.specs.Reader.{bad_line}
 use Rattle.mz_print_stream.specs.Reading.{Close, complete, bad_at, cut, Reads, first_place}
 
@@ -29,6 +30,12 @@ abbrev pub Says : Text → Result (Vec ℕ Global) Stop → Type 0
 Says t (Ok bytes) = t ≡ says bytes.items
 Says t (Err (stop.Refused f)) = t ≡ refuses f
 Says t (Err stop.Memory) = Unit {0}
+
+-- values of some forms that a printer takes
+pub record AreTaken (takes : List Form → Type 0) (xs : List Content) : Type 0 where
+  pub forms : List Form
+  pub taken : takes forms
+  pub fit : AreValues forms xs
 
 -- a text that isn't empty and doesn't end with a newline
 abbrev pub lacks_newline : List ℕ → Bool

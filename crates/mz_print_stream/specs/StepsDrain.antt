@@ -5,6 +5,7 @@ use Rattle.mz_io.specs.Sink.{Held, SinkCounts, Adds, AddsPrefix}
 use Rattle.mz_value.specs.Contents.{Content}
 use Rattle.soln_reader_items.specs.Forms.{Form}
 use Rattle.soln_reader.specs.Stream.{Event, block}
+use Rattle.soln_reader.specs.Values.{StateFits}
 use Rattle.soln_reader.specs.Reader.{State, GivesEvent, Needs, Ends, FindsBad, bad_line}
 use Rattle.mz_print_stream.specs.Reading.{Reads, first_place, cut}
 use Rattle.mz_print_stream.specs.Printing.{Text, says, refuses, Texts, output, block_lines}
@@ -86,6 +87,11 @@ Drains ts ended s n old v m new (Err _) = ⊥
 pub record IsFew (s : State) (n : ℕ) (u : State) (m : ℕ) : Type 0 where
   pub blocks : m + length u.bytes ≤ n + length s.bytes
   pub lines : u.lines + length u.bytes ≤ s.lines + length s.bytes
+
+-- a reader of forms that the printer takes, which holds of the open block what fits them
+pub record IsReady (takes : List Form → Type 0) (s : State) : Type 0 where
+  pub taken : takes s.forms
+  pub fits : StateFits s
 
 -- what a drain's loop keeps
 pub record Keeps (ts : Texts) (ended : Bool) (s : State) (n : ℕ) (old : Held) (u : State) (m : ℕ) (new : Held) : Type 0 where

@@ -1,9 +1,9 @@
 // What the bytes of a reader give, written.
 
-ghost use Rattle.std.specs.Prelude.{◌+◌, ◌<◌, ◌^◌, false, length};
+ghost use Rattle.std.specs.Prelude.{◌+◌, ◌<◌, ◌^◌, OnOk, false, length};
 ghost use Rattle.soln_reader.specs.Reader.{fed};
 ghost use Rattle.soln_reader.specs.Views.{state};
-ghost use Rattle.mz_print_stream.specs.StepsDrain.{CountsSent, Drains, IsFew};
+ghost use Rattle.mz_print_stream.specs.StepsDrain.{CountsSent, Drains, IsFew, IsReady};
 
 use crate::printed::Printed;
 use crate::printer::Printer;
@@ -21,10 +21,12 @@ pub fn drain<P: Printer, S: Sink>(
     blocks: &mut u64,
     out: &mut S,
 ) -> Result<(), Printed>
-    requires { blocks.old + length reader.old.bytes < 2 ^ 63 }
+    requires few_blocks { blocks.old + length reader.old.bytes < 2 ^ 63 }
+    requires ready { IsReady (P.takes printer.now) (state reader.old) }
     ensures drains { Drains (P.texts printer.now) ended (state reader.old) blocks.old (S.held out.old) (state reader.new) blocks.new (S.held out.new) result }
     ensures few { IsFew (state reader.old) blocks.old (state reader.new) blocks.new }
     ensures counted { CountsSent (S.counts out.old) (S.counts out.new) result }
+    ensures ready { OnOk result (IsReady (P.takes printer.now) (state reader.new)) }
 {
     'events: loop {
         match reader.next(ended) {
@@ -58,9 +60,11 @@ pub fn print_piece<P: Printer, S: Sink>(
 ) -> Result<(), Printed>
     requires fits { reader.old.lines + length reader.old.bytes + length piece.now < 2 ^ 32 }
     requires few_blocks { blocks.old + length reader.old.bytes + length piece.now < 2 ^ 63 }
+    requires ready { IsReady (P.takes printer.now) (state reader.old) }
     ensures drains { Drains (P.texts printer.now) false (fed (state reader.old) piece.now) blocks.old (S.held out.old) (state reader.new) blocks.new (S.held out.new) result }
     ensures few { IsFew (fed (state reader.old) piece.now) blocks.old (state reader.new) blocks.new }
     ensures counted { CountsSent (S.counts out.old) (S.counts out.new) result }
+    ensures ready { OnOk result (IsReady (P.takes printer.now) (state reader.new)) }
 {
     if reader.feed(piece).is_err() {
         return Err(Printed::Memory);

@@ -6,16 +6,22 @@ use std::alloc::Global;
 
 /// What makes a solution's text.
 pub trait Printer {
-    ghost use Rattle.std.specs.Prelude.{map};
+    ghost use Rattle.std.specs.Prelude.{List, map};
     ghost use Rattle.mz_value.specs.Contents.{content};
-    ghost use Rattle.mz_print_stream.specs.Printing.{Texts, Says};
+    ghost use Rattle.soln_reader_items.specs.Forms.{Form};
+    ghost use Rattle.mz_print_stream.specs.Printing.{AreTaken, Texts, Says};
+
+    // Whether it makes texts of values of these forms.
+    ghost takes: { Self → List Form → Type 0 };
 
     // The text of each solution, by its values and its number.
     ghost texts: { Self → Texts };
 
     /// The text of a solution, which is the stream's block with this number, from 1.
     ///
-    /// `assign` has a value for each shape, in the shapes' order.
+    /// `assign` has a value for each of some shapes of which it makes texts, in their order, and each element lies in its
+    /// domain.
     fn text(&self, alloc: Global, assign: &Assign, block: u64) -> Result<Vec<u8>, Stop>
+        requires { AreTaken (takes self.now) (map content assign.now.values.items) }
         ensures { Says (texts self.now (map content assign.now.values.items) block) result };
 }

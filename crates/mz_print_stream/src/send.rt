@@ -2,7 +2,7 @@
 
 ghost use Rattle.std.specs.Prelude.{◌≡◌, IfOk, map};
 ghost use Rattle.mz_value.specs.Contents.{content};
-ghost use Rattle.mz_print_stream.specs.Printing.{block_lines, lacks_newline, mark_line, with_newline};
+ghost use Rattle.mz_print_stream.specs.Printing.{AreTaken, block_lines, lacks_newline, mark_line, with_newline};
 ghost use Rattle.mz_print_stream.specs.StepsDrain.{CountsSent, Sends, SendsBlock};
 
 use crate::printed::Printed;
@@ -77,6 +77,7 @@ pub fn send_block<P: Printer, S: Sink>(
     block: u64,
     out: &mut S,
 ) -> Result<(), Printed>
+    requires { AreTaken (P.takes printer.now) (map content assign.now.values.items) }
     ensures sends { SendsBlock (P.texts printer.now (map content assign.now.values.items) block) (S.held out.old) (S.held out.new) result }
     ensures counted { CountsSent (S.counts out.old) (S.counts out.new) result }
 {

@@ -38,7 +38,7 @@ fn too_long() -> Fault
 ///
 /// All that the bytes taken give is written before more bytes are taken, and the memory held doesn't grow with the number
 /// of blocks. Refused are the first bad line, a text that the printer refuses, and a stream that has more bytes than the
-/// limit, whichever comes first.
+/// limit, whichever comes first. The printer makes texts of these shapes' values.
 pub fn print_stream<P: Printer, I: Source, S: Sink>(
     alloc: Global,
     shapes: Vec<Shape>,
@@ -47,7 +47,8 @@ pub fn print_stream<P: Printer, I: Source, S: Sink>(
     input: &mut I,
     out: &mut S,
 ) -> Printed
-    requires { limit < 2 ^ 32 }
+    requires limit { limit < 2 ^ 32 }
+    requires shapes { P.takes printer.now (forms shapes.items) }
     ensures printed { Promises (P.texts printer.now) (forms shapes.items) limit (I.left input.old) (I.left input.new) (S.held out.old) (S.held out.new) result }
     ensures counted { CountsIn (I.faults input.old) (I.faults input.new) result }
     ensures counted_out { CountsOut (S.counts out.old) (S.counts out.new) result }

@@ -1,6 +1,7 @@
 use Rattle.std.proofs.Common.{◌≡◌, ◌≤◌, ◌∙◌, refl, ap, arith, length}
 use Rattle.soln_reader.specs.Views.{state}
 use Rattle.mz_print_stream.proofs.Drains.{counts_stop}
+use Rattle.mz_print_stream.proofs.Fits.{ready_first}
 use Rattle.mz_print_stream.proofs.Streams.{memory_promise, begins, fault_promise, stops, is_too_long, goes_on, last_done, last_stops, no_read_fault, in_done, out_done, out_stops, rose_from, fed_slice, buffer_is}
 use Rattle.mz_print_stream.proofs.stream.print_stream.Goals.{in-Ok-drain, in-Err}
 use Rattle.mz_print_stream.proofs.stream.print_stream.Goals as goal
@@ -11,6 +12,7 @@ returns-in_default g c = record { printed = memory_promise _ _ _ _ _; counted = 
 pub pieces-init : goal.pieces-init
 pieces-init g c = record {
   pieces = begins _ c.args.shapes.items _ _ _ c.new-reader.result c.new-reader.ensures;
+  ready = ready_first _ c.args.shapes.items c.new-reader.result c.new-reader.ensures c.requires.shapes;
   buffer = omega (arith, c.in-Ok.ensures.len, c.in-Ok.buffer.ok.0);
   faults = refl;
   counts = refl;
@@ -66,6 +68,7 @@ pieces-preserved g c =
     let from = fed_slice c.min-within.result c.pieces.buffer.len c.take.new.buf c.pieces.buffer.items c.as_slice.result.now c.as_slice.ensures.value (omega (arith, same, c.pieces.buffer.ok.0)) in
     record {
       pieces = goes_on _ _ _ _ (g.I.Source.left c.pieces.input) _ _ _ _ (state c.pieces.reader) (state c.print_piece.new.reader) c.pieces.blocks c.print_piece.new.blocks c.pieces.room c.in-Some.n c.min-within.result c.take.new.buf _ tt c.pieces.invariant.pieces c.in-Some.ensures.told fits c.min-within.ensures c.if-within-n.false from c.in_default-print_piece.ensures.drains c.print_piece.ensures.few;
+      ready = c.in_default-print_piece.ensures.ready;
       buffer = ap length (buffer_is c.pieces.buffer.len c.take.new.buf c.pieces.buffer.items (omega (arith, same, c.pieces.buffer.ok.0))) ∙ (same ∙ c.pieces.invariant.buffer);
       faults = c.in-Some.ensures.counted ∙ c.pieces.invariant.faults;
       counts = c.in_default-print_piece.ensures.counted ∙ c.pieces.invariant.counts;

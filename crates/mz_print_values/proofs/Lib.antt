@@ -1,0 +1,4 @@
+pub mod All
+pub mod Items
+pub mod DefaultLines
+pub mod ShownValues
