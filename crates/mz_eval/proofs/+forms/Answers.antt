@@ -4,9 +4,9 @@ use Rattle.mz_core.specs.Types.{plain_type}
 use Rattle.mz_core.specs.Program.{function}
 use Rattle.mz_core.specs.TreeViews.{tree, step, decl, form_layer}
 use Rattle.mz_core.specs.declared.tree.CoreForm.TheViews.{out-CoreForm}
-use Rattle.mz_meaning.specs.Runs.{then_do}
+use Rattle.mz_meaning.specs.Runs.{then_do, spend}
 use Rattle.mz_meaning.specs.Cells.{Bare, both_sure, bind}
-use Rattle.mz_meaning.specs.Arrays.{Anything, access_cell}
+use Rattle.mz_meaning.specs.Arrays.{Anything, access_cell, table_cell}
 use Rattle.mz_meaning.specs.Forms.{done, parts}
 use Rattle.mz_meaning.specs.Calls.{argument_suits, call_of}
 use Rattle.mz_meaning.specs.Evaluation.{eval, node}
@@ -83,6 +83,17 @@ operators::eval_operands-loop-i-preserved t c = record {
   goes = goes_on _ _ _ c.loop-i.invariant.goes c.eval_operand.ensures.goes;
   so_far = append_goes (world_in blank c.args.level.now) (go_of blank c.args.level.now) (scope_of blank c.args.level.now c.args.scope.now) c.args.all.now c.loop-i.i c.index-all-i.result _ (appended_of c.loop-i.x) (appended_of c.in_ok-x.x) (ctx_of c.loop-i.ctx) (ctx_of c.right_within-ctx.result) (ctx_of c.first_within-place.result) (at_work c.loop-i.run.work) (at_work c.eval_operand.new.run.work) _ c.loop-i-test.true c.index-all-i.is (taken_from (c.loop-i.i + 1) c.args.all.now) c.right_within-ctx.ensures c.first_within-place.ensures c.in_ok-x.ensures.means c.loop-i.invariant.so_far;
 }
+
+pub forms::eval_table-returns-clause-means : goal.forms::eval_table-returns-clause-means
+forms::eval_table-returns-clause-means t c =
+    let w = world_in blank c.args.level.now in
+    let at = c.args.at in
+    let n = c.spend.new.self.work in
+    meets_is cell_of c.table_cell.result n _ _
+    (ap (λ a. then_do a (λ rows s. then_do (spend w.budget at 1 s) (λ _. table_cell Bare at rows))) c.in_ok-cells.ensures.means
+    ∙ ap (λ a. then_do a (λ _. table_cell Bare at (map (λ r. cells_of r.items) c.in_ok-cells.cells.items))) c.in_ok-spend.ensures.bare
+    ∙ ap (λ rs. table_cell Bare at (map (λ r. cells_of r.items) rs) (at_work n)) (sym c.deref.ensures.value))
+    (c.table_cell.ensures.by (at_work n))
 
 pub forms::eval_access-returns-clause-means : goal.forms::eval_access-returns-clause-means
 forms::eval_access-returns-clause-means t c =

@@ -1,4 +1,4 @@
-use Rattle.std.proofs.Common.{◌≡◌, ap}
+use Rattle.std.proofs.Common.{◌≡◌, ◌∙◌, sym, ap}
 use Rattle.mz_core.specs.Types.{plain_type}
 use Rattle.mz_meaning.specs.Runs.{then_do}
 use Rattle.mz_meaning.specs.Arrays.{branch_cell}
@@ -11,7 +11,10 @@ use Rattle.mz_eval.proofs.choices.chosen_branch.Goals as goal
 
 pub returns-clause-means : goal.returns-clause-means
 returns-clause-means c =
-    let n = c.spend.new.work in
+    let n = c.spend.new.self.work in
+    let t = plain_type c.args.node.now.ty in
+    let at = c.args.node.now.span in
     meets_is cell_of c.branch_cell.result n _ _
-    (ap (λ a. then_do a (λ _. branch_cell Bare (plain_type c.args.node.now.ty) c.args.node.now.span (pairs_of c.args.others.items) (cell_of c.args.cell))) c.in_ok-spend.ensures.bare)
+    (ap (λ a. then_do a (λ _. branch_cell Bare t at (pairs_of c.args.others.items) (cell_of c.args.cell))) c.in_ok-spend.ensures.bare
+    ∙ ap (λ ps. branch_cell Bare t at (pairs_of ps) (cell_of c.args.cell) (at_work n)) (sym c.deref.ensures.value))
     (c.branch_cell.ensures.by (at_work n))
