@@ -1,0 +1,2 @@
+pub mod SureSource
+pub mod AllBytes

@@ -1,0 +1,17 @@
+-- Top-level names, as the code has them.
+use Rattle.std.specs.Prelude.{ℕ, List, map, Option}
+use Rattle.std.specs.Option.{option_map}
+use Rattle.mz_eval_cells.specs.Views.{cell_of}
+use Rattle.mz_output.specs.Output.{OutputName}
+use Rattle.mz_print_values.specs.Lines.{place_of}
+use Rattle.mz_print.specs.declared.names.TopName.{TopName}
+
+abbrev pub top_name : TopName → OutputName
+top_name x = record { slot = x.slot; fixed = option_map cell_of x.fixed }
+
+abbrev pub top_names : List TopName → List OutputName
+top_names xs = map top_name xs
+
+-- the place of a name's slot
+abbrev pub place_in : List ℕ → OutputName → Option ℕ
+place_in slots x = place_of x.slot slots
