@@ -1,5 +1,5 @@
 -- What rows cost, against the charges of their nodes.
-use Rattle.std.proofs.Common.{ℕ, zero, suc, ◌+◌, ◌*◌, ◌≤◌, List, [], ◌∷◌, length, min, Bool, arith}
+use Rattle.std.proofs.Common.{ℕ, suc, ◌+◌, ◌*◌, ◌≤◌, List, [], ◌∷◌, length, min, Bool, arith}
 use Rattle.mz_operations.specs.declared.row.Comparison.{Comparison}
 use Rattle.mz_operations.specs.declared.row.Side.{Side}
 use Rattle.mz_globals.specs.declared.global.Global.TheVariants as global

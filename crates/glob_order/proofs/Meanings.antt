@@ -1,5 +1,5 @@
 -- What the terms tell is what the rows say of numbers.
-use Rattle.std.proofs.Common.{◌≡◌, ◌∙◌, ℕ, zero, suc, ◌<◌, ◌≤◌, ◌-◌, ◌+◌, min, nat_lt, nat_eq, ℤ, pos, int_le, int_lt, Bool, true, false, not, ◌&&◌, ◌||◌, List, [], ◌∷◌, length, drop, map, Option, Some, None, slice_index_or, refl, sym, ap, arith}
+use Rattle.std.proofs.Common.{◌≡◌, ◌∙◌, ℕ, zero, suc, ◌<◌, ◌≤◌, ◌-◌, min, nat_lt, nat_eq, ℤ, int_le, int_lt, Bool, true, false, ◌&&◌, ◌||◌, List, [], ◌∷◌, length, drop, map, Option, Some, None, slice_index_or, refl, sym, ap, arith}
 use Rattle.std.proofs.lemmas.Int.{ints}
 use Rattle.std.proofs.lemmas.Bool.Decides.{nat_tests}
 use Rattle.std.proofs.lemmas.Bool.Decides.{Decides-int_eq}
@@ -20,7 +20,7 @@ use Rattle.glob_nodes.specs.declared.nodes.Join.TheVariants.{Either}
 use Rattle.mz_symbol.specs.Runs.{Run}
 use Rattle.mz_symbol.specs.Makes.{GoesOnBy}
 use Rattle.glob_nodes.specs.Says.{Gives, Says, num, compares, joined_each}
-use Rattle.glob_nodes.proofs.Rows.{pairs_there, steps_there, all_map}
+use Rattle.glob_nodes.proofs.Rows.{pairs_there, steps_there}
 use Rattle.glob_nodes.proofs.Telling.{any_joined, drop_before}
 use Rattle.glob_order.specs.Senses.{differ_or_zero, in_order, lexed, preceded_by}
 

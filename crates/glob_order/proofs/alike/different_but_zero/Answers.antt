@@ -1,9 +1,8 @@
-use Rattle.std.proofs.Common.{◌+◌, ◌*◌, ◌≤◌, [], ◌∷◌, length, map, ◌∙◌, ap, arith, subst}
+use Rattle.std.proofs.Common.{◌*◌, [], ◌∷◌, length, map, ◌∙◌, ap, arith, subst}
 use Rattle.mz_globals.specs.declared.global.Global.TheVariants as global
 use Rattle.mz_globals.specs.Order as order
 use Rattle.mz_symbol.specs.Makes.{GoesOnBy}
-use Rattle.mz_symbol.specs.Readings.{Reading}
-use Rattle.glob_nodes.specs.Says.{num, pair_count}
+use Rattle.glob_nodes.specs.Says.{num}
 use Rattle.glob_nodes.specs.Rows.{row_cost}
 use Rattle.glob_nodes.proofs.Saying.{ok_so}
 use Rattle.glob_nodes.proofs.Telling.{goes_less, goes_more}

@@ -1,4 +1,3 @@
-use Rattle.std.proofs.Common.{ap}
 use Rattle.mz_arena.specs.Values.{as_number}
 use Rattle.glob_nodes.specs.declared.nodes.Compare.TheVariants.{Equal}
 use Rattle.glob_nodes.specs.Says.{num, compares}

@@ -1,12 +1,11 @@
-use Rattle.std.proofs.Common.{◌∙◌, ◌+◌, ◌*◌, ◌≤◌, [], ◌∷◌, length, map, ap, arith, subst}
+use Rattle.std.proofs.Common.{◌∙◌, ◌*◌, [], ◌∷◌, length, map, ap, arith, subst}
 use Rattle.mz_globals.specs.declared.global.Global.TheVariants as global
-use Rattle.mz_globals.specs.Order as order
 use Rattle.mz_symbol.specs.Makes.{GoesOnBy}
 use Rattle.glob_nodes.specs.Says.{num}
 use Rattle.glob_nodes.specs.Arguments.{array_value, number_value, numbers_in}
 use Rattle.glob_nodes.specs.Rows.{row_cost}
 use Rattle.glob_nodes.proofs.Saying.{ok_so}
-use Rattle.glob_nodes.proofs.Telling.{goes_less, goes_more, tells_of}
+use Rattle.glob_nodes.proofs.Telling.{goes_less, goes_more}
 use Rattle.glob_nodes.proofs.Rows.{number_array_row}
 use Rattle.glob_order.proofs.Costs.{member_cost}
 use Rattle.glob_order.proofs.Lines.{is_member, member_line}

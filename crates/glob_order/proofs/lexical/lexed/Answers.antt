@@ -1,4 +1,4 @@
-use Rattle.std.proofs.Common.{◌≡◌, ◌+◌, ◌*◌, ◌-◌, ◌<◌, ◌≤◌, ◌&&◌, ◌||◌, ◌∙◌, length, drop, map, min, slice_index_or, refl, ap, arith}
+use Rattle.std.proofs.Common.{◌≡◌, ◌*◌, ◌-◌, ◌<◌, ◌&&◌, ◌||◌, ◌∙◌, length, drop, map, min, slice_index_or, refl, ap, arith}
 use Rattle.glob_nodes.specs.declared.nodes.Compare.TheVariants.{AtMost, Less}
 use Rattle.glob_nodes.specs.Says.{num, compares}
 use Rattle.glob_nodes.proofs.Telling.{told_from, told_step, tells_of, tells_like, room_left, room_all, no_room, goes_more, goes_less}

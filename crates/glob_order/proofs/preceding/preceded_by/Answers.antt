@@ -1,4 +1,4 @@
-use Rattle.std.proofs.Common.{◌≡◌, ◌+◌, ◌*◌, ◌-◌, ◌<◌, ◌≤◌, ◌&&◌, ◌||◌, true, length, drop, map, slice_index_or, refl, sym, ap, arith}
+use Rattle.std.proofs.Common.{◌≡◌, ◌*◌, ◌-◌, ◌<◌, ◌&&◌, ◌||◌, true, length, drop, map, slice_index_or, refl, sym, ap, arith}
 use Rattle.glob_nodes.specs.declared.nodes.Compare.TheVariants.{Differ, Equal}
 use Rattle.glob_nodes.specs.Says.{num, compares}
 use Rattle.glob_nodes.proofs.Telling.{drop_all, told_from, told_step, tells_of, tells_like, room_left, room_all, no_room, goes_more, goes_less}
