@@ -1,0 +1,5 @@
+pub mod Saying
+pub mod Telling
+pub mod Counting
+pub mod Values
+pub mod Rows

@@ -1,0 +1,13 @@
+// The terms of the globals of order.
+#![tactic(auto)]
+
+mod alike;
+mod extremes;
+mod lexical;
+mod preceding;
+mod relations;
+
+pub use alike::{all_different, all_equal, different_but_zero, ordered};
+pub use extremes::{extreme_is, member};
+pub use lexical::lex;
+pub use preceding::precede;
