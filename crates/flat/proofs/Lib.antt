@@ -1,0 +1,4 @@
+pub mod Reading
+pub mod Fitting
+pub mod Defining
+pub mod Joining

@@ -1,0 +1,5 @@
+pub mod Tags
+pub mod Labels
+pub mod Declarable
+pub mod Addable
+pub mod Stepping
