@@ -106,14 +106,14 @@ extent_place es id some = by (lt_or id (length es))
     by (inl l) = l
     by (inr l) = absurd (some (at-past _ es id l))
 
-truth_place : (es : List Entry) (id : ℕ) → IsSome (as_truth (extent es id)) → id < length es
+pub truth_place : (es : List Entry) (id : ℕ) → IsSome (as_truth (extent es id)) → id < length es
 truth_place es id h = extent_place es id (λ e. nothing (extent es id) e h)
   where
     nothing : (x : Known) → x ≡ None → IsSome (as_truth x) → ⊥
     nothing None e h = cc
     nothing (Some y) e h = cc
 
-whole_place : (es : List Entry) (id : ℕ) → IsSome (as_whole (extent es id)) → id < length es
+pub whole_place : (es : List Entry) (id : ℕ) → IsSome (as_whole (extent es id)) → id < length es
 whole_place es id h = extent_place es id (λ e. nothing (extent es id) e h)
   where
     nothing : (x : Known) → x ≡ None → IsSome (as_whole x) → ⊥

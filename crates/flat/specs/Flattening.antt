@@ -18,7 +18,7 @@ use Rattle.fz_program.specs.Flat.{FlatSolves, is_plain, plain_value}
 use Rattle.flat_reif_rows.specs.Standing.{seen}
 use Rattle.flat_reif.specs.States.{State, Meets}
 use Rattle.flat_root.specs.Keeps.{Keeps, IsReadyState, AllTrue, HasChoices}
-use Rattle.flat_root.specs.Objectives.{HasValueAt}
+use Rattle.flat_root.specs.Objectives.{IsWholeRoot, HasValueAt}
 use Rattle.flat_front.specs.Fronts.{IsFronted}
 use Rattle.flat.specs.Absent.{AreDefaultRoots}
 use Rattle.flat.specs.Cleared.{HaveSome}
@@ -39,6 +39,19 @@ GoalStands es t instance_goal.Satisfy Satisfy = Unit {0}
 GoalStands es t (instance_goal.Minimize id) (Minimize k) = IsGoalAt es t id k
 GoalStands es t (instance_goal.Maximize id) (Maximize k) = IsGoalAt es t id k
 GoalStands es t _ _ = ⊥
+
+-- what is minimized or maximized is an integer node
+abbrev pub IsGoalRoot : List Entry → InstanceGoal → Type 0
+IsGoalRoot es instance_goal.Satisfy = Unit {0}
+IsGoalRoot es (instance_goal.Minimize id) = IsWholeRoot es id
+IsGoalRoot es (instance_goal.Maximize id) = IsWholeRoot es id
+
+-- the objective has a value, which is that of a variable
+pub record IsAimed (old new : State) (goal : InstanceGoal) (q : FzGoal) : Type 0 where
+  pub keeps : Keeps old new (HasGoal old.es goal)
+  pub ready : IsReadyState new
+  pub choices : HasChoices new
+  pub aimed : GoalStands old.es new goal q
 
 -- the roots hold, absent options have their defaults, and the objective has a value
 pub record IsHeld (es : List Entry) (defaults roots : List ℕ) (goal : InstanceGoal) (v : terms.Values) : Type 0 where

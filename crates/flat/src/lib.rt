@@ -11,7 +11,11 @@ macro_rules! given {
     };
 }
 
+mod absent;
 mod cleared;
+mod goal;
 mod law;
+mod top_call;
 
 pub use law::flattening_is_faithful;
+pub use top_call::flatten;

@@ -3,3 +3,4 @@ pub mod Labels
 pub mod Declarable
 pub mod Addable
 pub mod Stepping
+pub mod Fronting

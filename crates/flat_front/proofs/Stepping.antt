@@ -18,7 +18,7 @@ use Rattle.fz_emission.specs.Front.{cell_variables, variables_from, front_variab
 use Rattle.flat_reif.specs.States.{State, IsState, put_at}
 use Rattle.flat_reif.specs.Roots.{IsDeclared, with_prog}
 use Rattle.flat_front.specs.Declaring.{declared, all_declared, MayDeclareAll, AreDeclared, occurrence_variable, value_variable, variables_at, MayDeclareOne, IsOneDeclared, MayDeclareCell, IsCellDeclared, MayDeclareCells, AreCellsDeclared, MayDeclareVars, AreVarsDeclared}
-use Rattle.flat_front.specs.Arrays.{with_arrays, MayAddAll, AreAdded, place_at, HasVariable, HaveVariables, HaveElements, HaveAllElements, arrays_at, all_arrays}
+use Rattle.flat_front.specs.Arrays.{with_arrays, MayAddAll, AreAdded, place_at, HasVariable, HaveVariables, value_ids, as_ids, occurrence_ids, HaveElements, HaveAllElements, arrays_at, all_arrays}
 
 -- ---- lists
 
@@ -192,12 +192,15 @@ module _ (s t : State) (m : ModelVar) (x : Name) (all : List CodeCell) (index k 
   pub cell_may : MayDeclareCell t m x k (var_cell c)
   cell_may = subst (λ k. MayDeclareCell t m x k (var_cell c)) (sym h.place) (may_first t (cell_ids (var_cell c)) (flat_map cell_ids (cells_from (suc index) all)) (variables_at m x (suc index) (var_cell c)) (variables_from m (suc (suc index)) x (cells_from (suc index) all)) same_length next.left.may)
 
-  pub cells_next : (u : State) (l : ℕ) → l ≡ suc k → IsCellDeclared t u m x k (var_cell c) → CellsLeft s u m x all (suc index) l
-  cells_next u l e d = record {
+  cells_more : (u : State) (l : ℕ) → l ≡ suc k → IsCellDeclared t u m x k (var_cell c) → CellsLeft s u m x all (suc index) l
+  cells_more u l e d = record {
     place = e ∙ ap suc h.place;
     occurring = next.occurring;
     left = left_next s t u (flat_map cell_ids (map var_cell all)) (cell_ids (var_cell c)) (flat_map cell_ids (cells_from (suc index) all)) (variables_from m 1 x (map var_cell all)) (variables_at m x (suc index) (var_cell c)) (variables_from m (suc (suc index)) x (cells_from (suc index) all)) same_length next.left (subst (λ k. IsCellDeclared t u m x k (var_cell c)) h.place d);
   }
+
+  pub cells_next : (u : State) → IsCellDeclared t u m x k (var_cell c) → CellsLeft s u m x all (index + 1) (k + 1)
+  cells_next u d = subst (λ j. CellsLeft s u m x all j (k + 1)) (omega arith) (cells_more u (k + 1) (omega arith) d)
 
 pub cells_done : (s t : State) (m : ModelVar) (x : Name) (all : List CodeCell) (index k : ℕ) → length all ≤ index → CellsLeft s t m x all index k → AreCellsDeclared s t m x (map var_cell all)
 cells_done s t m x all index k low h = none_left s t (flat_map cell_ids (map var_cell all)) (variables_from m 1 x (map var_cell all)) (subst (λ cs. IsLeft s t (flat_map cell_ids (map var_cell all)) (variables_from m 1 x (map var_cell all)) (flat_map cell_ids (map var_cell cs)) (variables_from m (suc index) x (map var_cell cs))) (no_item all index low) h.left)
@@ -260,12 +263,15 @@ module _ (s t : State) (table : List Name) (all : List CodeVar) (index : ℕ) (m
   pub var_may : MayDeclareCells t m1 x1 m1.cells
   var_may = may_first t (var_ids m1) (ids (vars_from (suc index) all)) (variables_from m1 1 x1 m1.cells) (front_variables table (vars_from (suc index) all)) var_length next_var.left.may
 
-  pub vars_next : (u : State) → AreCellsDeclared t u m1 x1 m1.cells → VarsLeft s u table all (suc index)
-  vars_next u g = record {
+  vars_more : (u : State) → AreCellsDeclared t u m1 x1 m1.cells → VarsLeft s u table all (suc index)
+  vars_more u g = record {
     names = next_var.names;
     sound = next_var.sound;
     left = left_next s t u (ids (map model_var all)) (var_ids m1) (ids (vars_from (suc index) all)) (front_variables table (map model_var all)) (variables_from m1 1 x1 m1.cells) (front_variables table (vars_from (suc index) all)) var_length next_var.left g;
   }
+
+  pub vars_next : (u : State) → AreCellsDeclared t u m1 x1 m1.cells → VarsLeft s u table all (index + 1)
+  vars_next u g = subst (VarsLeft s u table all) (omega arith) (vars_more u g)
 
 pub vars_done : (s t : State) (table : List Name) (all : List CodeVar) (index : ℕ) → length all ≤ index → VarsLeft s t table all index → AreVarsDeclared s t table (map model_var all)
 vars_done s t table all index low h = none_left s t (ids (map model_var all)) (front_variables table (map model_var all)) (subst (λ ms. IsLeft s t (ids (map model_var all)) (front_variables table (map model_var all)) (ids (map model_var ms)) (front_variables table (map model_var ms))) (no_item all index low) h.left)
@@ -354,12 +360,15 @@ module _ (s t : State) (table : List Name) (all : List CodeVar) (index : ℕ) (m
   pub array_may : MayAddAll t.prog (arrays_at t.args (text_of table m.name) (model_var m))
   array_may = subst (MayAddAll t.prog) same_items (add_first t.prog items1 (all_arrays s.args table (vars_from (suc index) all)) next_array.left.may)
 
-  pub arrays_next : (u : State) → AreAdded t u (arrays_at t.args (text_of table m.name) (model_var m)) → ArraysLeft s u table all (suc index)
-  arrays_next u g = record {
+  arrays_more : (u : State) → AreAdded t u (arrays_at t.args (text_of table m.name) (model_var m)) → ArraysLeft s u table all (suc index)
+  arrays_more u g = record {
     names = next_array.names;
     have = next_array.have;
     left = items_next s t u (all_arrays s.args table (map model_var all)) items1 (all_arrays s.args table (vars_from (suc index) all)) next_array.left (subst (AreAdded t u) (sym same_items) g);
   }
+
+  pub arrays_next : (u : State) → AreAdded t u (arrays_at t.args (text_of table m.name) (model_var m)) → ArraysLeft s u table all (index + 1)
+  arrays_next u g = subst (ArraysLeft s u table all) (omega arith) (arrays_more u g)
 
 pub arrays_done : (s t : State) (table : List Name) (all : List CodeVar) (index : ℕ) → length all ≤ index → ArraysLeft s t table all index → AreAdded s t (all_arrays s.args table (map model_var all))
 arrays_done s t table all index low h = no_items s t (all_arrays s.args table (map model_var all)) (subst (λ ms. ItemsLeft s t (all_arrays s.args table (map model_var all)) (all_arrays s.args table (map model_var ms))) (no_item all index low) h.left)
@@ -379,8 +388,8 @@ take_next f [] k l = absurd (omega (arith, l))
 take_next f (i ∷ is) zero l = refl
 take_next f (i ∷ is) (suc k) l = ap (λ ns. f i ∷ ns) (take_next f is k (omega (arith, l)))
 
-pub places_next : (args : List (Option Plain)) (is : List ℕ) (k : ℕ) (all more : List ℕ) (n : ℕ) → k < length is → all ≡ map (place_at args) (take k is) → n ≡ place_at args (slice_index_or is k 0) → more ≡ all ++ n ∷ [] → more ≡ map (place_at args) (take (suc k) is)
-places_next args is k all more n l a e p = p ∙ ap₂ (λ xs m. xs ++ m ∷ []) a e ∙ sym (take_next (place_at args) is k l)
+pub places_next : (args : List (Option Plain)) (is : List ℕ) (k : ℕ) (all more : List ℕ) (n : ℕ) → k < length is → all ≡ map (place_at args) (take k is) → n ≡ place_at args (slice_index_or is k 0) → more ≡ all ++ n ∷ [] → more ≡ map (place_at args) (take (k + 1) is)
+places_next args is k all more n l a e p = p ∙ ap₂ (λ xs m. xs ++ m ∷ []) a e ∙ sym (take_next (place_at args) is k l) ∙ ap (λ j. map (place_at args) (take j is)) (omega arith)
 
 pub places_all : (args : List (Option Plain)) (is : List ℕ) (k : ℕ) → length is ≤ k → map (place_at args) (take k is) ≡ map (place_at args) is
 places_all args is k l = ap (map (place_at args)) (whole is k l)
@@ -390,3 +399,39 @@ places_all args is k l = ap (map (place_at args)) (whole is k l)
     whole [] (suc k) l = refl
     whole (i ∷ is) zero l = absurd (omega (arith, l))
     whole (i ∷ is) (suc k) l = ap (λ ns. i ∷ ns) (whole is k (omega (arith, l)))
+
+-- ---- the nodes of an array's elements
+
+take_item : {X : Type 0} (xs : List X) (k : ℕ) (x d : X) → k < length xs → x ≡ get_or xs k d → take (k + 1) xs ≡ take k xs ++ x ∷ []
+take_item xs k x d low is = ap (λ j. take j xs) (omega arith) ∙ by xs k low is
+  where
+    by : (xs : List X) (k : ℕ) → k < length xs → x ≡ get_or xs k d → take (suc k) xs ≡ take k xs ++ x ∷ []
+    by [] k low is = absurd (omega (arith, low))
+    by (y ∷ xs) zero low is = ap (λ z. z ∷ []) (sym is)
+    by (y ∷ xs) (suc k) low is = ap (λ zs. y ∷ zs) (by xs k (omega (arith, low)) is)
+
+take_whole : {X : Type 0} (xs : List X) (k : ℕ) → length xs ≤ k → take k xs ≡ xs
+take_whole [] zero low = refl
+take_whole [] (suc k) low = refl
+take_whole (x ∷ xs) zero low = absurd (omega (arith, low))
+take_whole (x ∷ xs) (suc k) low = ap (λ zs. x ∷ zs) (take_whole xs k (omega (arith, low)))
+
+values_push : (xs : List CodeCell) (c : CodeCell) → value_ids (map var_cell (xs ++ c ∷ [])) ≡ value_ids (map var_cell xs) ++ c.term ∷ []
+values_push [] c = refl
+values_push (x ∷ xs) c = ap (λ ns. x.term ∷ ns) (values_push xs c)
+
+occurrences_push : (xs : List CodeCell) (c : CodeCell) → occurrence_ids (map var_cell (xs ++ c ∷ [])) ≡ occurrence_ids (map var_cell xs) ++ as_ids c.occurs
+occurrences_push [] c = append-nil (as_ids c.occurs)
+occurrences_push (x ∷ xs) c = ap (λ ns. as_ids x.occurs ++ ns) (occurrences_push xs c) ∙ sym (append_assoc (as_ids x.occurs) (occurrence_ids (map var_cell xs)) (as_ids c.occurs))
+
+pub values_next : (xs : List CodeCell) (k : ℕ) (c d : CodeCell) (all more : List ℕ) → k < length xs → c ≡ get_or xs k d → all ≡ value_ids (map var_cell (take k xs)) → more ≡ all ++ c.term ∷ [] → more ≡ value_ids (map var_cell (take (k + 1) xs))
+values_next xs k c d all more low is a e = e ∙ ap (λ ns. ns ++ c.term ∷ []) a ∙ sym (values_push (take k xs) c) ∙ ap (λ cs. value_ids (map var_cell cs)) (sym (take_item xs k c d low is))
+
+pub values_all : (xs : List CodeCell) (k : ℕ) → length xs ≤ k → value_ids (map var_cell (take k xs)) ≡ value_ids (map var_cell xs)
+values_all xs k low = ap (λ cs. value_ids (map var_cell cs)) (take_whole xs k low)
+
+pub occurrences_next : (xs : List CodeCell) (k : ℕ) (c d : CodeCell) (all more : List ℕ) → k < length xs → c ≡ get_or xs k d → all ≡ occurrence_ids (map var_cell (take k xs)) → more ≡ all ++ as_ids c.occurs → more ≡ occurrence_ids (map var_cell (take (k + 1) xs))
+occurrences_next xs k c d all more low is a e = e ∙ ap (λ ns. ns ++ as_ids c.occurs) a ∙ sym (occurrences_push (take k xs) c) ∙ ap (λ cs. occurrence_ids (map var_cell cs)) (sym (take_item xs k c d low is))
+
+pub occurrences_all : (xs : List CodeCell) (k : ℕ) → length xs ≤ k → occurrence_ids (map var_cell (take k xs)) ≡ occurrence_ids (map var_cell xs)
+occurrences_all xs k low = ap (λ cs. occurrence_ids (map var_cell cs)) (take_whole xs k low)

@@ -1,12 +1,12 @@
 // The arrays of the model.
 
-ghost use Rattle.std.specs.Prelude.{◌≡◌, ◌∷◌, [], IfOk, Some, map, string_bytes};
+ghost use Rattle.std.specs.Prelude.{◌≡◌, ◌∷◌, ◌++◌, [], IfOk, OnOk, Some, map, string_bytes};
 ghost use Rattle.mz_arena.specs.Instances.{model_var, var_cell};
 ghost use Rattle.fz_program.specs.Arguments.{plain};
 ghost use Rattle.fz_program.specs.Flat.{array_item};
 ghost use Rattle.fz_emission.specs.Front.{HaveNames};
 ghost use Rattle.flat_reif.specs.States.{IsState, state};
-ghost use Rattle.flat_front.specs.Arrays.{AreAdded, HasVariable, HaveAllElements, HaveElements, HaveVariables, MayAddArrays, all_arrays, array_over, arrays_at, arrays_by, as_place, occurrence_ids, occurrences_over, option_arrays, place_at, value_ids, values_over};
+ghost use Rattle.flat_front.specs.Arrays.{AreAdded, HasVariable, HaveAllElements, HaveElements, HaveVariables, MayAddArrays, all_arrays, array_over, arrays_at, arrays_by, as_ids, as_place, occurrence_ids, occurrences_over, option_arrays, place_at, value_ids, values_over};
 
 use crate::label::{occurrence_name, own_name, value_name};
 use flat_reif::Flat;
@@ -58,15 +58,26 @@ fn value_ids(alloc: Global, cells: &[VarCell]) -> Result<Vec<Id>, Memory>
     Ok(all)
 }
 
+// Adds an id, where there is one.
+fn push_some(all: &mut Vec<Id>, o: Option<Id>) -> Result<(), Memory>
+    ensures { OnOk result (all.new.items ≡ all.old.items ++ as_ids o) }
+{
+    match o {
+        Some(id) => {
+            all.push(id)?;
+            Ok(())
+        }
+        None => Ok(()),
+    }
+}
+
 // The nodes of the occurrences.
 fn occurrence_ids(alloc: Global, cells: &[VarCell]) -> Result<Vec<Id>, Memory>
     ensures { IfOk result (λ ids. ids.items ≡ occurrence_ids (map var_cell cells.now)) }
 {
     let mut all = Vec::new(alloc);
     'cells: for c in cells {
-        if let Some(o) = c.occurs {
-            all.push(o)?;
-        }
+        given!(push_some(&mut all, c.occurs));
     }
     Ok(all)
 }
@@ -76,9 +87,7 @@ fn copied_index(alloc: Global, ranges: &[(i64, i64)]) -> Result<Vec<(i64, i64)>,
     ensures { IfOk result (λ all. all.items ≡ ranges.now) }
 {
     let mut all = Vec::new(alloc);
-    'ranges: for r in ranges {
-        all.push(*r)?;
-    }
+    all.extend_from_slice(ranges)?;
     Ok(all)
 }
 

@@ -1,6 +1,6 @@
 // The names of the model's variables and arrays.
 
-ghost use Rattle.std.specs.Prelude.{◌≡◌, ◌++◌, IfOk, string_bytes};
+ghost use Rattle.std.specs.Prelude.{◌≡◌, ◌++◌, IfOk, false, string_bytes, true};
 ghost use Rattle.fz_emission.specs.Front.{occurrence_label, occurrence_name, place_name, value_label, value_name};
 
 use fz_program::FzName;

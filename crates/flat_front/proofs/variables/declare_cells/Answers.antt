@@ -1,4 +1,3 @@
-use Rattle.std.proofs.Common.{refl}
 use Rattle.mz_arena.specs.Instances.{model_var, var_cell}
 use Rattle.flat_reif.specs.States.{state}
 use Rattle.flat_front.proofs.Stepping.{cells_begin, cell_occurs, cell_may, cells_next, cells_done}
@@ -17,7 +16,7 @@ pub declare_cell-requires-clause-may : goal.declare_cell-requires-clause-may
 declare_cell-requires-clause-may c = cell_may (state c.args.flat.now) (state c.cells.flat) (model_var c.args.m.now) c.args.x.now c.args.cells.now c.cells.c-index c.cells.k c.c-item.result _ c.cells-test.true c.c-item.is c.cells.invariant
 
 pub cells-preserved : goal.cells-preserved
-cells-preserved c = cells_next (state c.args.flat.now) (state c.cells.flat) (model_var c.args.m.now) c.args.x.now c.args.cells.now c.cells.c-index c.cells.k c.c-item.result _ c.cells-test.true c.c-item.is c.cells.invariant (state c.declare_cell.new.flat) _ refl c.in-Ok.ensures
+cells-preserved c = cells_next (state c.args.flat.now) (state c.cells.flat) (model_var c.args.m.now) c.args.x.now c.args.cells.now c.cells.c-index c.cells.k c.c-item.result _ c.cells-test.true c.c-item.is c.cells.invariant (state c.declare_cell.new.flat) c.in-Ok.ensures
 
 pub returns : goal.returns
 returns c = cells_done (state c.args.flat.now) (state c.cells.flat) (model_var c.args.m.now) c.args.x.now c.args.cells.now c.cells.c-index c.cells.k c.cells-test.false c.cells.invariant

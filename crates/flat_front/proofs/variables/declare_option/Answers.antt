@@ -12,5 +12,5 @@ declare_value-requires-clause-may c = value_may (model_var c.args.m.now) c.args.
 pub returns : goal.returns
 returns c = option_done (model_var c.args.m.now) c.args.x.now c.args.k (var_cell c.args.c.now) (state c.args.flat.now) c.requires.state c.requires.opt c.in-Some.id c.in-Some.is c.requires.may (state c.declare_occurrence.new.flat) c.in-Ok.ensures (state c.declare_value.new.flat) c.in-Ok-declare_value.ensures
 
-pub prove-unreachable-requires : goal.prove-unreachable-requires
-prove-unreachable-requires c = no_option (model_var c.args.m.now) (var_cell c.args.c.now) c.requires.opt c.requires.occurs c.in-None.is
+pub unreachable-requires : goal.unreachable-requires
+unreachable-requires c = no_option (model_var c.args.m.now) (var_cell c.args.c.now) c.requires.opt c.requires.occurs c.in-None.is
