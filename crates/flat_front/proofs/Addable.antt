@@ -187,7 +187,7 @@ arrays_may table ms p sound small named vars none =
     (subst (λ vs. AllByRecursion (IsFormed vs) (front_arrays table 0 ms)) (sym vars) (all_formed (front_variables table ms) table ms 0 sound (vars_all (front_variables table ms) (front_variables table ms) 0 (λ j. ap (slice_get (front_variables table ms)) (omega arith)))))
     (item_labels table 0 ms named.names)
     (subst (λ vs. AreDistinct (labels_of vs ++ array_labels (p.arrays ++ front_arrays table 0 ms))) (sym vars)
-      (subst (λ items. AreDistinct (labels_of (front_variables table ms) ++ array_labels (items ++ front_arrays table 0 ms))) (sym none) (all_distinct table ms sound small named)))
+    (subst (λ items. AreDistinct (labels_of (front_variables table ms) ++ array_labels (items ++ front_arrays table 0 ms))) (sym none) (all_distinct table ms sound small named)))
 
 -- ---- the arrays by their nodes
 

@@ -159,7 +159,7 @@ nodes_of_cells es m x (c ∷ cs) j k is vs ps o n h go =
     let here = cell_variables (is_none m.index) m.opt j x (value_part m c) in
     subst₂ (AreFrontNodes es k) (sym same_ids) (sym (append_assoc here (variables_from m (suc j) x cs) vs))
     (nodes_of_cell es (is_none m.index) m.opt k j x (value_part m c) c.occurs c.term (flat_map cell_ids cs ++ is) (variables_from m (suc j) x cs ++ vs) (flat_map parts_in cs ++ ps) o.0 (subst₂ (AreNodes es false k) same_ids same_parts n) (subst AreParts same_parts h)
-      (λ l n h. nodes_of_cells es m x cs (suc j) l is vs ps o.1 n h go))
+    (λ l n h. nodes_of_cells es m x cs (suc j) l is vs ps o.1 n h go))
 
 front_nodes : (es : List Entry) (table : List Name) (ms : List ModelVar) (k : ℕ) → AreModelVars ms → AreNodes es false k (ids ms) (parts ms) → AreParts (parts ms) → AreFrontNodes es k (ids ms) (front_variables table ms)
 front_nodes es table [] k sound n h = tt

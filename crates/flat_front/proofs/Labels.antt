@@ -132,14 +132,12 @@ module _ (x : Name) (h : IsOwnName x) where
       let rest = all_tagged false true (suc k) x n (omega (arith, s)) in
       let P : Tag → Type 0 = λ t. Is (value_at k) t ⊎ IsFrom false (suc k) t in
       let here : IsLabel P x (value_label false true k x) = record { tag = value_at k; fits = inl refl; small = small; is = refl } in
-      let there : AllByRecursion (IsLabel P x) more = all_weaker (IsLabel (IsFrom false (suc k)) x) (IsLabel P x) more (λ z l. weaker_label (IsFrom false (suc k)) P x z (λ t f. inr f) l) rest in
-      (
+      let there : AllByRecursion (IsLabel P x) more = all_weaker (IsLabel (IsFrom false (suc k)) x) (IsLabel P x) more (λ z l. weaker_label (IsFrom false (suc k)) P x z (λ t f. inr f) l) rest in (
         apart_from P (occurs_at k) x (value_label false true k x ∷ more) h small (λ p. elim p [ inl e ↦ absurd (cc) | inr f ↦ absurd (omega (arith, f)) ]) (here, there),
         (apart_from (IsFrom false (suc k)) (value_at k) x more h small (λ f. omega (arith, f)) rest, array_distinct true (suc k) n (omega (arith, s))),
       )
   array_distinct false k (suc n) s =
-      let more = labels_from false false (suc k) x n in
-      (
+      let more = labels_from false false (suc k) x n in (
         apart_from (IsFrom false (suc k)) (element k) x more h (omega (arith, s)) (λ f. omega (arith, f)) (all_tagged false false (suc k) x n (omega (arith, s))),
         array_distinct false (suc k) n (omega (arith, s)),
       )
@@ -236,8 +234,8 @@ vars_distinct table (m ∷ ms) sound s n d =
     let here : AllByRecursion (IsLabel (IsOfVar m.index) x) (labels_of vs) = subst (AllByRecursion (IsLabel (IsOfVar m.index) x)) (sym is) (all_tagged (is_none m.index) m.opt 1 x (length m.cells) s.0) in
     subst AreDistinct (sym (map-append (λ (v : Variable). v.label) vs (front_variables table ms)))
     (distinct_next (IsOfVar m.index) IsOfVar table m ms (labels_of vs) (labels_of (front_variables table ms)) n d here (all_of_vars table ms s.1)
-      (subst AreDistinct (sym is) (var_distinct m.index m.opt x (length m.cells) (own_name table m n.0) sound.0.count s.0))
-      (vars_distinct table ms sound.1 s.1 n.1 d.1))
+    (subst AreDistinct (sym is) (var_distinct m.index m.opt x (length m.cells) (own_name table m n.0) sound.0.count s.0))
+    (vars_distinct table ms sound.1 s.1 n.1 d.1))
 
 -- ---- the names of all arrays
 
@@ -268,8 +266,8 @@ arrays_distinct table k (m ∷ ms) n d =
     let more = front_arrays table (after_cells m.opt m.cells k) ms in
     subst AreDistinct (sym (map-append (λ (a : ArrayItem). a.label) here more))
     (distinct_next (IsOfArray m.index) IsOfArray table m ms (array_labels here) (array_labels more) n d (arrays_tagged m.index m.opt x k m.cells) (all_of_arrays table (after_cells m.opt m.cells k) ms)
-      (one_distinct m.index m.opt x k m.cells (own_name table m n.0))
-      (arrays_distinct table (after_cells m.opt m.cells k) ms n.1 d.1))
+    (one_distinct m.index m.opt x k m.cells (own_name table m n.0))
+    (arrays_distinct table (after_cells m.opt m.cells k) ms n.1 d.1))
 
 -- ---- no variable has the name of an array
 

@@ -389,7 +389,9 @@ take_next f (i ∷ is) zero l = refl
 take_next f (i ∷ is) (suc k) l = ap (λ ns. f i ∷ ns) (take_next f is k (omega (arith, l)))
 
 pub places_next : (args : List (Option Plain)) (is : List ℕ) (k : ℕ) (all more : List ℕ) (n : ℕ) → k < length is → all ≡ map (place_at args) (take k is) → n ≡ place_at args (slice_index_or is k 0) → more ≡ all ++ n ∷ [] → more ≡ map (place_at args) (take (k + 1) is)
-places_next args is k all more n l a e p = p ∙ ap₂ (λ xs m. xs ++ m ∷ []) a e ∙ sym (take_next (place_at args) is k l) ∙ ap (λ j. map (place_at args) (take j is)) (omega arith)
+places_next args is k all more n l a e p =
+    let next : suc k ≡ k + 1 = omega arith in
+    p ∙ ap₂ (λ xs m. xs ++ m ∷ []) a e ∙ sym (take_next (place_at args) is k l) ∙ ap (λ j. map (place_at args) (take j is)) next
 
 pub places_all : (args : List (Option Plain)) (is : List ℕ) (k : ℕ) → length is ≤ k → map (place_at args) (take k is) ≡ map (place_at args) is
 places_all args is k l = ap (map (place_at args)) (whole is k l)
@@ -403,7 +405,7 @@ places_all args is k l = ap (map (place_at args)) (whole is k l)
 -- ---- the nodes of an array's elements
 
 take_item : {X : Type 0} (xs : List X) (k : ℕ) (x d : X) → k < length xs → x ≡ get_or xs k d → take (k + 1) xs ≡ take k xs ++ x ∷ []
-take_item xs k x d low is = ap (λ j. take j xs) (omega arith) ∙ by xs k low is
+take_item {X = X} xs k x d low is = let next : k + 1 ≡ suc k = omega arith in ap (λ j. take j xs) next ∙ by xs k low is
   where
     by : (xs : List X) (k : ℕ) → k < length xs → x ≡ get_or xs k d → take (suc k) xs ≡ take k xs ++ x ∷ []
     by [] k low is = absurd (omega (arith, low))

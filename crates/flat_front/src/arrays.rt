@@ -6,7 +6,8 @@ ghost use Rattle.fz_program.specs.Arguments.{plain};
 ghost use Rattle.fz_program.specs.Flat.{array_item};
 ghost use Rattle.fz_emission.specs.Front.{HaveNames};
 ghost use Rattle.flat_reif.specs.States.{IsState, state};
-ghost use Rattle.flat_front.specs.Arrays.{AreAdded, HasVariable, HaveAllElements, HaveElements, HaveVariables, MayAddArrays, all_arrays, array_over, arrays_at, arrays_by, as_ids, as_place, occurrence_ids, occurrences_over, option_arrays, place_at, value_ids, values_over};
+ghost use Rattle.flat_front.specs.Arrays.{AreAdded, HasVariable, HaveAllElements, HaveElements, HaveVariables, MayAddArrays};
+ghost use Rattle.flat_front.specs.Arrays.{all_arrays, array_over, arrays_at, arrays_by, as_ids, as_place, occurrence_ids, occurrences_over, option_arrays, place_at, value_ids, values_over};
 
 use crate::label::{occurrence_name, own_name, value_name};
 use flat_reif::Flat;

@@ -6,7 +6,8 @@ ghost use Rattle.mz_instance.specs.Instance.{AreModelVars, AreOccurring};
 ghost use Rattle.fz_program.specs.Flat.{variable};
 ghost use Rattle.fz_emission.specs.Front.{HaveNames};
 ghost use Rattle.flat_reif.specs.States.{IsState, state};
-ghost use Rattle.flat_front.specs.Declaring.{AreCellsDeclared, AreVarsDeclared, IsCellDeclared, IsOneDeclared, MayDeclareCell, MayDeclareCells, MayDeclareOne, MayDeclareVars, occurrence_variable, value_variable};
+ghost use Rattle.flat_front.specs.Declaring.{AreCellsDeclared, AreVarsDeclared, IsCellDeclared, IsOneDeclared, MayDeclareCell, MayDeclareCells, MayDeclareOne, MayDeclareVars};
+ghost use Rattle.flat_front.specs.Declaring.{occurrence_variable, value_variable};
 
 use crate::domain::value_domain;
 use crate::label::{occurrence_label, value_label};

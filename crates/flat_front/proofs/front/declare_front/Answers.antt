@@ -22,10 +22,10 @@ pub add_arrays-requires-clause-names : goal.add_arrays-requires-clause-names
 add_arrays-requires-clause-names c = c.requires.front.named.names
 
 pub add_arrays-requires-clause-have : goal.add_arrays-requires-clause-have
-add_arrays-requires-clause-have c = elements_of (state c.args.flat.now) (state c.declare_vars.new.flat) c.args.names.now c.args.vars.now c.requires c.in-Ok.ensures
+add_arrays-requires-clause-have c = elements_of (state c.args.flat.now) c.args.names.now c.args.vars.now c.requires (state c.declare_vars.new.flat) c.in-Ok.ensures
 
 pub add_arrays-requires-clause-may : goal.add_arrays-requires-clause-may
-add_arrays-requires-clause-may c = may_arrays (state c.args.flat.now) (state c.declare_vars.new.flat) c.args.names.now c.args.vars.now c.requires c.in-Ok.ensures
+add_arrays-requires-clause-may c = may_arrays (state c.args.flat.now) c.args.names.now c.args.vars.now c.requires (state c.declare_vars.new.flat) c.in-Ok.ensures
 
 pub returns : goal.returns
-returns c = fronted (state c.args.flat.now) (state c.declare_vars.new.flat) c.args.names.now c.args.vars.now c.requires c.in-Ok.ensures (state c.add_arrays.new.flat) c.in-Ok-add_arrays.ensures
+returns c = fronted (state c.args.flat.now) c.args.names.now c.args.vars.now c.requires (state c.declare_vars.new.flat) c.in-Ok.ensures (state c.add_arrays.new.flat) c.in-Ok-add_arrays.ensures
