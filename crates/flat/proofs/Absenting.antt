@@ -133,6 +133,23 @@ whole_mid old mid id n l g h = record { ends = h.ends; is = g.extends.grew.exten
 pub number_whole : (old mid : List Entry) (n : ℕ) (l : ℤ) → IsNumber old mid l n → IsWhole mid n
 number_whole old mid n l g = record { ends = (l, l); is = (g.has mid (extends_same mid).grew g.arena).bounds }
 
+pub truth_given : (es : List Entry) (b : Bool) (id : ℕ) (l : ℤ) → b ≡ true → IsValueNode es b id l → IsTruth es id
+truth_given es b id l e h = (subst (λ z. IsValueNode es z id l) e h).0
+
+pub whole_given : (es : List Entry) (b : Bool) (id : ℕ) (l : ℤ) → b ≡ false → IsValueNode es b id l → IsWhole es id
+whole_given es b id l e h = (subst (λ z. IsValueNode es z id l) e h).0
+
+pub limit_given : (es : List Entry) (b : Bool) (id : ℕ) (l : ℤ) → b ≡ false → IsValueNode es b id l → is_number l ≡ true
+limit_given es b id l e h = (subst (λ z. IsValueNode es z id l) e h).1
+
+pub least_truth : (old new : List Entry) (b : Bool) (id : ℕ) (l : ℤ) (t : ℕ) → b ≡ true → IsValueNode old b id l → Placed old new Not (id ∷ []) t → IsLeastNode old new b id l t
+least_truth old new b id l t e h p =
+    let v = subst (λ z. IsValueNode old z id l) e h in
+    subst (λ z. IsLeastNode old new z id l t) (sym e) (negation_least old new id t p v.0 l v.1)
+
+pub least_number : (old mid new : List Entry) (b : Bool) (id : ℕ) (l : ℤ) (n t : ℕ) → b ≡ false → IsValueNode old b id l → IsNumber old mid l n → Placed mid new Eq (id ∷ n ∷ []) t → IsLeastNode old new b id l t
+least_number old mid new b id l n t e h g p = subst (λ z. IsLeastNode old new z id l t) (sym e) (equal_least old mid new id n t l g p (subst (λ z. IsValueNode old z id l) e h).0)
+
 -- ---- the nodes of options
 
 free_var : (k : NodeKind) → is_free k ≡ true → is_local k ≡ false → is_set_kind k ≡ false → k ≡ Var
@@ -361,6 +378,9 @@ module _ (old mid new : List Entry) (m : ModelVar) (o : ℕ) (c : VarCell) (l : 
 
   pub either_first : IsTruth mid o
   either_first = occurs_truth mid g.arena m o c (option_later old mid m o c g.extends.grew h)
+
+pub added_by : (old new : List Entry) (cs : List VarCell) (before after more : List ℕ) → after ≡ more → AddsCellRoots old new cs before more → AddsCellRoots old new cs before after
+added_by old new cs before after more e h = subst (AddsCellRoots old new cs before) (sym e) h
 
 no_cell_root : (es : List Entry) (c : VarCell) (before : List ℕ) → IsArena es → ((v : terms.Values) → AreInDomains es v → IsDefault c.occurs c v) → AddsCellRoots es es (c ∷ []) before before
 no_cell_root es c before arena h = record {

@@ -28,7 +28,8 @@ use Rattle.flat_reif.specs.States.{State, Always}
 use Rattle.flat_root.specs.Keeps.{Keeps, IsReadyState, Leads, AllTrue, HasChoices}
 use Rattle.flat_root.specs.Totals.{IsRoot, AreRoots}
 use Rattle.flat_root.specs.Objectives.{IsWholeRoot, HasValueAt, HasObjective}
-use Rattle.flat_root.proofs.Keeping.{fewer_domains, keeps_twice, keeps_where}
+use Rattle.flat_root.proofs.Keeping.{keeps_spread, keeps_twice, keeps_where}
+use Rattle.flat_reif.proofs.Steps.{spreads_same}
 use Rattle.flat_front.specs.Fronts.{AreFrontOf, IsFronted}
 use Rattle.flat.specs.Absent.{IsOption, IsOptionWhere, AreOptions, AreAllOptions, AddsCellRoots, all_cells, AreDefaultRoots}
 use Rattle.flat.specs.Cleared.{HasSome, HaveSome, AreCleared, IsBound, AreBound, value_parts, all_value_parts}
@@ -194,6 +195,21 @@ goal_is es t (instance_goal.Minimize id) (Maximize k) h = absurd h
 goal_is es t (instance_goal.Maximize id) Satisfy h = absurd h
 goal_is es t (instance_goal.Maximize id) (Minimize k) h = absurd h
 goal_is es t (instance_goal.Maximize id) (Maximize k) h = variable_goal t.prog.vars k h.sort
+
+pub satisfied : (s : State) (g : InstanceGoal) → g ≡ instance_goal.Satisfy → IsReadyState s → HasChoices s → IsAimed s s g Satisfy
+satisfied s g e r c = subst (λ (h : InstanceGoal). IsAimed s s h Satisfy) (sym e) (record { keeps = keeps_spread s s Always (spreads_same s); ready = r; choices = c; aimed = tt })
+
+pub minimized : (s t : State) (g : InstanceGoal) (id k : ℕ) → g ≡ instance_goal.Minimize id → HasObjective s t id k → IsAimed s t g (Minimize k)
+minimized s t g id k e h = subst (λ (g : InstanceGoal). IsAimed s t g (Minimize k)) (sym e) (record { keeps = h.keeps; ready = h.ready; choices = h.choices; aimed = record { sort = h.sort; value = h.value } })
+
+pub maximized : (s t : State) (g : InstanceGoal) (id k : ℕ) → g ≡ instance_goal.Maximize id → HasObjective s t id k → IsAimed s t g (Maximize k)
+maximized s t g id k e h = subst (λ (g : InstanceGoal). IsAimed s t g (Maximize k)) (sym e) (record { keeps = h.keeps; ready = h.ready; choices = h.choices; aimed = record { sort = h.sort; value = h.value } })
+
+pub least_root : (es : List Entry) (g : InstanceGoal) (id : ℕ) → g ≡ instance_goal.Minimize id → IsGoalRoot es g → IsWholeRoot es id
+least_root es g id e h = subst (IsGoalRoot es) e h
+
+pub greatest_root : (es : List Entry) (g : InstanceGoal) (id : ℕ) → g ≡ instance_goal.Maximize id → IsGoalRoot es g → IsWholeRoot es id
+greatest_root es g id e h = subst (IsGoalRoot es) e h
 
 -- ---- all steps
 
