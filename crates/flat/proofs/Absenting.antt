@@ -24,7 +24,9 @@ use Rattle.mz_arena.specs.Values as terms
 use Rattle.mz_arena.specs.Values.{Term, number, bit, is_true, not_term, or_term, comparison_term}
 use Rattle.mz_arena.specs.Terms.{term, own_id}
 use Rattle.mz_arena.specs.Arenas.{Grew, Extends, IsArena, IsSetConst}
-use Rattle.mz_arena.specs.Instances.{VarCell, ModelVar}
+use Rattle.mz_arena.specs.declared.instance.VarCell.{VarCell as CodeCell}
+use Rattle.mz_arena.specs.declared.instance.ModelVar.{ModelVar as CodeVar}
+use Rattle.mz_arena.specs.Instances.{VarCell, ModelVar, var_cell, model_var}
 use Rattle.mz_arena.proofs.Folds.{get-below}
 use Rattle.mz_arena.proofs.Growing.{const_extent}
 use Rattle.mz_arena.proofs.Kept.{variable_extent_of}
@@ -42,6 +44,7 @@ use Rattle.mz_partial.proofs.Asked.{comparison_bounds, connective_bounds, whole_
 use Rattle.flat_root.specs.Keeps.{AllTrue}
 use Rattle.flat_root.specs.Totals.{IsRoot, AreRoots}
 use Rattle.flat_root.proofs.Keeping.{fewer_domains}
+use Rattle.flat_front.proofs.Stepping.{next_item, no_item, cells_from, vars_from}
 use Rattle.flat.specs.Absent.{has_truths, IsValueNode, IsBitWhere, IsLeastNode, IsOption, IsOptionWhere, AreOptions, AreAllOptions, AreCellRoots, AddsCellRoots, all_cells, AreDefaultRoots}
 
 -- ---- nodes
@@ -527,3 +530,21 @@ vars_next old es new all m rest before now after h a = record {
 
 pub vars_done : (old es : List Entry) (all : List VarCell) (before now : List ℕ) → VarsFixed old es all [] before now → AddsCellRoots old es all before now
 vars_done old es all before now h = subst (λ cs. AddsCellRoots old es cs before now) (sym (h.split ∙ append-nil h.done)) h.adds
+
+pub cells_first : (old es : List Entry) (m : ModelVar) (all : List VarCell) (c : VarCell) (rest : List VarCell) (before now : List ℕ) → CellsFixed old es m all (c ∷ rest) before now → AreOptions es m (c ∷ [])
+cells_first old es m all c rest before now h = (h.options.0, tt)
+
+pub vars_first : (old es : List Entry) (all : List VarCell) (m : ModelVar) (rest : List ModelVar) (before now : List ℕ) → VarsFixed old es all (m ∷ rest) before now → AreOptions es m m.cells
+vars_first old es all m rest before now h = h.options.0
+
+pub cells_here : (all : List CodeCell) (k : ℕ) (c d : CodeCell) → k < length all → c ≡ get_or all k d → cells_from k all ≡ var_cell c ∷ cells_from (k + 1) all
+cells_here all k c d low is = let next : suc k ≡ k + 1 = omega arith in ap (map var_cell) (next_item all k c d low is) ∙ ap (λ j. var_cell c ∷ cells_from j all) next
+
+pub cells_end : (all : List CodeCell) (k : ℕ) → length all ≤ k → cells_from k all ≡ []
+cells_end all k low = ap (map var_cell) (no_item all k low)
+
+pub vars_here : (all : List CodeVar) (k : ℕ) (m d : CodeVar) → k < length all → m ≡ get_or all k d → vars_from k all ≡ model_var m ∷ vars_from (k + 1) all
+vars_here all k m d low is = let next : suc k ≡ k + 1 = omega arith in ap (map model_var) (next_item all k m d low is) ∙ ap (λ j. model_var m ∷ vars_from j all) next
+
+pub vars_end : (all : List CodeVar) (k : ℕ) → length all ≤ k → vars_from k all ≡ []
+vars_end all k low = ap (map model_var) (no_item all k low)

@@ -119,13 +119,13 @@ parts_done s t all h = subst (AreCleared s t) (sym (h.split ∙ append-nil h.don
 -- ---- cells and variables
 
 pub cells_left : (m : ModelVar) (all : List CodeCell) (k : ℕ) (c d : CodeCell) → k < length all → c ≡ get_or all k d → value_parts m (cells_from k all) ≡ (value_part m (var_cell c) ∷ []) ++ value_parts m (cells_from (k + 1) all)
-cells_left m all k c d low is = ap (λ cs. value_parts m (map var_cell cs)) (next_item all k c d low is) ∙ ap (λ j. value_part m (var_cell c) ∷ value_parts m (cells_from j all)) (omega arith)
+cells_left m all k c d low is = let next : suc k ≡ k + 1 = omega arith in ap (λ cs. value_parts m (map var_cell cs)) (next_item all k c d low is) ∙ ap (λ j. value_part m (var_cell c) ∷ value_parts m (cells_from j all)) next
 
 pub cells_end : (m : ModelVar) (all : List CodeCell) (k : ℕ) → length all ≤ k → value_parts m (cells_from k all) ≡ []
 cells_end m all k low = ap (λ cs. value_parts m (map var_cell cs)) (no_item all k low)
 
 pub vars_left : (all : List CodeVar) (k : ℕ) (m d : CodeVar) → k < length all → m ≡ get_or all k d → all_value_parts (vars_from k all) ≡ value_parts (model_var m) (model_var m).cells ++ all_value_parts (vars_from (k + 1) all)
-vars_left all k m d low is = ap (λ ms. all_value_parts (map model_var ms)) (next_item all k m d low is) ∙ ap (λ j. value_parts (model_var m) (model_var m).cells ++ all_value_parts (vars_from j all)) (omega arith)
+vars_left all k m d low is = let next : suc k ≡ k + 1 = omega arith in ap (λ ms. all_value_parts (map model_var ms)) (next_item all k m d low is) ∙ ap (λ j. value_parts (model_var m) (model_var m).cells ++ all_value_parts (vars_from j all)) next
 
 pub vars_end : (all : List CodeVar) (k : ℕ) → length all ≤ k → all_value_parts (vars_from k all) ≡ []
 vars_end all k low = ap (λ ms. all_value_parts (map model_var ms)) (no_item all k low)

@@ -22,22 +22,27 @@ use Rattle.fz_program.specs.declared.row_name.Kind.TheVariants.{Int}
 use Rattle.fz_program.specs.Names.{Name}
 use Rattle.fz_program.specs.Arguments.{var}
 use Rattle.fz_program.specs.Values.{Values}
-use Rattle.fz_program.specs.Flat.{Variable, FlatSolves, is_plain, is_goal, is_variable_of}
+use Rattle.fz_program.specs.Flat.{Variable, Program, FlatSolves, WellFormed, is_plain, is_goal, is_variable_of}
+use Rattle.fz_build.specs.Build.{with_goal}
+use Rattle.flat_meaning.specs.Faithful.{Faithful}
 use Rattle.fz_emission.specs.Front.{AreNamed}
-use Rattle.flat_reif.specs.States.{State, Always}
+use Rattle.mz_partial.specs.declared.part.Part.{Part as MemoPart}
+use Rattle.mz_partial.specs.Totals.{AreParts as MemoParts}
+use Rattle.flat_reif.specs.Roots.{begun}
+use Rattle.flat_reif.specs.States.{State, IsState, Always}
 use Rattle.flat_root.specs.Keeps.{Keeps, IsReadyState, Leads, AllTrue, HasChoices}
 use Rattle.flat_root.specs.Totals.{IsRoot, AreRoots}
 use Rattle.flat_root.specs.Objectives.{IsWholeRoot, HasValueAt, HasObjective}
 use Rattle.flat_root.proofs.Keeping.{keeps_spread, keeps_twice, keeps_where}
 use Rattle.flat_reif.proofs.Steps.{spreads_same}
-use Rattle.flat_front.specs.Fronts.{AreFrontOf, IsFronted}
+use Rattle.flat_front.specs.Fronts.{AreFrontOf, MayHaveFront, IsFronted}
 use Rattle.flat.specs.Absent.{IsOption, IsOptionWhere, AreOptions, AreAllOptions, AddsCellRoots, all_cells, AreDefaultRoots}
 use Rattle.flat.specs.Cleared.{HasSome, HaveSome, AreCleared, IsBound, AreBound, value_parts, all_value_parts}
 use Rattle.flat.specs.Flattening.{HasGoal, IsGoalAt, GoalStands, IsGoalRoot, IsAimed, IsHeld, IsFlattened}
 use Rattle.flat.proofs.Reading.{read_values, meets_read}
 use Rattle.flat.proofs.Absenting.{has_number, later_node, default_roots, true_on, true_back, roots_later}
 use Rattle.flat.proofs.Clearing.{all_some}
-use Rattle.flat.proofs.Joining.{truth_place, whole_place}
+use Rattle.flat.proofs.Joining.{truth_place, whole_place, faithful}
 
 -- ---- what an instance tells of its options and domains
 
@@ -274,3 +279,88 @@ module _ (inst : Instance) (table : List Name) (b s t1 t2 t3 t4 : State) (ds : L
     some = some;
     aimed = goal_back s.es t3.es t4 inst.goal goal x3.grew goal_s aim.aimed;
   }
+
+-- ---- what each step asks
+
+module _ (inst : Instance) (table : List Name) (i : IsInstance inst) (named : AreNamed table inst.vars) where
+  pub may_front : (s : State) (es : List Entry) → s ≡ begun es → IsState s → Extends inst.arena es → MayHaveFront s table inst.vars
+  may_front s es e g x = record {
+    begins = e ∙ ap begun (sym (ap (λ (z : State). z.es) e));
+    state = g;
+    front = subst (λ fs. AreFrontOf fs table inst.vars) (sym (ap (λ (z : State). z.es) e)) (front_of_instance inst table i named es x);
+  }
+
+  pub may_clear : (b s : State) → Extends inst.arena b.es → IsFronted b s table inst.vars → AreBound s.es (all_value_parts inst.vars)
+  may_clear b s x f = parts_bound inst table i named s.es (subst (Extends inst.arena) (sym f.same) x) f.state.arena
+
+  pub first_ready : (b s : State) → IsFronted b s table inst.vars → IsReadyState s
+  first_ready b s f = record { state = f.state; front = f.front }
+
+pub no_parts : (es : List Entry) (memo : List MemoPart) → memo ≡ [] → MemoParts es memo
+no_parts es memo e = subst (MemoParts es) (sym e) (λ i p h. nothing i p h)
+  where
+    nothing : {A : Type 0} (i : ℕ) (p : MemoPart) → slice_get [] i ≡ Some p → A
+    nothing i p h = absurd (cc)
+
+pub default_each : (old s t : List Entry) (ms : List ModelVar) (ds : List ℕ) → AddsCellRoots old s (all_cells ms) [] ds → Extends s t → AreRoots t ds
+default_each old s t ms ds a x = roots_later s t ds x.grew (subst (AreRoots s) (sym a.items) a.roots.each)
+
+-- ---- the same of lists that the code has
+
+module _ (inst : Instance) (table : List Name) (i : IsInstance inst) (named : AreNamed table inst.vars) (vs : List ModelVar) (e : vs ≡ inst.vars) where
+  pub listed_options : AreAllOptions inst.arena vs
+  listed_options = subst (AreAllOptions inst.arena) (sym e) (instance_options inst table i named)
+
+  module _ (es : List Entry) (before ds : List ℕ) (n : before ≡ []) (a : AddsCellRoots inst.arena es (all_cells vs) before ds) where
+    pub listed_absent : AddsCellRoots inst.arena es (all_cells inst.vars) [] ds
+    listed_absent = subst₂ (λ ms xs. AddsCellRoots inst.arena es (all_cells ms) xs ds) e n a
+
+    module _ (s : State) (b : s ≡ begun es) (g : IsState s) where
+      pub listed_front : MayHaveFront s table vs
+      listed_front = subst (MayHaveFront s table) (sym e) (may_front inst table i named s es b g a.extends)
+
+      begun_es : s.es ≡ es
+      begun_es = ap (λ (z : State). z.es) b
+
+      absent_s : AddsCellRoots inst.arena s.es (all_cells inst.vars) [] ds
+      absent_s = subst (λ fs. AddsCellRoots inst.arena fs (all_cells inst.vars) [] ds) (sym begun_es) listed_absent
+
+      module _ (t0 : State) (f : IsFronted s t0 table vs) where
+        fronted_t : IsFronted s t0 table inst.vars
+        fronted_t = subst (IsFronted s t0 table) e f
+
+        pub listed_ready : IsReadyState t0
+        listed_ready = first_ready inst table i named s t0 fronted_t
+
+        pub listed_bound : AreBound t0.es (all_value_parts vs)
+        listed_bound = subst (λ ms. AreBound t0.es (all_value_parts ms)) (sym e) (may_clear inst table i named s t0 absent_s.extends fronted_t)
+
+        absent_t : AddsCellRoots inst.arena t0.es (all_cells inst.vars) [] ds
+        absent_t = subst (λ fs. AddsCellRoots inst.arena fs (all_cells inst.vars) [] ds) (sym f.same) absent_s
+
+        module _ (t1 : State) (c : AreCleared t0 t1 (all_value_parts vs)) where
+          cleared_t : AreCleared t0 t1 (all_value_parts inst.vars)
+          cleared_t = subst (λ ms. AreCleared t0 t1 (all_value_parts ms)) e c
+
+          pub listed_defaults : AreRoots t1.es ds
+          listed_defaults = default_each inst.arena t0.es t1.es inst.vars ds absent_t c.leads.keeps.extends
+
+          module _ (t2 : State) (x : Leads t1 t2 (AllTrue t1.es ds)) where
+            extends_2 : Extends inst.arena t2.es
+            extends_2 = extends_both inst.arena t0.es t2.es absent_t.extends (extends_both t0.es t1.es t2.es c.leads.keeps.extends x.keeps.extends)
+
+            pub listed_roots : AreRoots t2.es inst.roots
+            listed_roots = instance_roots inst table i named t2.es extends_2
+
+            module _ (t3 : State) (y : Leads t2 t3 (AllTrue t2.es inst.roots)) where
+              pub listed_goal : IsGoalRoot t3.es inst.goal
+              listed_goal = goal_root inst.arena t3.es inst.goal (extends_both inst.arena t2.es t3.es extends_2 y.keeps.extends).grew i.goal
+
+              module _ (t4 : State) (q : FzGoal) (z : IsAimed t3 t4 inst.goal q) where
+                pub listed_is_goal : is_goal t4.prog.vars q ≡ true
+                listed_is_goal = goal_is t3.es t4 inst.goal q z.aimed
+
+                pub listed_faithful : (p : Program) → p ≡ with_goal t4.prog q → WellFormed p → Faithful inst table p
+                listed_faithful p k w =
+                    subst (Faithful inst table) (sym k)
+                    (faithful inst table s t0 t4 ds q i (flattened inst table s t0 t1 t2 t3 t4 ds q i absent_t fronted_t cleared_t x y z) (subst WellFormed k w))

@@ -10,7 +10,6 @@ use Rattle.fz_build_domains.specs.Inputs.{is_sum, argument_in, argument_at, elem
 use Rattle.fz_build.specs.Build.{IsOver, IsArgumentOver, AreOver, args_by, args_with, sum_with, defining, constraint, defined_variable, introduced_variable, with_row, with_variable, with_defined}
 use Rattle.fz_build.specs.History as history
 use Rattle.fz_build.specs.History.{IsFront, IsOfModel, Made, begins, adds_row, adds_defined, adds_choice, is_place, definitions_of, HasDefinition, HaveDefinitions, IsMadeOf}
-use Rattle.fz_build.proofs.Histories.{definitions_push}
 use Rattle.fz_build.proofs.Lists.{each_from}
 use Rattle.fz_emission.specs.Defined as emission
 use Rattle.fz_emission.specs.Defined.{is_defining, IsUpTo, IsArgumentUpTo, IsDefinedBy, DefinedOnce}
@@ -86,6 +85,14 @@ longer front p n (adds_row q k name args m w) = longer front q k m
 longer front p n (adds_defined q k name inputs domain m d) = let l = longer front q k m in let s = length-append q.vars (defined_variable q domain ∷ []) in omega (arith, l, s)
 longer front p n (adds_choice q k domain m) = let l = longer front q k m in let s = length-append q.vars (introduced_variable q domain ∷ []) in omega (arith, l, s)
 
+definitions_push : (k : ℕ) (rows : List Row) (r : Row) → definitions_of k (rows ++ r ∷ []) ≡ definitions_of k rows ++ cond (is_place k r.defines) (r ∷ []) []
+definitions_push k [] r = refl
+definitions_push k (x ∷ rows) r = by (is_place k x.defines) (definitions_push k rows r)
+  where
+    by : (b : Bool) → definitions_of k (rows ++ r ∷ []) ≡ definitions_of k rows ++ cond (is_place k r.defines) (r ∷ []) [] → cond b (x ∷ definitions_of k (rows ++ r ∷ [])) (definitions_of k (rows ++ r ∷ [])) ≡ cond b (x ∷ definitions_of k rows) (definitions_of k rows) ++ cond (is_place k r.defines) (r ∷ []) []
+    by true e = ap (λ rs. x ∷ rs) e
+    by false e = e
+
 other_row : (k : ℕ) (rows : List Row) (r : Row) → is_place k r.defines ≡ false → definitions_of k rows ≡ [] → definitions_of k (rows ++ r ∷ []) ≡ []
 other_row k rows r h e = definitions_push k rows r ∙ ap (λ b. definitions_of k rows ++ cond b (r ∷ []) []) h ∙ append-nil (definitions_of k rows) ∙ e
 
@@ -120,9 +127,9 @@ in_front (x ∷ xs) ys zero h = refl
 in_front (x ∷ xs) ys (suc k) h = in_front xs ys k (omega (arith, h))
 
 in_rest : {A : Type 0} (xs ys : List A) (k : ℕ) → length xs ≤ k → slice_get (xs ++ ys) k ≡ slice_get ys (k - length xs)
-in_rest [] ys k h = ap (slice_get ys) (omega arith)
+in_rest [] ys k h = let none : k ≡ k - 0 = omega arith in ap (slice_get ys) none
 in_rest (x ∷ xs) ys zero h = absurd (omega (arith, h))
-in_rest (x ∷ xs) ys (suc k) h = in_rest xs ys k (omega (arith, h)) ∙ ap (slice_get ys) (omega arith)
+in_rest (x ∷ xs) ys (suc k) h = let next : k - length xs ≡ suc k - suc (length xs) = omega arith in in_rest xs ys k (omega (arith, h)) ∙ ap (slice_get ys) next
 
 module _ (front p : Program) (n : ℕ) (f : IsFront front) (made : Made front p n) (m : IsMadeOf front p n) where
   has : (k : ℕ) (v : Variable) → slice_get p.vars k ≡ Some v → HasDefinition v.defined p.rows k
@@ -171,23 +178,23 @@ one_counted false a k ids h = omega arith
 
 pub choices_counted : (xs ys : List Entry) (args : List (Option Plain)) (k : ℕ) → length xs ≤ length ys → ((id : ℕ) → id < length xs → slice_get ys id ≡ slice_get xs id) → ((id : ℕ) (e : Entry) → slice_get ys id ≡ Some e → is_local e.node.kind ≡ true → id < length xs) → ((id : ℕ) (e : Entry) → slice_get ys id ≡ Some e → is_local e.node.kind ≡ true → IsSome (at args id)) → given_choices ys args ≡ length (local_ids_from k xs)
 unfolding local_ids_from
-choices_counted [] ys args k l same frees has = no_count ys args (λ id e h. is_false (is_local e.node.kind) (λ t. (let m = frees id e h t in omega (arith, m))))
-choices_counted (x ∷ xs) [] args k l same frees has = absurd (omega (arith, l))
-choices_counted (x ∷ xs) (y ∷ ys) [] k l same frees has =
-    let none : (id : ℕ) (e : Entry) → slice_get (y ∷ ys) id ≡ Some e → is_local e.node.kind ≡ false = λ id e h. is_false (is_local e.node.kind) (λ t. nothing (has id e h t)) in
+choices_counted [] ys args k l same frees given = no_count ys args (λ id e h. is_false (is_local e.node.kind) (λ t. (let m = frees id e h t in omega (arith, m))))
+choices_counted (x ∷ xs) [] args k l same frees given = absurd (omega (arith, l))
+choices_counted (x ∷ xs) (y ∷ ys) [] k l same frees given =
+    let none : (id : ℕ) (e : Entry) → slice_get (y ∷ ys) id ≡ Some e → is_local e.node.kind ≡ false = λ id e h. is_false (is_local e.node.kind) (λ t. nothing id (given id e h t)) in
     ap length (sym (no_local (x ∷ xs) k (λ id e h. none id e (same id (below id (x ∷ xs) e h) ∙ h))))
   where
-    nothing : {id : ℕ} → IsSome (at {A = Plain} [] id) → ⊥
-    nothing h = cc
+    nothing : (id : ℕ) → IsSome (at {A = Plain} [] id) → ⊥
+    nothing id h = cc
 
     below : (id : ℕ) (zs : List Entry) (e : Entry) → slice_get zs id ≡ Some e → id < length zs
     below id [] e h = absurd (cc)
     below zero (z ∷ zs) e h = omega arith
     below (suc id) (z ∷ zs) e h = let m = below id zs e h in omega (arith, m)
-choices_counted (x ∷ xs) (y ∷ ys) (a ∷ args) k l same frees has =
+choices_counted (x ∷ xs) (y ∷ ys) (a ∷ args) k l same frees given =
     let e : y ≡ x = head (same 0 (omega arith)) in
-    ap₂ (λ (z : Entry) n. one_choice (is_local z.node.kind) a + n) e (choices_counted xs ys args (k + 1) (omega (arith, l)) (λ id h. same (suc id) (omega (arith, h))) (λ id d h t. (let m = frees (suc id) d h t in omega (arith, m))) (λ id d h t. has (suc id) d h t))
-    ∙ one_counted (is_local x.node.kind) a k (local_ids_from (k + 1) xs) (λ t. has 0 x (ap Some e) t)
+    ap₂ (λ (z : Entry) n. one_choice (is_local z.node.kind) a + n) e (choices_counted xs ys args (k + 1) (omega (arith, l)) (λ id h. same (suc id) (omega (arith, h))) (λ id d h t. (let m = frees (suc id) d h t in omega (arith, m))) (λ id d h t. given (suc id) d h t))
+    ∙ one_counted (is_local x.node.kind) a k (local_ids_from (k + 1) xs) (λ t. given 0 x (ap Some e) t)
   where
     head : Some y ≡ Some x → y ≡ x
     head h = cc

@@ -366,9 +366,10 @@ module _ (inst : Instance) (table : List Name) (b s t : State) (ds : List ℕ) (
 
     linked_at : (n id : ℕ) (p : Part) → slice_get (ids inst.vars) n ≡ Some id → IsNode es false (0 + n) p id → value_by p.sort (v.number id) (v.set id) ≡ at_place f (0 + n)
     linked_at n id p g node =
+        let same : n ≡ 0 + n = omega arith in
         own_by p.sort node.there.node.kind v node.there.node id node.free node.sort node.own
         ∙ meets.linked id node.there (var n) (extends.grew.same id (get-below es id node.there node.stands) ∙ node.stands) node.free (arg_of n id g)
-        ∙ ap (at_place f) (omega arith)
+        ∙ ap (at_place f) same
 
     stand : StandFrom f 0 (front_of inst v)
     stand = front_stands es v f 0 (ids inst.vars) (parts inst.vars) i.nodes linked_at

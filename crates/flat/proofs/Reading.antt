@@ -145,8 +145,10 @@ prefix_is (x ∷ xs) [] h l = absurd (omega (arith, l))
 prefix_is (x ∷ xs) (y ∷ f) h l = ap₂ (λ z zs. z ∷ zs) (sym h.0) (prefix_is xs f (shifted y f 0 xs h.1) (omega (arith, l)))
 
 pub stands_own : (xs more : Values) → StandFrom (xs ++ more) 0 xs
-stands_own xs more = by xs xs 0 (λ j. ap (at_place (xs ++ more)) (omega arith))
+stands_own xs more = by xs xs 0 (λ j. (let none : 0 + j ≡ j = omega arith in ap (at_place (xs ++ more)) none))
   where
     by : (all xs : Values) (k : ℕ) → ((j : ℕ) → at_place (all ++ more) (k + j) ≡ at_place (xs ++ more) j) → StandFrom (all ++ more) k xs
     by all [] k h = tt
-    by all (x ∷ xs) k h = (sym (ap (at_place (all ++ more)) (omega arith) ∙ h 0), by all xs (suc k) (λ j. ap (at_place (all ++ more)) (omega arith) ∙ h (suc j)))
+    by all (x ∷ xs) k h =
+        let none : k ≡ k + 0 = omega arith in
+        (sym (ap (at_place (all ++ more)) none ∙ h 0), by all xs (suc k) (λ j. (let next : suc k + j ≡ k + suc j = omega arith in ap (at_place (all ++ more)) next ∙ h (suc j))))

@@ -36,12 +36,13 @@ pub fn flatten(alloc: Global, inst: Instance, names: &Names) -> Result<FzProgram
         goal,
         pars: _pars,
     } = inst;
+    let list = vars.as_slice();
     let mut arena = arena;
     let mut defaults = Vec::new(alloc);
-    given!(fix_absent(&mut arena, vars.as_slice(), &mut defaults));
+    given!(fix_absent(&mut arena, list, &mut defaults));
     let mut flat = Flat::begin(alloc, arena);
-    given!(declare_front(alloc, &mut flat, names, vars.as_slice()));
-    given!(clear_vars(&mut flat, vars.as_slice()));
+    given!(declare_front(alloc, &mut flat, names, list));
+    given!(clear_vars(&mut flat, list));
     let mut memo = Memo::new(alloc);
     given!(post_roots(alloc, &mut flat, &mut memo, defaults.as_slice()));
     given!(post_roots(alloc, &mut flat, &mut memo, roots.as_slice()));
