@@ -1,13 +1,15 @@
 -- What roots say of absent options.
-use Rattle.std.proofs.Common.{◌≡◌, ◌≢◌, ℕ, zero, suc, ◌+◌, ◌<◌, ◌≤◌, ℤ, pos, ◌≤ℤ◌, List, [], ◌∷◌, ◌++◌, length, map, take, drop, get_or, slice_get, Bool, true, false, not, ◌||◌, ◌&&◌, cond, option_map, Option, Some, None, IsSome, refl, sym, ap, ap₂, subst, ◌∙◌, arith, inl, inr, append-nil, append_assoc}
+use Rattle.std.proofs.Common.{◌≡◌, ◌≢◌, ℕ, zero, suc, ◌+◌, ◌<◌, ◌≤◌, ℤ, pos, ◌≤ℤ◌, List, [], ◌∷◌, ◌++◌, length, map, take, drop, get_or, slice_get, Bool, true, false, not, ◌||◌, ◌&&◌, cond, option_map, Option, Some, None, IsSome, refl, sym, ap, ap₂, subst, ◌∙◌, arith, inl, inr, nat_eq, int_le, append-nil, append_assoc}
 use Rattle.std.specs.List.{AllByRecursion}
 use Rattle.std.specs.Ordering.{int_eq}
 use Rattle.std.proofs.lemmas.Int.{ints}
-use Rattle.std.proofs.lemmas.Bool.Decides.{Decides-int_eq}
-use Rattle.mz_value.specs.Ranges.{Range, Has}
+use Rattle.std.proofs.lemmas.Bool.{and_from}
+use Rattle.std.proofs.lemmas.Bool.Decides.{Decides-int_eq, nat_tests}
+use Rattle.mz_value.specs.Ranges.{Range, Has, IsInLimit, AreInLimit}
+use Rattle.mz_value.proofs.Comparisons.{int_le_true}
 use Rattle.mz_value.specs.declared.value.ShapeBase.{ShapeBase}
 use Rattle.mz_value.specs.declared.value.ShapeBase.TheVariants as shape
-use Rattle.mz_interval.specs.Ends.{Ends, is_number, if_in_limit}
+use Rattle.mz_interval.specs.Ends.{Ends, is_number, if_in_limit, least_number, greatest_number}
 use Rattle.mz_operations.specs.declared.row.Side.TheVariants.{Least}
 use Rattle.mz_operations.specs.Sets.{end_of}
 use Rattle.mz_operations.specs.Bounds as bounds
@@ -167,7 +169,7 @@ module _ (es : List Entry) (arena : IsArena es) (k id : ℕ) (p : Part) (n : ins
   is_var : n.there.node.kind ≡ Var
   is_var = free_var n.there.node.kind n.free n.local (n.sort ∙ numbers)
 
-  node_is : IsNode es id Var (n.there.node.a ∷ [])
+  abbrev node_is : IsNode es id Var (n.there.node.a ∷ [])
   node_is = record { there = n.there; stands = n.stands; kind = is_var; kids = ap (λ j. take (arity j) (n.there.node.a ∷ n.there.node.b ∷ n.there.node.c ∷ [])) is_var }
 
   pub number_is : (v : terms.Values) → term v es id ≡ Some (number (v.number id))
@@ -363,8 +365,8 @@ module _ (old mid new : List Entry) (m : ModelVar) (o : ℕ) (c : VarCell) (l : 
       ap is_true (node_means new t Or (o ∷ n ∷ []) p.arena p.node v)
       ∙ or_true (term v new o) (term v new n)
       ∙ ap₂ (λ x y. x || y) (ap is_true (occurs_is new p.arena m o c opt v))
-        (ap is_true (p.extends.grew.terms v n (truth_in mid n g.is_truth))
-        ∙ g.means v (v.number c.term) before (value_is mid g.arena m o c opt_mid v) (is_bit mid g.arena m o c opt_mid v before))
+      (ap is_true (p.extends.grew.terms v n (truth_in mid n g.is_truth))
+      ∙ g.means v (v.number c.term) before (value_is mid g.arena m o c opt_mid v) (is_bit mid g.arena m o c opt_mid v before))
 
   pub option_root : (before : List ℕ) → AddsCellRoots old new (c ∷ []) before (before ++ t ∷ [])
   option_root before = record {
@@ -379,8 +381,8 @@ module _ (old mid new : List Entry) (m : ModelVar) (o : ℕ) (c : VarCell) (l : 
     };
   }
 
-  pub either_first : IsTruth mid o
-  either_first = occurs_truth mid g.arena m o c (option_later old mid m o c g.extends.grew h)
+pub occurs_mid : (old mid : List Entry) (m : ModelVar) (o : ℕ) (c : VarCell) (b : Bool) (l : ℤ) (n : ℕ) → IsOption old m o c → IsLeastNode old mid b c.term l n → IsTruth mid o
+occurs_mid old mid m o c b l n h g = occurs_truth mid g.arena m o c (option_later old mid m o c g.extends.grew h)
 
 pub added_by : (old new : List Entry) (cs : List VarCell) (before after more : List ℕ) → after ≡ more → AddsCellRoots old new cs before more → AddsCellRoots old new cs before after
 added_by old new cs before after more e h = subst (AddsCellRoots old new cs before) (sym e) h
@@ -548,3 +550,25 @@ vars_here all k m d low is = let next : suc k ≡ k + 1 = omega arith in ap (map
 
 pub vars_end : (all : List CodeVar) (k : ℕ) → length all ≤ k → vars_from k all ≡ []
 vars_end all k low = ap (map model_var) (no_item all k low)
+
+-- ---- the least number of ranges
+
+pub least_none : (b : Bool) (rs : List Range) → b ≡ nat_eq (length rs) 0 → b ≡ true → None ≡ end_of Least rs
+unfolding end_of
+least_none b [] h k = refl
+least_none b (r ∷ rs) h k = absurd (clash (nat_eq (suc (length rs)) 0) (sym h ∙ k) (grind (arith, nat_tests)))
+  where
+    clash : (b : Bool) → b ≡ true → b ≡ false → ⊥
+    clash b h k = cc
+
+pub least_some : (rs : List Range) (n : ℤ) (d : Range) → 0 < length rs → n ≡ (get_or rs 0 d).0 → Some n ≡ end_of Least rs
+unfolding end_of
+least_some [] n d l e = absurd (omega (arith, l))
+least_some (r ∷ rs) n d l e = ap Some e
+
+limit_number : (n : ℤ) → IsInLimit n → is_number n ≡ true
+limit_number n h = and_from (int_le least_number n) (int_le n greatest_number) (int_le_true least_number n h.0) (int_le_true n greatest_number h.1)
+
+pub least_limit : (rs : List Range) (n : ℤ) (d : Range) → 0 < length rs → n ≡ (get_or rs 0 d).0 → AreInLimit rs → is_number n ≡ true
+least_limit [] n d l e h = absurd (omega (arith, l))
+least_limit (r ∷ rs) n d l e h = subst (λ m. is_number m ≡ true) (sym e) (limit_number r.0 h.0)

@@ -71,8 +71,7 @@ module _ (es : List Entry) (m : ModelVar) where
   options_of (c ∷ cs) k is ps a o n h =
       let n1 = subst₂ (AreNodes es false k) (append_assoc (cell_ids c) (flat_map cell_ids cs) is) (append_assoc (cell_parts c) (flat_map cell_parts cs) ps) n in
       let h1 = subst AreParts (append_assoc (cell_parts c) (flat_map cell_parts cs) ps) h in
-      let s = split_nodes es m.opt k (value_part m c) c.occurs c.term (flat_map cell_ids cs ++ is) (flat_map cell_parts cs ++ ps) o.0 n1 in
-      (
+      let s = split_nodes es m.opt k (value_part m c) c.occurs c.term (flat_map cell_ids cs ++ is) (flat_map cell_parts cs ++ ps) o.0 n1 in (
         option_where es m m.opt k c c.occurs (flat_map cell_ids cs ++ is) (flat_map cell_parts cs ++ ps) o.0 (λ e. a e c) n1 h1,
         options_of cs s.0 is ps a o.1 s.1 (parts_rest (cell_parts c) (flat_map cell_parts cs ++ ps) h1),
       )
@@ -87,8 +86,7 @@ module _ (es : List Entry) (m : ModelVar) where
 all_options_of : (es : List Entry) (ms : List ModelVar) (k : ℕ) → AreModelVars ms → AreNodes es false k (ids ms) (parts ms) → AreParts (parts ms) → AreAllOptions es ms
 all_options_of es [] k a n h = tt
 all_options_of es (m ∷ ms) k a n h =
-    let s = nodes_after es m m.cells k (ids ms) (parts ms) a.0.cells n in
-    (
+    let s = nodes_after es m m.cells k (ids ms) (parts ms) a.0.cells n in (
       options_of es m m.cells k (ids ms) (parts ms) (λ e c. a.0.allowed e) a.0.cells n h,
       all_options_of es ms s.0 a.1 s.1 (parts_rest (var_parts m) (parts ms) h),
     )
@@ -247,7 +245,7 @@ module _ (inst : Instance) (table : List Name) (b s t1 t2 t3 t4 : State) (ds : L
   all =
       keeps_twice s t3 t4 (λ v. (Always v × AllTrue t1.es ds v) × AllTrue t2.es inst.roots v) (HasGoal t3.es inst.goal)
       (keeps_twice s t2 t3 (λ v. Always v × AllTrue t1.es ds v) (AllTrue t2.es inst.roots)
-        (keeps_twice s t1 t2 Always (AllTrue t1.es ds) cleared.leads.keeps first.keeps) second.keeps)
+      (keeps_twice s t1 t2 Always (AllTrue t1.es ds) cleared.leads.keeps first.keeps) second.keeps)
       aim.keeps
 
   keeps : Keeps s t4 (IsHeld s.es ds inst.roots inst.goal)

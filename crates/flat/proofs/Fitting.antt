@@ -137,7 +137,7 @@ module _ (es : List Entry) (v : terms.Values) (fits : FitsArena es v) where
       let set : f.over.set ≡ p.set = ap (λ (e : Entry). e.set) over ∙ n.set in
       value_inside p.sort p.set (v.number i) (v.set i) h.truth
       (subst (λ u. FitsSort (subset_or_whole (is_subset_sort p.sort)) u (v.number i) (v.set i)) set
-        (subst (λ b. FitsSort (subset_or_whole b) f.over.set (v.number i) (v.set i)) n.sort f.fits))
+      (subst (λ b. FitsSort (subset_or_whole b) f.over.set (v.number i) (v.set i)) n.sort f.fits))
 
   -- THE FRONT'S VALUES lie in the domains of its variables
   pub front_inside : (k : ℕ) (vs : List Variable) (is : List ℕ) (ps : List Part) → domains_of vs ≡ map part_domain ps → AreNodes es false k is ps → AreParts ps → flat.AreInDomains vs (front_values ps is v)

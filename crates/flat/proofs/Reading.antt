@@ -131,9 +131,10 @@ front_stands es v f k [] [] n h = tt
 front_stands es v f k [] (p ∷ ps) n h = absurd n
 front_stands es v f k (i ∷ is) [] n h = absurd n
 front_stands es v f k (i ∷ is) (p ∷ ps) n h =
-    let zero_more : k + 0 ≡ k = omega arith in
-    (h 0 i p refl (subst (λ m. IsNode es false m p i) (sym zero_more) n.0) ∙ ap (at_place f) zero_more,
-    front_stands es v f (suc k) is ps n.1 (λ m j q g o. let more : suc k + m ≡ k + suc m = omega arith in h (suc m) j q g (subst (λ l. IsNode es false l q j) more o) ∙ ap (at_place f) (sym more)))
+    let zero_more : k + 0 ≡ k = omega arith in (
+      h 0 i p refl (subst (λ m. IsNode es false m p i) (sym zero_more) n.0) ∙ ap (at_place f) zero_more,
+      front_stands es v f (suc k) is ps n.1 (λ m j q g o. let more : suc k + m ≡ k + suc m = omega arith in h (suc m) j q g (subst (λ l. IsNode es false l q j) more o) ∙ ap (at_place f) (sym more)),
+    )
 
 shifted : (y : Value) (f : Values) (k : ℕ) (xs : Values) → StandFrom (y ∷ f) (suc k) xs → StandFrom f k xs
 shifted y f k [] h = tt

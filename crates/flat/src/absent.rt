@@ -1,6 +1,7 @@
 // The values of absent options.
 
 ghost use Rattle.std.specs.Prelude.{◌≡◌, ◌∷◌, [], IfOk, IfSome, OnOk, Some, false, map, slice_get, true};
+ghost use Rattle.mz_value.specs.Ranges.{AreInLimit};
 ghost use Rattle.mz_interval.specs.Ends.{is_number};
 ghost use Rattle.mz_operations.specs.declared.row.Side.TheVariants.{Least};
 ghost use Rattle.mz_operations.specs.Sets.{end_of};
@@ -128,15 +129,25 @@ fn has_truths(base: &ShapeBase) -> bool
     }
 }
 
+// The least number of ranges, where there is one.
+fn least_in(ranges: &[(i64, i64)]) -> Option<i64>
+    requires { AreInLimit ranges.now }
+    ensures is { result ≡ end_of Least ranges.now }
+    ensures limit { IfSome result (λ n. is_number n ≡ true) }
+{
+    if ranges.is_empty() {
+        None
+    } else {
+        Some(ranges[0].0)
+    }
+}
+
 // The least number of a cell's domain, where it has one.
 fn least_of(c: &VarCell) -> Option<i64>
     ensures is { result ≡ end_of Least c.now.domain }
     ensures limit { IfSome result (λ n. is_number n ≡ true) }
 {
-    match c.domain.ranges() {
-        [] => None,
-        [first, ..] => Some(first.0),
-    }
+    least_in(c.domain.ranges())
 }
 
 // Adds a root that is true where the option is there or has this value, the least of its domain.
@@ -161,6 +172,25 @@ fn fix_value(
     Ok(())
 }
 
+// Adds the root of an option, where its domain has a value.
+fn fix_option(
+    arena: &mut Arena,
+    m: &ModelVar,
+    o: Id,
+    c: &VarCell,
+    roots: &mut Vec<Id>,
+) -> Result<(), Memory>
+    requires arena { IsArena arena.old }
+    requires occurs { c.now.occurs ≡ Some o }
+    requires option { IsOption arena.old (model_var m.now) o (var_cell c.now) }
+    ensures { OnOk result (AddsCellRoots arena.old arena.new (var_cell c.now ∷ []) roots.old.items roots.new.items) }
+{
+    match least_of(c) {
+        Some(least) => fix_value(arena, m, o, c, least, roots),
+        None => Ok(()),
+    }
+}
+
 // Adds the root of a cell, where it is an option whose domain has a value.
 fn fix_cell(
     arena: &mut Arena,
@@ -172,11 +202,8 @@ fn fix_cell(
     requires option { AreOptions arena.old (model_var m.now) (var_cell c.now ∷ []) }
     ensures { OnOk result (AddsCellRoots arena.old arena.new (var_cell c.now ∷ []) roots.old.items roots.new.items) }
 {
-    let Some(o) = c.occurs else {
-        return Ok(());
-    };
-    match least_of(c) {
-        Some(least) => fix_value(arena, m, o, c, least, roots),
+    match c.occurs {
+        Some(o) => fix_option(arena, m, o, c, roots),
         None => Ok(()),
     }
 }
