@@ -1,10 +1,10 @@
 -- What roots say of absent options.
-use Rattle.std.proofs.Common.{◌≡◌, ◌≢◌, ℕ, zero, suc, ◌+◌, ◌<◌, ◌≤◌, ℤ, pos, ◌≤ℤ◌, List, [], ◌∷◌, ◌++◌, length, map, take, drop, get_or, slice_get, Bool, true, false, not, ◌||◌, ◌&&◌, cond, option_map, Option, Some, None, IsSome, refl, sym, ap, ap₂, subst, ◌∙◌, arith, inl, inr, nat_eq, int_le, append-nil, append_assoc}
+use Rattle.std.proofs.Common.{◌≡◌, ◌≢◌, ℕ, zero, suc, ◌+◌, ◌<◌, ◌≤◌, ℤ, pos, ◌≤ℤ◌, List, [], ◌∷◌, ◌++◌, length, map, take, drop, get_or, slice_get, Bool, true, false, not, ◌||◌, ◌&&◌, cond, option_map, Option, Some, None, IsSome, refl, sym, ap, ap₂, subst, ◌∙◌, arith, inl, inr, int_le, append-nil, append_assoc}
 use Rattle.std.specs.List.{AllByRecursion}
 use Rattle.std.specs.Ordering.{int_eq}
 use Rattle.std.proofs.lemmas.Int.{ints}
 use Rattle.std.proofs.lemmas.Bool.{and_from}
-use Rattle.std.proofs.lemmas.Bool.Decides.{Decides-int_eq, nat_tests}
+use Rattle.std.proofs.lemmas.Bool.Decides.{Decides-int_eq}
 use Rattle.mz_value.specs.Ranges.{Range, Has, IsInLimit, AreInLimit}
 use Rattle.mz_value.proofs.Comparisons.{int_le_true}
 use Rattle.mz_value.specs.declared.value.ShapeBase.{ShapeBase}
@@ -551,24 +551,12 @@ vars_here all k m d low is = let next : suc k ≡ k + 1 = omega arith in ap (map
 pub vars_end : (all : List CodeVar) (k : ℕ) → length all ≤ k → vars_from k all ≡ []
 vars_end all k low = ap (map model_var) (no_item all k low)
 
--- ---- the least number of ranges
-
-pub least_none : (b : Bool) (rs : List Range) → b ≡ nat_eq (length rs) 0 → b ≡ true → None ≡ end_of Least rs
-unfolding end_of
-least_none b [] h k = refl
-least_none b (r ∷ rs) h k = absurd (clash (nat_eq (suc (length rs)) 0) (sym h ∙ k) (grind (arith, nat_tests)))
-  where
-    clash : (b : Bool) → b ≡ true → b ≡ false → ⊥
-    clash b h k = cc
-
-pub least_some : (rs : List Range) (n : ℤ) (d : Range) → 0 < length rs → n ≡ (get_or rs 0 d).0 → Some n ≡ end_of Least rs
-unfolding end_of
-least_some [] n d l e = absurd (omega (arith, l))
-least_some (r ∷ rs) n d l e = ap Some e
+-- ---- the least number of a domain
 
 limit_number : (n : ℤ) → IsInLimit n → is_number n ≡ true
 limit_number n h = and_from (int_le least_number n) (int_le n greatest_number) (int_le_true least_number n h.0) (int_le_true n greatest_number h.1)
 
-pub least_limit : (rs : List Range) (n : ℤ) (d : Range) → 0 < length rs → n ≡ (get_or rs 0 d).0 → AreInLimit rs → is_number n ≡ true
-least_limit [] n d l e h = absurd (omega (arith, l))
-least_limit (r ∷ rs) n d l e h = subst (λ m. is_number m ≡ true) (sym e) (limit_number r.0 h.0)
+pub least_in_limit : (u : List Range) (l : ℤ) → AreInLimit u → end_of Least u ≡ Some l → is_number l ≡ true
+unfolding end_of
+least_in_limit [] l h e = absurd (cc)
+least_in_limit (r ∷ rs) l h e = let same : r.0 ≡ l = cc in subst (λ n. is_number n ≡ true) same (limit_number r.0 h.0)

@@ -1,7 +1,6 @@
 // The values of absent options.
 
-ghost use Rattle.std.specs.Prelude.{◌≡◌, ◌∷◌, [], IfOk, IfSome, OnOk, Some, false, map, slice_get, true};
-ghost use Rattle.mz_value.specs.Ranges.{AreInLimit};
+ghost use Rattle.std.specs.Prelude.{◌≡◌, ◌∷◌, [], IfOk, OnOk, Some, false, map, slice_get, true};
 ghost use Rattle.mz_interval.specs.Ends.{is_number};
 ghost use Rattle.mz_operations.specs.declared.row.Side.TheVariants.{Least};
 ghost use Rattle.mz_operations.specs.Sets.{end_of};
@@ -129,25 +128,13 @@ fn has_truths(base: &ShapeBase) -> bool
     }
 }
 
-// The least number of ranges, where there is one.
-fn least_in(ranges: &[(i64, i64)]) -> Option<i64>
-    requires { AreInLimit ranges.now }
-    ensures is { result ≡ end_of Least ranges.now }
-    ensures limit { IfSome result (λ n. is_number n ≡ true) }
-{
-    if ranges.is_empty() {
-        None
-    } else {
-        Some(ranges[0].0)
-    }
-}
-
 // The least number of a cell's domain, where it has one.
+#[tactic(auto, unfolding(mz_operations::specs::Sets::end_of))]
 fn least_of(c: &VarCell) -> Option<i64>
-    ensures is { result ≡ end_of Least c.now.domain }
-    ensures limit { IfSome result (λ n. is_number n ≡ true) }
+    ensures { result ≡ end_of Least c.now.domain }
 {
-    least_in(c.domain.ranges())
+    let r = c.domain.ranges().first()?;
+    Some(r.0)
 }
 
 // Adds a root that is true where the option is there or has this value, the least of its domain.
@@ -185,6 +172,7 @@ fn fix_option(
     requires option { IsOption arena.old (model_var m.now) o (var_cell c.now) }
     ensures { OnOk result (AddsCellRoots arena.old arena.new (var_cell c.now ∷ []) roots.old.items roots.new.items) }
 {
+    let _ranges = c.domain.ranges();
     match least_of(c) {
         Some(least) => fix_value(arena, m, o, c, least, roots),
         None => Ok(()),
