@@ -9,7 +9,7 @@ use Rattle.mz_value.specs.Ranges.{Range, Has, IsInLimit, AreInLimit}
 use Rattle.mz_value.proofs.Comparisons.{int_le_true}
 use Rattle.mz_value.specs.declared.value.ShapeBase.{ShapeBase}
 use Rattle.mz_value.specs.declared.value.ShapeBase.TheVariants as shape
-use Rattle.mz_interval.specs.Ends.{Ends, is_number, if_in_limit, least_number, greatest_number}
+use Rattle.mz_interval.specs.Ends.{Ends, is_number, if_in_limit, least_number as lowest, greatest_number as highest}
 use Rattle.mz_operations.specs.declared.row.Side.TheVariants.{Least}
 use Rattle.mz_operations.specs.Sets.{end_of}
 use Rattle.mz_operations.specs.Bounds as bounds
@@ -554,7 +554,7 @@ vars_end all k low = ap (map model_var) (no_item all k low)
 -- ---- the least number of a domain
 
 limit_number : (n : ℤ) → IsInLimit n → is_number n ≡ true
-limit_number n h = and_from (int_le least_number n) (int_le n greatest_number) (int_le_true least_number n h.0) (int_le_true n greatest_number h.1)
+limit_number n h = and_from (int_le lowest n) (int_le n highest) (int_le_true lowest n h.0) (int_le_true n highest h.1)
 
 pub least_in_limit : (u : List Range) (l : ℤ) → AreInLimit u → end_of Least u ≡ Some l → is_number l ≡ true
 unfolding end_of
