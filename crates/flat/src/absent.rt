@@ -180,12 +180,7 @@ fn fix_option(
 }
 
 // Adds the root of a cell, where it is an option whose domain has a value.
-fn fix_cell(
-    arena: &mut Arena,
-    m: &ModelVar,
-    c: &VarCell,
-    roots: &mut Vec<Id>,
-) -> Result<(), Memory>
+fn fix_cell(arena: &mut Arena, m: &ModelVar, c: &VarCell, roots: &mut Vec<Id>) -> Result<(), Memory>
     requires arena { IsArena arena.old }
     requires option { AreOptions arena.old (model_var m.now) (var_cell c.now ∷ []) }
     ensures { OnOk result (AddsCellRoots arena.old arena.new (var_cell c.now ∷ []) roots.old.items roots.new.items) }
