@@ -15,7 +15,7 @@ use Rattle.fz_program.specs.Arguments.{var}
 use Rattle.fz_program.specs.declared.row_name.RowName.{RowName}
 use Rattle.fz_program.specs.declared.row_name.Kind.TheVariants.{Int}
 use Rattle.fz_program.specs.Values.{Values}
-use Rattle.fz_program.specs.Flat.{Variable, Program, is_plain, plain_value}
+use Rattle.fz_program.specs.Flat.{Variable, Program, FlatSolves, is_plain, plain_value}
 use Rattle.fz_build.specs.Build.{empty, with_variable}
 use Rattle.flat_reif.specs.States.{State, Meets, Spreads, Flattened, IsState, put_at, free_domain}
 use Rattle.flat_reif_rows.specs.Standing.{seen}
@@ -44,6 +44,10 @@ IsTrueAt es id v = is_true (term v es id) ≡ true
 
 abbrev pub Never : terms.Values → Type 0
 Never v = ⊥
+
+-- nothing solves the program, whatever the domains are
+abbrev pub HasNoSolution : State → Type 0
+HasNoSolution s = (f : Values) → FlatSolves s.prog f → ⊥
 
 abbrev pub IsTruthNode : List Entry → ℕ → Type 0
 IsTruthNode es id = IsSome (as_truth (extent es id))

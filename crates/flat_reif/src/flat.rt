@@ -14,7 +14,7 @@ ghost use Rattle.fz_program.specs.Arguments.{int, plain, plains};
 ghost use Rattle.flat_reif_rows.specs.NodeRows.{HasDivisor, row_of_one, row_of_two};
 ghost use Rattle.flat_reif.specs.States.{IsState, state};
 ghost use Rattle.flat_reif.specs.NodeKinds.{divides, extreme_kind, is_scalar, may_lack};
-ghost use Rattle.flat_reif.specs.Roots.{GrownTo, HasTest, IsDeclared, IsTrueAt, IsTruthNode, IsVariableFor, IsWholeNode, MayStand, Never, Posted, begun, with_prog};
+ghost use Rattle.flat_reif.specs.Roots.{GrownTo, HasNoSolution, HasTest, IsDeclared, IsTrueAt, IsTruthNode, IsVariableFor, IsWholeNode, MayStand, Never, Posted, begun, with_prog};
 ghost use Rattle.flat_reif.specs.Unmet.{IsAny, IsFixed, IsUnmet};
 ghost use Rattle.flat_reif.specs.Lists.{Gives, HasArg, HasFront, IsListed, IsNode, IsReady, ListArgs};
 ghost use Rattle.flat_reif.specs.Below.{AreNeeded, FlattenedBelow, IsDue, IsSettled};
@@ -593,7 +593,8 @@ impl Flat {
     /// Posts what is never true: no solution is left.
     pub fn post_false(&mut self) -> Result<(), Memory>
         requires { IsState (state self.old) }
-        ensures { IfOk result (λ _. Posted (state self.old) (state self.new) Never) }
+        ensures posted { IfOk result (λ _. Posted (state self.old) (state self.new) Never) }
+        ensures none { IfOk result (λ _. HasNoSolution (state self.new)) }
     {
         post_false(&mut self.build)
     }

@@ -1,0 +1,4 @@
+pub mod Absent
+pub mod Cleared
+pub mod Flattening
+pub mod Laws
