@@ -19,12 +19,12 @@ use Rattle.mz_symbol.specs.declared.types.Free.{Free}
 use Rattle.mz_symbol.specs.declared.types.Line.{Line}
 use Rattle.mz_instance.specs.Parts.{Part, Truth, truths, is_subset_sort, sort_of, IsNode, AreNodes}
 use Rattle.mz_symbol.specs.Choices.{is_shape, domain_parts, all_parts, IsChoosable, AreChoosable}
-use Rattle.mz_symbol.specs.Symbols.{symbol_ids, symbol_value, domain_of, free_ids, waiting}
+use Rattle.mz_symbol.specs.Symbols.{symbol_ids, symbol_value, domain_of, free_ids, IsSymbolOf, waiting}
 use Rattle.mz_symbol.specs.Runs.{Run, IsSound, IsCounted}
 use Rattle.mz_symbol.specs.Readings.{Reading, Reads, ReadsChoices, symbol_seen, taken_in, weight_in, state_of}
 use Rattle.mz_symbol.specs.Makes.{GoesOnBy}
 use Rattle.mz_symbol.specs.StepsNodes.{AddsNodes}
-use Rattle.mz_symbol.specs.StepsChoices.{choice_domain, part_over, free_of, IsLocalNode, IsSymbolOf, IsNoted}
+use Rattle.mz_symbol.specs.StepsChoices.{choice_domain, part_over, free_of, IsPartNode, IsNoted}
 use Rattle.mz_symbol.proofs.RunLaws.{nodes_back}
 
 pub choosable : (b : Base) (o : Bool) (u : List Range) → is_shape b ≡ true → AreCanonical u → AreInLimit u → (sort_of b ≡ Truth → u ≡ truths) → (o ≡ true → is_subset_sort (sort_of b) ≡ false) → (is_subset_sort (sort_of b) ≡ false → u ≢ []) → IsChoosable (choice_domain b o u)
@@ -45,8 +45,14 @@ adds_both n m old mid new f g = record {
 pub adds_most : (n m : ℕ) (old new : Run) → n ≤ m → AddsNodes n old new → AddsNodes m old new
 adds_most n m old new h f = record { work = f.work; weight = f.weight; choices = f.choices; lines = f.lines; grew = f.grew; charged = omega (arith, h, f.charged) }
 
-pub local_made : (es fs : List Entry) (b : Base) (u : List Range) (over k own : ℕ) (n : Node) (id : ℕ) → IsConst es u over → own ≡ length es → IsLocalNode b over k own n → Grew es fs → MadeAnew es fs n id → IsNode fs true k (part_over b u) id
-local_made es fs b u over k own n id c o l g m = record {
+pub adds_state : (n : ℕ) (old new : Run) (r : Reading) → AddsNodes n old new → state_of r old ≡ state_of r new
+adds_state n old new r l =
+    ap (λ n. record { work = n; taken = taken_in r.mode old.choices; weight = weight_in r.mode old.weight }) (sym l.work)
+    ∙ ap (λ n. record { work = new.work; taken = taken_in r.mode old.choices; weight = weight_in r.mode n }) (sym l.weight)
+    ∙ ap (λ cs. record { work = new.work; taken = taken_in r.mode cs; weight = weight_in r.mode new.weight }) (sym l.choices)
+
+pub part_made : (es fs : List Entry) (choice : Bool) (b : Base) (u : List Range) (over k own : ℕ) (n : Node) (id : ℕ) → IsConst es u over → own ≡ length es → IsPartNode choice b over k own n → Grew es fs → MadeAnew es fs n id → IsNode fs choice k (part_over b u) id
+part_made es fs choice b u over k own n id c o l g m = record {
   there = entry n;
   stands = ap (λ xs. slice_get xs id) m.items ∙ ap (slice_get (es ++ entry n ∷ [])) m.last ∙ get-last es (entry n);
   free = l.free;
@@ -175,17 +181,17 @@ choice_noted r old new f n h =
     ∙ ap (λ s. Out (symbol_seen r f.symbol) s) (state_noted r.mode r.term old.work old.weight old.choices f reads)
     ∙ ap (λ s. Out (symbol_seen r f.symbol) s) (state_is r new old.work old.weight (old.choices ++ f ∷ []) (sym n.work) (sym n.weight) (sym n.choices))
 
-domain_is : (d : Domain) (es : List Entry) (k : ℕ) (s : Symbol) → IsSymbolOf es k d s → domain_of (free_of s d.set) ≡ d
+domain_is : (d : Domain) (es : List Entry) (k : ℕ) (s : Symbol) → IsSymbolOf es true k d s → domain_of (free_of s d.set) ≡ d
 domain_is d es k s h = ap (λ b. choice_domain b (is_some s.occurs) d.set) h.base ∙ ap (λ o. choice_domain d.base o d.set) h.option
 
-pub take_nodes : (es : List Entry) (k : ℕ) (d : Domain) (s : Symbol) → IsSymbolOf es k d s → AreNodes es true k (symbol_ids s) (domain_parts (domain_of (free_of s d.set)))
+pub take_nodes : (es : List Entry) (k : ℕ) (d : Domain) (s : Symbol) → IsSymbolOf es true k d s → AreNodes es true k (symbol_ids s) (domain_parts (domain_of (free_of s d.set)))
 take_nodes es k d s h = subst (λ c. AreNodes es true k (symbol_ids s) (domain_parts c)) (sym (domain_is d es k s h)) h.nodes
 
-pub take_domain : (es : List Entry) (k : ℕ) (d : Domain) (s : Symbol) → IsSymbolOf es k d s → IsChoosable d → IsChoosable (domain_of (free_of s d.set))
+pub take_domain : (es : List Entry) (k : ℕ) (d : Domain) (s : Symbol) → IsSymbolOf es true k d s → IsChoosable d → IsChoosable (domain_of (free_of s d.set))
 take_domain es k d s h c = subst (λ c. IsChoosable c) (sym (domain_is d es k s h)) c
 
 -- a choice that was taken means the next one
-pub take_means : (r : Reading) (n k : ℕ) (old mid new : Run) (d : Domain) (s : Symbol) → AddsNodes n old mid → IsSymbolOf mid.arena k d s → IsNoted mid new (free_of s d.set) → Reads r new → Out (held r.mode (choice_at r.mode (length (state_of r old).taken))) (noted r.mode (d ∷ []) 0 (state_of r old)) ≡ Out (symbol_seen r s) (state_of r new)
+pub take_means : (r : Reading) (n k : ℕ) (old mid new : Run) (d : Domain) (s : Symbol) → AddsNodes n old mid → IsSymbolOf mid.arena true k d s → IsNoted mid new (free_of s d.set) → Reads r new → Out (held r.mode (choice_at r.mode (length (state_of r old).taken))) (noted r.mode (d ∷ []) 0 (state_of r old)) ≡ Out (symbol_seen r s) (state_of r new)
 take_means r n k old mid new d s a i m h =
     ap (λ t. Out (held r.mode (choice_at r.mode (length t.taken))) (noted r.mode (d ∷ []) 0 t)) (state_is r mid old.work old.weight old.choices (sym a.work) (sym a.weight) (sym a.choices))
     ∙ ap (λ e. Out (held r.mode (choice_at r.mode (length (state_of r mid).taken))) (noted r.mode (e ∷ []) 0 (state_of r mid))) (sym (domain_is d mid.arena k s i))

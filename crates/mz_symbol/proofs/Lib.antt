@@ -3,3 +3,4 @@ pub mod ChoiceLaws
 pub mod ReadingLaws
 pub mod ConstantLaws
 pub mod LineLaws
+pub mod ConsLaws

@@ -1,10 +1,11 @@
 -- How what holds of each run is kept by nodes, and what nodes mean.
-use Rattle.std.proofs.Common.{◌≡◌, ◌∙◌, ℕ, suc, ◌+◌, ◌*◌, ◌≤◌, Bool, true, false, List, [], ◌∷◌, map, slice_get, refl, sym, ap, subst, arith}
+use Rattle.std.proofs.Common.{◌≡◌, ◌∙◌, ℕ, suc, ◌+◌, ◌*◌, ◌≤◌, Bool, true, false, List, [], ◌∷◌, map, slice_get, Option, Some, None, IfSome, Result, Ok, Err, IfOk, refl, sym, ap, subst, arith}
+use Rattle.mz_base.specs.declared.stop.Memory.{Memory}
 use Rattle.mz_arena.specs.declared.node.Node.{Node}
 use Rattle.mz_arena.specs.Entries.{Entry, entry, is_free}
 use Rattle.mz_arena.specs.Values.{Term}
 use Rattle.mz_arena.specs.Charges.{charges}
-use Rattle.mz_arena.specs.Arenas.{IsArena, Grew, Made}
+use Rattle.mz_arena.specs.Arenas.{IsArena, Grew, Made, IsChecked}
 use Rattle.mz_arena.proofs.Folds.{get-below}
 use Rattle.mz_arena.proofs.Growing.{arena_empty}
 use Rattle.mz_symbol.specs.declared.types.Free.{Free}
@@ -13,7 +14,7 @@ use Rattle.mz_instance.specs.Parts.{Part, IsNode, AreNodes}
 use Rattle.mz_symbol.specs.Choices.{all_parts}
 use Rattle.mz_symbol.specs.Symbols.{domain_of, free_ids, waiting}
 use Rattle.mz_symbol.specs.Runs.{Run, ReadsNodes, AreLines, IsSound, IsCounted}
-use Rattle.mz_symbol.specs.Readings.{Reading, Reads, no_values, node_meaning}
+use Rattle.mz_symbol.specs.Readings.{Reading, Reads, IsNodeOf, no_values, node_meaning}
 use Rattle.mz_symbol.specs.Makes.{GoesOnBy, GoesOn, owed, earned}
 use Rattle.mz_symbol.specs.StepsNodes.{AddsNodes}
 
@@ -80,6 +81,14 @@ nodes_go n old new a = record {
 
 pub node_means : (r : Reading) (new : Run) (n : Node) (id : ℕ) → Made new.arena (entry n) id → is_free n.kind ≡ false → Reads r new → node_meaning r n ≡ r.term id
 node_means r new n id m f h = sym (h.nodes id (entry n) m.stands f no_values)
+
+pub node_tried : (old : List Entry) (new : Run) (n : Node) (o : Option ℕ) → is_free n.kind ≡ false → IsChecked old new.arena n o → IfSome o (IsNodeOf new n)
+node_tried old new n None f h = tt
+node_tried old new n (Some id) f h = λ r q. sym (node_means r new n id h.made f q)
+
+pub tried_by : (old : List Entry) (new : Run) (n : Node) (x : Result (Option ℕ) Memory) → is_free n.kind ≡ false → IfOk x (IsChecked old new.arena n) → IfOk x (λ o. IfSome o (IsNodeOf new n))
+tried_by old new n (Ok o) f h = node_tried old new n o f h
+tried_by old new n (Err e) f h = tt
 
 -- ---- runs that go on, one after the other
 

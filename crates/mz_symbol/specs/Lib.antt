@@ -9,5 +9,6 @@ pub mod StepsChoices
 pub mod Lines
 pub mod StepsConstants
 pub mod StepsLines
+pub mod StepsCons
 pub mod Laws
 mod SymbolExamples

@@ -4,7 +4,8 @@ use Rattle.std.specs.Option.{option_and_then}
 use Rattle.mz_arena.specs.Values.{is_true}
 use Rattle.mz_symbol.specs.declared.types.Symbol.{Symbol}
 use Rattle.mz_symbol.specs.declared.types.Line.{Line}
-use Rattle.mz_symbol.specs.Symbols.{symbol_value}
+use Rattle.mz_symbol.specs.declared.types.Lists.{Lists}
+use Rattle.mz_symbol.specs.Symbols.{symbol_value, AreLists}
 use Rattle.mz_symbol.specs.Runs.{Run}
 use Rattle.mz_symbol.specs.Readings.{Reading, Reads}
 
@@ -22,3 +23,9 @@ pub record IsElement (s : Run) (k i : ℕ) (y : Symbol) : Type 0 where
   pub stands : slice_get s.lines k ≡ Some line
   pub place : slice_get line.items.items i ≡ Some y
   pub value : (r : Reading) → Reads r s → only_if (is_true (r.term line.defined)) (symbol_value r.term y) ≡ option_and_then (λ xs. slice_get xs i) (r.line k)
+
+-- THE CONS LISTS OF AN ARRAY'S ELEMENTS
+pub record HasLists (s : Run) (k : ℕ) (ls : Lists) : Type 0 where
+  pub line : Line
+  pub stands : slice_get s.lines k ≡ Some line
+  pub lists : (r : Reading) → Reads r s → AreLists r.term line.items.items ls

@@ -47,6 +47,10 @@ no_values = record { number = λ _. pos 0; set = λ _. [] }
 abbrev pub node_meaning : Reading → Node → Term
 node_meaning r n = node_term no_values (entry n) (map r.term (children n))
 
+-- an id that means this node, which isn't free
+abbrev pub IsNodeOf : Run → Node → ℕ → Type 0
+IsNodeOf s n id = (r : Reading) → Reads r s → r.term id ≡ node_meaning r n
+
 -- ---- states
 
 abbrev pub taken_in : Mode → List Free → List Domain

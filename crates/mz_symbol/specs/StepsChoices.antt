@@ -1,17 +1,15 @@
 -- Mirror of src/choices.rt; private clauses only.
-use Rattle.std.specs.Prelude.{◌≡◌, ◌≢◌, ℕ, pos, List, [], ◌∷◌, ◌++◌, Bool, true, is_some}
+use Rattle.std.specs.Prelude.{◌≡◌, ◌≢◌, ℕ, pos, List, [], ◌∷◌, ◌++◌, Bool, true}
 use Rattle.mz_value.specs.Ranges.{Range}
 use Rattle.mz_core.specs.declared.types.Base.{Base}
 use Rattle.mz_arena.specs.declared.node.Node.{Node}
 use Rattle.mz_arena.specs.Charges.{charge_of}
-use Rattle.mz_arena.specs.Entries.{Entry, is_free, is_local}
+use Rattle.mz_arena.specs.Entries.{is_free, is_local}
 use Rattle.mz_meaning.specs.Domains.{Domain}
 use Rattle.mz_symbol.specs.declared.types.Symbol.{Symbol}
 use Rattle.mz_symbol.specs.declared.types.Free.{Free}
 use Rattle.mz_arena.specs.FreeNodes.{is_set_kind}
-use Rattle.mz_instance.specs.Parts.{Part, Subset, is_subset_sort, sort_of, truth_mark, AreNodes}
-use Rattle.mz_symbol.specs.Choices.{domain_parts}
-use Rattle.mz_symbol.specs.Symbols.{symbol_ids}
+use Rattle.mz_instance.specs.Parts.{Part, Subset, is_subset_sort, sort_of, truth_mark}
 use Rattle.mz_symbol.specs.Runs.{Run}
 
 abbrev pub choice_domain : Base → Bool → List Range → Domain
@@ -23,22 +21,16 @@ part_over b u = record { sort = sort_of b; set = u }
 abbrev pub free_of : Symbol → List Range → Free
 free_of s u = record { symbol = s; set = u }
 
--- a choice node of a base, over the SetConst with this id, with this number and its own id
-pub record IsLocalNode (b : Base) (over k id : ℕ) (n : Node) : Type 0 where
+-- a choice node of a base, or a variable's, over the SetConst with this id, with this number and its own id
+pub record IsPartNode (choice : Bool) (b : Base) (over k id : ℕ) (n : Node) : Type 0 where
   pub free : is_free n.kind ≡ true
-  pub local : is_local n.kind ≡ true
+  pub local : is_local n.kind ≡ choice
   pub sort : is_set_kind n.kind ≡ is_subset_sort (sort_of b)
   pub mark : sort_of b ≢ Subset → n.c ≡ truth_mark (sort_of b)
   pub domain : n.a ≡ over
   pub number : n.b ≡ k
   pub own : n.number ≡ pos id
   pub charge : charge_of n.kind ≡ 4
-
--- a symbol of this domain, whose nodes are choices with the numbers from k on
-pub record IsSymbolOf (es : List Entry) (k : ℕ) (d : Domain) (s : Symbol) : Type 0 where
-  pub base : s.base ≡ d.base
-  pub option : is_some s.occurs ≡ d.opt
-  pub nodes : AreNodes es true k (symbol_ids s) (domain_parts d)
 
 -- one choice more was noted, and nothing else changed
 pub record IsNoted (old new : Run) (f : Free) : Type 0 where

@@ -1,11 +1,12 @@
 -- SYMBOLS: what stands for the value of a var cell, and what such a value is, once the ids of nodes have terms.
-use Rattle.std.specs.Prelude.{◌≡◌, ℕ, ◌+◌, true, List, [], ◌∷◌, length, map, Option, Some, None, is_some, IsSome, if◌then◌else◌}
+use Rattle.std.specs.Prelude.{◌≡◌, ℕ, ◌+◌, Bool, true, List, [], ◌∷◌, length, map, Option, Some, None, is_some, IsSome, if◌then◌else◌}
 use Rattle.std.specs.List.{flat_map}
 use Rattle.std.specs.Option.{option_map, option_and_then}
 use Rattle.mz_value.specs.Contents.{Content}
 use Rattle.mz_value.specs.Contents as values
 use Rattle.mz_core.specs.declared.types.Base.{Base}
 use Rattle.mz_core.specs.declared.types.Base.TheVariants as base
+use Rattle.mz_arena.specs.Entries.{Entry}
 use Rattle.mz_arena.specs.Values.{Term, empty, as_number, as_set, bit, is_true, cons_term}
 use Rattle.mz_meaning.specs.Domains.{Domain}
 use Rattle.mz_symbol.specs.declared.types.Symbol.{Symbol}
@@ -15,6 +16,8 @@ use Rattle.mz_symbol.specs.declared.types.Listing.{Listing}
 use Rattle.mz_symbol.specs.declared.types.Listing.TheVariants as listing
 use Rattle.mz_symbol.specs.declared.types.Line.{Line}
 use Rattle.mz_instance.specs.Contents.{content_by}
+use Rattle.mz_instance.specs.Parts.{AreNodes}
+use Rattle.mz_symbol.specs.Choices.{domain_parts}
 
 -- the node of an occurrence stands before that of the value
 abbrev pub with_id : Option ℕ → List ℕ → List ℕ
@@ -46,6 +49,12 @@ domain_of f = record { base = f.symbol.base; opt = is_some f.symbol.occurs; set 
 -- the ids of their nodes, in order
 abbrev pub free_ids : List Free → List ℕ
 free_ids fs = flat_map (λ f. symbol_ids f.symbol) fs
+
+-- A SYMBOL OF THIS DOMAIN, whose nodes are choices, or variables, with the numbers from k on
+pub record IsSymbolOf (es : List Entry) (choice : Bool) (k : ℕ) (d : Domain) (s : Symbol) : Type 0 where
+  pub base : s.base ≡ d.base
+  pub option : is_some s.occurs ≡ d.opt
+  pub nodes : AreNodes es choice k (symbol_ids s) (domain_parts d)
 
 -- ---- the elements of var arrays
 
@@ -107,8 +116,14 @@ abbrev pub IsOccursList : (ℕ → Term) → List Symbol → Option ℕ → Type
 IsOccursList t ss None = ArePlain ss
 IsOccursList t ss (Some id) = t id ≡ occurs_list t ss
 
+-- all elements are of this base
+abbrev pub HaveBase : Base → List Symbol → Type 0
+HaveBase b [] = Unit {0}
+HaveBase b (s ∷ ss) = (s.base ≡ b) × HaveBase b ss
+
 -- the lists of the elements' values, and of options the list of their occurrences
 pub record AreLists (t : ℕ → Term) (ss : List Symbol) (ls : Lists) : Type 0 where
+  pub bases : HaveBase ls.base ss
   pub terms : t ls.terms ≡ list_term t (item_terms ss)
   pub occurs : IsOccursList t ss ls.occurs
 

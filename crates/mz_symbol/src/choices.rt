@@ -4,7 +4,7 @@ ghost use Rattle.std.specs.Prelude.{◌≡◌, ◌≢◌, ◌≤ℤ◌, [], true
 ghost use Rattle.mz_symbol.specs.Symbols.{symbol_ids};
 ghost use Rattle.mz_instance.specs.Parts.{is_subset_sort, sort_of, truths, Truth};
 ghost use Rattle.mz_symbol.specs.Choices.{is_shape, IsChoosable};
-ghost use Rattle.mz_symbol.specs.StepsChoices.{choice_domain, IsLocalNode};
+ghost use Rattle.mz_symbol.specs.StepsChoices.{choice_domain, IsPartNode};
 
 use crate::run::Run;
 use crate::types::{Free, Symbol};
@@ -79,7 +79,7 @@ fn may_be_taken(base: Base, opt: bool, set: &RangeSet) -> bool
 /// The node of a choice of this base, over a SetConst, with its number and its own id.
 fn local_node(base: Base, over: Id, number: u64, own: i64) -> Node
     requires { pos 0 ≤ℤ own }
-    ensures { IsLocalNode base over number (nat_abs own) result }
+    ensures { IsPartNode true base over number (nat_abs own) result }
 {
     let (kind, mark) = match base {
         Base::Bool => (NodeKind::Local, 1),
@@ -93,6 +93,37 @@ fn local_node(base: Base, over: Id, number: u64, own: i64) -> Node
         b: number,
         c: mark,
         number: own,
+    }
+}
+
+/// The node of a variable of this base, over a SetConst, with its number and its own id.
+fn var_node(base: Base, over: Id, number: u64, own: i64) -> Node
+    requires { pos 0 ≤ℤ own }
+    ensures { IsPartNode false base over number (nat_abs own) result }
+{
+    let (kind, mark) = match base {
+        Base::Bool => (NodeKind::Var, 1),
+        Base::SetInt => (NodeKind::SetVar, 0),
+        Base::SetEnum(_) => (NodeKind::SetVar, 0),
+        _ => (NodeKind::Var, 0),
+    };
+    Node {
+        kind,
+        a: over,
+        b: number,
+        c: mark,
+        number: own,
+    }
+}
+
+fn part_node(choice: bool, base: Base, over: Id, number: u64, own: i64) -> Node
+    requires { pos 0 ≤ℤ own }
+    ensures { IsPartNode choice base over number (nat_abs own) result }
+{
+    if choice {
+        local_node(base, over, number, own)
+    } else {
+        var_node(base, over, number, own)
     }
 }
 
@@ -114,11 +145,12 @@ impl Run {
     ghost use Rattle.mz_meaning.specs.Runs.{noted};
     ghost use Rattle.mz_instance.specs.Parts.{IsNode, AreNodes};
     ghost use Rattle.mz_symbol.specs.Choices.{domain_parts, IsChoosable};
-    ghost use Rattle.mz_symbol.specs.Symbols.{domain_of, free_ids, symbol_ids};
-    ghost use Rattle.mz_symbol.specs.Readings.{symbol_seen};
+    ghost use Rattle.mz_symbol.specs.Symbols.{domain_of, free_ids, symbol_ids, IsSymbolOf};
+    ghost use Rattle.mz_arena.specs.Arenas.{Grew};
+    ghost use Rattle.mz_symbol.specs.Readings.{Reading, state_of, symbol_seen};
     ghost use Rattle.mz_symbol.specs.Makes.{GoesOnBy, Means};
     ghost use Rattle.mz_symbol.specs.StepsNodes.{AddsNodes};
-    ghost use Rattle.mz_symbol.specs.StepsChoices.{choice_domain, part_over, free_of, IsSymbolOf, IsNoted};
+    ghost use Rattle.mz_symbol.specs.StepsChoices.{choice_domain, part_over, free_of, IsNoted};
 
     /// A choice from this domain, the next one. Its nodes are made here, and no other function
     /// makes such nodes.
@@ -143,7 +175,7 @@ impl Run {
     #[tactic(auto, using(crate::proofs::ChoiceLaws::adds_most))]
     fn made(&mut self, base: Base, opt: bool, set: &RangeSet) -> Result<Symbol, Memory>
         ensures adds { AddsNodes 8 self.old self.new }
-        ensures made { IfOk result (IsSymbolOf self.new.arena (length (free_ids self.old.choices)) (choice_domain base opt set.now)) }
+        ensures made { IfOk result (IsSymbolOf self.new.arena true (length (free_ids self.old.choices)) (choice_domain base opt set.now)) }
     {
         if opt {
             self.made_option(base, set)
@@ -160,7 +192,7 @@ impl Run {
     #[tactic(auto, using(crate::proofs::ChoiceLaws::adds_both, crate::proofs::ChoiceLaws::adds_most))]
     fn made_option(&mut self, base: Base, set: &RangeSet) -> Result<Symbol, Memory>
         ensures adds { AddsNodes 8 self.old self.new }
-        ensures made { IfOk result (IsSymbolOf self.new.arena (length (free_ids self.old.choices)) (choice_domain base true set.now)) }
+        ensures made { IfOk result (IsSymbolOf self.new.arena true (length (free_ids self.old.choices)) (choice_domain base true set.now)) }
     {
         let both = RangeSet::range(self.alloc, 0, 1)?;
         let occurs = self.local(Base::Bool, &both, 0)?;
@@ -173,7 +205,6 @@ impl Run {
     }
 
     /// The node of a choice, whose number is the next one after this many.
-    #[tactic(auto, using(crate::proofs::ChoiceLaws::adds_both, crate::proofs::ChoiceLaws::adds_most, crate::proofs::ChoiceLaws::local_made))]
     fn local(&mut self, base: Base, set: &RangeSet, skipped: u64) -> Result<Id, Memory>
         ensures adds { AddsNodes 4 self.old self.new }
         ensures made { IfOk result (IsNode self.new.arena true (length (free_ids self.old.choices) + skipped) (part_over base set.now)) }
@@ -181,18 +212,88 @@ impl Run {
         if self.parts > u64::MAX - skipped {
             return Err(Memory);
         }
-        let number = self.parts + skipped;
+        self.part(true, base, set, self.parts + skipped)
+    }
+
+    /// The node of a choice or of a variable, with this number.
+    #[tactic(auto, using(crate::proofs::ChoiceLaws::adds_both, crate::proofs::ChoiceLaws::adds_most, crate::proofs::ChoiceLaws::part_made))]
+    fn part(&mut self, choice: bool, base: Base, set: &RangeSet, number: u64) -> Result<Id, Memory>
+        ensures adds { AddsNodes 4 self.old self.new }
+        ensures made { IfOk result (IsNode self.new.arena choice number (part_over base set.now)) }
+    {
         let copy = set.copy(self.alloc)?;
         let over = self.set_node(copy)?;
         let own = self.arena.len();
         if own > i64::MAX as u64 {
             return Err(Memory);
         }
-        let n = local_node(base, over, number, own as i64);
+        let n = part_node(choice, base, over, number, own as i64);
         match self.checked(&n)? {
             Some(id) => Ok(id),
             None => Err(Memory),
         }
+    }
+
+    /// The symbol of a variable of this domain, whose parts have the numbers from this one on. No
+    /// other function makes such nodes.
+    ///
+    /// Out of memory too where a truth value may not be both false and true, and where what is no
+    /// set has no value.
+    #[tactic(auto, using(crate::proofs::RunLaws::nodes_go, crate::proofs::ChoiceLaws::adds_state))]
+    pub fn variable(
+        &mut self,
+        number: u64,
+        base: Base,
+        opt: bool,
+        set: &RangeSet,
+    ) -> Result<Symbol, Memory>
+        ensures goes { GoesOnBy 8 self.old self.new }
+        ensures same { (r : Reading) → state_of r self.old ≡ state_of r self.new }
+        ensures grew { Grew self.old.arena self.new.arena }
+        ensures variable { IfOk result (IsSymbolOf self.new.arena false number (choice_domain base opt set.now)) }
+    {
+        self.var_symbol(number, base, opt, set)
+    }
+
+    #[tactic(auto, using(crate::proofs::ChoiceLaws::adds_most))]
+    fn var_symbol(
+        &mut self,
+        number: u64,
+        base: Base,
+        opt: bool,
+        set: &RangeSet,
+    ) -> Result<Symbol, Memory>
+        ensures adds { AddsNodes 8 self.old self.new }
+        ensures made { IfOk result (IsSymbolOf self.new.arena false number (choice_domain base opt set.now)) }
+    {
+        if opt {
+            self.var_option(number, base, set)
+        } else {
+            let term = self.part(false, base, set, number)?;
+            Ok(Symbol {
+                base,
+                occurs: None,
+                term,
+            })
+        }
+    }
+
+    #[tactic(auto, using(crate::proofs::ChoiceLaws::adds_both, crate::proofs::ChoiceLaws::adds_most))]
+    fn var_option(&mut self, number: u64, base: Base, set: &RangeSet) -> Result<Symbol, Memory>
+        ensures adds { AddsNodes 8 self.old self.new }
+        ensures made { IfOk result (IsSymbolOf self.new.arena false number (choice_domain base true set.now)) }
+    {
+        if number == u64::MAX {
+            return Err(Memory);
+        }
+        let both = RangeSet::range(self.alloc, 0, 1)?;
+        let occurs = self.part(false, Base::Bool, &both, number)?;
+        let term = self.part(false, base, set, number + 1)?;
+        Ok(Symbol {
+            base,
+            occurs: Some(occurs),
+            term,
+        })
     }
 
     /// Notes a choice, whose nodes are the next.

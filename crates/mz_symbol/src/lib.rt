@@ -2,6 +2,7 @@
 #![tactic(auto)]
 
 mod choices;
+mod cons;
 mod constants;
 mod law;
 mod lines;

@@ -39,7 +39,7 @@ impl Run {
     ghost use Rattle.mz_meaning.specs.Runs as runs;
     ghost use Rattle.mz_meaning.specs.Runs.{give};
     ghost use Rattle.mz_symbol.specs.Runs.{IsRun};
-    ghost use Rattle.mz_symbol.specs.Readings.{node_meaning};
+    ghost use Rattle.mz_symbol.specs.Readings.{IsNodeOf, Reading, node_meaning, state_of};
     ghost use Rattle.mz_symbol.specs.Makes.{GoesOn, GoesOnBy, Means, MeansBare};
     ghost use Rattle.mz_symbol.specs.StepsNodes.{AddsNodes};
     ghost use Rattle.std.specs.Prelude.{IfOk, IfSome, true};
@@ -132,6 +132,17 @@ impl Run {
             Some(id) => Ok(id),
             None => Err(Stop::Memory),
         }
+    }
+
+    /// The id of a node; None where it may not be made, as where its bounds leave the limit.
+    #[tactic(auto, using(crate::proofs::RunLaws::nodes_go, crate::proofs::ChoiceLaws::adds_state))]
+    pub fn tried(&mut self, n: &Node) -> Result<Option<Id>, Memory>
+        requires { is_free n.now.kind ≡ false }
+        ensures goes { GoesOnBy (charge_of n.now.kind) self.old self.new }
+        ensures same { (r : Reading) → state_of r self.old ≡ state_of r self.new }
+        ensures tried { IfOk result (λ o. IfSome o (IsNodeOf self.new n.now)) }
+    {
+        self.checked(n)
     }
 
     /// The id of a node, None where it may not be made; nothing else changes.

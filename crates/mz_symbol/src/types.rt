@@ -30,6 +30,8 @@ pub struct Free {
 /// The Cons lists of an array's elements.
 #[derive(Clone, Copy)]
 pub struct Lists {
+    /// What the value of each element is; any base where there is no element.
+    pub base: Base,
     /// The list of the values' nodes.
     pub terms: Id,
     /// The list of the Boolean nodes that are 1 where an element is there. None where no element is

@@ -29,12 +29,12 @@ use Rattle.mz_symbol_rows.specs.RowValues.{truth_of, as_argument, argument, row_
 use Rattle.mz_symbol_options.specs.OptionValues.{guarded_value}
 use Rattle.mz_symbol_lines.specs.declared.walk.Walk.{Walk}
 use Rattle.mz_symbol_lines.specs.declared.walk.Walk.TheVariants.{Forall, Exists, Xorall, Count}
-use Rattle.mz_symbol_lines.specs.LineValues.{array_row}
-use Rattle.mz_symbol_lines.specs.StepsWalk.{joined, walk_from, start_of, walk_of, HasSort, Walks, IsLineOf, truth_symbol}
+use Rattle.mz_symbol_lines.specs.LineValues.{array_row, IsLineOf}
+use Rattle.mz_symbol_lines.specs.StepsWalk.{joined, walk_from, start_of, walk_of, HasSort, Walks, truth_symbol}
 use Rattle.mz_symbol_lines.proofs.Given.{held_given, held_by, gives, logic_gives}
 use Rattle.mz_symbol_lines.proofs.WalkLaws.{line_count, line_holds, line_fails, IsWhole, walks_all}
 
-items_back : (xs : List Content) → items_in (contents xs) ≡ xs
+pub items_back : (xs : List Content) → items_in (contents xs) ≡ xs
 items_back [] = refl
 items_back (x ∷ xs) = ap (λ ys. x ∷ ys) (items_back xs)
 
@@ -119,11 +119,11 @@ truth_value : (o : Option ℤ) (b : Bool) → terms.is_one o ≡ b → truth_of 
 truth_value None b h = ap (λ p. Some (values.bool p)) h
 truth_value (Some n) b h = ap (λ p. Some (values.bool p)) h
 
-true_value : (o : Option ℤ) → terms.is_one o ≡ true → option_map (λ n. content_by base.Bool n []) o ≡ Some (values.bool true)
+pub true_value : (o : Option ℤ) → terms.is_one o ≡ true → option_map (λ n. content_by base.Bool n []) o ≡ Some (values.bool true)
 true_value None h = absurd (cc)
 true_value (Some n) h = ap (λ p. Some (values.bool p)) h
 
-false_and : (v : Option Content) → truth_of (scalar_value (row.Logic connective.And) (Some (values.bool false) ∷ v ∷ [])) ≡ Some (values.bool false)
+pub false_and : (v : Option Content) → truth_of (scalar_value (row.Logic connective.And) (Some (values.bool false) ∷ v ∷ [])) ≡ Some (values.bool false)
 unfolding scalar_value bool_at at as_bool connected
 false_and None = refl
 false_and (Some (values.bool q)) = refl
@@ -190,15 +190,15 @@ quantified_held r found m1 m2 op ix k d n first all both u v e h = held_by r.mod
 
 -- ---- counts
 
-guarded_by : (b : Bool) (v : Option Content) → b ≡ true → (if b then v else None) ≡ v
+pub guarded_by : (b : Bool) (v : Option Content) → b ≡ true → (if b then v else None) ≡ v
 guarded_by true v h = refl
 guarded_by false v h = absurd (cc)
 
-guarded_none : (b : Bool) (v : Option Content) → b ≡ false → (if b then v else None) ≡ None
+pub guarded_none : (b : Bool) (v : Option Content) → b ≡ false → (if b then v else None) ≡ None
 guarded_none false v h = refl
 guarded_none true v h = absurd (cc)
 
-int_argument : (b : Base) (o : Option ℕ) (v : Option Content) → b ≡ base.Int → as_argument b o v ≡ v
+pub int_argument : (b : Base) (o : Option ℕ) (v : Option Content) → b ≡ base.Int → as_argument b o v ≡ v
 int_argument b o v h = ap (λ c. as_argument c o v) h
 
 pub count_held : (r : Reading) (found m1 m2 : Run) (ix : List Range) (k d n : ℕ) (first all s : Symbol) (u v : State) → IsEnded r found m1 m2 Count k d n first all → all.base ≡ base.Int → Out (held r.mode (as_argument all.base all.occurs (guarded_value r d all))) u ≡ Out (symbol_seen r s) v → held r.mode (array_row r row.Count ix k) ≡ symbol_seen r s

@@ -15,8 +15,9 @@ use Rattle.mz_symbol.specs.Makes.{GoesOnBy}
 use Rattle.mz_symbol_rows.proofs.GoingOn.{goes_both, goes_most}
 use Rattle.mz_symbol_lines.specs.declared.walk.Walk.{Walk}
 use Rattle.mz_symbol_lines.specs.declared.walk.Walk.TheVariants.{Forall, Exists, Xorall, Count}
+use Rattle.mz_symbol_lines.specs.LineValues.{IsLineOf}
 use Rattle.mz_symbol_lines.specs.StepsWalk as steps
-use Rattle.mz_symbol_lines.specs.StepsWalk.{seen_as, next_of, walk_from, start_of, HasSort, IsSeen, IsJoined, Advances, Follows, Walks, HasWalked, IsLineOf}
+use Rattle.mz_symbol_lines.specs.StepsWalk.{seen_as, next_of, walk_from, start_of, HasSort, IsSeen, IsJoined, Advances, Follows, Walks, HasWalked}
 
 -- ---- the values of elements
 
@@ -56,9 +57,9 @@ mapped_at t (x ∷ ss) zero y e = let same : x ≡ y = cc in ap (λ s. Some (sym
 mapped_at t (x ∷ ss) (suc i) y e = mapped_at t ss i y e
 
 -- a line that has elements is defined
-record IsDefined (t : ℕ → Term) (d : ℕ) (ss : List Symbol) (xs : List Content) : Type 0 where
-  holds : is_true (t d) ≡ true
-  all : all_there (map (symbol_value t) ss) ≡ Some xs
+pub record IsDefined (t : ℕ → Term) (d : ℕ) (ss : List Symbol) (xs : List Content) : Type 0 where
+  pub holds : is_true (t d) ≡ true
+  pub all : all_there (map (symbol_value t) ss) ≡ Some xs
 
 elements_defined : (t : ℕ → Term) (d : ℕ) (ss : List Symbol) (xs : List Content) → elements_value t d ss ≡ Some xs → IsDefined t d ss xs
 elements_defined t d ss xs h = by (all_there (map (symbol_value t) ss)) (is_true (t d)) refl refl h
@@ -68,10 +69,10 @@ elements_defined t d ss xs h = by (all_there (map (symbol_value t) ss)) (is_true
     by (Some ys) true p q k = record { holds = q; all = p ∙ k }
     by (Some ys) false p q k = absurd (cc)
 
-line_defined : (r : Reading) (s : Run) (k : ℕ) (l : Line) (xs : List Content) → slice_get s.lines k ≡ Some l → Reads r s → r.line k ≡ Some xs → IsDefined r.term l.defined l.items.items xs
+pub line_defined : (r : Reading) (s : Run) (k : ℕ) (l : Line) (xs : List Content) → slice_get s.lines k ≡ Some l → Reads r s → r.line k ≡ Some xs → IsDefined r.term l.defined l.items.items xs
 line_defined r s k l xs e h q = elements_defined r.term l.defined l.items.items xs (sym (h.lines k l e) ∙ q)
 
-element_there : (r : Reading) (s : Run) (k i : ℕ) (y : Symbol) (xs : List Content) → IsElement s k i y → Reads r s → r.line k ≡ Some xs → HasElement xs i (symbol_value r.term y)
+pub element_there : (r : Reading) (s : Run) (k i : ℕ) (y : Symbol) (xs : List Content) → IsElement s k i y → Reads r s → r.line k ≡ Some xs → HasElement xs i (symbol_value r.term y)
 element_there r s k i y xs e h q =
     let d = line_defined r s k e.line xs e.stands h q in
     all_at (map (symbol_value r.term) e.line.items.items) xs i (symbol_value r.term y) d.all (mapped_at r.term e.line.items.items i y e.place)
@@ -135,7 +136,7 @@ advances r old mid new w k i acc item truth s e h y j = record {
       record { element = m.value; at = m.at; value = n.value; next = ap (option_and_then (steps.joined w a)) t.seen ∙ n.joins; sort = n.sort; is = n.is };
 }
 
-drop_at : (xs : List Content) (i : ℕ) (x : Content) → slice_get xs i ≡ Some x → drop i xs ≡ x ∷ drop (suc i) xs
+pub drop_at : (xs : List Content) (i : ℕ) (x : Content) → slice_get xs i ≡ Some x → drop i xs ≡ x ∷ drop (suc i) xs
 drop_at [] zero x e = absurd (cc)
 drop_at [] (suc i) x e = absurd (cc)
 drop_at (y ∷ xs) zero x e = let same : y ≡ x = cc in ap (λ z. z ∷ xs) same
@@ -183,7 +184,7 @@ goes_same i n old new h f = subst (λ m. GoesOnBy (58 * m) old new) h f
 pub goes_none : (s : Run) → GoesOnBy 0 s s
 goes_none s = record { back = λ r h. h; paid = omega arith }
 
-drop_all : (xs : List Content) → drop (length xs) xs ≡ []
+pub drop_all : (xs : List Content) → drop (length xs) xs ≡ []
 drop_all [] = refl
 drop_all (x ∷ xs) = drop_all xs
 

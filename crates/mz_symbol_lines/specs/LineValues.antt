@@ -1,13 +1,16 @@
 -- What a row over a var array is asked to give.
-use Rattle.std.specs.Prelude.{ℕ, List, [], ◌∷◌, length, Option, Some, None}
+use Rattle.std.specs.Prelude.{◌≡◌, ℕ, List, [], ◌∷◌, length, slice_get, Option, Some, None}
 use Rattle.std.specs.Option.{option_map}
 use Rattle.mz_value.specs.Ranges.{Range}
 use Rattle.mz_value.specs.Contents.{Content, contents}
 use Rattle.mz_value.specs.Contents as values
 use Rattle.mz_operations.specs.declared.row.ScalarRow.{ScalarRow}
 use Rattle.mz_operations.specs.Values.{scalar_value}
+use Rattle.mz_arena.specs.Values.{Term}
 use Rattle.mz_meaning.specs.Cells.{held}
 use Rattle.mz_symbol.specs.declared.types.Line.{Line}
+use Rattle.mz_symbol.specs.Symbols.{AreWhole}
+use Rattle.mz_symbol.specs.Runs.{Run, ReadsNodes}
 use Rattle.mz_symbol.specs.Readings.{Reading}
 
 -- the var array with this number, under any index ranges
@@ -21,3 +24,11 @@ array_row r w ix k = scalar_value w (array_argument r ix k ∷ [])
 abbrev pub count_of : Option Line → ℕ
 count_of None = 0
 count_of (Some l) = length l.items.items
+
+-- the node that is 1 where the array is defined, and how many elements it has there
+pub record IsLineOf (s : Run) (k d n : ℕ) : Type 0 where
+  pub line : Line
+  pub stands : slice_get s.lines k ≡ Some line
+  pub defined : line.defined ≡ d
+  pub count : length line.items.items ≡ n
+  pub whole : (t : ℕ → Term) → ReadsNodes t s.arena → AreWhole t d line.items.items

@@ -1,5 +1,5 @@
 -- Mirror of src/seen.rt and src/walk.rt; private clauses only.
-use Rattle.std.specs.Prelude.{◌≡◌, ℕ, ◌+ℤ◌, pos, Bool, true, false, not, ◌&&◌, ◌||◌, List, [], ◌∷◌, length, drop, slice_get, Option, Some, None, if◌then◌else◌}
+use Rattle.std.specs.Prelude.{◌≡◌, ℕ, ◌+ℤ◌, pos, Bool, true, false, not, ◌&&◌, ◌||◌, List, [], ◌∷◌, drop, slice_get, Option, Some, None, if◌then◌else◌}
 use Rattle.std.specs.Option.{option_and_then}
 use Rattle.mz_value.specs.Contents.{Content}
 use Rattle.mz_value.specs.Contents as values
@@ -11,11 +11,9 @@ use Rattle.mz_operations.specs.Views.{as_bool}
 use Rattle.mz_operations.specs.Numbers.{same}
 use Rattle.mz_operations.specs.Arrays.{truth_or}
 use Rattle.mz_core.specs.declared.types.Base.TheVariants as base
-use Rattle.mz_arena.specs.Values.{Term}
 use Rattle.mz_symbol.specs.declared.types.Symbol.{Symbol}
-use Rattle.mz_symbol.specs.declared.types.Line.{Line}
-use Rattle.mz_symbol.specs.Symbols.{symbol_value, AreWhole}
-use Rattle.mz_symbol.specs.Runs.{Run, ReadsNodes}
+use Rattle.mz_symbol.specs.Symbols.{symbol_value}
+use Rattle.mz_symbol.specs.Runs.{Run}
 use Rattle.mz_symbol.specs.Readings.{Reading, IsGiven, state_of}
 use Rattle.mz_symbol_lines.specs.declared.walk.Walk.{Walk}
 use Rattle.mz_symbol_lines.specs.declared.walk.Walk.TheVariants.{Forall, Exists, Xorall, Count}
@@ -112,14 +110,6 @@ pub record HasWalked (w : Walk) (xs : List Content) (i : ℕ) (v : Option Conten
 pub record Walks (r : Reading) (old new : Run) (w : Walk) (k i : ℕ) (first s : Symbol) : Type 0 where
   pub same : state_of r old ≡ state_of r new
   pub so_far : IsGiven r.mode → (xs : List Content) → r.line k ≡ Some xs → symbol_value r.term first ≡ Some (start_of w) → HasWalked w xs i (symbol_value r.term s)
-
--- the node that is 1 where the array is defined, and how many elements it has there
-pub record IsLineOf (s : Run) (k d n : ℕ) : Type 0 where
-  pub line : Line
-  pub stands : slice_get s.lines k ≡ Some line
-  pub defined : line.defined ≡ d
-  pub count : length line.items.items ≡ n
-  pub whole : (t : ℕ → Term) → ReadsNodes t s.arena → AreWhole t d line.items.items
 
 -- the truth value that a node is
 abbrev pub truth_symbol : ℕ → Symbol

@@ -6,3 +6,4 @@ mod seen;
 mod walk;
 
 pub use rows::{count, quantified};
+pub use walk::defined;

@@ -3,8 +3,8 @@
 ghost use Rattle.std.specs.Prelude.{◌≡◌, ◌*◌, IfOk, slice_get};
 ghost use Rattle.mz_symbol.specs.Readings.{Reading, Reads};
 ghost use Rattle.mz_symbol.specs.Makes.{GoesOnBy};
-ghost use Rattle.mz_symbol_lines.specs.LineValues.{count_of};
-ghost use Rattle.mz_symbol_lines.specs.StepsWalk.{Advances, IsLineOf, Walks};
+ghost use Rattle.mz_symbol_lines.specs.LineValues.{count_of, IsLineOf};
+ghost use Rattle.mz_symbol_lines.specs.StepsWalk.{Advances, Walks};
 
 use crate::seen::{joined, seen};
 use mz_arena::Id;
@@ -25,7 +25,9 @@ pub(crate) enum Walk {
 }
 
 /// The node that is 1 where an array is defined, and how many elements it has.
-pub(crate) fn defined(run: &Run, line: u64) -> Result<(Id, u64), Memory>
+///
+/// Out of memory where there is no such array.
+pub fn defined(run: &Run, line: u64) -> Result<(Id, u64), Memory>
     ensures line { IfOk result (λ q. IsLineOf run.now line q.0 q.1) }
     ensures count { IfOk result (λ q. q.1 ≡ count_of (slice_get run.now.lines line)) }
 {

@@ -1,0 +1,2 @@
+pub mod SumValues
+pub mod StepsWalk
