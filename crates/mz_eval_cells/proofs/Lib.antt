@@ -1,2 +1,5 @@
 pub mod Items
+pub mod Held
+pub mod Seeing
+pub mod Casts
 pub mod Seals

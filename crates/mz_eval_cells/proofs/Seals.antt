@@ -1,40 +1,17 @@
 -- What types and guards leave of cells.
-use Rattle.std.proofs.Common.{◌≡◌, ◌∙◌, Bool, true, false, ◌&&◌, refl, sym, ap}
-use Rattle.std.specs.Prelude.{not, None}
+use Rattle.std.proofs.Common.{◌≡◌, ◌∙◌, Bool, true, false, ◌&&◌, None, refl, sym, ap}
+use Rattle.std.specs.Prelude.{not}
 use Rattle.mz_core.specs.Types.{PlainType}
-use Rattle.mz_operations.specs.Bounds.{truth}
-use Rattle.mz_operations.specs.Bounds as bounds
-use Rattle.mz_meaning.specs.Cells.{Var, Bare, is_par, is_truth, to_par, to_var, sealed, widened, risen, typed, kept_if, undefined}
+use Rattle.mz_meaning.specs.Cells.{Cell, Par, Var, Unshaped, Mode, Bare, is_par, is_truth, to_par, to_var, sealed, widened, risen, typed, kept_if, undefined}
 use Rattle.mz_eval_cells.specs.declared.types.Known.{Known}
 use Rattle.mz_eval_cells.specs.declared.types.Known.TheVariants as known
-use Rattle.mz_eval_cells.specs.StepsSeals.{has_bounds}
 use Rattle.mz_eval_cells.specs.Views.{cell_of}
 
-widened_par : (w : Bool) (k : Known) → is_par (cell_of k) ≡ true → widened w (cell_of k) ≡ cell_of k
-widened_par false k e = refl
-widened_par true known.Undefined e = refl
-widened_par true (known.One i) e = refl
-widened_par true (known.Array ix xs) e = refl
-widened_par true (known.Var x) e = absurd (cc)
-widened_par true (known.Row ix bs) e = absurd (cc)
-widened_par true (known.Unshaped d) e = absurd (cc)
-
-pub widened_other : (w : Bool) (k : Known) → has_bounds (cell_of k) ≡ false → widened w (cell_of k) ≡ cell_of k
-widened_other false k e = refl
-widened_other true known.Undefined e = refl
-widened_other true (known.One i) e = refl
-widened_other true (known.Array ix xs) e = refl
-widened_other true (known.Var x) e = absurd (cc)
-widened_other true (known.Row ix bs) e = absurd (cc)
-widened_other true (known.Unshaped d) e = refl
-
-pub widened_var : (k : Known) → has_bounds (cell_of k) ≡ true → widened true (cell_of k) ≡ Var (bounds.one (bounds.number truth)) None
-widened_var known.Undefined e = absurd (cc)
-widened_var (known.One i) e = absurd (cc)
-widened_var (known.Array ix xs) e = absurd (cc)
-widened_var (known.Var x) e = refl
-widened_var (known.Row ix bs) e = refl
-widened_var (known.Unshaped d) e = absurd (cc)
+widened_par : (w : Bool) (c : Cell) → is_par c ≡ true → widened w c ≡ c
+widened_par false c e = refl
+widened_par true (Par v) e = refl
+widened_par true (Var b v) e = absurd (cc)
+widened_par true (Unshaped d) e = refl
 
 pub kept_true : (k : Known) → kept_if Bare true (cell_of k) ≡ cell_of k
 kept_true known.Undefined = refl
@@ -60,44 +37,39 @@ kept_par (known.Var c) e = absurd (cc)
 kept_par (known.Row ix bs) e = absurd (cc)
 kept_par (known.Unshaped d) e = absurd (cc)
 
-var_same : (t : PlainType) (k : Known) → is_par (cell_of k) ≡ false → to_var Bare t (cell_of k) ≡ cell_of k
-var_same t known.Undefined e = absurd (cc)
-var_same t (known.One i) e = absurd (cc)
-var_same t (known.Array ix xs) e = absurd (cc)
-var_same t (known.Var c) e = refl
-var_same t (known.Row ix bs) e = refl
-var_same t (known.Unshaped d) e = refl
+var_same : (m : Mode) (t : PlainType) (c : Cell) → is_par c ≡ false → to_var m t c ≡ c
+var_same m t (Par None) e = absurd (cc)
+var_same m t (Par v) e = absurd (cc)
+var_same m t (Var b v) e = refl
+var_same m t (Unshaped d) e = refl
 
-par_same : (k : Known) → is_par (cell_of k) ≡ true → to_par (cell_of k) ≡ cell_of k
-par_same known.Undefined e = refl
-par_same (known.One i) e = refl
-par_same (known.Array ix xs) e = refl
-par_same (known.Var c) e = absurd (cc)
-par_same (known.Row ix bs) e = absurd (cc)
-par_same (known.Unshaped d) e = absurd (cc)
+par_same : (c : Cell) → is_par c ≡ true → to_par c ≡ c
+par_same (Par v) e = refl
+par_same (Var b v) e = absurd (cc)
+par_same (Unshaped d) e = absurd (cc)
 
 -- a cell that is par where the type is, and var where it is
-sealed_same : (v : Bool) (t : PlainType) (k : Known) → is_par (cell_of k) ≡ not v → sealed Bare v t (cell_of k) ≡ cell_of k
-sealed_same true t k e = var_same t k e
-sealed_same false t k e = par_same k e
+sealed_same : (m : Mode) (v : Bool) (t : PlainType) (c : Cell) → is_par c ≡ not v → sealed m v t c ≡ c
+sealed_same m true t c e = var_same m t c e
+sealed_same m false t c e = par_same c e
 
-pub stays_sealed : (t : PlainType) (k : Known) → is_par (cell_of k) ≡ not t.var → sealed Bare t.var t (cell_of k) ≡ cell_of k
-stays_sealed t k e = sealed_same t.var t k e
+pub stays_sealed : (m : Mode) (t : PlainType) (c : Cell) → is_par c ≡ not t.var → sealed m t.var t c ≡ c
+stays_sealed m t c e = sealed_same m t.var t c e
 
 never_wide : (n : Bool) → (not n && false) ≡ false
 never_wide true = refl
 never_wide false = refl
 
 -- of a type that isn't one Boolean
-pub stays_other : (n : Bool) (t : PlainType) (k : Known) → is_truth t ≡ false → is_par (cell_of k) ≡ not t.var → typed Bare n t (cell_of k) ≡ cell_of k
-stays_other n t k f e =
-    ap (λ c. risen Bare (is_truth t) (widened (not n && is_truth t) c)) (sealed_same t.var t k e)
-    ∙ ap (λ b. risen Bare b (widened (not n && b) (cell_of k))) f
-    ∙ ap (λ w. risen Bare false (widened w (cell_of k))) (never_wide n)
+pub stays_other : (m : Mode) (n : Bool) (t : PlainType) (c : Cell) → is_truth t ≡ false → is_par c ≡ not t.var → typed m n t c ≡ c
+stays_other m n t c f e =
+    ap (λ c. risen m (is_truth t) (widened (not n && is_truth t) c)) (sealed_same m t.var t c e)
+    ∙ ap (λ b. risen m b (widened (not n && b) c)) f
+    ∙ ap (λ w. risen m false (widened w c)) (never_wide n)
 
 -- of a par Boolean that is defined
-pub stays_truth : (n : Bool) (t : PlainType) (k : Known) → t.var ≡ false → is_par (cell_of k) ≡ true → ((b : Bool) → risen Bare b (cell_of k) ≡ cell_of k) → typed Bare n t (cell_of k) ≡ cell_of k
-stays_truth n t k v p r =
-    ap (λ c. risen Bare (is_truth t) (widened (not n && is_truth t) c)) (sealed_same t.var t k (p ∙ sym (ap not v)))
-    ∙ ap (risen Bare (is_truth t)) (widened_par (not n && is_truth t) k p)
+pub stays_truth : (m : Mode) (n : Bool) (t : PlainType) (c : Cell) → t.var ≡ false → is_par c ≡ true → ((b : Bool) → risen m b c ≡ c) → typed m n t c ≡ c
+stays_truth m n t c v p r =
+    ap (λ c. risen m (is_truth t) (widened (not n && is_truth t) c)) (sealed_same m t.var t c (p ∙ sym (ap not v)))
+    ∙ ap (risen m (is_truth t)) (widened_par (not n && is_truth t) c p)
     ∙ r (is_truth t)

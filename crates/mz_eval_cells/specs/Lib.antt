@@ -1,3 +1,3 @@
 pub mod Meets
-pub mod StepsSeals
+pub mod StepsCasts
 pub mod Views

@@ -8,7 +8,8 @@ ghost use Rattle.mz_operations.specs.Arrays.{element_of, line};
 ghost use Rattle.mz_meaning.specs.Cells as cells;
 ghost use Rattle.mz_meaning.specs.Cells.{Bare, par_value};
 ghost use Rattle.mz_meaning.specs.Coerced as coercions;
-ghost use Rattle.mz_eval_cells.specs.Views.{cell_of};
+ghost use Rattle.mz_symbol.specs.Readings.{Reading};
+ghost use Rattle.mz_eval_cells.specs.Views.{cell_of, seen};
 
 use crate::making::{known_of, undefined};
 use crate::reading::set_in;
@@ -34,7 +35,8 @@ pub fn enum_in(b: Base) -> Option<u64>
 
 #[tactic(auto, unfolding(mz_operations::specs::Values::made_value, mz_operations::specs::Arguments::set_at, mz_operations::specs::Arguments::enum_at, mz_operations::specs::Arguments::at, mz_operations::specs::Views::as_set, mz_operations::specs::Views::enum_of))]
 fn line_of_set(alloc: Global, of: Option<u64>, s: &RangeSet) -> Result<Known, AllocError>
-    ensures { IfOk result (λ k. cell_of k ≡ par_value (line (map (element_of of) (elements s.now)))) }
+    ensures of { IfOk result (λ k. cell_of k ≡ par_value (line (map (element_of of) (elements s.now)))) }
+    ensures seen { IfOk result (λ k. (r : Reading) → seen r k ≡ par_value (line (map (element_of of) (elements s.now)))) }
 {
     let ranges = s.copy(alloc)?;
     let args = [Some(set_value(of, ranges))];
@@ -43,8 +45,10 @@ fn line_of_set(alloc: Global, of: Option<u64>, s: &RangeSet) -> Result<Known, Al
 }
 
 /// The elements of a par set, ascending, as an array.
+#[tactic(auto, using(crate::proofs::Seeing::set_seen))]
 fn elements_of_set(alloc: Global, b: Base, k: &Known) -> Result<Known, AllocError>
-    ensures { IfOk result (λ x. cell_of x ≡ coercions.elements_of_set b (cells.set_in (cell_of k.now))) }
+    ensures of { IfOk result (λ x. cell_of x ≡ coercions.elements_of_set b (cells.set_in (cell_of k.now))) }
+    ensures seen { IfOk result (λ x. (r : Reading) → seen r x ≡ coercions.elements_of_set b (cells.set_in (seen r k.now))) }
 {
     match set_in(k) {
         None => Ok(undefined()),
@@ -55,7 +59,8 @@ fn elements_of_set(alloc: Global, b: Base, k: &Known) -> Result<Known, AllocErro
 /// A cell after one step of coercion, to the type `t`.
 #[tactic(auto, unfolding(mz_core::specs::Types::plain_type))]
 pub fn coerced_to(alloc: Global, c: Coercion, t: &TypeInst, k: Known) -> Result<Known, AllocError>
-    ensures { IfOk result (λ x. cell_of x ≡ coercions.coerced Bare (c, plain_type t.now) (cell_of k)) }
+    ensures of { IfOk result (λ x. cell_of x ≡ coercions.coerced Bare (c, plain_type t.now) (cell_of k)) }
+    ensures seen { IfOk result (λ x. (r : Reading) → seen r x ≡ coercions.coerced r.mode (c, plain_type t.now) (seen r k)) }
 {
     match c {
         Coercion::ToVar => to_var(alloc, t, &k),
@@ -72,7 +77,8 @@ pub fn coerced_to(alloc: Global, c: Coercion, t: &TypeInst, k: Known) -> Result<
 
 /// A cell after one step of coercion, to the type beside it.
 pub fn coerced(alloc: Global, l: &(Coercion, TypeInst), k: Known) -> Result<Known, AllocError>
-    ensures { IfOk result (λ x. cell_of x ≡ coercions.coerced Bare (path_link l.now) (cell_of k)) }
+    ensures of { IfOk result (λ x. cell_of x ≡ coercions.coerced Bare (path_link l.now) (cell_of k)) }
+    ensures seen { IfOk result (λ x. (r : Reading) → seen r x ≡ coercions.coerced r.mode (path_link l.now) (seen r k)) }
 {
     coerced_to(alloc, l.0, &l.1, k)
 }

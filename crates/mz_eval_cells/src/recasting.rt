@@ -1,20 +1,27 @@
 // Values as values of another base.
 
-ghost use Rattle.std.specs.Prelude.{◌≡◌, IfOk, None, Some, map};
+ghost use Rattle.std.specs.Prelude.{◌≡◌, IfOk, List, None, Option, Some, map, ℕ};
 ghost use Rattle.mz_value.specs.Contents as values;
-ghost use Rattle.mz_value.specs.Contents.{content, contents};
+ghost use Rattle.mz_value.specs.Contents.{Content, content, contents};
 ghost use Rattle.mz_core.specs.declared.types.Base.TheVariants as base;
-ghost use Rattle.mz_meaning.specs.Cells.{par_value};
+ghost use Rattle.std.specs.Option.{option_map};
+ghost use Rattle.mz_value.specs.Ranges.{Range};
+ghost use Rattle.mz_operations.specs.Bounds as bounds;
+ghost use Rattle.mz_arena.specs.Values.{Term};
+ghost use Rattle.mz_meaning.specs.Cells.{Var, held, par_value};
 ghost use Rattle.mz_meaning.specs.Coerced as coercions;
-ghost use Rattle.mz_eval_cells.specs.Views.{cell_of, item_content};
+ghost use Rattle.mz_symbol.specs.Readings.{Reading};
+ghost use Rattle.mz_eval_cells.specs.StepsCasts.{is_set_cast};
+ghost use Rattle.mz_eval_cells.specs.Views.{cast_by, cell_of, item_content, known_bound, row_content, seen, var_content};
 
 use crate::making::{array, known_of, undefined};
-use crate::sharing::{share, share_item};
-use crate::types::{Item, Known};
+use crate::sharing::{share, share_bound, share_item, share_origin, share_origins};
+use crate::types::{Item, Known, VarItems, VarValue};
 use mz_builtin_arguments::copied;
 use mz_core::Base;
 use mz_value::{SetValue, Value};
 use std::alloc::{AllocError, Global};
+use std::rc::Rc;
 
 fn to_truth(v: Value) -> Value
     ensures { content result ≡ coercions.recast base.Bool (content v) }
@@ -106,7 +113,8 @@ fn recast_array(
     index: &[(i64, i64)],
     items: &[Value],
 ) -> Result<Known, AllocError>
-    ensures { IfOk result (λ k. cell_of k ≡ par_value (coercions.recast_all b (values.array index.now (contents (map content items.now))))) }
+    ensures of { IfOk result (λ k. cell_of k ≡ par_value (coercions.recast_all b (values.array index.now (contents (map content items.now))))) }
+    ensures seen { IfOk result (λ k. (r : Reading) → seen r k ≡ par_value (coercions.recast_all b (values.array index.now (contents (map content items.now))))) }
 {
     let ranges = Vec::from_slice(alloc, index)?;
     let all = recast_items(alloc, b, items)?;
@@ -115,23 +123,116 @@ fn recast_array(
 
 #[tactic(auto, using(crate::proofs::Items::recast_item))]
 fn recast_item(alloc: Global, b: Base, i: &Item) -> Result<Known, AllocError>
-    ensures { IfOk result (λ k. cell_of k ≡ par_value (coercions.recast_all b (item_content i.now))) }
+    ensures of { IfOk result (λ k. cell_of k ≡ par_value (coercions.recast_all b (item_content i.now))) }
+    ensures seen { IfOk result (λ k. (r : Reading) → seen r k ≡ par_value (coercions.recast_all b (item_content i.now))) }
 {
     let same = share_item(i)?;
     let v = same.into_value(alloc)?;
     known_of(alloc, Some(recast(b, v)))
 }
 
+/// Whether values of this base are sets.
+fn is_set_cast(b: Base) -> bool
+    ensures { result ≡ is_set_cast b }
+{
+    match b {
+        Base::SetInt => true,
+        Base::SetEnum(_) => true,
+        _ => false,
+    }
+}
+
+/// What recasts to this base after a first one. It is known of sets alone: else out of memory.
+fn sets_cast(first: Base, b: Base) -> Result<Option<Base>, AllocError>
+    ensures { IfOk result (λ c. (v : Option Content) → cast_by c v ≡ option_map (coercions.recast_all b) (cast_by (Some first) v)) }
+{
+    if is_set_cast(first) {
+        if is_set_cast(b) {
+            return Ok(Some(b));
+        }
+    }
+    Err(AllocError)
+}
+
+/// What recasts as one that is there does, and then to this base.
+fn cast_after(first: Option<Base>, b: Base) -> Result<Option<Base>, AllocError>
+    ensures { IfOk result (λ c. (v : Option Content) → cast_by c v ≡ option_map (coercions.recast_all b) (cast_by first v)) }
+{
+    match first {
+        None => Ok(Some(b)),
+        Some(a) => sets_cast(a, b),
+    }
+}
+
+/// A var value as one of this base.
+fn value_cast(b: Base, v: &VarValue) -> Result<VarValue, AllocError>
+    ensures bound { IfOk result (λ x. known_bound x.bound ≡ known_bound v.now.bound) }
+    ensures content { IfOk result (λ x. (t : ℕ → Term) → var_content t x ≡ option_map (coercions.recast_all b) (var_content t v.now)) }
+{
+    let cast = cast_after(v.cast, b)?;
+    let bound = share_bound(&v.bound)?;
+    let origin = share_origin(&v.origin)?;
+    Ok(VarValue {
+        bound,
+        origin,
+        cast,
+    })
+}
+
+/// The elements of a var array as ones of this base.
+fn items_cast(b: Base, xs: &VarItems) -> Result<VarItems, AllocError>
+    ensures bounds { IfOk result (λ x. x.bounds.value ≡ xs.now.bounds.value) }
+    ensures content { IfOk result (λ x. (l : ℕ → Option (List Content)) (ix : List Range) → row_content l ix x ≡ option_map (coercions.recast_all b) (row_content l ix xs.now)) }
+{
+    let cast = cast_after(xs.cast, b)?;
+    let bounds = xs.bounds.clone()?;
+    let origins = share_origins(&xs.origins)?;
+    Ok(VarItems {
+        bounds,
+        origins,
+        cast,
+    })
+}
+
+#[tactic(auto, using(crate::proofs::Held::held_map))]
+fn recast_value(alloc: Global, b: Base, v: &VarValue) -> Result<Known, AllocError>
+    ensures of { IfOk result (λ k. cell_of k ≡ Var (bounds.one (known_bound v.now.bound)) None) }
+    ensures seen { IfOk result (λ k. (r : Reading) → seen r k ≡ coercions.recast_cell b (Var (bounds.one (known_bound v.now.bound)) (held r.mode (var_content r.term v.now)))) }
+{
+    let value = value_cast(b, v)?;
+    let held = Rc::new(alloc, value)?;
+    Ok(Known::Var(held))
+}
+
+#[tactic(auto, using(crate::proofs::Held::held_map))]
+fn recast_row(
+    alloc: Global,
+    b: Base,
+    index: &Rc<Vec<(i64, i64)>>,
+    xs: &VarItems,
+) -> Result<Known, AllocError>
+    ensures of { IfOk result (λ k. cell_of k ≡ Var (bounds.many index.now.value.items (map known_bound xs.now.bounds.value.items)) None) }
+    ensures seen { IfOk result (λ k. (r : Reading) → seen r k
+        ≡ coercions.recast_cell b (Var (bounds.many index.now.value.items (map known_bound xs.now.bounds.value.items)) (held r.mode (row_content r.line index.now.value.items xs.now)))) }
+{
+    let items = items_cast(b, xs)?;
+    let held = Rc::new(alloc, items)?;
+    Ok(Known::Row(index.clone()?, held))
+}
+
 /// A cell as one of this base, an array element by element; the bounds of a var one stay.
+///
+/// Out of memory too where a var one that is no set is recast already.
 pub(crate) fn recast_cell(alloc: Global, b: Base, k: &Known) -> Result<Known, AllocError>
-    ensures { IfOk result (λ x. cell_of x ≡ coercions.recast_cell b (cell_of k.now)) }
+    ensures of { IfOk result (λ x. cell_of x ≡ coercions.recast_cell b (cell_of k.now)) }
+    ensures seen { IfOk result (λ x. (r : Reading) → seen r x ≡ coercions.recast_cell b (seen r k.now)) }
 {
     match k {
         Known::Undefined => Ok(undefined()),
         Known::One(i) => recast_item(alloc, b, i),
         Known::Array(index, items) => recast_array(alloc, b, index.as_slice(), items.as_slice()),
-        Known::Var(_) => share(k),
-        Known::Row(_, _) => share(k),
+        Known::Var(v) => recast_value(alloc, b, v),
+        Known::Row(index, xs) => recast_row(alloc, b, index, xs),
         Known::Unshaped(_) => share(k),
     }
 }

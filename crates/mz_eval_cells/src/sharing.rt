@@ -1,14 +1,16 @@
 // The same cell once more: what is large is held by both.
 
-ghost use Rattle.std.specs.Prelude.{◌≡◌, IfOk, None, map};
+ghost use Rattle.std.specs.Prelude.{◌≡◌, IfOk, List, None, Option, map, ℕ};
 ghost use Rattle.std.specs.Option.{option_map};
 ghost use Rattle.mz_value.specs.Contents as values;
-ghost use Rattle.mz_value.specs.Contents.{content, contents};
+ghost use Rattle.mz_value.specs.Contents.{Content, content, contents};
 ghost use Rattle.mz_operations.specs.Bounds as bounds;
-ghost use Rattle.mz_meaning.specs.Cells.{Var, par_value, value_of};
-ghost use Rattle.mz_eval_cells.specs.Views.{cell_of, item_content, known_bound, known_bounds};
+ghost use Rattle.mz_arena.specs.Values.{Term};
+ghost use Rattle.mz_meaning.specs.Cells.{Var, held, par_value, value_of};
+ghost use Rattle.mz_symbol.specs.Readings.{Reading};
+ghost use Rattle.mz_eval_cells.specs.Views.{cell_of, item_content, known_bound, known_bounds, origin_value, origins_value, row_content, seen};
 
-use crate::types::{Bound, Bounds, Item, Known, VarItems};
+use crate::types::{Bound, Bounds, Item, Known, Origin, Origins, VarItems};
 use mz_value::Value;
 use std::alloc::{AllocError, Global};
 use std::rc::Rc;
@@ -24,6 +26,29 @@ pub fn share_item(i: &Item) -> Result<Item, AllocError>
         Item::Absent => Ok(Item::Absent),
         Item::Set(s) => Ok(Item::Set(s.clone()?)),
         Item::Text(t) => Ok(Item::Text(t.clone()?)),
+    }
+}
+
+/// The same origin of a value once more.
+pub(crate) fn share_origin(o: &Origin) -> Result<Origin, AllocError>
+    ensures { IfOk result (λ x. (t : ℕ → Term) → origin_value t x ≡ origin_value t o.now) }
+{
+    match o {
+        Origin::Nothing => Ok(Origin::Nothing),
+        Origin::Item(i) => Ok(Origin::Item(share_item(i)?)),
+        Origin::Symbol(s) => Ok(Origin::Symbol(*s)),
+        Origin::Truth(yes, defined) => Ok(Origin::Truth(*yes, *defined)),
+    }
+}
+
+/// The same origin of an array's elements once more.
+pub(crate) fn share_origins(o: &Origins) -> Result<Origins, AllocError>
+    ensures { IfOk result (λ x. (l : ℕ → Option (List Content)) → origins_value l x ≡ origins_value l o.now) }
+{
+    match o {
+        Origins::Nothing => Ok(Origins::Nothing),
+        Origins::Values(items) => Ok(Origins::Values(items.clone()?)),
+        Origins::Line(k) => Ok(Origins::Line(*k)),
     }
 }
 
@@ -64,7 +89,8 @@ pub(crate) fn array_shared(
     index: &Rc<Vec<(i64, i64)>>,
     items: &Rc<Vec<Value>>,
 ) -> Result<Known, AllocError>
-    ensures { IfOk result (λ k. cell_of k ≡ par_value (values.array index.now.value.items (contents (map content items.now.value.items)))) }
+    ensures of { IfOk result (λ k. cell_of k ≡ par_value (values.array index.now.value.items (contents (map content items.now.value.items)))) }
+    ensures seen { IfOk result (λ k. (r : Reading) → seen r k ≡ par_value (values.array index.now.value.items (contents (map content items.now.value.items)))) }
 {
     let ranges = index.clone()?;
     Ok(Known::Array(ranges, items.clone()?))
@@ -74,7 +100,9 @@ pub(crate) fn row_shared(
     index: &Rc<Vec<(i64, i64)>>,
     all: &Rc<VarItems>,
 ) -> Result<Known, AllocError>
-    ensures { IfOk result (λ k. cell_of k ≡ Var (bounds.many index.now.value.items (map known_bound all.now.value.bounds.value.items)) None) }
+    ensures of { IfOk result (λ k. cell_of k ≡ Var (bounds.many index.now.value.items (map known_bound all.now.value.bounds.value.items)) None) }
+    ensures seen { IfOk result (λ k. (r : Reading) → seen r k
+        ≡ Var (bounds.many index.now.value.items (map known_bound all.now.value.bounds.value.items)) (held r.mode (row_content r.line index.now.value.items all.now.value))) }
 {
     let ranges = index.clone()?;
     Ok(Known::Row(ranges, all.clone()?))
@@ -82,7 +110,8 @@ pub(crate) fn row_shared(
 
 /// The same cell once more. No element, set or text is copied.
 pub fn share(k: &Known) -> Result<Known, AllocError>
-    ensures { IfOk result (λ x. cell_of x ≡ cell_of k.now) }
+    ensures of { IfOk result (λ x. cell_of x ≡ cell_of k.now) }
+    ensures seen { IfOk result (λ x. (r : Reading) → seen r x ≡ seen r k.now) }
 {
     match k {
         Known::Undefined => Ok(Known::Undefined),

@@ -4,7 +4,9 @@ ghost use Rattle.std.specs.Prelude.{◌≡◌, IfOk, map};
 ghost use Rattle.mz_value.specs.Contents as values;
 ghost use Rattle.mz_value.specs.Contents.{content, contents, text_bytes};
 
+use mz_arena::Id;
 use mz_builtin_arguments::{copied_items, copied_text};
+use mz_core::Base;
 use mz_symbol::Symbol;
 use mz_value::{RangeSet, SetValue, TextValue, Value};
 use std::alloc::{AllocError, Global};
@@ -51,20 +53,66 @@ pub enum Bounds {
     Many(Rc<Vec<(i64, i64)>>, Rc<Vec<Bound>>),
 }
 
-/// A var value that is no array: its bounds, and what stands for it.
+/// What tells the value of a var cell that is no array.
+pub enum Origin {
+    /// Nothing: the value is undefined. An evaluation without values makes no other.
+    Nothing,
+    /// A par value that has become var.
+    Item(Item),
+    /// The nodes of a symbol. A Boolean that is no option is false in place of undefined.
+    Symbol(Symbol),
+    /// A Boolean's nodes: it is true where the first is true; else false where the second is true,
+    /// and undefined elsewhere.
+    Truth(Id, Id),
+}
+
+impl Drop for Origin {
+    fn drop(self) {
+        match self {
+            Origin::Nothing => {}
+            Origin::Item(_item) => {}
+            Origin::Symbol(_) => {}
+            Origin::Truth(_, _) => {}
+        }
+    }
+}
+
+/// What tells the values of a var array's elements.
+pub enum Origins {
+    /// Nothing: the array is undefined. An evaluation without values makes no other.
+    Nothing,
+    /// Par values that have become var.
+    Values(Rc<Vec<Value>>),
+    /// The elements of the run's array with this number.
+    Line(u64),
+}
+
+impl Drop for Origins {
+    fn drop(self) {
+        match self {
+            Origins::Nothing => {}
+            Origins::Values(_items) => {}
+            Origins::Line(_) => {}
+        }
+    }
+}
+
+/// A var value that is no array: its bounds, and what tells it.
 #[derive(Drop)]
 pub struct VarValue {
     pub bound: Bound,
-    /// None where no term is made for it; an evaluation without values makes none.
-    pub symbol: Option<Symbol>,
+    pub origin: Origin,
+    /// The base that the value is recast to. None where it stays.
+    pub cast: Option<Base>,
 }
 
-/// The elements of a var array: their bounds, and the number of their array in a run.
+/// The elements of a var array: their bounds, and what tells them.
 #[derive(Drop)]
 pub struct VarItems {
     pub bounds: Rc<Vec<Bound>>,
-    /// None where no terms are made for them; an evaluation without values makes none.
-    pub line: Option<u64>,
+    pub origins: Origins,
+    /// The base that the elements are recast to. None where they stay.
+    pub cast: Option<Base>,
 }
 
 /// What an evaluation has for an expression.

@@ -17,7 +17,7 @@ returns-in_ok-freely_chosen-in-Untested-clause-means c =
     let ixs = wants_of c.args.index.now in
     let x = wanted c.args.set.now in
     let s = at_work c.counted.new.run.work in
-    ap (λ k. then_do (spend w.budget d.span (declared_count ixs k) (at_work c.args.run.now.work)) (λ _. free_local w (ctx_of c.args.level.now.ctx) d.ty.span d.ty.ty ixs x)) (sym c.undefined.ensures)
+    ap (λ k. then_do (spend w.budget d.span (declared_count ixs k) (at_work c.args.run.now.work)) (λ _. free_local w (ctx_of c.args.level.now.ctx) d.ty.span d.ty.ty ixs x)) (sym c.undefined.ensures.of)
     ∙ ap (λ a. then_do a (λ _. free_local w (ctx_of c.args.level.now.ctx) d.ty.span d.ty.ty ixs x)) c.in_ok-counted.ensures.means
     ∙ ap (λ k. free_local w (ctx_of k) d.ty.span d.ty.ty ixs x s) c.in-Untested.is
     ∙ c.in_ok-freely_chosen-in-Untested.ensures s
@@ -29,7 +29,7 @@ returns-in_ok-freely_chosen-in-Positive-clause-means c =
     let ixs = wants_of c.args.index.now in
     let x = wanted c.args.set.now in
     let s = at_work c.counted.new.run.work in
-    ap (λ k. then_do (spend w.budget d.span (declared_count ixs k) (at_work c.args.run.now.work)) (λ _. free_local w (ctx_of c.args.level.now.ctx) d.ty.span d.ty.ty ixs x)) (sym c.undefined.ensures)
+    ap (λ k. then_do (spend w.budget d.span (declared_count ixs k) (at_work c.args.run.now.work)) (λ _. free_local w (ctx_of c.args.level.now.ctx) d.ty.span d.ty.ty ixs x)) (sym c.undefined.ensures.of)
     ∙ ap (λ a. then_do a (λ _. free_local w (ctx_of c.args.level.now.ctx) d.ty.span d.ty.ty ixs x)) c.in_ok-counted.ensures.means
     ∙ ap (λ k. free_local w (ctx_of k) d.ty.span d.ty.ty ixs x s) c.in-Positive.is
     ∙ c.in_ok-freely_chosen-in-Positive.ensures s
