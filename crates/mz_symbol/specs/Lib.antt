@@ -2,7 +2,6 @@ pub mod Choices
 pub mod Symbols
 pub mod Runs
 pub mod Readings
-pub mod Sights
 pub mod Makes
 pub mod StepsNodes
 pub mod StepsChoices

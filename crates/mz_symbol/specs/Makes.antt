@@ -28,6 +28,11 @@ pub record GoesOnBy (n : ℕ) (old new : Run) : Type 0 where
   pub back : (r : Reading) → Reads r new → Reads r old
   pub paid : owed new + earned old ≤ owed old + earned new + n
 
+-- THE SAME, and work or weight that pays for 64 n more is earned
+pub record Earns (n : ℕ) (old new : Run) : Type 0 where
+  pub back : (r : Reading) → Reads r new → Reads r old
+  pub paid : owed new + (earned old + 64 * n) ≤ owed old + earned new
+
 -- and all is paid for
 abbrev pub GoesOn : Run → Run → Type 0
 GoesOn old new = GoesOnBy 0 old new

@@ -40,7 +40,7 @@ impl Run {
     ghost use Rattle.mz_meaning.specs.Runs.{give};
     ghost use Rattle.mz_symbol.specs.Runs.{IsRun};
     ghost use Rattle.mz_symbol.specs.Readings.{IsNodeOf, Reading, node_meaning, state_of};
-    ghost use Rattle.mz_symbol.specs.Makes.{GoesOn, GoesOnBy, Means, MeansBare};
+    ghost use Rattle.mz_symbol.specs.Makes.{GoesOn, GoesOnBy, Earns, Means, MeansBare};
     ghost use Rattle.mz_symbol.specs.StepsNodes.{AddsNodes};
     ghost use Rattle.std.specs.Prelude.{IfOk, IfSome, true};
     ghost use Rattle.mz_arena.specs.Arenas.{IsChecked, IsConst, MadeAnew};
@@ -94,6 +94,7 @@ impl Run {
     /// memory.
     pub fn spend(&mut self, budget: u64, at: Span, n: u64) -> Result<(), Stop>
         ensures goes { GoesOn self.old self.new }
+        ensures earns { IfOk result (λ _. Earns n self.old self.new) }
         ensures means { Means (λ _ _. tt) result self.old self.new (λ _. runs.spend budget at n) }
         ensures bare { MeansBare (λ _ _. tt) result self.old self.new (λ _. runs.spend budget at n) }
     {
@@ -111,6 +112,7 @@ impl Run {
     /// More weight. Out of memory where it passes 2^64, and then nothing changes.
     pub fn weigh(&mut self, n: u64) -> Result<(), Stop>
         ensures goes { GoesOn self.old self.new }
+        ensures earns { IfOk result (λ _. Earns n self.old self.new) }
         ensures means { Means (λ _ _. tt) result self.old self.new (λ r. runs.weigh r.mode n) }
     {
         if self.weight > u64::MAX - n {
