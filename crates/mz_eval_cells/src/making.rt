@@ -85,7 +85,7 @@ pub fn var_of(alloc: Global, bound: Bound, origin: Origin) -> Result<Known, Allo
 
 /// A var array of these index ranges, with its elements' bounds, whose values are told by these
 /// origins.
-pub(crate) fn row_of(
+pub fn row_of(
     alloc: Global,
     index: Rc<Vec<(i64, i64)>>,
     all: Rc<Vec<Bound>>,
