@@ -1,5 +1,5 @@
 -- The laws: the places of a typed program are those of its sections, and these lie in the files of the model and the data.
-use Rattle.std.proofs.Common.{◌≡◌, ◌∙◌, ℕ, zero, suc, ◌+◌, ◌<◌, List, [], ◌∷◌, ◌++◌, Ok, length, map, refl, sym, subst, arith}
+use Rattle.std.proofs.Common.{◌≡◌, ◌∙◌, ℕ, ◌+◌, ◌<◌, List, [], ◌∷◌, ◌++◌, Ok, length, refl, sym, subst, arith}
 use Rattle.std.specs.Prelude.{All}
 use Rattle.std.specs.List.{flat_map}
 use Rattle.std.proofs.lemmas.List.Elements.{All-weaker}
@@ -7,12 +7,10 @@ use Rattle.mz_base.specs.declared.fault.Span.{Span}
 use Rattle.mz_base.specs.Faults.{start_of}
 use Rattle.mz_core.specs.Tree.{Tree, Decl, DeclaredType, declares, maybe, maybes}
 use Rattle.mz_core.specs.Program.{Function, Goal, satisfy, minimize, maximize, PlainProgram}
-use Rattle.mz_core.specs.Nodes.{nodes_in, in_maybe, in_maybes, in_decl, in_type, in_goal}
+use Rattle.mz_core.specs.Nodes.{nodes_in, in_maybe, in_maybes, in_decl, in_type}
 use Rattle.mz_tree.specs.Tree.{Name}
-use Rattle.mz_tree.specs.Items.{ItemTree}
 use Rattle.mz_tree.specs.declared.source.SourceFile.{SourceFile}
 use Rattle.mz_tree.specs.Kinds.{OfItem}
-use Rattle.mz_tree.specs.Data.{given}
 use Rattle.mz_scope_order.specs.Scoped.{ScopedTree}
 use Rattle.mz_check_meaning.specs.Tests.{Test}
 use Rattle.mz_check_meaning.specs.Checks.{Sections}

@@ -1,6 +1,5 @@
 -- The bounds of a call's value.
 use Rattle.std.proofs.Common.{◌≡◌, pos, true, false, refl, length}
-use Rattle.mz_interval.specs.Ends.{Ends}
 use Rattle.mz_globals.specs.declared.global.Global.{Global}
 use Rattle.mz_globals.specs.declared.global.Global.TheVariants.{CountOf}
 use Rattle.mz_globals.specs.Givens.{Givens, given_at}

@@ -1,10 +1,9 @@
 -- The places of globals: as many lines come before them in the table of signatures as in that of rows.
-use Rattle.std.proofs.Common.{◌≡◌, ◌∙◌, ℕ, ◌-◌, Bool, true, false, Option, Some, None, refl, sym, ap, length, nat_lt, if◌then◌else◌}
+use Rattle.std.proofs.Common.{◌≡◌, ◌∙◌, ℕ, ◌-◌, Bool, true, false, Some, None, refl, sym, ap, length, nat_lt, if◌then◌else◌}
 use Rattle.std.specs.Option.{option_and_then}
 use Rattle.mz_operations.specs.Lines.{lines}
 use Rattle.mz_builtin.specs.Table.{built_ins}
 use Rattle.mz_builtin.specs.Signatures.{global_place}
-use Rattle.mz_globals.specs.declared.global.Global.{Global}
 use Rattle.mz_globals.specs.Names.{global_at}
 use Rattle.mz_meaning.specs.Globals.{global_of}
 

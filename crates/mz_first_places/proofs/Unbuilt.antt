@@ -14,7 +14,7 @@ use Rattle.mz_first_unbuilt.specs.Comparisons.{is_par_constraint, is_compared, i
 use Rattle.mz_first_unbuilt.specs.Unbuilt.{at_if, is_unbuilt_call, is_unbuilt_local, unbuilt_in, in_form, in_maybe, in_trees, in_maybes, in_rows, in_branches, in_steps, in_gens, in_items, in_if, in_type, in_declaration, in_param, in_function, in_operand, in_operands, in_constraint, in_goal, in_output, places_in, unbuilt_places, first_unbuilt}
 use Rattle.mz_first_unbuilt.proofs.Laws.{found_place}
 use Rattle.mz_meaning_places.specs.Places.{item_places, local_places, places_of}
-use Rattle.mz_meaning_places.proofs.Parts.{left_all, right_all, both_all, OwnPlaces, IsPlaced, ArePlaced, IsPlacedMaybe, IsPlacedType, IsPlacedDecl, IsPlacedFunction, IsPlacedGoal, IsPlacedProgram, place_placed, program_placed}
+use Rattle.mz_meaning_places.proofs.Parts.{left_all, right_all, both_all, OwnPlaces, IsPlaced, IsPlacedMaybe, IsPlacedType, IsPlacedDecl, IsPlacedFunction, IsPlacedGoal, IsPlacedProgram, place_placed, program_placed}
 
 module _ (P : Span → Type 0) where
   one_placed : (b : Bool) (at : Span) → P at → AllBy P (at_if b at)

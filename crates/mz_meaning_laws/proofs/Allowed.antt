@@ -5,7 +5,7 @@ use Rattle.mz_base.specs.declared.fault.Span.{Span}
 use Rattle.mz_core.specs.Types.{PlainType}
 use Rattle.mz_core.specs.Coercions.{PathLink}
 use Rattle.mz_core.specs.Program.{Function}
-use Rattle.mz_core.specs.Tree.{Tree, Shape, Trees, Maybe, Maybes, Rows, Branches, Steps, Gens, Items, Step, Decl, steps, if_tree, all_trees, all_maybes, all_rows, all_branches, all_steps, all_gens, all_items, shape_of, place_of, inner_tree, inner_under}
+use Rattle.mz_core.specs.Tree.{Tree, Shape, Trees, Maybe, Maybes, Rows, Branches, Steps, Gens, Items, Step, Decl, steps, if_tree, all_trees, all_maybes, all_rows, all_branches, all_steps, all_gens, all_items, shape_of, inner_tree, inner_under}
 use Rattle.mz_core.specs.Tree as tree
 use Rattle.mz_meaning.specs.Chains.{Innermost, operators_at, with_left, with_innermost, coerced_innermost, innermost_of, innermost_in, last_backed, a_step_of, back_of, back_in, backed, chained, same_level, chain_level}
 use Rattle.mz_meaning.specs.Solutions.{Each}

@@ -9,7 +9,7 @@ use Rattle.mz_globals.specs.declared.global.Global.{Global}
 use Rattle.mz_globals.specs.declared.checks.Refusal.{Refusal}
 use Rattle.mz_globals.specs.declared.checks.Refusal.TheVariants.{Misfit, Negative, Outside}
 use Rattle.mz_globals.specs.Table.{global_cost, global_ends, refusal_of}
-use Rattle.mz_meaning.specs.Runs.{then_do, give, spend}
+use Rattle.mz_meaning.specs.Runs.{then_do, give}
 use Rattle.mz_meaning.specs.Cells.{Cell, Par, Var, Unshaped, Mode, Blank, held, undefined, all_par, Env}
 use Rattle.mz_meaning.specs.Operations.{size_of}
 use Rattle.mz_meaning.specs.Globals as globals

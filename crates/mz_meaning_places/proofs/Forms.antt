@@ -11,7 +11,6 @@ use Rattle.mz_core.specs.Tree.{Tree, Layer, Gen, Decl, Item, declares, constrain
 use Rattle.mz_core.specs.Tree as tree
 use Rattle.mz_operations.specs.declared.row.Row.{Row}
 use Rattle.mz_globals.specs.declared.global.Global.{Global}
-use Rattle.mz_meaning.specs.Runs.{Run, loop}
 use Rattle.mz_meaning.specs.Cells.{Cell, Env, Mode, Test, Settled, Open, test_of, bind, undefined, set_in, length_of, or_zero, guarded, both_sure}
 use Rattle.mz_meaning.specs.Operations as operations
 use Rattle.mz_meaning.specs.Globals as globals
@@ -25,9 +24,9 @@ use Rattle.mz_meaning.specs.Comprehensions as comps
 use Rattle.mz_meaning.specs.Lets as lets
 use Rattle.mz_meaning.specs.Calls as calls
 use Rattle.mz_meaning.specs.Evaluation.{node, eval}
-use Rattle.mz_meaning_places.proofs.Parts.{OfSome, found_all, IsPlaced, ArePlaced, IsPlacedMaybe, IsPlacedPair, IsPlacedGen, IsPlacedType, IsPlacedDecl, IsPlacedItem, IsPlacedFunction, IsPlacedLayer, placed_layer, place_placed, inner_placed}
+use Rattle.mz_meaning_places.proofs.Parts.{OfSome, found_all, IsPlaced, ArePlaced, IsPlacedMaybe, IsPlacedPair, IsPlacedGen, IsPlacedDecl, IsPlacedItem, IsPlacedFunction, IsPlacedLayer, placed_layer, place_placed, inner_placed}
 use Rattle.mz_meaning_places.proofs.Operators.{IsPlacedOperator, IsPlacedInnermost, chained_placed}
-use Rattle.mz_meaning_places.proofs.Stopping.{StopsThere, GivesThere, then_there, with_there, gives_there, both_there, give_there, given_there, stop_there, spend_there, loop_there, loop_anyway, loop_kept, if_there, when_there, weigh_there, row_cell_there, global_cell_there, table_cell_there, branch_cell_there, contiguous_there, fitted_there, chosen_there}
+use Rattle.mz_meaning_places.proofs.Stopping.{StopsThere, GivesThere, then_there, with_there, gives_there, both_there, give_there, given_there, stop_there, spend_there, loop_there, loop_anyway, loop_kept, when_there, weigh_there, row_cell_there, global_cell_there, table_cell_there, branch_cell_there, contiguous_there, fitted_there, chosen_there}
 
 module _ (P : Span → Type 0) where
   -- ---- nodes

@@ -1,5 +1,5 @@
 -- The operators of a chain, with its innermost first operand, are placed where the chain is.
-use Rattle.std.proofs.Common.{ℕ, Bool, true, false, List, [], ◌∷◌, ◌++◌, Option, Some, None, map, if◌then◌else◌}
+use Rattle.std.proofs.Common.{ℕ, Bool, true, false, List, [], ◌∷◌, ◌++◌, Option, Some, None, if◌then◌else◌}
 use Rattle.std.specs.Option.{option_map}
 use Rattle.std.specs.List.{AllByRecursion as AllBy}
 use Rattle.mz_base.specs.declared.fault.Span.{Span}
@@ -8,7 +8,7 @@ use Rattle.mz_core.specs.Coercions.{PathLink}
 use Rattle.mz_core.specs.Tree.{Tree, Shape, Step, Steps, steps, all_steps}
 use Rattle.mz_core.specs.Tree as tree
 use Rattle.mz_core.specs.Nodes.{nodes_in, in_form, in_steps}
-use Rattle.mz_meaning.specs.Chains.{Operator, Innermost, operators_at, with_left, with_innermost, coerced_innermost, innermost_of, innermost_in, with_right, last_backed, a_step_of, back_of, back_in, backed, chained, chain_level, same_level}
+use Rattle.mz_meaning.specs.Chains.{Operator, Innermost, operators_at, with_left, with_innermost, coerced_innermost, innermost_of, innermost_in, last_backed, a_step_of, back_of, back_in, backed, chained, chain_level, same_level}
 use Rattle.mz_meaning_places.specs.Places.{step_places, local_places}
 use Rattle.mz_meaning_places.proofs.Parts.{OfSome, left_all, right_all, both_all, OwnPlaces, IsPlaced, IsPlacedStep, placed_steps}
 

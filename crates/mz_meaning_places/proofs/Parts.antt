@@ -5,9 +5,9 @@ use Rattle.mz_base.specs.declared.fault.Span.{Span}
 use Rattle.mz_core.specs.Types.{PlainType}
 use Rattle.mz_core.specs.Program.{Function, Goal, PlainProgram}
 use Rattle.mz_core.specs.Program as program
-use Rattle.mz_core.specs.Tree.{Tree, Shape, Layer, Trees, Maybe, Maybes, Rows, Branches, Step, Steps, Gen, Gens, Decl, DeclaredType, Item, Items, declares, constrains, items, maybes, maybe, steps, layer, shape_of, place_of, inner_tree, if_tree, all_trees, all_maybes, all_rows, all_branches, all_steps, all_gens, all_items}
+use Rattle.mz_core.specs.Tree.{Tree, Shape, Layer, Trees, Maybe, Maybes, Rows, Branches, Step, Steps, Gen, Gens, Decl, DeclaredType, Item, Items, declares, constrains, maybes, maybe, layer, shape_of, place_of, inner_tree, if_tree, all_trees, all_maybes, all_rows, all_branches, all_steps, all_gens, all_items}
 use Rattle.mz_core.specs.Tree as tree
-use Rattle.mz_core.specs.Nodes.{nodes_in, in_form, in_maybe, in_trees, in_maybes, in_rows, in_branches, in_steps, in_gens, in_items, in_decl, in_type, in_goal}
+use Rattle.mz_core.specs.Nodes.{nodes_in, in_form, in_maybe, in_trees, in_maybes, in_rows, in_branches, in_steps, in_gens, in_items, in_decl, in_type}
 use Rattle.mz_meaning_places.specs.Places.{step_places, item_places, local_places, own_places, places_in, type_places, decl_places, function_places, goal_places, places_of}
 
 -- ---- lists

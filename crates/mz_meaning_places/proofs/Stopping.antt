@@ -24,7 +24,7 @@ use Rattle.mz_globals.specs.declared.checks.Refusal.{Refusal}
 use Rattle.mz_globals.specs.declared.checks.Refusal.TheVariants.{Misfit, Negative, Outside}
 use Rattle.mz_globals.specs.Table.{refusal_of}
 use Rattle.mz_meaning.specs.Runs.{Run, State, Answer, Out, Stopped, then_do, give, stop, spend, loop, when, weigh, fault}
-use Rattle.mz_meaning.specs.Cells.{Cell, Var, Mode, undefined, held, all_par, value_of, no_bounds, length_of}
+use Rattle.mz_meaning.specs.Cells.{Cell, Var, Mode, held, all_par, value_of, no_bounds, length_of}
 use Rattle.mz_meaning.specs.Coerced.{recast}
 use Rattle.mz_meaning.specs.Domains.{Domain}
 use Rattle.mz_meaning.specs.Exact.{exact_value}

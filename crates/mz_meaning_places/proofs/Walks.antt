@@ -1,11 +1,11 @@
 -- The walk over a program whose places are all of a kind stops at such places.
-use Rattle.std.proofs.Common.{ℕ, zero, suc, pos, Bool, true, false, List, [], ◌∷◌, ◌++◌, Option, Some, None, flat_map, slice_get, ◌<◌, length, get_or}
+use Rattle.std.proofs.Common.{ℕ, pos, Bool, true, false, List, [], ◌∷◌, ◌++◌, Option, Some, None, flat_map, slice_get, ◌<◌}
 use Rattle.std.specs.List.{AllByRecursion as AllBy, Contains}
 use Rattle.std.proofs.lemmas.List.Elements.{recursion_from_All, Contains-get_or}
 use Rattle.mz_base.specs.declared.fault.Span.{Span}
 use Rattle.mz_base.specs.declared.kind.Kind.TheVariants as kind
 use Rattle.mz_value.specs.Ranges.{Range}
-use Rattle.mz_core.specs.Program.{Function, Goal, PlainProgram}
+use Rattle.mz_core.specs.Program.{Goal, PlainProgram}
 use Rattle.mz_core.specs.Program as program
 use Rattle.mz_core.specs.Tree.{Tree, Decl, place_of}
 use Rattle.mz_meaning.specs.Runs.{Run, State, Answer, Out, Stopped, loop}
@@ -16,10 +16,10 @@ use Rattle.mz_meaning.specs.Forms.{World, Eval}
 use Rattle.mz_meaning.specs.Evaluation.{eval}
 use Rattle.mz_meaning.specs.Unbounded.{first_unbounded}
 use Rattle.mz_meaning.specs.Walk as walks
-use Rattle.mz_meaning.specs.Walk.{Limits, Assignment, Declared, Walked, levels, names_env, world_at, with_decl, ordered, surely, walk}
+use Rattle.mz_meaning.specs.Walk.{Limits, Assignment, Declared, levels, names_env, world_at, with_decl, ordered, surely, walk}
 use Rattle.mz_meaning_places.specs.Places.{places_in, function_places, places_of}
 use Rattle.mz_meaning_places.specs.Stopping.{StopsAmong}
-use Rattle.mz_meaning_places.proofs.Parts.{OfSome, left_all, right_all, found_all, IsPlaced, IsPlacedMaybe, IsPlacedDecl, IsPlacedFunction, IsPlacedGoal, IsPlacedProgram, place_placed, tree_placed, functions_placed, program_placed}
+use Rattle.mz_meaning_places.proofs.Parts.{OfSome, left_all, right_all, found_all, IsPlaced, IsPlacedMaybe, IsPlacedDecl, IsPlacedGoal, IsPlacedProgram, place_placed, tree_placed, functions_placed, program_placed}
 use Rattle.mz_meaning_places.proofs.Stopping.{StopsAt, StopsThere, then_there, give_there, stop_there, spend_there, loop_there, weigh_there, contiguous_there, fitted_there}
 use Rattle.mz_meaning_places.proofs.Forms.{StopsInTrees, eval_there}
 use Rattle.mz_meaning_places.proofs.Unbounded.{first_unbounded_placed}

@@ -1,12 +1,12 @@
 -- ALL PLACES of a typed program: those of its nodes, of the operands of its chains, and of the names and the types that it declares.
-use Rattle.std.specs.Prelude.{◌≡◌, refl, ℕ, pos, false, List, [], ◌∷◌, ◌++◌, Some, None}
+use Rattle.std.specs.Prelude.{◌≡◌, refl, ℕ, pos, List, [], ◌∷◌, ◌++◌, Some}
 use Rattle.std.specs.List.{flat_map}
 use Rattle.mz_base.specs.declared.fault.Span.{Span}
 use Rattle.mz_core.specs.Program.{Function, Goal, PlainProgram}
 use Rattle.mz_core.specs.Tree.{Tree, Shape, Steps, Items, Decl, DeclaredType, declares}
 use Rattle.mz_core.specs.Tree as tree
 use Rattle.mz_core.specs.Nodes.{nodes_in, in_decl, in_type, in_goal}
-use Rattle.mz_meaning.specs.Written.{col, int, var_int, num, slot, let_in, plain, decl}
+use Rattle.mz_meaning.specs.Written.{col, int, num, slot, let_in, plain, decl}
 
 -- of the names that a let declares, and of their types
 unfoldable pub item_places : Items → List Span
