@@ -1,2 +1,4 @@
+pub mod SureFiles
+pub mod SureSink
 pub mod SureSource
 pub mod AllBytes
