@@ -3,8 +3,8 @@ mod Names
 mod Models
 mod Stopped
 mod Walking
-mod Variables
+pub mod Variables
 mod Instance
-mod Tests
-mod Roots
+pub mod Tests
+pub mod Roots
 mod SampleHeld

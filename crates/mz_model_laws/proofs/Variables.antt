@@ -1,5 +1,5 @@
 -- Cells, nodes and the choice nodes of what is in hand.
-use Rattle.std.proofs.Common.{◌≡◌, ◌∙◌, ℕ, zero, suc, ◌+◌, Bool, true, false, List, [], ◌∷◌, ◌++◌, length, map, Option, Some, None, is_some, slice_get, refl, sym, ap, subst, arith, if◌then◌else◌}
+use Rattle.std.proofs.Common.{◌≡◌, ◌∙◌, ℕ, zero, suc, ◌+◌, Bool, true, false, List, [], ◌∷◌, ◌++◌, length, map, Option, Some, None, is_some, IsSome, slice_get, refl, sym, ap, subst, arith, if◌then◌else◌}
 use Rattle.std.proofs.lemmas.List.{append-nil, map-append}
 use Rattle.std.proofs.lemmas.List.Concat.{flat_map-append}
 use Rattle.std.specs.List.{flat_map}
@@ -49,32 +49,38 @@ if_defined true None is = refl
 if_defined true (Some xs) is = refl
 if_defined false v is = absurd (cc)
 
-places_line : (s : Run) (line : ℕ) (fs : List Free) (r : Reading) → IsPlacesLine s line fs → Reads r s → r.line line ≡ places_value r.term fs
-places_line s line fs r is reads =
+places_line : (s : Run) (line : ℕ) (fs : List Free) (r : Reading) → IsPlacesLine s line fs → Reads r s → IsSome (places_value r.term fs) → r.line line ≡ places_value r.term fs
+places_line s line fs r is reads some =
     reads.lines line is.there is.stands
     ∙ ap (elements_value r.term is.there.defined) is.items
-    ∙ if_defined (is_true (r.term is.there.defined)) (all_there (map (symbol_value r.term) (map (λ f. f.symbol) fs))) (is.always r reads)
+    ∙ if_defined (is_true (r.term is.there.defined)) (all_there (map (symbol_value r.term) (map (λ f. f.symbol) fs))) (is.always r reads some)
     ∙ ap all_there (symbols_of r.term fs)
+
+-- an array with a value has elements
+some_array : (ix : List Range) (o : Option (List Content)) (c : Content) → array_value ix o ≡ Some c → IsSome o
+some_array ix None c e = absurd (cc)
+some_array ix (Some xs) c e = refl
 
 kind_seen : (s : Run) (n : HeldName) (k : NameKind) (r : Reading) (a : Assignment) → HasCell s n k → Reads r s → (IsGiven r.mode → IsAssigned r.term a n.slot k) → Var (domains_bounds (kind_domains k)) (held r.mode (a n.slot)) ≡ n.cell r
 kind_seen s n ParName r a has reads assigned = absurd has
-kind_seen s n (OnePlace f) r a has reads assigned = ap (Var (domains_bounds (kind_domains (OnePlace f)))) (same_held r.mode (a n.slot) (symbol_value r.term f.symbol) (λ g. one_value (a n.slot) (symbol_value r.term f.symbol) (assigned g))) ∙ sym (has r)
+kind_seen s n (OnePlace f) r a has reads assigned = ap (Var (domains_bounds (kind_domains (OnePlace f)))) (same_held r.mode (a n.slot) (symbol_value r.term f.symbol) (λ g. one_value (a n.slot) (symbol_value r.term f.symbol) (assigned g))) ∙ sym (has r (λ g. ap is_some (assigned g).second))
 kind_seen s n (ManyPlaces ix fs) r a has reads assigned =
-    let line : array_value ix (places_value r.term fs) ≡ array_value ix (r.line has.line) = ap (array_value ix) (sym (places_line s has.line fs r has.places reads)) in
-    ap (Var (domains_bounds (kind_domains (ManyPlaces ix fs)))) (same_held r.mode (a n.slot) (array_value ix (r.line has.line)) (λ g. one_value (a n.slot) (array_value ix (places_value r.term fs)) (assigned g) ∙ line)) ∙ sym (has.cell r)
+    let own = places_value r.term fs in
+    let line : IsGiven r.mode → array_value ix own ≡ array_value ix (r.line has.line) = λ g. ap (array_value ix) (sym (places_line s has.line fs r has.places reads (some_array ix own (assigned g).content (assigned g).second))) in
+    ap (Var (domains_bounds (kind_domains (ManyPlaces ix fs)))) (same_held r.mode (a n.slot) (array_value ix (r.line has.line)) (λ g. one_value (a n.slot) (array_value ix own) (assigned g) ∙ line g)) ∙ sym (has.cell r)
 
 pub variable_seen : (s : Run) (n : HeldName) (r : Reading) (a : Assignment) → HasCell s n n.kind → Reads r s → (IsGiven r.mode → IsAssigned r.term a n.slot n.kind) → variable r.mode a n.slot (kind_domains n.kind) (cell_at r n.value) ≡ name_at r n
 variable_seen s n r a has reads assigned = ap (λ (c : Cell). record { slot = n.slot; domains = kind_domains n.kind; cell = c; value = cell_at r n.value }) (kind_seen s n n.kind r a has reads assigned)
 
 -- ---- lists of places
 
-abbrev place_parts : List Free → List Part
+abbrev pub place_parts : List Free → List Part
 place_parts fs = all_parts (map domain_of fs)
 
-both_ids : (fs gs : List Free) → free_ids (fs ++ gs) ≡ free_ids fs ++ free_ids gs
+pub both_ids : (fs gs : List Free) → free_ids (fs ++ gs) ≡ free_ids fs ++ free_ids gs
 both_ids fs gs = flat_map-append (λ f. symbol_ids f.symbol) fs gs
 
-both_parts : (fs gs : List Free) → place_parts (fs ++ gs) ≡ place_parts fs ++ place_parts gs
+pub both_parts : (fs gs : List Free) → place_parts (fs ++ gs) ≡ place_parts fs ++ place_parts gs
 both_parts fs gs = ap all_parts (map-append domain_of fs gs) ∙ flat_map-append domain_parts (map domain_of fs) (map domain_of gs)
 
 -- ---- the variables of an instance
@@ -176,7 +182,7 @@ names_made (d ∷ ds) (n ∷ ns) ms names made =
 pub vars_kept : (old new : Run) (ns : List HeldName) → Grew old.arena new.arena → AreVars old ns → AreVars new ns
 vars_kept old new ns grew vars = nodes_later old.arena new.arena false 0 (free_ids (all_places ns)) (place_parts (all_places ns)) grew vars
 
-joined_nodes : (es : List Entry) (choice : Bool) (k : ℕ) (is js : List ℕ) (ps qs : List Part) → AreNodes es choice k is ps → AreNodes es choice (k + length is) js qs → AreNodes es choice k (is ++ js) (ps ++ qs)
+pub joined_nodes : (es : List Entry) (choice : Bool) (k : ℕ) (is js : List ℕ) (ps qs : List Part) → AreNodes es choice k is ps → AreNodes es choice (k + length is) js qs → AreNodes es choice k (is ++ js) (ps ++ qs)
 joined_nodes es choice k [] js [] qs first rest = subst (λ k. AreNodes es choice k js qs) (omega arith) rest
 joined_nodes es choice k [] js (p ∷ ps) qs first rest = absurd first
 joined_nodes es choice k (i ∷ is) js [] qs first rest = absurd first

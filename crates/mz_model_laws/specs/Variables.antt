@@ -1,5 +1,5 @@
 -- VARIABLES: their cells, the variables of an instance that are made of names, how their nodes are kept, and the test of the choice nodes at the end.
-use Rattle.std.specs.Prelude.{◌≡◌, ℕ, ◌+◌, Bool, true, false, List, [], ◌∷◌, ◌++◌, length, map, Option, Some, None, is_some, slice_get}
+use Rattle.std.specs.Prelude.{◌≡◌, ℕ, ◌+◌, Bool, true, false, List, [], ◌∷◌, ◌++◌, length, map, Option, Some, None, is_some, IsSome, slice_get}
 use Rattle.mz_value.specs.Ranges.{Range}
 use Rattle.mz_core.specs.Tree.{Decl}
 use Rattle.mz_arena.specs.Arenas.{Grew}
@@ -18,26 +18,30 @@ use Rattle.mz_symbol.specs.Choices.{all_parts}
 use Rattle.mz_symbol.specs.Symbols.{symbol_value, domain_of, free_ids}
 use Rattle.mz_symbol.specs.Runs.{Run, IsRun}
 use Rattle.mz_symbol.specs.Readings.{Reading, IsGiven, Reads}
-use Rattle.mz_model_laws.specs.Hands.{NameKind, ParName, OnePlace, ManyPlaces, kind_places, kind_domains, HeldName, cell_at, name_at, named_as, all_places, array_value, IsAssigned, AreVars, SlotsFrom}
+use Rattle.mz_model_laws.specs.Hands.{View, NameKind, ParName, OnePlace, ManyPlaces, kind_places, kind_domains, HeldName, cell_at, name_at, named_as, all_places, array_value, places_value, IsAssigned, AreVars, SlotsFrom}
 
 -- ---- THE CELL OF A VARIABLE, as the code has it, is that of its declaration, under each assignment that goes with the reading. Nothing else in hand asks for an assignment
 
--- the elements of an array of variables: it is always defined
+-- the elements of an array of variables: it is defined where each place has a value
 pub record IsPlacesLine (s : Run) (line : ℕ) (fs : List Free) : Type 0 where
   pub there : Line
   pub stands : slice_get s.lines line ≡ Some there
   pub items : there.items.items ≡ map (λ f. f.symbol) fs
-  pub always : (r : Reading) → Reads r s → is_true (r.term there.defined) ≡ true
+  pub always : (r : Reading) → Reads r s → IsSome (places_value r.term fs) → is_true (r.term there.defined) ≡ true
 
-pub record IsArrayCell (s : Run) (n : HeldName) (ix : List Range) (fs : List Free) : Type 0 where
+pub record IsArrayCell (s : Run) (v : View) (ix : List Range) (fs : List Free) : Type 0 where
   pub line : ℕ
   pub places : IsPlacesLine s line fs
-  pub cell : (r : Reading) → n.cell r ≡ Var (domains_bounds (kind_domains (ManyPlaces ix fs))) (held r.mode (array_value ix (r.line line)))
+  pub cell : (r : Reading) → v r ≡ Var (domains_bounds (kind_domains (ManyPlaces ix fs))) (held r.mode (array_value ix (r.line line)))
+
+-- the symbol of a place, where this has a value
+abbrev pub IsPlaceCell : View → Free → Type 0
+IsPlaceCell v f = (r : Reading) → (IsGiven r.mode → IsSome (symbol_value r.term f.symbol)) → v r ≡ Var (domains_bounds (kind_domains (OnePlace f))) (held r.mode (symbol_value r.term f.symbol))
 
 abbrev pub HasCell : Run → HeldName → NameKind → Type 0
 HasCell s n ParName = ⊥
-HasCell s n (OnePlace f) = (r : Reading) → n.cell r ≡ Var (domains_bounds (kind_domains (OnePlace f))) (held r.mode (symbol_value r.term f.symbol))
-HasCell s n (ManyPlaces ix fs) = IsArrayCell s n ix fs
+HasCell s n (OnePlace f) = IsPlaceCell n.cell f
+HasCell s n (ManyPlaces ix fs) = IsArrayCell s n.cell ix fs
 
 abbrev pub VariablesSeen : Type 0
 VariablesSeen = (s : Run) (n : HeldName) (r : Reading) (a : Assignment) → HasCell s n n.kind → Reads r s → (IsGiven r.mode → IsAssigned r.term a n.slot n.kind) → variable r.mode a n.slot (kind_domains n.kind) (cell_at r n.value) ≡ name_at r n

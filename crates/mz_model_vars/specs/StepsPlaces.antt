@@ -1,0 +1,27 @@
+-- Mirror of src/places.rt; private clauses only.
+use Rattle.std.specs.Prelude.{◌≡◌, ◌+◌, ◌*◌, ℕ, List, ◌++◌, Bool, true, false, length, map}
+use Rattle.mz_value.specs.Ranges.{Range}
+use Rattle.mz_core.specs.declared.types.Base.{Base}
+use Rattle.mz_meaning.specs.Domains.{Domain}
+use Rattle.mz_instance.specs.Parts.{is_subset_sort, sort_of}
+use Rattle.mz_instance.specs.Instance.{IsTruthOver}
+use Rattle.mz_model_meaning.specs.Decoded.{is_shape, AreShaped}
+use Rattle.mz_symbol.specs.declared.types.Free.{Free}
+use Rattle.mz_symbol.specs.Symbols.{domain_of, free_ids}
+use Rattle.mz_symbol.specs.Runs.{Run}
+use Rattle.mz_model_vars.specs.Placed.{place_over, HaveNodes, MakesPlaces}
+
+-- what is asked of a domain besides its set's being canonical
+pub record IsSuited (d : Domain) : Type 0 where
+  pub base : is_shape d.base ≡ true
+  pub truth : IsTruthOver (sort_of d.base) d.set
+  pub allowed : d.opt ≡ true → is_subset_sort (sort_of d.base) ≡ false
+
+-- some places are made, and those over the rest of the sets are not yet
+pub record AreSoFar (old new : Run) (k next : ℕ) (b : Base) (o : Bool) (all rest : List (List Range)) (fs : List Free) : Type 0 where
+  pub makes : MakesPlaces (8 * length fs) old new
+  pub count : length fs + length rest ≡ length all
+  pub number : next ≡ k + length (free_ids fs)
+  pub domains : map domain_of fs ++ map (place_over b o) rest ≡ map (place_over b o) all
+  pub shaped : AreShaped (map domain_of fs)
+  pub nodes : HaveNodes new k fs

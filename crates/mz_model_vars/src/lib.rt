@@ -1,0 +1,6 @@
+// Decision variables: the places of a declared name, whose parts are the next variables of a run, and the cells that they are.
+#![tactic(auto)]
+
+mod places;
+
+pub use places::{many_places, one_place};
