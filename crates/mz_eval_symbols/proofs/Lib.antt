@@ -1,1 +1,6 @@
 pub mod Arrays
+pub mod Undefined
+pub mod CastLaws
+pub mod ConstantLaws
+pub mod Lists
+pub mod LineLaws

@@ -1,6 +1,8 @@
 // Cells as symbols and lines, and the cells of what rows over these give.
 #![tactic(auto)]
 
+mod casts;
+mod constants;
 mod lines;
 mod making;
 mod symbols;

@@ -26,12 +26,7 @@ pub fn cell_of_symbol(alloc: Global, bound: Bound, symbol: Symbol) -> Result<Kno
 
 /// The var cell of a Boolean that may be undefined: it is true where the first node is true; else
 /// false where the second is true, and undefined elsewhere.
-pub fn cell_of_truth(
-    alloc: Global,
-    bound: Bound,
-    yes: Id,
-    defined: Id,
-) -> Result<Known, AllocError>
+pub fn cell_of_truth(alloc: Global, bound: Bound, yes: Id, defined: Id) -> Result<Known, AllocError>
     ensures of { IfOk result (λ k. cell_of k ≡ Var (bounds.one (known_bound bound)) None) }
     ensures seen { IfOk result (λ k. (r : Reading) → seen r k
         ≡ Var (bounds.one (known_bound bound)) (held r.mode (truth_by (is_true (r.term yes)) (is_true (r.term defined))))) }
