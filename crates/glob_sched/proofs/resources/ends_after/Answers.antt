@@ -1,0 +1,8 @@
+use Rattle.glob_nodes.specs.declared.nodes.Compare.TheVariants.{Less}
+use Rattle.glob_nodes.specs.Says.{num, compares}
+use Rattle.glob_nodes.proofs.Saying.{ok_so}
+use Rattle.glob_lists.proofs.Nodes.{says_over_number}
+use Rattle.glob_sched.proofs.resources.ends_after.Goals as goal
+
+pub returns-clause-says : goal.returns-clause-says
+returns-clause-says c = ok_so c.compared.result c.compared.ensures.says (λ id s. says_over_number c.args.run.now c.plus.new.run c.compared.new.run _ (λ r t. compares Less (num r c.args.at) t) c.in_ok-end.end id _ c.in_ok-end.ensures.is c.compared.ensures.goes s)
