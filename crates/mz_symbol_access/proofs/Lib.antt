@@ -1,0 +1,4 @@
+pub mod ShiftLaws
+pub mod PlaceLaws
+pub mod AloneLaws
+pub mod ElementLaws
