@@ -1,0 +1,3 @@
+pub mod ChosenValues
+pub mod StepsChoose
+pub mod StepsLines

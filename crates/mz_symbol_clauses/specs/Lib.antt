@@ -1,0 +1,2 @@
+pub mod ClauseValues
+pub mod StepsClauses

@@ -1,0 +1,6 @@
+// Powers with a par exponent.
+#![tactic(auto)]
+
+mod powers;
+
+pub use powers::power;
