@@ -1,5 +1,5 @@
 -- What rows cost, against the charges of their nodes.
-use Rattle.std.proofs.Common.{◌≡◌, ℕ, zero, suc, ◌+◌, ◌*◌, ◌-◌, ◌<◌, ◌≤◌, List, [], ◌∷◌, length, drop, slice_index_or, refl, sym, subst, arith}
+use Rattle.std.proofs.Common.{ℕ, zero, suc, ◌+◌, ◌*◌, ◌-◌, ◌<◌, ◌≤◌, List, [], ◌∷◌, length, drop, slice_index_or, refl, sym, subst, arith}
 use Rattle.mz_globals.specs.declared.global.Global.TheVariants as global
 use Rattle.mz_globals.specs.declared.global.Relation.{Relation}
 use Rattle.mz_globals.specs.Table.{line_of}
@@ -10,6 +10,10 @@ use Rattle.glob_nodes.proofs.Telling.{drop_before, fewer_pairs}
 pub count_cost : {A : Type 0} (xs : List A) → 14 * length xs + 6 + 30 ≤ 56 * row_cost global.Count (length xs ∷ 1 ∷ 1 ∷ [])
 unfolding line_of
 count_cost xs = omega arith
+
+pub count_of_cost : {A : Type 0} (xs : List A) → 14 * length xs + 26 ≤ 56 * row_cost global.CountOf (length xs ∷ 1 ∷ [])
+unfolding line_of
+count_of_cost xs = omega arith
 
 pub times_cost : {A : Type 0} (relation : Relation) (xs : List A) → 14 * length xs + 6 + 30 ≤ 56 * row_cost (global.Times relation) (1 ∷ length xs ∷ 1 ∷ [])
 unfolding line_of

@@ -17,7 +17,7 @@ use Rattle.mz_globals.specs.declared.global.Relation.TheVariants as relation
 use Rattle.mz_globals.specs.Counting as counting
 use Rattle.mz_globals.specs.Order as order
 use Rattle.mz_symbol.specs.Runs.{Run}
-use Rattle.mz_symbol.specs.Readings.{Reading, Reads}
+use Rattle.mz_symbol.specs.Readings.{Reading}
 use Rattle.mz_symbol.specs.Makes.{GoesOnBy}
 use Rattle.glob_nodes.specs.declared.nodes.Compare.TheVariants.{Equal, Differ}
 use Rattle.glob_nodes.specs.Says.{Gives, Says, num, compares}

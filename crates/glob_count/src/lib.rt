@@ -1,8 +1,12 @@
 // The terms of the globals of counting.
 #![tactic(auto)]
 
+mod covers;
+mod memberships;
 mod occurrences;
 mod values;
 
-pub use occurrences::{count, times};
+pub use covers::cardinality;
+pub use memberships::among;
+pub use occurrences::{count, count_of, times};
 pub use values::different_values;

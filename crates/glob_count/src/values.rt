@@ -3,17 +3,14 @@
 ghost use Rattle.std.specs.Prelude.{◌≡◌, ◌+◌, ◌*◌, ◌∷◌, [], IfOk, Some, length, map, pos};
 ghost use Rattle.std.specs.List.{list_all};
 ghost use Rattle.mz_core.specs.declared.types.Base.TheVariants as base;
-ghost use Rattle.mz_arena.specs.Values.{arith_term};
 ghost use Rattle.mz_arena.specs.Values as terms;
 ghost use Rattle.mz_globals.specs.declared.global.Global.TheVariants as global;
-ghost use Rattle.mz_operations.specs.declared.row.Arith.TheVariants as arith;
-ghost use Rattle.mz_operations.specs.Views.{number_of_bool};
 ghost use Rattle.mz_symbol.specs.Makes.{GoesOnBy};
 ghost use Rattle.glob_nodes.specs.declared.nodes.Compare.TheVariants as compare;
 ghost use Rattle.glob_nodes.specs.Arguments.{IsWhole, array_value, number_value};
 ghost use Rattle.glob_nodes.specs.Rows.{IsRow, row_cost};
 ghost use Rattle.glob_nodes.specs.Says.{Gives, Says, Tells, compares, num, pair_count};
-ghost use Rattle.glob_count.specs.Senses.{distinct_among};
+ghost use Rattle.glob_count.specs.Senses.{distinct_among, with_last};
 
 use glob_nodes::{
     Compare, Compared, Join, Numbers, add, compared, number, to_each, to_number, truth,
@@ -60,7 +57,7 @@ fn distinct(run: &mut Run, ids: &[Id]) -> Result<Id, Memory>
 #[tactic(auto, using(mz_symbol_rows::proofs::GoingOn::goes_both, mz_symbol_rows::proofs::GoingOn::goes_most))]
 fn one_more(run: &mut Run, x: Id, later: &[Id], count: Id) -> Result<Id, Memory>
     ensures goes { GoesOnBy (12 * length later.now + 8) run.old run.new }
-    ensures gives { IfOk result (Gives run.old run.new (λ r. arith_term arith.Add (Some (terms.number (number_of_bool (list_all (λ y. compares compare.Differ (num r x) (num r y)) later.now)))) (r.term count))) }
+    ensures gives { IfOk result (Gives run.old run.new (λ r. with_last r x later.now (r.term count))) }
 {
     let new = is_last(run, x, later)?;
     let bit = to_number(run, new)?;

@@ -1,5 +1,5 @@
 -- Elements beside their indices, one place more.
-use Rattle.std.proofs.Common.{◌≡◌, ◌∙◌, ℕ, zero, suc, ◌+◌, ◌<◌, ◌≤◌, ℤ, pos, ◌+ℤ◌, Bool, List, [], ◌∷◌, ◌++◌, length, drop, map, zip, slice_index_or, Option, Some, refl, sym, ap, subst, arith, append-nil}
+use Rattle.std.proofs.Common.{◌≡◌, ◌∙◌, ℕ, zero, suc, ◌+◌, ◌<◌, ◌≤◌, ℤ, pos, ◌+ℤ◌, Bool, List, [], ◌∷◌, ◌++◌, length, drop, map, slice_index_or, Option, Some, refl, sym, ap, subst, arith, append-nil}
 use Rattle.std.specs.List.{list_all}
 use Rattle.mz_value.specs.Ranges.{Range}
 use Rattle.mz_globals.specs.Lists.{numbered}

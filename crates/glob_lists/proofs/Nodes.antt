@@ -1,10 +1,9 @@
 -- Nodes of integers, and sums that grow by an element.
-use Rattle.std.proofs.Common.{◌≡◌, ◌∙◌, ℕ, ℤ, pos, ◌+◌, ◌-◌, ◌<◌, ◌≤◌, Bool, true, false, ◌&&◌, List, [], ◌∷◌, drop, length, slice_index_or, Option, Some, None, refl, sym, ap, arith}
-use Rattle.std.specs.List.{list_all, list_any}
+use Rattle.std.proofs.Common.{◌≡◌, ◌∙◌, ℕ, ℤ, pos, ◌+◌, ◌-◌, ◌<◌, ◌≤◌, Bool, true, false, ◌&&◌, List, drop, length, slice_index_or, Option, Some, None, refl, sym, ap, arith}
 use Rattle.mz_operations.specs.declared.row.Arith.TheVariants as arith_row
 use Rattle.mz_operations.specs.Numbers.{computed}
-use Rattle.mz_operations.specs.Views.{◌>>=◌, number_of_bool}
-use Rattle.mz_arena.specs.Values.{Term, as_number, arith_term, is_true}
+use Rattle.mz_operations.specs.Views.{◌>>=◌}
+use Rattle.mz_arena.specs.Values.{Term, as_number, arith_term}
 use Rattle.mz_arena.specs.Values as terms
 use Rattle.mz_symbol.specs.Runs.{Run}
 use Rattle.mz_symbol.specs.Readings.{Reading, Reads, state_of}

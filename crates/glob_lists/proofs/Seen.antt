@@ -1,5 +1,5 @@
 -- What is told of elements whose values are there is told of the values.
-use Rattle.std.proofs.Common.{◌≡◌, ◌∙◌, ◌+◌, ℤ, pos, ◌+ℤ◌, Bool, true, false, ◌&&◌, ◌||◌, cond, count_by, List, [], ◌∷◌, map, zip, Option, Some, None, refl, sym, ap}
+use Rattle.std.proofs.Common.{◌≡◌, ◌∙◌, ◌+◌, ℤ, ◌+ℤ◌, Bool, ◌&&◌, ◌||◌, cond, count_by, List, [], ◌∷◌, map, zip, Option, Some, None, refl, sym, ap}
 use Rattle.std.proofs.lemmas.List.Sums.{sum_by-cons}
 use Rattle.std.specs.List.{list_all, list_any}
 use Rattle.mz_globals.specs.Lists.{pairwise, total}

@@ -1,5 +1,5 @@
 -- How many pairs there are, and what is quadratic.
-use Rattle.std.proofs.Common.{◌≡◌, ℕ, zero, suc, ◌+◌, ◌*◌, ◌≤◌, List, [], ◌∷◌, length, zip, subst, arith}
+use Rattle.std.proofs.Common.{◌≡◌, ℕ, zero, suc, ◌+◌, ◌*◌, ◌≤◌, List, [], ◌∷◌, length, zip, arith}
 use Rattle.glob_nodes.specs.Says.{pair_count}
 use Rattle.glob_nodes.proofs.Telling.{grows}
 

@@ -19,7 +19,7 @@ use Rattle.glob_nodes.proofs.Rows.{found, ints_are, int_is, at_first, at_second,
 one_array : (f : List ℤ → Bool) (x : Range) (o : Option (List ℤ)) → truth (ints_at (array_of x o ∷ []) 0 >>= λ ns. Some (f ns)) ≡ Some (values.bool (found f o))
 one_array f x o = ap (λ p. truth (p >>= λ ns. Some (f ns))) (ints_are (array_of x o ∷ []) 0 x o (at_first (array_of x o) [])) ∙ one_found f o
 
-two_arrays : (f : List ℤ → List ℤ → Bool) (x y : Range) (o p : Option (List ℤ)) → truth (ints_at (array_of x o ∷ array_of y p ∷ []) 0 >>= λ ns. ints_at (array_of x o ∷ array_of y p ∷ []) 1 >>= λ ms. Some (f ns ms)) ≡ Some (values.bool (found (λ v. found (f v) p) o))
+pub two_arrays : (f : List ℤ → List ℤ → Bool) (x y : Range) (o p : Option (List ℤ)) → truth (ints_at (array_of x o ∷ array_of y p ∷ []) 0 >>= λ ns. ints_at (array_of x o ∷ array_of y p ∷ []) 1 >>= λ ms. Some (f ns ms)) ≡ Some (values.bool (found (λ v. found (f v) p) o))
 two_arrays f x y o p =
     ap (λ q. truth (q >>= λ ns. ints_at (array_of x o ∷ array_of y p ∷ []) 1 >>= λ ms. Some (f ns ms))) (ints_are (array_of x o ∷ array_of y p ∷ []) 0 x o (at_first (array_of x o) (array_of y p ∷ [])))
     ∙ ap (λ q. truth (o >>= λ ns. q >>= λ ms. Some (f ns ms))) (ints_are (array_of x o ∷ array_of y p ∷ []) 1 y p (at_second (array_of x o) (array_of y p) []))

@@ -6,8 +6,10 @@ mod extremes;
 mod lexical;
 mod preceding;
 mod relations;
+mod sorting;
 
 pub use alike::{all_different, all_equal, different_but_zero, ordered};
 pub use extremes::{extreme_is, member};
 pub use lexical::lex;
 pub use preceding::precede;
+pub use sorting::sort;

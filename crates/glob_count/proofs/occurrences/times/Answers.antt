@@ -1,6 +1,5 @@
-use Rattle.std.proofs.Common.{◌∙◌, ◌+◌, ◌*◌, ◌≤◌, [], ◌∷◌, length, map, ap, arith, subst}
+use Rattle.std.proofs.Common.{◌∙◌, ◌*◌, [], ◌∷◌, length, map, ap, arith, subst}
 use Rattle.mz_globals.specs.declared.global.Global.TheVariants as global
-use Rattle.mz_globals.specs.declared.global.Relation.TheVariants as relation
 use Rattle.mz_symbol.specs.Makes.{GoesOnBy}
 use Rattle.glob_nodes.specs.Says.{num}
 use Rattle.glob_nodes.specs.Arguments.{array_value, number_value, numbers_in}

@@ -1,4 +1,4 @@
-use Rattle.std.proofs.Common.{◌∙◌, ◌+◌, ◌*◌, ◌≤◌, [], ◌∷◌, length, map, ap, arith, subst}
+use Rattle.std.proofs.Common.{◌∙◌, ◌*◌, [], ◌∷◌, length, map, ap, arith, subst}
 use Rattle.mz_globals.specs.declared.global.Global.TheVariants as global
 use Rattle.mz_symbol.specs.Makes.{GoesOnBy}
 use Rattle.glob_nodes.specs.Says.{num}

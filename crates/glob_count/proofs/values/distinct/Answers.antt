@@ -1,4 +1,4 @@
-use Rattle.std.proofs.Common.{◌≡◌, ◌+◌, ◌*◌, ◌-◌, ◌<◌, ◌≤◌, Some, length, drop, take, map, slice_index_or, refl, sym, ap, subst, arith}
+use Rattle.std.proofs.Common.{◌≡◌, ◌+◌, ◌*◌, ◌-◌, ◌<◌, Some, length, drop, map, slice_index_or, sym, ap, subst, arith}
 use Rattle.std.specs.List.{list_all}
 use Rattle.mz_arena.specs.Values.{arith_term}
 use Rattle.mz_arena.specs.Values as terms

@@ -1,4 +1,4 @@
-use Rattle.std.proofs.Common.{◌∙◌, ◌*◌, ◌&&◌, true, length, refl, arith}
+use Rattle.std.proofs.Common.{◌∙◌, ◌*◌, true, length, refl, arith}
 use Rattle.std.specs.List.{list_all}
 use Rattle.glob_nodes.specs.declared.nodes.Compare.TheVariants.{Differ}
 use Rattle.glob_nodes.specs.declared.nodes.Join.TheVariants.{Both}

@@ -1,9 +1,8 @@
-use Rattle.std.proofs.Common.{◌≡◌, ◌∙◌, ◌+◌, ◌<◌, ◌≤◌, ◌+ℤ◌, pos, Some, ap, subst, length, drop, arith, rules}
+use Rattle.std.proofs.Common.{◌∙◌, subst, arith, rules}
 use Rattle.std.proofs.lemmas.Int.{to_z-of_z}
 use mir.Syntax.{w64}
 use mir.Val.{to_z, of_z}
 use Rattle.glob_lists.specs.Places.{AreNumbered}
-use Rattle.glob_lists.proofs.Nodes.{number_like}
 use Rattle.glob_lists.proofs.Indexing.{numbering_begins, numbering_step, numbering_whole}
 use Rattle.glob_lists.proofs.numbering.numbered.Goals as goal
 

@@ -1,4 +1,4 @@
-use Rattle.std.proofs.Common.{◌≡◌, ◌+◌, ◌*◌, ◌-◌, ◌<◌, ◌≤◌, length, drop, refl, ap, arith}
+use Rattle.std.proofs.Common.{◌≡◌, ◌+◌, ◌*◌, ◌-◌, ◌<◌, length, drop, refl, ap, arith}
 use Rattle.mz_arena.specs.Values.{is_true}
 use Rattle.glob_nodes.specs.Says.{joins, joined_each}
 use Rattle.glob_nodes.proofs.Telling.{told_start, told_step, told_like, tells_of, tells_like, each_begins, each_goes, room_left, room_all, no_room, goes_more}

@@ -1,4 +1,4 @@
-use Rattle.std.proofs.Common.{◌≡◌, ◌+◌, ◌*◌, ◌-◌, ◌<◌, ◌≤◌, length, drop, ap, arith}
+use Rattle.std.proofs.Common.{◌≡◌, ◌+◌, ◌*◌, ◌-◌, ◌<◌, length, drop, ap, arith}
 use Rattle.glob_nodes.proofs.Telling.{room_left, room_all, no_room, goes_more, goes_less}
 use Rattle.glob_lists.specs.Numbers.{added, plus}
 use Rattle.glob_lists.proofs.Nodes.{sum_from, sum_step, number_like, added_begins, added_goes}

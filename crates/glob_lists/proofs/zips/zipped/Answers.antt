@@ -1,4 +1,4 @@
-use Rattle.std.proofs.Common.{suc, ◌+◌, ◌<◌, ◌≤◌, min, length, arith}
+use Rattle.std.proofs.Common.{arith}
 use Rattle.glob_lists.proofs.SideBySide.{zip_grows, zip_whole}
 use Rattle.glob_lists.proofs.zips.zipped.Goals as goal
 

@@ -1,0 +1,2 @@
+pub mod BothWays
+pub mod ElementAt
