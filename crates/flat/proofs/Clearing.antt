@@ -18,13 +18,10 @@ use Rattle.flat_reif.proofs.Steps.{spreads_same}
 use Rattle.flat_root.specs.Keeps.{Keeps, IsReadyState, Leads}
 use Rattle.flat_root.proofs.Keeping.{fewer_domains, keeps_spread, keeps_twice, keeps_where}
 use Rattle.flat_root.proofs.Rooting.{posted_leads}
+use Rattle.flat_front.proofs.Labels.{all_append}
 use Rattle.flat_front.proofs.Stepping.{next_item, no_item, cells_from, vars_from}
 use Rattle.flat.specs.Cleared.{HasSome, HaveSome, AreCleared, IsBound, AreBound, value_parts, all_value_parts}
 use Rattle.flat.proofs.Reading.{read_values, meets_read}
-
-all_append : {X : Type 0} (P : X → Type 0) (xs ys : List X) → AllByRecursion P xs → AllByRecursion P ys → AllByRecursion P (xs ++ ys)
-all_append P [] ys a b = b
-all_append P (x ∷ xs) ys a b = (a.0, all_append P xs ys a.1 b)
 
 all_first : {X : Type 0} (P : X → Type 0) (xs ys : List X) → AllByRecursion P (xs ++ ys) → AllByRecursion P xs
 all_first P [] ys a = tt

@@ -59,10 +59,6 @@ use Rattle.flat.proofs.Defining.{introduced_are, defined_once, choices_counted}
 
 -- ---- the front
 
-all_append : {X : Type 0} (P : X → Type 0) (xs ys : List X) → AllByRecursion P xs → AllByRecursion P ys → AllByRecursion P (xs ++ ys)
-all_append P [] ys a b = b
-all_append P (x ∷ xs) ys a b = (a.0, all_append P xs ys a.1 b)
-
 all_get : {X : Type 0} (P : X → Type 0) (xs : List X) (k : ℕ) (x : X) → AllByRecursion P xs → slice_get xs k ≡ Some x → P x
 all_get P [] k x a h = absurd (cc)
 all_get P (y ∷ xs) zero x a h = let e : y ≡ x = cc in subst P e a.0

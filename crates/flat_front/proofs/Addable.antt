@@ -25,7 +25,7 @@ use Rattle.fz_build.specs.Build.{MayAdd, with_array}
 use Rattle.fz_emission.specs.Front.{domain_by, front_variable, occurrence_label, value_label, cell_variables, variables_from, front_variables, value_place, value_places, occurrence_places, array_item, var_arrays, front_arrays, occurrence_name, value_name, AreNamed}
 use Rattle.flat_front.specs.Arrays.{MayAddAll, as_place, place_at, HasVariable, HaveVariables, value_ids, as_ids, occurrence_ids, array_over, arrays_by, arrays_at, all_arrays, HaveElements, HaveAllElements}
 use Rattle.flat_front.proofs.Tags.{is_name, not_introduced}
-use Rattle.flat_front.proofs.Labels.{AreSmall, IsFrontLabel, all_distinct, item_labels}
+use Rattle.flat_front.proofs.Labels.{all_append, AreSmall, IsFrontLabel, all_distinct, item_labels}
 use Rattle.flat_front.proofs.Declarable.{distinct_new}
 
 -- ---- index ranges
@@ -147,10 +147,6 @@ var_formed all sort (Some r) true x k cs more i c h = (
   item_formed all Truth (occurrence_name x) r (length cs) (occurrence_places k cs) i c (occurrence_count k cs) (h.occurrences refl),
   (item_formed all sort (value_name x) r (length cs) (value_places true k cs) i c (value_count true k cs) h.values, tt),
 )
-
-all_append : {X : Type 0} (P : X → Type 0) (xs ys : List X) → AllByRecursion P xs → AllByRecursion P ys → AllByRecursion P (xs ++ ys)
-all_append P [] ys a b = b
-all_append P (x ∷ xs) ys a b = (a.0, all_append P xs ys a.1 b)
 
 all_formed : (all : List Variable) (table : List Name) (ms : List ModelVar) (k : ℕ) → AreModelVars ms → VarsAt all k (front_variables table ms) → AllByRecursion (IsFormed all) (front_arrays table k ms)
 all_formed all table [] k sound at = tt

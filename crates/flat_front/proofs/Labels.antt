@@ -20,7 +20,7 @@ all_at P [] x a h = absurd (omega (arith, h.1))
 all_at P (y ∷ xs) x a (zero, below, at) = subst P at a.0
 all_at P (y ∷ xs) x a (suc k, below, at) = all_at P xs x a.1 (k, omega (arith, below), at)
 
-all_append : {X : Type 0} (P : X → Type 0) (xs ys : List X) → AllByRecursion P xs → AllByRecursion P ys → AllByRecursion P (xs ++ ys)
+pub all_append : {X : Type 0} (P : X → Type 0) (xs ys : List X) → AllByRecursion P xs → AllByRecursion P ys → AllByRecursion P (xs ++ ys)
 all_append P [] ys a b = b
 all_append P (x ∷ xs) ys a b = (a.0, all_append P xs ys a.1 b)
 

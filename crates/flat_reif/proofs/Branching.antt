@@ -1,11 +1,7 @@
 -- A variable for two branches under a condition.
-use Rattle.std.proofs.Common.{◌≡◌, ℕ, ℤ, ◌≤ℤ◌, true, false, List, [], ◌∷◌, length, map, take, Option, Some, None, IsSome, slice_get, refl, sym, ap, ap₂, subst, ◌∙◌, arith}
+use Rattle.std.proofs.Common.{◌≡◌, ℕ, true, false, List, [], ◌∷◌, length, map, take, Option, Some, None, IsSome, slice_get, sym, ap, ap₂, subst, ◌∙◌}
 use Rattle.std.specs.List.{AllByRecursion}
-use Rattle.std.proofs.lemmas.Int.{ints}
-use Rattle.mz_value.specs.Ranges.{Range}
-use Rattle.mz_interval.specs.Ends.{Ends, if_interval}
 use Rattle.mz_operations.specs.Views.{◌>>=◌}
-use Rattle.mz_operations.specs.Bounds as bounds
 use Rattle.mz_arena.specs.declared.node.Node.{Node}
 use Rattle.mz_arena.specs.declared.node.NodeKind.TheVariants as kinds
 use Rattle.mz_arena.specs.Entries.{Entry, at, arity, children, is_free}
@@ -15,20 +11,18 @@ use Rattle.mz_arena.specs.Extents.{Known, whole, truth, subset, wholes, truths, 
 use Rattle.mz_arena.specs.InBounds.{AreInDomains}
 use Rattle.mz_arena_laws.proofs.Terms as laws
 use Rattle.mz_partial.specs.Totals.{IsTotal}
-use Rattle.fz_program.specs.declared.program.Domain.{Domain}
-use Rattle.fz_program.specs.declared.program.Domain.TheVariants.{Bool as Truths, Ints as Integers, SetOf}
 use Rattle.fz_program.specs.declared.row_name.RowName.{RowName}
 use Rattle.fz_program.specs.declared.row_name.Kind.TheVariants.{Bool as Truth}
-use Rattle.fz_program.specs.Arguments.{Plain, bool, int, set, var, nested}
+use Rattle.fz_program.specs.Arguments.{Plain}
 use Rattle.fz_program.specs.Values.{Values}
-use Rattle.fz_program.specs.Flat.{Variable, Program, same_kind, kind_of_domain, is_kind, is_constant, is_plain}
-use Rattle.fz_build_domains.specs.Bounds.{ends_of, variable_ends, domain_ends}
-use Rattle.flat_reif_rows.specs.Standing.{LiesWithin, Suits, of_kind, extent_over, term_over}
+use Rattle.fz_program.specs.Flat.{Variable, Program, is_plain}
+use Rattle.flat_reif_rows.specs.Standing.{Suits, of_kind, extent_over, term_over}
 use Rattle.flat_reif_rows.specs.Elements.{AreElements, element_row}
 use Rattle.flat_reif_rows.specs.Branches.{branch_row, AreBranches, MakesBranch}
 use Rattle.flat_reif_rows.specs.Making.{HasValue}
 use Rattle.flat_reif_rows.specs.Laws.{is_own}
 use Rattle.flat_reif_rows.proofs.Sorts.{whole_of, truth_of, subset_of, first_there}
+use Rattle.flat_reif_rows.proofs.Truths.{truth_within}
 use Rattle.flat_reif.specs.States.{State, Meets, IsState, put_at}
 use Rattle.flat_reif.specs.Lists.{HasArg, IsGiven, IsReady, Gives}
 use Rattle.flat_reif.proofs.Steps.{Stands}
@@ -66,43 +60,6 @@ branch_known x y z h = then_known (as_truth x) (as_single y >>= λ b. branch_ext
     then_known : {A B : Type 0} (o : Option A) (p : Option B) → IsSome (o >>= λ a. p) → IsSome p
     then_known None p h = absurd (cc)
     then_known (Some a) p h = h
-
--- ---- a truth value lies in 0..1
-
-truth_domain : (d : Domain) (v : Variable) → v.domain ≡ d → same_kind Truth (kind_of_domain d) ≡ true → variable_ends (Some v) ≡ bounds.truth
-unfolding same_kind kind_of_domain
-truth_domain Truths v e h = ap domain_ends e
-truth_domain (Integers s) v e h = absurd (cc)
-truth_domain (SetOf s) v e h = absurd (cc)
-
-truth_variable : (o : Option Variable) → is_kind o Truth ≡ true → variable_ends o ≡ bounds.truth
-truth_variable None h = absurd (cc)
-truth_variable (Some v) h = truth_domain v.domain v refl h
-
-int_no_truth : {A : Type 0} (n : ℤ) → is_constant Truth (int n) ≡ true → A
-unfolding is_constant same_kind
-int_no_truth n h = absurd (cc)
-
-set_no_truth : {A : Type 0} (t : List Range) → is_constant Truth (set t) ≡ true → A
-unfolding is_constant same_kind
-set_no_truth t h = absurd (cc)
-
-array_no_truth : {A : Type 0} → is_constant Truth nested ≡ true → A
-unfolding is_constant
-array_no_truth h = absurd (cc)
-
-module _ (vs : List Variable) where
-  open_within : (p : Plain) → is_plain vs Truth p ≡ true → ends_of vs p ≡ bounds.truth → LiesWithin Truth vs p bounds.truth
-  open_within p h e = record { sort = h; interval = ap if_interval e ∙ sym (ap Some e); from = subst (λ (g : Ends). bounds.truth.0 ≤ℤ g.0) (sym e) (omega (arith, ints)); to = subst (λ (g : Ends). g.1 ≤ℤ bounds.truth.1) (sym e) (omega (arith, ints)) }
-
-  pub truth_within : (p : Plain) → is_plain vs Truth p ≡ true → LiesWithin Truth vs p bounds.truth
-  unfolding is_plain
-  truth_within (var k) h = open_within (var k) h (truth_variable (slice_get vs k) h)
-  truth_within (bool true) h = record { sort = h; interval = refl; from = omega (arith, ints); to = omega (arith, ints) }
-  truth_within (bool false) h = record { sort = h; interval = refl; from = omega (arith, ints); to = omega (arith, ints) }
-  truth_within (int n) h = int_no_truth n h
-  truth_within (set t) h = set_no_truth t h
-  truth_within nested h = array_no_truth h
 
 -- ---- the node
 

@@ -25,6 +25,7 @@ use Rattle.fz_program.specs.Arguments.{Plain, bool, int, set}
 use Rattle.fz_program.specs.Flat.{Variable, number_of_truth, same_kind, is_literal, is_constant, is_plain}
 use Rattle.fz_program.proofs.Sets.{set_is}
 use Rattle.flat_reif_rows.specs.Standing.{LiesWithin, Suits}
+use Rattle.flat_reif_rows.proofs.Truths.{truth_within}
 use Rattle.flat_reif.specs.States.{State, IsState, put_at}
 use Rattle.flat_reif.specs.Lists.{HasArg, IsGiven, IsReady, Gives}
 use Rattle.flat_reif.specs.NodeKinds.{is_scalar, scalar}
@@ -32,7 +33,6 @@ use Rattle.flat_reif.proofs.Steps.{Stands}
 use Rattle.flat_reif.proofs.Nodes.{term_here, extent_here, total_value, same_stands}
 use Rattle.flat_reif.proofs.Kids.{guard_kids}
 use Rattle.flat_reif.proofs.Given.{has_arg, gives_at}
-use Rattle.flat_reif.proofs.Branching.{truth_within}
 use Rattle.flat_reif.proofs.Choosing.{limit_is}
 
 -- ---- bounds of constants

@@ -27,13 +27,13 @@ use Rattle.fz_build.specs.Build.{IsOver}
 use Rattle.flat_reif_rows.specs.Standing.{seen, LiesWithin, Suits, of_kind, extent_over, term_over}
 use Rattle.flat_reif_rows.specs.NodeRows.{row_of_one, row_of_two}
 use Rattle.flat_reif_rows.specs.Laws.{is_own}
+use Rattle.flat_reif_rows.proofs.Truths.{truth_within}
 use Rattle.flat_reif_folds.specs.Folds.{truth_in, IsSame, IsNegated, IsCounted, IsFoldOfOne}
 use Rattle.flat_reif.specs.States.{State, IsState, put_at}
 use Rattle.flat_reif.specs.Lists.{IsReady, Gives}
 use Rattle.flat_reif.specs.Unmet.{IsFixed}
 use Rattle.flat_reif.proofs.Nodes.{AllHave, extent_told, term_told, total_value, same_stands, own_or_free}
 use Rattle.flat_reif.proofs.Given.{gives_at, children_one, children_two, one_arity, two_arity, all_one, all_two}
-use Rattle.flat_reif.proofs.Branching.{truth_within}
 use Rattle.flat_reif.proofs.Fixed.{bool_sort}
 use Rattle.flat_reif.proofs.Lacking.{number_suits, low_number, interval_of, same_ends}
 

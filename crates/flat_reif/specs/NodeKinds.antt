@@ -1,5 +1,5 @@
 -- Kinds of nodes, by what a flattening does with them.
-use Rattle.std.specs.Prelude.{◌≡◌, ℕ, ℤ, pos, Bool, true, false, Option, Some, None}
+use Rattle.std.specs.Prelude.{ℕ, ℤ, pos, Bool, true, false, Option, Some, None}
 use Rattle.std.specs.Ordering.{int_eq}
 use Rattle.mz_operations.specs.declared.row.Side.{Side}
 use Rattle.mz_operations.specs.declared.row.Side.TheVariants.{Least, Greatest}
@@ -53,8 +53,3 @@ place_of (bool b) = None
 place_of (int n) = None
 place_of (set s) = None
 place_of nested = None
-
--- a product's first child is this number
-pub record IsFactor (k : NodeKind) (p : Plain) (c : ℤ) : Type 0 where
-  pub product : k ≡ kinds.Mul
-  pub number : p ≡ int c

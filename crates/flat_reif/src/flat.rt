@@ -1,7 +1,7 @@
 // The state of a flattening, and arguments for its nodes.
 
 ghost use Rattle.std.specs.Prelude.{◌≡◌, ◌≢◌, ◌<◌, ◌≤◌, [], IfOk, IfSome, IsSome, OnOk, None, Some, false, length, true};
-ghost use Rattle.mz_arena.specs.declared.node.NodeKind.TheVariants.{Access, Add, Guard, If, Mul, SetConst};
+ghost use Rattle.mz_arena.specs.declared.node.NodeKind.TheVariants.{Access, Add, Guard, If, SetConst};
 ghost use Rattle.mz_arena.specs.Entries.{at, is_free, is_local};
 ghost use Rattle.mz_partial.specs.Totals.{AreParts};
 ghost use Rattle.fz_program.specs.Flat.{WellFormed, array_item, is_goal, program, variable};
@@ -10,7 +10,7 @@ ghost use Rattle.mz_arena.specs.Extents.{as_single, extent};
 ghost use Rattle.fz_build_domains.specs.Bounds.{ends_of};
 ghost use Rattle.flat_reif_rows.specs.Branches.{branch_row};
 ghost use Rattle.flat_reif_rows.specs.Elements.{Reaches, element_row};
-ghost use Rattle.fz_program.specs.Arguments.{int, plain, plains};
+ghost use Rattle.fz_program.specs.Arguments.{plain, plains};
 ghost use Rattle.flat_reif_rows.specs.NodeRows.{HasDivisor, row_of_one, row_of_two};
 ghost use Rattle.flat_reif.specs.States.{IsState, state};
 ghost use Rattle.flat_reif.specs.NodeKinds.{divides, extreme_kind, is_scalar, may_lack};
@@ -24,12 +24,11 @@ use crate::constant::{
 };
 use crate::domain::free_domain;
 use crate::needed::Needed;
-use crate::table::{copied, divides, factor, is_local, place_of, put, row_of_element};
+use crate::table::{copied, divides, is_local, place_of, put, row_of_element};
 use flat_reif_folds::{Fold, fold_of_one, fold_of_two};
 use flat_reif_rows::{
-    defined, made_of_access, made_of_branches, made_of_extreme, made_of_multiple, made_of_one,
-    made_of_sum, made_of_two, may_divide, may_reach, post_false, post_test, post_true, row_of_one,
-    row_of_two,
+    defined, made_of_access, made_of_branches, made_of_extreme, made_of_one, made_of_sum,
+    made_of_two, may_divide, may_reach, post_false, post_test, post_true, row_of_one, row_of_two,
 };
 use fz_build::Build;
 use fz_program::{Arg, FzArray, FzGoal, FzProgram, FzVar, RowName};
@@ -145,45 +144,7 @@ impl Flat {
             Fold::Truth(b) => put(&mut self.args, id, truth(b)),
             Fold::First => put(&mut self.args, id, x),
             Fold::Second => put(&mut self.args, id, y),
-            Fold::Row => self.give_row(id, n, name, x, y),
-        }
-    }
-
-    // An argument for a product of this number and another child, by a linear row.
-    fn give_multiple(
-        &mut self,
-        id: Id,
-        n: &Node,
-        name: RowName,
-        c: i64,
-        y: Arg,
-    ) -> Result<(), Memory>
-        requires state { IsState (state self.old) }
-        requires ready { IsReady (state self.old) id n.now }
-        requires row { row_of_two n.now.kind ≡ Some name }
-        requires kind { n.now.kind ≡ Mul }
-        requires first { at (state self.old).args n.now.a ≡ Some (int c) }
-        requires second { at (state self.old).args n.now.b ≡ Some (plain y) }
-        ensures { IfOk result (λ _. Gives (state self.old) (state self.new) id) }
-    {
-        let _name = name;
-        let out = given!(made_of_multiple(self.alloc, &mut self.build, c, y));
-        put(&mut self.args, id, out)
-    }
-
-    // An argument for a node that has two children and doesn't divide, by a row over their arguments.
-    fn give_row(&mut self, id: Id, n: &Node, name: RowName, x: Arg, y: Arg) -> Result<(), Memory>
-        requires state { IsState (state self.old) }
-        requires ready { IsReady (state self.old) id n.now }
-        requires row { row_of_two n.now.kind ≡ Some name }
-        requires first { at (state self.old).args n.now.a ≡ Some (plain x) }
-        requires second { at (state self.old).args n.now.b ≡ Some (plain y) }
-        requires whole { divides n.now.kind ≡ false }
-        ensures { IfOk result (λ _. Gives (state self.old) (state self.new) id) }
-    {
-        match factor(n.kind, &x) {
-            Some(c) => self.give_multiple(id, n, name, c, y),
-            None => self.give_two(id, n, name, x, y),
+            Fold::Row => self.give_two(id, n, name, x, y),
         }
     }
 

@@ -1,10 +1,10 @@
 // The arguments of ids, and tests of kinds and sorts.
 
-ghost use Rattle.std.specs.Prelude.{◌≡◌, ◌<◌, IfOk, IfSome, OnOk, length};
-ghost use Rattle.fz_program.specs.Arguments.{Plain, int, plain};
+ghost use Rattle.std.specs.Prelude.{◌≡◌, ◌<◌, IfOk, OnOk, length};
+ghost use Rattle.fz_program.specs.Arguments.{Plain, plain};
 ghost use Rattle.flat_reif.specs.States.{plain_args, put_at};
 ghost use Rattle.mz_arena.specs.Entries.{is_local};
-ghost use Rattle.flat_reif.specs.NodeKinds.{IsFactor, divides, place_of, row_of_element};
+ghost use Rattle.flat_reif.specs.NodeKinds.{divides, place_of, row_of_element};
 
 use fz_program::{Arg, RowName};
 use mz_arena::{Id, NodeKind, Sort};
@@ -87,29 +87,6 @@ pub(crate) fn place_of(a: &Arg) -> Option<u64>
         Arg::Int(_) => None,
         Arg::Bool(_) => None,
         Arg::Set(_) => None,
-        Arg::Array(_) => None,
-    }
-}
-
-// The number by which a product multiplies its second child, where its first child's argument is one.
-pub(crate) fn factor(kind: NodeKind, a: &Arg) -> Option<i64>
-    ensures { IfSome result (IsFactor kind (plain a.now)) }
-{
-    match kind {
-        NodeKind::Mul => number_in(a),
-        _ => None,
-    }
-}
-
-// The number that an argument is.
-fn number_in(a: &Arg) -> Option<i64>
-    ensures { IfSome result (λ c. plain a.now ≡ int c) }
-{
-    match a {
-        Arg::Int(c) => Some(*c),
-        Arg::Bool(_) => None,
-        Arg::Set(_) => None,
-        Arg::Var(_) => None,
         Arg::Array(_) => None,
     }
 }

@@ -162,7 +162,7 @@ nothing_first u w p q =
     let first = union_set [] w none q in
     record { inside = λ x m. (union_members u w p q x).1 (⊎_elim (λ l. inr (⊎_elim (λ n. absurd n) (λ n. n) ((union_members [] w none q x).0 l))) (λ r. inl r) ((union_members (union [] w) u first p x).0 m)) }
 
-part_of_more : (vs : List Variable) (p : Plain) (u w : List Range) → IsPart u w → IsSet w → IsPartOf vs p u → IsPartOf vs p w
+pub part_of_more : (vs : List Variable) (p : Plain) (u w : List Range) → IsPart u w → IsSet w → IsPartOf vs p u → IsPartOf vs p w
 part_of_more vs p u w h s l = record { sort = l.sort; own = l.own; upper = s; part = record { inside = λ x m. h.inside x (l.part.inside x m) } }
 
 -- ---- three steps

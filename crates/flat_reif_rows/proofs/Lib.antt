@@ -21,4 +21,7 @@ pub mod Stepping
 pub mod ToldByKind
 pub mod TestRows
 pub mod Tested
+pub mod Exchanging
+pub mod Truths
+pub mod ConstantBranches
 pub mod WorkedRows

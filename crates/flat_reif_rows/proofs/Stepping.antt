@@ -41,7 +41,7 @@ with_nothing : {A : Type 0} (xs : List A) → xs ++ [] ≡ xs
 with_nothing [] = refl
 with_nothing (x ∷ xs) = ap (λ ys. x ∷ ys) (with_nothing xs)
 
-grows_not : (p : Program) → Grows p p Ever
+pub grows_not : (p : Program) → Grows p p Ever
 grows_not p =
     let same : (f : Values) → FlatSolves p f → take (length p.vars) f ≡ f = λ f s. take_all f (length p.vars) (domains_length p.vars f s.domains) in
     record {

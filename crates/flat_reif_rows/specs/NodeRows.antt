@@ -1,12 +1,12 @@
 -- The rows that give nodes from their children's arguments.
-use Rattle.std.specs.Prelude.{ℤ, pos, List, [], ◌∷◌, Bool, true, false, Option, Some, None}
+use Rattle.std.specs.Prelude.{◌≡◌, ℤ, pos, List, [], ◌∷◌, Bool, true, false, Option, Some, None}
 use Rattle.mz_interval.specs.Ends.{Ends}
 use Rattle.mz_operations_laws.specs.Monotone.{MayDivide}
 use Rattle.mz_arena.specs.declared.node.NodeKind.{NodeKind}
 use Rattle.mz_arena.specs.declared.node.NodeKind.TheVariants as kinds
 use Rattle.fz_program.specs.declared.row_name.RowName.{RowName}
 use Rattle.fz_program.specs.declared.row_name.RowName.TheVariants as rows
-use Rattle.fz_program.specs.Arguments.{int, Argument, one, array, plain_of}
+use Rattle.fz_program.specs.Arguments.{Plain, int, Argument, one, array, plain_of}
 
 -- the row of one input that gives a node of a kind
 abbrev pub row_of_one : NodeKind → Option RowName
@@ -64,3 +64,8 @@ abbrev pub HasDivisor : NodeKind → Ends → Type 0
 HasDivisor kinds.Div f = MayDivide f
 HasDivisor kinds.Mod f = MayDivide f
 HasDivisor _ f = Unit {0}
+
+-- a product has this number for a child's argument
+pub record IsFactor (k : NodeKind) (p : Plain) (c : ℤ) : Type 0 where
+  pub product : k ≡ kinds.Mul
+  pub number : p ≡ int c

@@ -13,6 +13,7 @@ macro_rules! given {
 
 mod access;
 mod branching;
+mod constant;
 mod extreme;
 mod law;
 mod making;
@@ -24,7 +25,7 @@ pub use access::made_of_access;
 pub use branching::made_of_branches;
 pub use extreme::made_of_extreme;
 pub use law::nodes_are_told_by_kind;
-pub use making::{defined, made_of_multiple, made_of_one, made_of_sum, made_of_two};
+pub use making::{defined, made_of_one, made_of_sum, made_of_two};
 pub use posting::{post_false, post_test, post_true};
 pub use range::{may_divide, may_reach};
 pub use table::{row_of_one, row_of_two, test_of};

@@ -7,6 +7,7 @@ ghost use Rattle.fz_build_domains.specs.Bounds.{ends_of};
 ghost use Rattle.flat_reif_rows.specs.NodeRows.{HasDivisor, inputs_by, inputs_of_two, multiple_inputs, row_of_one, row_of_two, sum_inputs};
 ghost use Rattle.flat_reif_rows.specs.Making.{AreOperands, Gives, Makes, MayGive};
 
+use crate::constant::factor;
 use crate::table::is_joined;
 use fz_build::Build;
 use fz_program::{Arg, RowName};
@@ -58,28 +59,6 @@ fn inputs_of_two(alloc: Global, kind: NodeKind, a: Arg, b: Arg) -> Result<Vec<Ar
     }
 }
 
-/// A variable for a node of this kind, by the row that takes its two children's arguments.
-///
-/// The arguments lie within the bounds of two children that such a node may have. A divisor isn't one that
-/// is 0 alone.
-pub fn made_of_two(
-    alloc: Global,
-    build: &mut Build,
-    kind: NodeKind,
-    name: RowName,
-    a: Arg,
-    b: Arg,
-) -> Result<Arg, Memory>
-    requires row { row_of_two kind ≡ Some name }
-    requires operands { AreOperands build.old.vars kind (plain a ∷ plain b ∷ []) }
-    requires divisor { HasDivisor kind (ends_of build.old.vars (plain b)) }
-    ensures makes { IfOk result (λ out. Makes build.old build.new kind (plain a ∷ plain b ∷ []) (plain out)) }
-    ensures err { OnErr result (build.new ≡ build.old) }
-{
-    let inputs = given!(inputs_of_two(alloc, kind, a, b));
-    defined(build, name, &inputs)
-}
-
 // Once each of two, and the constant 0.
 fn sum_inputs(alloc: Global, a: Arg, b: Arg) -> Result<Vec<Arg>, Memory>
     ensures { IfOk result (λ all. map argument all.items ≡ sum_inputs (argument a) (argument b)) }
@@ -110,14 +89,111 @@ fn multiple_inputs(alloc: Global, n: i64, a: Arg) -> Result<Vec<Arg>, Memory>
     Ok(vec![in alloc; Arg::Array(times), Arg::Array(of), Arg::Int(0)]?)
 }
 
-/// A variable for a number times an integer, by one linear row.
-///
-/// The number and the argument lie within the bounds of two children that a `Mul` may have.
-pub fn made_of_multiple(alloc: Global, build: &mut Build, n: i64, a: Arg) -> Result<Arg, Memory>
+// A variable for a number times an integer, by one linear row.
+fn made_of_multiple(alloc: Global, build: &mut Build, n: i64, a: Arg) -> Result<Arg, Memory>
     requires { AreOperands build.old.vars Mul (int n ∷ plain a ∷ []) }
     ensures makes { IfOk result (λ out. Makes build.old build.new Mul (int n ∷ plain a ∷ []) (plain out)) }
     ensures err { OnErr result (build.new ≡ build.old) }
 {
     let inputs = given!(multiple_inputs(alloc, n, a));
     defined(build, RowName::IntLinEq, &inputs)
+}
+
+// A variable for a node of this kind, by the row that takes its two children's arguments.
+fn made_by_row(
+    alloc: Global,
+    build: &mut Build,
+    kind: NodeKind,
+    name: RowName,
+    a: Arg,
+    b: Arg,
+) -> Result<Arg, Memory>
+    requires row { row_of_two kind ≡ Some name }
+    requires operands { AreOperands build.old.vars kind (plain a ∷ plain b ∷ []) }
+    requires divisor { HasDivisor kind (ends_of build.old.vars (plain b)) }
+    ensures makes { IfOk result (λ out. Makes build.old build.new kind (plain a ∷ plain b ∷ []) (plain out)) }
+    ensures err { OnErr result (build.new ≡ build.old) }
+{
+    let inputs = given!(inputs_of_two(alloc, kind, a, b));
+    defined(build, name, &inputs)
+}
+
+// A variable for a product of which the second child's argument is a number, by one linear row.
+fn made_of_factor(
+    alloc: Global,
+    build: &mut Build,
+    kind: NodeKind,
+    n: i64,
+    a: Arg,
+) -> Result<Arg, Memory>
+    requires product { kind ≡ Mul }
+    requires operands { AreOperands build.old.vars kind (plain a ∷ int n ∷ []) }
+    ensures makes { IfOk result (λ out. Makes build.old build.new kind (plain a ∷ int n ∷ []) (plain out)) }
+    ensures err { OnErr result (build.new ≡ build.old) }
+{
+    let _kind = kind;
+    made_of_multiple(alloc, build, n, a)
+}
+
+// The same where it is the first child's.
+fn made_of_first_factor(
+    alloc: Global,
+    build: &mut Build,
+    kind: NodeKind,
+    n: i64,
+    b: Arg,
+) -> Result<Arg, Memory>
+    requires product { kind ≡ Mul }
+    requires operands { AreOperands build.old.vars kind (int n ∷ plain b ∷ []) }
+    ensures makes { IfOk result (λ out. Makes build.old build.new kind (int n ∷ plain b ∷ []) (plain out)) }
+    ensures err { OnErr result (build.new ≡ build.old) }
+{
+    let _kind = kind;
+    made_of_multiple(alloc, build, n, b)
+}
+
+// A variable for a node of this kind, where the first child's argument is no factor of a product.
+fn made_of_rest(
+    alloc: Global,
+    build: &mut Build,
+    kind: NodeKind,
+    name: RowName,
+    a: Arg,
+    b: Arg,
+) -> Result<Arg, Memory>
+    requires row { row_of_two kind ≡ Some name }
+    requires operands { AreOperands build.old.vars kind (plain a ∷ plain b ∷ []) }
+    requires divisor { HasDivisor kind (ends_of build.old.vars (plain b)) }
+    ensures makes { IfOk result (λ out. Makes build.old build.new kind (plain a ∷ plain b ∷ []) (plain out)) }
+    ensures err { OnErr result (build.new ≡ build.old) }
+{
+    match factor(kind, &b) {
+        Some(n) => made_of_factor(alloc, build, kind, n, a),
+        None => made_by_row(alloc, build, kind, name, a, b),
+    }
+}
+
+/// A variable for a node of this kind, by the row that takes its two children's arguments. Of a number and
+/// another, in either order, a product is a linear row.
+///
+/// The arguments lie within the bounds of two children that such a node may have. A divisor isn't one that
+/// is 0 alone.
+pub fn made_of_two(
+    alloc: Global,
+    build: &mut Build,
+    kind: NodeKind,
+    name: RowName,
+    a: Arg,
+    b: Arg,
+) -> Result<Arg, Memory>
+    requires row { row_of_two kind ≡ Some name }
+    requires operands { AreOperands build.old.vars kind (plain a ∷ plain b ∷ []) }
+    requires divisor { HasDivisor kind (ends_of build.old.vars (plain b)) }
+    ensures makes { IfOk result (λ out. Makes build.old build.new kind (plain a ∷ plain b ∷ []) (plain out)) }
+    ensures err { OnErr result (build.new ≡ build.old) }
+{
+    match factor(kind, &a) {
+        Some(n) => made_of_first_factor(alloc, build, kind, n, b),
+        None => made_of_rest(alloc, build, kind, name, a, b),
+    }
 }

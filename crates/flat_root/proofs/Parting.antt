@@ -22,8 +22,8 @@ use Rattle.flat_root.specs.Keeps.{AllTrue}
 use Rattle.flat_root.specs.Marks.{IsIn}
 use Rattle.flat_root.specs.Totals.{IsRootPart, AreRootParts}
 use Rattle.flat_root.specs.Parts.{is_and, AreSplit, IsKnown, IsParted, SplitSoFar, Visits, left_of, unseen, turned}
-use Rattle.flat_root.proofs.Marking.{total_children, in_left, in_right}
-use Rattle.flat_root.proofs.Totaling.{root_of, all_both, true_both, true_first, true_second}
+use Rattle.flat_root.proofs.Marking.{all_both, total_children, in_left, in_right}
+use Rattle.flat_root.proofs.Totaling.{root_of, true_both, true_first, true_second}
 
 -- ---- a conjunction
 

@@ -1,6 +1,5 @@
 -- Roots as total terms, one after the other.
 use Rattle.std.proofs.Common.{◌≡◌, ℕ, zero, suc, ◌+◌, ◌<◌, Bool, true, false, List, [], ◌∷◌, ◌++◌, length, take, Some, None, IsSome, slice_get, refl, sym, ap, subst, ◌∙◌, arith}
-use Rattle.std.specs.List.{AllByRecursion}
 use Rattle.mz_arena.specs.Entries.{Entry}
 use Rattle.mz_arena.specs.Values as terms
 use Rattle.mz_arena.specs.Values.{Term, Val, bit, is_true}
@@ -17,7 +16,7 @@ use Rattle.flat_root.specs.Keeps.{IsReadyState, AllTrue}
 use Rattle.flat_root.specs.Totals.{IsRoot, AreRoots, IsRootPart, AreRootParts, Totals, AddsTotal}
 use Rattle.flat_root.proofs.Keeping.{keeps_twice, keeps_where, keeps_spread, keeps_grown, ready_grown, fewer_domains}
 use Rattle.flat_reif.proofs.Steps.{spreads_same}
-use Rattle.flat_root.proofs.Marking.{take_next}
+use Rattle.flat_root.proofs.Marking.{all_both, take_next}
 
 -- ---- one root
 
@@ -95,10 +94,6 @@ one_added s t id p before after r root g items = record { parts = p.defined ∷ 
 
 pub no_totals : (s : State) → IsReadyState s → Totals s s [] []
 no_totals s r = record { keeps = keeps_spread s s Always (spreads_same s); ready = r; each = tt; to = λ v d y. tt; from = λ v d y. tt }
-
-pub all_both : (P : ℕ → Type 0) (xs ys : List ℕ) → AllByRecursion P xs → AllByRecursion P ys → AllByRecursion P (xs ++ ys)
-all_both P [] ys a b = b
-all_both P (x ∷ xs) ys a b = (a.0, all_both P xs ys a.1 b)
 
 pub true_both : (es : List Entry) (xs ys : List ℕ) (v : terms.Values) → AllTrue es xs v → AllTrue es ys v → AllTrue es (xs ++ ys) v
 true_both es [] ys v a b = b

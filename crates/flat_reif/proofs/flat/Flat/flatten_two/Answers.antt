@@ -2,7 +2,7 @@ use Rattle.std.proofs.Common.{subst}
 use Rattle.fz_program.specs.Arguments.{plain}
 use Rattle.flat_reif_folds.specs.Folds.{IsFold}
 use Rattle.flat_reif.specs.States.{state, plain_args}
-use Rattle.flat_reif.proofs.Given.{have_two, operands_two, on_ok}
+use Rattle.flat_reif.proofs.Given.{have_two, operands_two, divisor_of, on_ok}
 use Rattle.flat_reif.proofs.Folding.{first_given, second_given, constant_given}
 use Rattle.flat_reif.proofs.flat.Flat.flatten_two.Goals as goal
 
@@ -23,3 +23,6 @@ returns-in-First c = on_ok c.put-in-First.result _ _ (first_given (state c.args.
 
 pub returns-in-Second : goal.returns-in-Second
 returns-in-Second c = on_ok c.put-in-Second.result _ _ (second_given (state c.args.self.now) c.args.id c.args.n.now c.requires.state c.requires.ready c.args.name c.requires.row (plain c.in-Ok.x) (plain c.in-Ok-argument.x) (plain_args c.put-in-Second.new.args.items) c.in-Ok.ensures c.in-Ok-argument.ensures (subst (IsFold c.args.self.now.build.vars c.args.n.now.kind (plain c.in-Ok.x) (plain c.in-Ok-argument.x)) c.in-Second.is c.fold_of_two.ensures)) c.put-in-Second.ensures
+
+pub give_two-requires-clause-divisor : goal.give_two-requires-clause-divisor
+give_two-requires-clause-divisor c = divisor_of c.args.self.now.build.vars c.args.n.now.kind (plain c.in-Ok-argument.x) c.requires.whole

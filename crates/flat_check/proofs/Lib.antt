@@ -1,0 +1,5 @@
+mod Indexing
+mod Standing
+mod Named
+mod Gathered
+mod Collected
