@@ -1,0 +1,2 @@
+pub mod ArrayValues
+pub mod StepsArrays
