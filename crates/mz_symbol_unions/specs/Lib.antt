@@ -1,0 +1,2 @@
+pub mod UnionValues
+pub mod StepsWalk
