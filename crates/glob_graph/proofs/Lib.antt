@@ -1,2 +1,3 @@
 pub mod BothWays
 pub mod ElementAt
+pub mod Rowwise

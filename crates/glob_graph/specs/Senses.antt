@@ -1,7 +1,6 @@
 -- What the terms tell of arrays that lead to indices, over integers that may be undefined; private clauses only.
-use Rattle.std.specs.Prelude.{ℕ, ℤ, Bool, ◌&&◌, List}
+use Rattle.std.specs.Prelude.{ℕ, Bool, ◌&&◌}
 use Rattle.std.specs.List.{list_all}
-use Rattle.mz_value.specs.Ranges.{Range}
 use Rattle.mz_operations.specs.Numbers.{same}
 use Rattle.mz_globals.specs.Lists.{numbered}
 use Rattle.mz_symbol.specs.Readings.{Reading}

@@ -3,6 +3,8 @@
 
 mod elements;
 mod inverses;
+mod tables;
 
 pub use elements::element;
 pub use inverses::inverse;
+pub use tables::{Rows, table};

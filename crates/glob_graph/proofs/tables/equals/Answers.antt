@@ -1,0 +1,11 @@
+use Rattle.std.proofs.Common.{Some, ap, rules}
+use Rattle.std.proofs.lemmas.Int.{to_z-of_z}
+use mir.Syntax.{w64}
+use Rattle.glob_nodes.specs.declared.nodes.Compare.TheVariants.{Equal}
+use Rattle.glob_nodes.specs.Says.{num, compares}
+use Rattle.glob_nodes.proofs.Saying.{ok_so}
+use Rattle.glob_lists.proofs.Nodes.{number_like, says_over_number}
+use Rattle.glob_graph.proofs.tables.equals.Goals as goal
+
+pub returns-clause-says : goal.returns-clause-says
+returns-clause-says c = ok_so c.compared.result c.compared.ensures.says (λ id s. says_over_number c.args.run.now c.constant.new.run c.compared.new.run (λ r. Some c.args.x.now.1) (λ r t. compares Equal (num r c.args.x.now.0) t) c.in_ok-n.n id _ (number_like c.args.run.now c.constant.new.run _ (λ r. Some c.args.x.now.1) c.in_ok-n.n (λ r. ap (λ n. Some n) (to_z-of_z w64 c.args.x.now.1 (search rules))) c.in_ok-n.ensures.is) c.compared.ensures.goes s)
