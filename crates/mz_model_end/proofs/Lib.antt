@@ -1,0 +1,5 @@
+mod Pushed
+mod Sorts
+mod Ends
+mod VarsOver
+mod PartNodes
