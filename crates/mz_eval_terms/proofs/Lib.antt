@@ -1,0 +1,5 @@
+pub mod HandedLaws
+pub mod LineLaws
+pub mod RowLaws
+pub mod ToldLaws
+pub mod ValueLaws

@@ -1,0 +1,192 @@
+// The symbols of rows over cells.
+
+ghost use Rattle.std.specs.Prelude.{◌≡◌, ◌+◌, ◌*◌, ◌∷◌, []};
+ghost use Rattle.mz_value.specs.Shown.{Names};
+ghost use Rattle.mz_core.specs.Types.{plain_type};
+ghost use Rattle.mz_operations.specs.declared.row.MadeRow.TheVariants as made;
+ghost use Rattle.mz_operations.specs.declared.row.Row.TheVariants.{Made, Scalar};
+ghost use Rattle.mz_meaning.specs.Cells.{is_bool};
+ghost use Rattle.mz_meaning.specs.Operations.{row_cost};
+ghost use Rattle.mz_meaning.specs.Runs.{give};
+ghost use Rattle.mz_symbol.specs.Makes.{GoesOnBy, Means};
+ghost use Rattle.mz_symbol_rows.specs.RowValues.{argument};
+ghost use Rattle.mz_eval_cells.specs.Views.{cell_of};
+ghost use Rattle.mz_eval_symbols.specs.Taken.{cell_value};
+ghost use Rattle.mz_eval_terms.specs.NodeRows.{row_told};
+
+use crate::lines::{symbol_of_array, takes_array};
+use crate::singles::{made_over_two, over_one, over_two, unbuilt_row};
+use crate::stated::{gives_truth, made_truth, stated};
+use crate::types::Argument;
+use mz_base::Stop;
+use mz_core::{Base, TypeInst};
+use mz_eval_symbols::symbol_in;
+use mz_operations::{MadeRow, Row, ScalarRow};
+use mz_symbol::{Run, Symbol};
+use mz_symbol_options::deopt;
+use std::alloc::Global;
+
+/// The symbol of an argument that is no array.
+fn taken(alloc: Global, run: &mut Run, a: &Argument) -> Result<Symbol, Stop>
+    ensures goes { GoesOnBy 8 run.old run.new }
+    ensures means { Means argument result run.old run.new (λ r. give (cell_value r a.now.cell)) }
+{
+    symbol_in(alloc, run, a.base, a.opt, &a.cell)
+}
+
+#[tactic(auto, using(mz_symbol_rows::proofs::GoingOn::goes_both, mz_symbol_rows::proofs::GoingOn::goes_most))]
+fn scalar_of_one(
+    alloc: Global,
+    w: ScalarRow,
+    t: &TypeInst,
+    a: &Argument,
+    run: &mut Run,
+) -> Result<Symbol, Stop>
+    ensures goes { GoesOnBy 20 run.old run.new }
+    ensures means { (names : Names) → Means argument result run.old run.new
+        (λ r. give (row_told r names (Scalar w) (plain_type t.now) (cell_value r a.now.cell ∷ []))) }
+{
+    let x = taken(alloc, run, a)?;
+    let s = over_one(run, w, x)?;
+    let told = stated(t, gives_truth(w), s)?;
+    Ok(told)
+}
+
+#[tactic(auto, using(mz_symbol_rows::proofs::GoingOn::goes_both, mz_symbol_rows::proofs::GoingOn::goes_most))]
+fn scalar_of_two(
+    alloc: Global,
+    w: ScalarRow,
+    t: &TypeInst,
+    a: &Argument,
+    b: &Argument,
+    run: &mut Run,
+) -> Result<Symbol, Stop>
+    ensures goes { GoesOnBy 108 run.old run.new }
+    ensures means { (names : Names) → Means argument result run.old run.new
+        (λ r. give (row_told r names (Scalar w) (plain_type t.now) (cell_value r a.now.cell ∷ cell_value r b.now.cell ∷ []))) }
+{
+    let x = taken(alloc, run, a)?;
+    let y = taken(alloc, run, b)?;
+    let s = over_two(run, w, x, y)?;
+    let told = stated(t, gives_truth(w), s)?;
+    Ok(told)
+}
+
+#[tactic(auto, using(mz_symbol_rows::proofs::GoingOn::goes_both, mz_symbol_rows::proofs::GoingOn::goes_most))]
+fn made_of_two(
+    alloc: Global,
+    w: MadeRow,
+    t: &TypeInst,
+    a: &Argument,
+    b: &Argument,
+    run: &mut Run,
+) -> Result<Symbol, Stop>
+    ensures goes { GoesOnBy 22 run.old run.new }
+    ensures means { (names : Names) → Means argument result run.old run.new
+        (λ r. give (row_told r names (Made w) (plain_type t.now) (cell_value r a.now.cell ∷ cell_value r b.now.cell ∷ []))) }
+{
+    let x = taken(alloc, run, a)?;
+    let y = taken(alloc, run, b)?;
+    let Ok(s) = made_over_two(run, w, x, y) else {
+        return Err(Stop::Memory);
+    };
+    let told = stated(t, made_truth(w), s)?;
+    Ok(told)
+}
+
+fn is_bool(b: Base) -> bool
+    ensures { result ≡ is_bool b }
+{
+    matches!(b, Base::Bool)
+}
+
+/// `deopt`.
+#[tactic(auto, using(mz_symbol_rows::proofs::GoingOn::goes_both, mz_symbol_rows::proofs::GoingOn::goes_most))]
+fn deopt_of(alloc: Global, t: &TypeInst, a: &Argument, run: &mut Run) -> Result<Symbol, Stop>
+    ensures goes { GoesOnBy 20 run.old run.new }
+    ensures means { (names : Names) → Means argument result run.old run.new
+        (λ r. give (row_told r names (Made made.Deopt) (plain_type t.now) (cell_value r a.now.cell ∷ []))) }
+{
+    let x = taken(alloc, run, a)?;
+    let s = deopt(run, x)?;
+    let told = stated(t, is_bool(x.base), s)?;
+    Ok(told)
+}
+
+#[tactic(auto, using(mz_symbol_rows::proofs::GoingOn::goes_most))]
+fn made_of_one(
+    alloc: Global,
+    w: MadeRow,
+    t: &TypeInst,
+    a: &Argument,
+    run: &mut Run,
+) -> Result<Symbol, Stop>
+    ensures goes { GoesOnBy 20 run.old run.new }
+    ensures means { (names : Names) → Means argument result run.old run.new
+        (λ r. give (row_told r names (Made w) (plain_type t.now) (cell_value r a.now.cell ∷ []))) }
+{
+    match w {
+        MadeRow::Deopt => deopt_of(alloc, t, a, run),
+        _ => unbuilt_row(),
+    }
+}
+
+/// A row of one argument that gives a truth value, an integer or a case.
+#[tactic(auto, using(crate::proofs::ToldLaws::goes_paid))]
+fn scalar_with_one(
+    alloc: Global,
+    w: ScalarRow,
+    t: &TypeInst,
+    a: &Argument,
+    run: &mut Run,
+) -> Result<Symbol, Stop>
+    ensures goes { GoesOnBy (64 * (1 + row_cost (Scalar w) (cell_of a.now.cell ∷ []))) run.old run.new }
+    ensures means { (names : Names) → Means argument result run.old run.new (λ r. give (row_told r names (Scalar w) (plain_type t.now) (cell_value r a.now.cell ∷ []))) }
+{
+    if takes_array(w) {
+        symbol_of_array(alloc, w, t, a, run)
+    } else {
+        scalar_of_one(alloc, w, t, a, run)
+    }
+}
+
+/// The symbol of a row of one argument.
+#[tactic(auto, using(crate::proofs::ToldLaws::goes_paid))]
+pub(crate) fn symbol_of_one(
+    alloc: Global,
+    row: Row,
+    t: &TypeInst,
+    a: &Argument,
+    run: &mut Run,
+) -> Result<Symbol, Stop>
+    ensures goes { GoesOnBy (64 * (1 + row_cost row (cell_of a.now.cell ∷ []))) run.old run.new }
+    ensures means { (names : Names) → Means argument result run.old run.new
+        (λ r. give (row_told r names row (plain_type t.now) (cell_value r a.now.cell ∷ []))) }
+{
+    match row {
+        Row::Scalar(w) => scalar_with_one(alloc, w, t, a, run),
+        Row::Made(w) => made_of_one(alloc, w, t, a, run),
+        _ => unbuilt_row(),
+    }
+}
+
+/// The symbol of a row of two arguments.
+#[tactic(auto, using(mz_symbol_rows::proofs::GoingOn::goes_most))]
+pub(crate) fn symbol_of_two(
+    alloc: Global,
+    row: Row,
+    t: &TypeInst,
+    a: &Argument,
+    b: &Argument,
+    run: &mut Run,
+) -> Result<Symbol, Stop>
+    ensures goes { GoesOnBy 108 run.old run.new }
+    ensures means { (names : Names) → Means argument result run.old run.new
+        (λ r. give (row_told r names row (plain_type t.now) (cell_value r a.now.cell ∷ cell_value r b.now.cell ∷ []))) }
+{
+    match row {
+        Row::Scalar(w) => scalar_of_two(alloc, w, t, a, b, run),
+        Row::Made(w) => made_of_two(alloc, w, t, a, b, run),
+        _ => unbuilt_row(),
+    }
+}
