@@ -4,3 +4,4 @@ pub mod Meanings
 pub mod Functions
 pub mod Covering
 pub mod InSets
+pub mod Sliding
