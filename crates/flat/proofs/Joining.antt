@@ -49,6 +49,7 @@ use Rattle.flat_reif_rows.proofs.Sorts.{of_integer, sort_value}
 use Rattle.flat_reif.specs.States.{State, IsState, Meets, own_value, written, number_domain, free_domain, one_choice, given_choices}
 use Rattle.flat_reif.specs.Lists.{HasArg, HasFront, is_front}
 use Rattle.flat_root.specs.Keeps.{Keeps, IsReadyState, AllTrue, HasChoices}
+use Rattle.flat_front.proofs.Labels.{all_append}
 use Rattle.flat_front.specs.Fronts.{IsFronted, IsOfPart, front_program}
 use Rattle.flat.specs.Absent.{AreDefaultRoots}
 use Rattle.flat.specs.Cleared.{HasSome, HaveSome}
