@@ -1,1 +1,2 @@
 pub mod NextPlaces
+mod PlaceCells

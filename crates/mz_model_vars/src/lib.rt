@@ -1,6 +1,9 @@
 // Decision variables: the places of a declared name, whose parts are the next variables of a run, and the cells that they are.
 #![tactic(auto)]
 
+mod bounds;
+mod cells;
 mod places;
 
+pub use cells::place_cell;
 pub use places::{many_places, one_place};

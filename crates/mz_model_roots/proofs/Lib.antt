@@ -1,0 +1,5 @@
+mod EqualContents
+mod EqualNodes
+mod CellRoots
+mod ArrayRoots
+mod ShapedRoots
