@@ -36,7 +36,7 @@ forms::eval_expression-returns-clause-means t c =
     (eval_more w left (ctx_of c.args.level.now.ctx) e b env s c.if-level-eq0.false c.inner-node.ensures
     ∙ ap (λ k. then_do (node w (eval w (left - 1)) k (form_layer (out-CoreForm b.form)) b.span (plain_type b.ty) env s) (finish w e b)) (sym c.within-ctx.ensures)
     ∙ ap (λ a. then_do a (finish w e b)) c.in_ok-cell.ensures.means)
-    c.finished.ensures.means
+    c.finished.ensures.bare
 
 pub forms::eval_expression-returns-in_err-cell-clause-means : goal.forms::eval_expression-returns-in_err-cell-clause-means
 forms::eval_expression-returns-in_err-cell-clause-means t c =
