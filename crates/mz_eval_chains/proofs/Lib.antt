@@ -3,3 +3,4 @@ pub mod Heads
 pub mod LastLinks
 pub mod Layers
 pub mod Runs
+pub mod Seeing

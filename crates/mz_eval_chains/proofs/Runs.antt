@@ -10,6 +10,7 @@ use Rattle.mz_meaning.specs.Runs.{State, Answer, Out, Stopped, Run, then_do, loo
 use Rattle.mz_meaning.specs.Cells.{Cell}
 use Rattle.mz_meaning.specs.Coerced.{coerced_type}
 use Rattle.mz_meaning.specs.Forms.{World, coerced_once, coerced_by}
+use Rattle.mz_symbol.specs.Makes.{MeetsAt}
 use Rattle.mz_eval_scopes.specs.Runs.{Meets}
 
 pub then_again : {A B C : Type 0} (a : Answer A) (f : A → State → Answer B) (g : B → State → Answer C) → then_do (then_do a f) g ≡ then_do a (λ x s. then_do (f x s) g)
@@ -69,3 +70,11 @@ meets_is see r n a b e h = subst (λ x. Meets see r n x) (sym e) h
 pub meets_err : {A B C D : Type 0} (see : A → B) (other : C → D) (e : Stop) (n m : ℕ) (a : Answer B) (go : B → State → Answer D) → Meets see (Err e) n a → Meets other (Err e) m (then_do a go)
 meets_err see other (Refused f) n m a go h = ap (λ x. then_do x go) h
 meets_err see other Memory n m a go h = tt
+
+-- the same under a reading
+pub meets_at_is : {A B : Type 0} (see : A → B) (x : Result A Stop) (s : State) (a b : Answer B) → b ≡ a → MeetsAt see x s a → MeetsAt see x s b
+meets_at_is see x s a b e h = subst (λ y. MeetsAt see x s y) (sym e) h
+
+pub meets_at_err : {A B C D : Type 0} (see : A → B) (other : C → D) (e : Stop) (s t : State) (a : Answer B) (go : B → State → Answer D) → MeetsAt see (Err e) s a → MeetsAt other (Err e) t (then_do a go)
+meets_at_err see other (Refused f) s t a go h = ap (λ x. then_do x go) h
+meets_at_err see other Memory s t a go h = tt

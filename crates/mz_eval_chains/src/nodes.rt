@@ -10,7 +10,9 @@ ghost use Rattle.mz_meaning.specs.Cells.{Bare, typed};
 ghost use Rattle.mz_meaning.specs.Forms.{coerced_once, coerced_by};
 ghost use Rattle.mz_meaning.specs.Evaluation.{is_name};
 ghost use Rattle.mz_eval_cells.specs.Views.{cell_of, seen};
-ghost use Rattle.mz_symbol.specs.Makes.{GoesOn, MeansBare};
+ghost use Rattle.mz_meaning.specs.Coerced as coercions;
+ghost use Rattle.mz_symbol.specs.Readings.{Reading};
+ghost use Rattle.mz_symbol.specs.Makes.{GoesOn, Means, MeansBare};
 ghost use Rattle.mz_eval_scopes.specs.Seen.{world_seen};
 ghost use Rattle.mz_eval_chains.specs.Links.{finished_by, links_round};
 
@@ -40,6 +42,14 @@ pub fn place_of(e: &Core) -> Span
     e.span
 }
 
+#[tactic(auto, using(crate::proofs::Seeing::work_seen))]
+fn work_of(c: Coercion, k: &Known) -> u64
+    ensures of { result ≡ coercions.coercion_work c (cell_of k.now) }
+    ensures seen { (r : Reading) → result ≡ coercions.coercion_work c (seen r k.now) }
+{
+    coercion_work(c, k)
+}
+
 /// One coercion, with its work.
 fn coerce_once(
     alloc: Global,
@@ -51,9 +61,10 @@ fn coerce_once(
     run: &mut Run,
 ) -> Result<Known, Stop>
     ensures goes { GoesOn run.old run.new }
-    ensures means { MeansBare seen result run.old run.new (λ r. coerced_once (world_seen r world.now) at (seen r k) (c, plain_type t.now)) }
+    ensures means { Means seen result run.old run.new (λ r. coerced_once (world_seen r world.now) at (seen r k) (c, plain_type t.now)) }
+    ensures bare { MeansBare seen result run.old run.new (λ r. coerced_once (world_seen r world.now) at (seen r k) (c, plain_type t.now)) }
 {
-    run.spend(world.budget, at, coercion_work(c, &k))?;
+    run.spend(world.budget, at, work_of(c, &k))?;
     Ok(coerced_to(alloc, c, t, k)?)
 }
 
@@ -67,7 +78,8 @@ fn coerce_all(
     run: &mut Run,
 ) -> Result<Known, Stop>
     ensures goes { GoesOn run.old run.new }
-    ensures means { MeansBare seen result run.old run.new (λ r. coerced_by (world_seen r world.now) at (path_links links.now) (seen r k)) }
+    ensures means { Means seen result run.old run.new (λ r. coerced_by (world_seen r world.now) at (path_links links.now) (seen r k)) }
+    ensures bare { MeansBare seen result run.old run.new (λ r. coerced_by (world_seen r world.now) at (path_links links.now) (seen r k)) }
 {
     let mut cell = k;
     for link in links {
@@ -87,7 +99,8 @@ fn coerce_round(
     run: &mut Run,
 ) -> Result<Known, Stop>
     ensures goes { GoesOn run.old run.new }
-    ensures means { MeansBare seen result run.old run.new (λ r. coerced_by (world_seen r world.now) at (root_coercions (tree e.now)) (seen r k)) }
+    ensures means { Means seen result run.old run.new (λ r. coerced_by (world_seen r world.now) at (root_coercions (tree e.now)) (seen r k)) }
+    ensures bare { MeansBare seen result run.old run.new (λ r. coerced_by (world_seen r world.now) at (root_coercions (tree e.now)) (seen r k)) }
 {
     match &e.form {
         CoreForm::Coerce(c, part) => {
@@ -110,7 +123,8 @@ pub fn coerce_both(
     run: &mut Run,
 ) -> Result<Known, Stop>
     ensures goes { GoesOn run.old run.new }
-    ensures means { MeansBare seen result run.old run.new (λ r. coerced_by (world_seen r world.now) at (links_round round.entry ++ path_links links.now) (seen r k)) }
+    ensures means { Means seen result run.old run.new (λ r. coerced_by (world_seen r world.now) at (links_round round.entry ++ path_links links.now) (seen r k)) }
+    ensures bare { MeansBare seen result run.old run.new (λ r. coerced_by (world_seen r world.now) at (links_round round.entry ++ path_links links.now) (seen r k)) }
 {
     match round {
         None => coerce_all(alloc, world, at, links, k, run),
@@ -142,7 +156,8 @@ fn is_name(f: &CoreForm) -> bool
 
 /// The cell of a node with the node's type.
 fn typed_node(alloc: Global, b: &Core, k: Known) -> Result<Known, AllocError>
-    ensures { IfOk result (λ x. cell_of x ≡ typed Bare (is_name (form_layer (out-CoreForm b.now.form))) (plain_type b.now.ty) (cell_of k)) }
+    ensures of { IfOk result (λ x. cell_of x ≡ typed Bare (is_name (form_layer (out-CoreForm b.now.form))) (plain_type b.now.ty) (cell_of k)) }
+    ensures seen { IfOk result (λ x. (r : Reading) → seen r x ≡ typed r.mode (is_name (form_layer (out-CoreForm b.now.form))) (plain_type b.now.ty) (seen r k)) }
 {
     if stays(&b.ty, &k) {
         return Ok(k);
@@ -165,6 +180,7 @@ fn is_bare(e: &Core) -> bool
 fn is_finished(e: &Core, b: &Core, k: &Known) -> bool
     ensures bare { result ≡ true → root_coercions (tree e.now) ≡ [] }
     ensures stays { result ≡ true → (n : Bool) → typed Bare n (plain_type b.now.ty) (cell_of k.now) ≡ cell_of k.now }
+    ensures seen { result ≡ true → (r : Reading) (n : Bool) → typed r.mode n (plain_type b.now.ty) (seen r k.now) ≡ seen r k.now }
 {
     if is_bare(e) { stays(&b.ty, k) } else { false }
 }
@@ -180,7 +196,8 @@ pub fn finished(
     run: &mut Run,
 ) -> Result<Known, Stop>
     ensures goes { GoesOn run.old run.new }
-    ensures means { MeansBare seen result run.old run.new (λ r. finished_by (world_seen r world.now) e.now b.now (seen r k)) }
+    ensures means { Means seen result run.old run.new (λ r. finished_by (world_seen r world.now) e.now b.now (seen r k)) }
+    ensures bare { MeansBare seen result run.old run.new (λ r. finished_by (world_seen r world.now) e.now b.now (seen r k)) }
 {
     if is_finished(e, b, &k) {
         return Ok(k);

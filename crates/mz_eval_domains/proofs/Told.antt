@@ -24,12 +24,12 @@ use Rattle.mz_eval_domains.specs.Wants.{local_of, wants_of}
 abbrev fits_or : Span → List Want → List Range → Cell → Bool → Run Cell
 fits_or at xs own c b = if b then give (moved (declared_ranges xs own) c) else stop IndexMismatch at (pos 0)
 
-pub told_fitted : (at : Span) (xs : List Want) (own ix : List Range) (n : ℕ) (c : Cell) (r : Result Known Stop) → fits_shape xs own n ≡ true → ix ≡ declared_ranges xs own → Tells cell_of r (give (moved ix c)) → Tells cell_of r (fitted_to at xs own (Some n) c)
-told_fitted at xs own ix n c r h e t =
-    subst (λ b. Tells cell_of r (fits_or at xs own c b)) (sym h) (subst (λ rs. Tells cell_of r (give (moved rs c))) e t)
+pub told_fitted : (see : Known → Cell) (at : Span) (xs : List Want) (own ix : List Range) (n : ℕ) (c : Cell) (r : Result Known Stop) → fits_shape xs own n ≡ true → ix ≡ declared_ranges xs own → Tells see r (give (moved ix c)) → Tells see r (fitted_to at xs own (Some n) c)
+told_fitted see at xs own ix n c r h e t =
+    subst (λ b. Tells see r (fits_or at xs own c b)) (sym h) (subst (λ rs. Tells see r (give (moved rs c))) e t)
 
-pub told_misfit : (at : Span) (xs : List Want) (own : List Range) (n : ℕ) (c : Cell) (f : Fault) → fits_shape xs own n ≡ false → f ≡ fault_at IndexMismatch at → Tells {A = Known} cell_of (Err (Refused f)) (fitted_to at xs own (Some n) c)
-told_misfit at xs own n c f h e = record { by = λ s. ap (λ b. fits_or at xs own c b s) h ∙ ap Stopped (sym e) }
+pub told_misfit : (see : Known → Cell) (at : Span) (xs : List Want) (own : List Range) (n : ℕ) (c : Cell) (f : Fault) → fits_shape xs own n ≡ false → f ≡ fault_at IndexMismatch at → Tells {A = Known} see (Err (Refused f)) (fitted_to at xs own (Some n) c)
+told_misfit see at xs own n c f h e = record { by = λ s. ap (λ b. fits_or at xs own c b s) h ∙ ap Stopped (sym e) }
 
 -- the one of two runs that a test chooses
 pub told_first : {A B : Type 0} (see : A → B) (r : Result A Stop) (run other : Run B) (b : Bool) → b ≡ true → Tells see r run → Tells see r (if b then run else other)
@@ -64,10 +64,10 @@ kept_gives at xs x c f p t e = record { by = λ s. ap (λ a. then_do a (with_tes
 
 -- ---- with declared index sets, and without
 
-pub none_fitted : (at : Span) (ws : List code.Want) (k : Known) → length ws < 1 → Tells cell_of (Ok k) (fitted at (wants_of ws) (cell_of k))
-none_fitted at [] k l = record { by = λ s. refl }
-none_fitted at (w ∷ ws) k l = absurd (omega arith)
+pub none_fitted : (see : Known → Cell) (at : Span) (ws : List code.Want) (k : Known) → length ws < 1 → Tells see (Ok k) (fitted at (wants_of ws) (see k))
+none_fitted see at [] k l = record { by = λ s. refl }
+none_fitted see at (w ∷ ws) k l = absurd (omega arith)
 
-pub some_fitted : (at : Span) (ws : List code.Want) (c : Cell) (r : Result Known Stop) → 0 < length ws → Tells cell_of r (if no_missing (wants_of ws) then fitted_to at (wants_of ws) (own_ranges c) (length_of c) c else give c) → Tells cell_of r (fitted at (wants_of ws) c)
-some_fitted at [] c r l t = absurd (omega arith)
-some_fitted at (w ∷ ws) c r l t = t
+pub some_fitted : (see : Known → Cell) (at : Span) (ws : List code.Want) (c : Cell) (r : Result Known Stop) → 0 < length ws → Tells see r (if no_missing (wants_of ws) then fitted_to at (wants_of ws) (own_ranges c) (length_of c) c else give c) → Tells see r (fitted at (wants_of ws) c)
+some_fitted see at [] c r l t = absurd (omega arith)
+some_fitted see at (w ∷ ws) c r l t = t

@@ -11,7 +11,8 @@ ghost use Rattle.mz_meaning.specs.Arrays as arrays;
 ghost use Rattle.mz_meaning.specs.Cells as cells;
 ghost use Rattle.mz_meaning.specs.Lets as lets;
 ghost use Rattle.mz_meaning.specs.Runs.{give};
-ghost use Rattle.mz_eval_cells.specs.Views.{cell_of, known_bound};
+ghost use Rattle.mz_symbol.specs.Readings.{Reading};
+ghost use Rattle.mz_eval_cells.specs.Views.{cell_of, known_bound, row_content, seen};
 ghost use Rattle.mz_eval_cells.specs.Meets.{Tells};
 ghost use Rattle.mz_eval_domains.specs.Wants.{local_of, wanted, wants_of};
 ghost use Rattle.mz_eval_domains.specs.Steps.{fitted_whole};
@@ -20,7 +21,7 @@ use crate::ranges::{declared_ranges, own_ranges, place_count};
 use crate::suiting::suits;
 use crate::want::{Want, all_have_sets};
 use mz_base::{Fault, Kind, Span, Stop};
-use mz_eval_cells::{Bound, Known, Sure, VarItems, both_sure, share, var_items};
+use mz_eval_cells::{Bound, Known, Sure, VarItems, both_sure, share};
 use mz_value::Value;
 use std::alloc::{AllocError, Global};
 use std::rc::Rc;
@@ -111,6 +112,7 @@ fn bound_count(all: &[Bound]) -> u64
 #[tactic(auto, unfolding(mz_operations::specs::Views::as_items))]
 fn length_of(k: &Known) -> Option<u64>
     ensures count { result ≡ cells.length_of (cell_of k.now) }
+    ensures seen { (r : Reading) → result ≡ cells.length_of (seen r k.now) }
     ensures bound { IfSome result (λ n. n < 2 ^ 63) }
 {
     match k {
@@ -120,16 +122,18 @@ fn length_of(k: &Known) -> Option<u64>
     }
 }
 
-/// The cell with other index ranges, which leave its elements alone.
-#[tactic(auto, using(crate::proofs::Ranging::item_moved))]
+/// The cell with other index ranges, which leave its elements alone. Out of memory too of a var cell
+/// that is no array.
+#[tactic(auto, using(crate::proofs::Ranging::item_moved, crate::proofs::Seeing::row_moved))]
 fn moved(alloc: Global, ranges: Vec<(i64, i64)>, k: &Known) -> Result<Known, AllocError>
-    ensures { IfOk result (λ x. cell_of x ≡ arrays.moved ranges.items (cell_of k.now)) }
+    ensures of { IfOk result (λ x. cell_of x ≡ arrays.moved ranges.items (cell_of k.now)) }
+    ensures seen { IfOk result (λ x. (r : Reading) → seen r x ≡ arrays.moved ranges.items (seen r k.now)) }
 {
     match k {
         Known::Undefined => Ok(Known::Undefined),
         Known::One(_) => share(k),
         Known::Array(_, items) => array_moved(alloc, ranges, items),
-        Known::Var(_) => no_row(alloc, ranges),
+        Known::Var(_) => Err(AllocError),
         Known::Row(_, xs) => row_moved(alloc, ranges, xs),
         Known::Unshaped(d) => Ok(Known::Unshaped(*d)),
     }
@@ -140,7 +144,8 @@ fn array_moved(
     ranges: Vec<(i64, i64)>,
     items: &Rc<Vec<Value>>,
 ) -> Result<Known, AllocError>
-    ensures { IfOk result (λ x. cell_of x ≡ cells.par_value (values.array ranges.items (contents (map content items.now.value.items)))) }
+    ensures of { IfOk result (λ x. cell_of x ≡ cells.par_value (values.array ranges.items (contents (map content items.now.value.items)))) }
+    ensures seen { IfOk result (λ x. (r : Reading) → seen r x ≡ cells.par_value (values.array ranges.items (contents (map content items.now.value.items)))) }
 {
     let index = Rc::new(alloc, ranges)?;
     Ok(Known::Array(index, items.clone()?))
@@ -151,17 +156,12 @@ fn row_moved(
     ranges: Vec<(i64, i64)>,
     all: &Rc<VarItems>,
 ) -> Result<Known, AllocError>
-    ensures { IfOk result (λ x. cell_of x ≡ cells.Var (bounds.many ranges.items (map known_bound all.now.value.bounds.value.items)) None) }
+    ensures of { IfOk result (λ x. cell_of x ≡ cells.Var (bounds.many ranges.items (map known_bound all.now.value.bounds.value.items)) None) }
+    ensures seen { IfOk result (λ x. (r : Reading) → seen r x
+        ≡ cells.Var (bounds.many ranges.items (map known_bound all.now.value.bounds.value.items)) (cells.held r.mode (row_content r.line ranges.items all.now.value))) }
 {
     let index = Rc::new(alloc, ranges)?;
     Ok(Known::Row(index, all.clone()?))
-}
-
-fn no_row(alloc: Global, ranges: Vec<(i64, i64)>) -> Result<Known, AllocError>
-    ensures { IfOk result (λ x. cell_of x ≡ cells.Var (bounds.many ranges.items []) None) }
-{
-    let none = Vec::new(alloc);
-    var_items(alloc, ranges, none)
 }
 
 fn fits_shape(ws: &[Want], own: &[(i64, i64)], ranges: &[(i64, i64)], n: u64) -> bool
@@ -173,7 +173,8 @@ fn fits_shape(ws: &[Want], own: &[(i64, i64)], ranges: &[(i64, i64)], n: u64) ->
 }
 
 fn told_moved(alloc: Global, ranges: Vec<(i64, i64)>, k: &Known) -> Result<Known, Stop>
-    ensures { Tells cell_of result (give (arrays.moved ranges.items (cell_of k.now))) }
+    ensures of { Tells cell_of result (give (arrays.moved ranges.items (cell_of k.now))) }
+    ensures seen { (r : Reading) → Tells (seen r) result (give (arrays.moved ranges.items (seen r k.now))) }
 {
     let x = moved(alloc, ranges, k)?;
     Ok(x)
@@ -181,7 +182,8 @@ fn told_moved(alloc: Global, ranges: Vec<(i64, i64)>, k: &Known) -> Result<Known
 
 fn array_fitted(alloc: Global, at: Span, ws: &[Want], n: u64, k: &Known) -> Result<Known, Stop>
     requires { n < 2 ^ 63 }
-    ensures { Tells cell_of result (arrays.fitted_to at (wants_of ws.now) (arrays.own_ranges (cell_of k.now)) (Some n) (cell_of k.now)) }
+    ensures of { Tells cell_of result (arrays.fitted_to at (wants_of ws.now) (arrays.own_ranges (cell_of k.now)) (Some n) (cell_of k.now)) }
+    ensures seen { (r : Reading) → Tells (seen r) result (arrays.fitted_to at (wants_of ws.now) (arrays.own_ranges (seen r k.now)) (Some n) (seen r k.now)) }
 {
     let own = own_ranges(k);
     let ranges = declared_ranges(alloc, ws, own)?;
@@ -193,7 +195,8 @@ fn array_fitted(alloc: Global, at: Span, ws: &[Want], n: u64, k: &Known) -> Resu
 }
 
 fn fitted_to(alloc: Global, at: Span, ws: &[Want], k: Known) -> Result<Known, Stop>
-    ensures { Tells cell_of result (fitted_whole at (wants_of ws.now) (cell_of k)) }
+    ensures of { Tells cell_of result (fitted_whole at (wants_of ws.now) (cell_of k)) }
+    ensures seen { (r : Reading) → Tells (seen r) result (fitted_whole at (wants_of ws.now) (seen r k)) }
 {
     match length_of(&k) {
         None => Ok(k),
@@ -202,7 +205,8 @@ fn fitted_to(alloc: Global, at: Span, ws: &[Want], k: Known) -> Result<Known, St
 }
 
 fn some_fitted(alloc: Global, at: Span, ws: &[Want], k: Known) -> Result<Known, Stop>
-    ensures { Tells cell_of result (if arrays.no_missing (wants_of ws.now) then fitted_whole at (wants_of ws.now) (cell_of k) else give (cell_of k)) }
+    ensures of { Tells cell_of result (if arrays.no_missing (wants_of ws.now) then fitted_whole at (wants_of ws.now) (cell_of k) else give (cell_of k)) }
+    ensures seen { (r : Reading) → Tells (seen r) result (if arrays.no_missing (wants_of ws.now) then fitted_whole at (wants_of ws.now) (seen r k) else give (seen r k)) }
 {
     if no_missing(ws) {
         fitted_to(alloc, at, ws, k)
@@ -216,7 +220,8 @@ fn some_fitted(alloc: Global, at: Span, ws: &[Want], k: Known) -> Result<Known, 
 /// they are. Refused IndexMismatch at `at` where the array hasn't as many elements as the index
 /// sets have places, or an index is `int` and it hasn't as many dimensions.
 pub fn fitted(alloc: Global, at: Span, ws: &[Want], k: Known) -> Result<Known, Stop>
-    ensures { Tells cell_of result (arrays.fitted at (wants_of ws.now) (cell_of k)) }
+    ensures of { Tells cell_of result (arrays.fitted at (wants_of ws.now) (cell_of k)) }
+    ensures seen { (r : Reading) → Tells (seen r) result (arrays.fitted at (wants_of ws.now) (seen r k)) }
 {
     match ws {
         [] => Ok(k),

@@ -1,33 +1,41 @@
 -- Slots of a frame, the last first.
-use Rattle.std.proofs.Common.{◌≡◌, ℕ, zero, suc, ◌+◌, ◌<◌, Bor, List, [], ◌∷◌, ◌++◌, length, take, get_or, set, slice_get, nat_eq, min, Bool, true, false, Some, refl, sym, ap, subst, arith, if◌then◌else◌}
+use Rattle.std.proofs.Common.{◌≡◌, ◌∙◌, ℕ, zero, suc, ◌+◌, ◌<◌, Bor, List, [], ◌∷◌, ◌++◌, length, map, take, get_or, set, slice_get, nat_eq, min, Bool, true, false, Option, Some, None, MatchOption, refl, sym, ap, subst, arith, if◌then◌else◌}
 use Rattle.std.proofs.lemmas.Bool.{eqb-true}
 use Rattle.std.proofs.lemmas.Bool.Decides.{nat_tests}
 use Rattle.mz_eval_cells.specs.declared.types.Known.{Known}
-use Rattle.mz_eval_cells.specs.Views.{cell_of, cells_of}
-use Rattle.mz_meaning.specs.Cells.{Env, bind, bind_all, undefined}
+use Rattle.mz_eval_cells.specs.Views.{cell_of}
+use Rattle.mz_meaning.specs.Cells.{Cell, Env, bind, bind_all, undefined}
 use Rattle.mz_eval_scopes.specs.declared.types.World.{World}
 use Rattle.mz_eval_scopes.specs.declared.types.Scope.{Scope}
 use Rattle.mz_eval_scopes.specs.declared.types.Scope.TheViews.{Frame}
-use Rattle.mz_eval_scopes.specs.Views.{env_of, known_if}
+use Rattle.mz_eval_scopes.specs.Views.{env_by, known_if}
 
-pub frame_env : (w : World) (slots : Bor (List ℕ)) (ks : Bor (List Known)) (rest : Bor Scope) → env_of w (Frame slots ks rest) ≡ bind_all slots.now (cells_of ks.now) (env_of w rest.now)
-frame_env w slots ks rest = refl
+pub frame_env : (see : Known → Cell) (w : World) (slots : Bor (List ℕ)) (ks : Bor (List Known)) (rest : Bor Scope) → env_by see w (Frame slots ks rest) ≡ bind_all slots.now (map see ks.now) (env_by see w rest.now)
+frame_env see w slots ks rest = refl
+
+-- what isn't in a frame is what it is outside
+pub absent_outside : (w : World) (scope : Scope) (slots : Bor (List ℕ)) (ks : Bor (List Known)) (rest : Bor Scope) (slot : ℕ) (found : Option (Bor Known)) → scope ≡ Frame slots ks rest
+    → ((see : Known → Cell) (env : Env) → bind_all slots.now (map see ks.now) env slot ≡ env slot)
+    → MatchOption found ((see : Known → Cell) → env_by see w rest.now slot ≡ undefined) (λ k. (see : Known → Cell) → env_by see w rest.now slot ≡ see k.now)
+    → MatchOption found ((see : Known → Cell) → env_by see w scope slot ≡ undefined) (λ k. (see : Known → Cell) → env_by see w scope slot ≡ see k.now)
+absent_outside w scope slots ks rest slot None e h g = λ see. rw (e) (h see (env_by see w rest.now) ∙ g see)
+absent_outside w scope slots ks rest slot (Some k) e h g = λ see. rw (e) (h see (env_by see w rest.now) ∙ g see)
 
 -- the names up to one: this one, else those before
-pub up_to : (n : ℕ) (ss : List ℕ) (ks : List Known) (k : Known) (env : Env) (slot : ℕ) → n < length ss → n < length ks → bind_all (take (suc n) ss) (cells_of (take (suc n) ks)) env slot ≡ (if nat_eq slot (get_or ss n 0) then cell_of (get_or ks n k) else bind_all (take n ss) (cells_of (take n ks)) env slot)
-up_to n [] ks k env slot h g = absurd (omega arith)
-up_to n (s ∷ ss) [] k env slot h g = absurd (omega arith)
-up_to zero (s ∷ ss) (c ∷ ks) k env slot h g = refl
-up_to (suc n) (s ∷ ss) (c ∷ ks) k env slot h g = up_to n ss ks k (bind s (cell_of c) env) slot (omega arith) (omega arith)
+pub up_to : (see : Known → Cell) (n : ℕ) (ss : List ℕ) (ks : List Known) (k : Known) (env : Env) (slot : ℕ) → n < length ss → n < length ks → bind_all (take (suc n) ss) (map see (take (suc n) ks)) env slot ≡ (if nat_eq slot (get_or ss n 0) then see (get_or ks n k) else bind_all (take n ss) (map see (take n ks)) env slot)
+up_to see n [] ks k env slot h g = absurd (omega arith)
+up_to see n (s ∷ ss) [] k env slot h g = absurd (omega arith)
+up_to see zero (s ∷ ss) (c ∷ ks) k env slot h g = refl
+up_to see (suc n) (s ∷ ss) (c ∷ ks) k env slot h g = up_to see n ss ks k (bind s (see c) env) slot (omega arith) (omega arith)
 
 -- all names, up to as many as have cells
-pub all_of_them : (m : ℕ) (ss : List ℕ) (ks : List Known) (env : Env) (slot : ℕ) → m ≡ min (length ss) (length ks) → bind_all ss (cells_of ks) env slot ≡ bind_all (take m ss) (cells_of (take m ks)) env slot
-all_of_them zero [] ks env slot h = refl
-all_of_them zero (s ∷ ss) [] env slot h = refl
-all_of_them zero (s ∷ ss) (k ∷ ks) env slot h = absurd (omega arith)
-all_of_them (suc m) [] ks env slot h = absurd (omega arith)
-all_of_them (suc m) (s ∷ ss) [] env slot h = absurd (omega arith)
-all_of_them (suc m) (s ∷ ss) (k ∷ ks) env slot h = all_of_them m ss ks (bind s (cell_of k) env) slot (omega arith)
+pub all_of_them : (see : Known → Cell) (m : ℕ) (ss : List ℕ) (ks : List Known) (env : Env) (slot : ℕ) → m ≡ min (length ss) (length ks) → bind_all ss (map see ks) env slot ≡ bind_all (take m ss) (map see (take m ks)) env slot
+all_of_them see zero [] ks env slot h = refl
+all_of_them see zero (s ∷ ss) [] env slot h = refl
+all_of_them see zero (s ∷ ss) (k ∷ ks) env slot h = absurd (omega arith)
+all_of_them see (suc m) [] ks env slot h = absurd (omega arith)
+all_of_them see (suc m) (s ∷ ss) [] env slot h = absurd (omega arith)
+all_of_them see (suc m) (s ∷ ss) (k ∷ ks) env slot h = all_of_them see m ss ks (bind s (see k) env) slot (omega arith)
 
 -- one place more changes nothing
 pub pushed_undefined : (ks : List Known) (u : Known) (k : ℕ) → cell_of u ≡ undefined → known_if (slice_get (ks ++ u ∷ []) k) ≡ known_if (slice_get ks k)

@@ -13,6 +13,10 @@ use Rattle.mz_eval_scopes.specs.declared.types.World.{World}
 use Rattle.mz_eval_scopes.specs.declared.types.Scope.{Scope}
 use Rattle.mz_eval_scopes.specs.declared.types.Scope.TheVariants.{Top, Bound', Frame'}
 
+-- how cells in code are seen
+abbrev pub View : Type 0
+View = Known → Cell
+
 abbrev pub known_by : (Known → Cell) → Option Known → Cell
 known_by see None = undefined
 known_by see (Some k) = see k

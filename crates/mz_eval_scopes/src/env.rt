@@ -6,7 +6,7 @@ ghost use Rattle.mz_value.specs.Contents.{content};
 ghost use Rattle.mz_meaning.specs.Cells as cells;
 ghost use Rattle.mz_meaning.specs.Cells.{Par, bind};
 ghost use Rattle.mz_eval_cells.specs.Views.{cell_of};
-ghost use Rattle.mz_eval_scopes.specs.Views.{env_cells};
+ghost use Rattle.mz_eval_scopes.specs.Views.{View, env_cells, env_cells_by};
 
 use crate::types::Env;
 use mz_base::Memory;
@@ -77,7 +77,9 @@ impl Env {
 
     /// The cell of a slot; `None` where it was never set nor a later one.
     pub(crate) fn cell(&self, slot: u64) -> Option<&Known>
-        ensures { MatchOption result (env_cells self.now slot ≡ cells.undefined) (λ k. env_cells self.now slot ≡ cell_of k.now) }
+        ensures { MatchOption result
+            ((see : View) → env_cells_by see self.now slot ≡ cells.undefined)
+            (λ k. (see : View) → env_cells_by see self.now slot ≡ see k.now) }
     {
         self.cells.get(slot as usize)
     }

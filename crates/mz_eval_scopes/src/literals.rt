@@ -6,7 +6,9 @@ ghost use Rattle.mz_value.specs.Contents.{text_bytes};
 ghost use Rattle.mz_value.specs.Shown.{names_of};
 ghost use Rattle.mz_meaning.specs.Cells.{par_value};
 ghost use Rattle.mz_meaning.specs.Forms.{text_at, text_cell, all_cases};
-ghost use Rattle.mz_eval_cells.specs.Views.{cell_of};
+ghost use Rattle.mz_symbol.specs.Readings.{Reading};
+ghost use Rattle.mz_eval_cells.specs.Views.{cell_of, seen};
+ghost use Rattle.mz_eval_scopes.specs.Seen.{world_seen};
 ghost use Rattle.mz_eval_scopes.specs.Views.{text_entry, world_of};
 
 use crate::types::World;
@@ -30,7 +32,8 @@ fn find_text(texts: &[(Name, TextValue)], n: Name) -> Option<&TextValue>
 
 /// The text that the program has under this name; undefined where it has none.
 pub fn literal_text(alloc: Global, world: &World, n: Name) -> Result<Known, AllocError>
-    ensures { IfOk result (λ k. cell_of k ≡ text_cell (text_at (world_of world.now).texts n)) }
+    ensures of { IfOk result (λ k. cell_of k ≡ text_cell (text_at (world_of world.now).texts n)) }
+    ensures seen { IfOk result (λ k. (r : Reading) → seen r k ≡ text_cell (text_at (world_seen r world.now).texts n)) }
 {
     match find_text(&world.program.texts, n) {
         None => Ok(undefined()),
@@ -39,7 +42,8 @@ pub fn literal_text(alloc: Global, world: &World, n: Name) -> Result<Known, Allo
 }
 
 fn copied(alloc: Global, t: &TextValue) -> Result<Known, AllocError>
-    ensures { IfOk result (λ k. cell_of k ≡ text_cell (Some (text_bytes t.now))) }
+    ensures of { IfOk result (λ k. cell_of k ≡ text_cell (Some (text_bytes t.now))) }
+    ensures seen { IfOk result (λ k. (r : Reading) → seen r k ≡ text_cell (Some (text_bytes t.now))) }
 {
     let copy = copied_text(alloc, t)?;
     text(alloc, copy)
@@ -58,7 +62,8 @@ fn case_count(world: &World, e: u64) -> u64
 
 /// The set of all cases of the enum with this number.
 pub fn all_cases(alloc: Global, world: &World, e: u64) -> Result<Known, AllocError>
-    ensures { IfOk result (λ k. cell_of k ≡ par_value (all_cases (world_of world.now).cases e)) }
+    ensures of { IfOk result (λ k. cell_of k ≡ par_value (all_cases (world_of world.now).cases e)) }
+    ensures seen { IfOk result (λ k. (r : Reading) → seen r k ≡ par_value (all_cases (world_seen r world.now).cases e)) }
 {
     let count = case_count(world, e);
     if count > GREATEST as u64 {

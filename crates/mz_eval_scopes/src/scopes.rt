@@ -1,10 +1,12 @@
 // The cell of a slot.
 
-ghost use Rattle.std.specs.Prelude.{◌≡◌, IfOk, MatchOption};
+ghost use Rattle.std.specs.Prelude.{◌≡◌, IfOk, MatchOption, map};
 ghost use Rattle.mz_meaning.specs.Cells as meaning;
 ghost use Rattle.mz_meaning.specs.Cells.{bind_all};
-ghost use Rattle.mz_eval_cells.specs.Views.{cell_of, cells_of};
-ghost use Rattle.mz_eval_scopes.specs.Views.{env_of};
+ghost use Rattle.mz_symbol.specs.Readings.{Reading};
+ghost use Rattle.mz_eval_cells.specs.Views.{cell_of, seen};
+ghost use Rattle.mz_eval_scopes.specs.Seen.{env_seen};
+ghost use Rattle.mz_eval_scopes.specs.Views.{View, env_by, env_of};
 
 use crate::types::{Scope, World};
 use mz_eval_cells::{Known, share, undefined};
@@ -14,8 +16,8 @@ use std::alloc::AllocError;
 #[tactic(auto, using(crate::proofs::Searched::next_name, crate::proofs::Searched::this_name, crate::proofs::Slots::all_of_them))]
 fn find<'a>(slots: &[u64], cells: &'a [Known], slot: u64) -> Option<&'a Known>
     ensures { MatchOption result
-        ((env : meaning.Env) → bind_all slots.now (cells_of cells.now) env slot ≡ env slot)
-        (λ k. (env : meaning.Env) → bind_all slots.now (cells_of cells.now) env slot ≡ cell_of k.now) }
+        ((see : View) (env : meaning.Env) → bind_all slots.now (map see cells.now) env slot ≡ env slot)
+        (λ k. (see : View) (env : meaning.Env) → bind_all slots.now (map see cells.now) env slot ≡ see k.now) }
 {
     let mut n = slots.len().min(cells.len());
     'names: while n > 0 {
@@ -27,10 +29,12 @@ fn find<'a>(slots: &[u64], cells: &'a [Known], slot: u64) -> Option<&'a Known>
     None
 }
 
-/// The cell of a slot, the innermost one; `None` where it is undefined because nothing has set it.
-/// Takes no memory.
+/// The cell of a slot, the innermost one, however cells are seen; `None` where it is undefined because
+/// nothing has set it. Takes no memory.
 pub fn seek<'a>(world: &'a World<'a>, scope: &'a Scope<'a>, slot: u64) -> Option<&'a Known>
-    ensures { MatchOption result (env_of world.now scope.now slot ≡ meaning.undefined) (λ k. env_of world.now scope.now slot ≡ cell_of k.now) }
+    ensures { MatchOption result
+        ((see : View) → env_by see world.now scope.now slot ≡ meaning.undefined)
+        (λ k. (see : View) → env_by see world.now scope.now slot ≡ see k.now) }
 {
     match scope {
         Scope::Top => world.env.cell(slot),
@@ -50,10 +54,14 @@ pub fn seek<'a>(world: &'a World<'a>, scope: &'a Scope<'a>, slot: u64) -> Option
 
 /// The cell of a slot once more; what is large in it is shared, not copied.
 pub fn at_slot(world: &World, scope: &Scope, slot: u64) -> Result<Known, AllocError>
-    ensures { IfOk result (λ k. cell_of k ≡ env_of world.now scope.now slot) }
+    ensures of { IfOk result (λ k. cell_of k ≡ env_of world.now scope.now slot) }
+    ensures seen { IfOk result (λ k. (r : Reading) → seen r k ≡ env_seen r world.now scope.now slot) }
 {
     match seek(world, scope, slot) {
         None => Ok(undefined()),
-        Some(k) => share(k),
+        Some(k) => {
+            let same = share(k)?;
+            Ok(same)
+        }
     }
 }

@@ -1,7 +1,7 @@
 // A node's own work.
 
 ghost use Rattle.mz_meaning.specs.Forms.{done};
-ghost use Rattle.mz_symbol.specs.Makes.{GoesOn, MeansBare};
+ghost use Rattle.mz_symbol.specs.Makes.{GoesOn, Means, MeansBare};
 ghost use Rattle.mz_eval_cells.specs.Views.{seen};
 ghost use Rattle.mz_eval_scopes.specs.Seen.{world_seen};
 
@@ -13,7 +13,8 @@ use mz_symbol::Run;
 /// A node's own work, and then its cell.
 pub fn done(world: &World, at: Span, cell: Known, run: &mut Run) -> Result<Known, Stop>
     ensures goes { GoesOn run.old run.new }
-    ensures means { MeansBare seen result run.old run.new (λ r. done (world_seen r world.now) at (seen r cell)) }
+    ensures means { Means seen result run.old run.new (λ r. done (world_seen r world.now) at (seen r cell)) }
+    ensures bare { MeansBare seen result run.old run.new (λ r. done (world_seen r world.now) at (seen r cell)) }
 {
     run.spend(world.budget, at, 1)?;
     Ok(cell)

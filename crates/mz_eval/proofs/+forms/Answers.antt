@@ -36,7 +36,7 @@ forms::eval_expression-returns-clause-means t c =
     (eval_more w left (ctx_of c.args.level.now.ctx) e b env s c.if-level-eq0.false c.inner-node.ensures
     ∙ ap (λ k. then_do (node w (eval w (left - 1)) k (form_layer (out-CoreForm b.form)) b.span (plain_type b.ty) env s) (finish w e b)) (sym c.within-ctx.ensures)
     ∙ ap (λ a. then_do a (finish w e b)) c.in_ok-cell.ensures.means)
-    c.finished.ensures.means
+    c.finished.ensures.bare
 
 pub forms::eval_expression-returns-in_err-cell-clause-means : goal.forms::eval_expression-returns-in_err-cell-clause-means
 forms::eval_expression-returns-in_err-cell-clause-means t c =
@@ -109,7 +109,7 @@ forms::eval_access-returns-clause-means t c =
     (ap (λ a. then_do a (λ y s. then_do (parts go ctx (map tree c.args.all.now) env s) (λ ys. done w c.args.node.now.span (access_cell Bare (plain_type c.args.node.now.ty) y ys)))) c.in_ok-cell.ensures.means
     ∙ ap (λ a. then_do a (λ ys. done w c.args.node.now.span (access_cell Bare (plain_type c.args.node.now.ty) (cell_of x) ys))) c.in_ok-cells.ensures.means
     ∙ ap (λ y. done w c.args.node.now.span y (at_work c.eval_parts.new.run.work)) (sym is))
-    c.done.ensures.means
+    c.done.ensures.bare
 
 pub calls::eval_call_of-returns-in-Some-clause-means : goal.calls::eval_call_of-returns-in-Some-clause-means
 calls::eval_call_of-returns-in-Some-clause-means t c =

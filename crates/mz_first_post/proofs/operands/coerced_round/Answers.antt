@@ -20,11 +20,11 @@ returns-clause-answer c =
     subst (λ n. Meets cell_of c.coerce_both-cell.result n (coerced_by w (place_of (tree c.args.b.now)) ls k s)) (sym c.work.ensures)
     (meets_is cell_of c.coerce_both-cell.result c.coerce_both-cell.new.run.work _ _
     (ap (λ p. coerced_by w p ls k s) (sym c.place_of.ensures) ∙ ap (λ ms. coerced_by w c.place_of.result ms k s) (sym (append-nil ls)) ∙ ap (λ n. coerced_by w c.place_of.result (ls ++ []) k (at_work n)) (sym spent))
-    c.coerce_both-cell.ensures.means)
+    c.coerce_both-cell.ensures.bare)
 
 pub returns-clause-within : goal.returns-clause-within
 returns-clause-within c =
     let budget = c.args.world.now.budget in
     let spent : c.after-run.result.work ≡ c.args.work.now = ap (λ r. r.work) c.after-run.ensures in
     subst (λ n. IfOk c.coerce_both-cell.result (λ _. n ≤ budget + 1)) (sym c.work.ensures)
-    (coerced_within cell_of c.coerce_both-cell.result c.coerce_both-cell.new.run.work (world_of c.args.world.now) c.place_of.result _ (cell_of c.args.k) c.after-run.result.work (subst (λ k. k ≤ budget + 1) (sym spent) c.requires) c.coerce_both-cell.ensures.means)
+    (coerced_within cell_of c.coerce_both-cell.result c.coerce_both-cell.new.run.work (world_of c.args.world.now) c.place_of.result _ (cell_of c.args.k) c.after-run.result.work (subst (λ k. k ≤ budget + 1) (sym spent) c.requires) c.coerce_both-cell.ensures.bare)
