@@ -1,2 +1,3 @@
+pub mod ArrayCells
 pub mod NextPlaces
 mod PlaceCells

@@ -10,7 +10,7 @@ use Rattle.mz_symbol.specs.declared.types.Free.{Free}
 use Rattle.mz_symbol.specs.Choices.{all_parts}
 use Rattle.mz_symbol.specs.Symbols.{domain_of, free_ids}
 use Rattle.mz_symbol.specs.Runs.{Run}
-use Rattle.mz_symbol.specs.Readings.{Reading, state_of}
+use Rattle.mz_symbol.specs.Readings.{Reading, Reads, state_of}
 use Rattle.mz_symbol.specs.Makes.{GoesOnBy}
 use Rattle.mz_model_laws.specs.Hands.{NameKind, HeldName, AreVars}
 use Rattle.mz_model_laws.specs.Variables.{part_count}
@@ -37,3 +37,14 @@ pub record MakesPlaces (n : ℕ) (old new : Run) : Type 0 where
   pub goes : GoesOnBy n old new
   pub same : (r : Reading) → state_of r old ≡ state_of r new
   pub grew : Grew old.arena new.arena
+
+-- ---- an array of variables
+
+-- what is made costs no work and takes no choice
+pub record Keeps (old new : Run) : Type 0 where
+  pub same : (r : Reading) → Reads r new → state_of r old ≡ state_of r new
+
+-- the places of an array over these sets
+pub record ArePlacesOver (b : Base) (o : Bool) (us : List (List Range)) (fs : List Free) : Type 0 where
+  pub domains : map domain_of fs ≡ map (place_over b o) us
+  pub shaped : AreShaped (map domain_of fs)

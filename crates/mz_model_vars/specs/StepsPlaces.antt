@@ -1,14 +1,18 @@
--- Mirror of src/places.rt; private clauses only.
+-- Mirror of src/places.rt and src/arrays.rt; private clauses only.
 use Rattle.std.specs.Prelude.{◌≡◌, ◌+◌, ◌*◌, ℕ, List, ◌++◌, Bool, true, false, length, map}
 use Rattle.mz_value.specs.Ranges.{Range}
 use Rattle.mz_core.specs.declared.types.Base.{Base}
-use Rattle.mz_meaning.specs.Domains.{Domain}
+use Rattle.mz_meaning.specs.Cells.{Var, held}
+use Rattle.mz_meaning.specs.Domains.{Domain, domains_bounds}
 use Rattle.mz_instance.specs.Parts.{is_subset_sort, sort_of}
 use Rattle.mz_instance.specs.Instance.{IsTruthOver}
 use Rattle.mz_model_meaning.specs.Decoded.{is_shape, AreShaped}
 use Rattle.mz_symbol.specs.declared.types.Free.{Free}
+use Rattle.mz_symbol.specs.declared.types.Symbol.{Symbol}
 use Rattle.mz_symbol.specs.Symbols.{domain_of, free_ids}
 use Rattle.mz_symbol.specs.Runs.{Run}
+use Rattle.mz_symbol.specs.Readings.{Reading}
+use Rattle.mz_model_laws.specs.Hands.{View, ManyPlaces, kind_domains, array_value}
 use Rattle.mz_model_vars.specs.Placed.{place_over, HaveNodes, MakesPlaces}
 
 -- what is asked of a domain besides its set's being canonical
@@ -25,3 +29,10 @@ pub record AreSoFar (old new : Run) (k next : ℕ) (b : Base) (o : Bool) (all re
   pub domains : map domain_of fs ++ map (place_over b o) rest ≡ map (place_over b o) all
   pub shaped : AreShaped (map domain_of fs)
   pub nodes : HaveNodes new k fs
+
+abbrev pub symbols_of : List Free → List Symbol
+symbols_of fs = map (λ f. f.symbol) fs
+
+-- the cell of an array whose elements are this line
+pub record IsArrayOver (line : ℕ) (v : View) (ix : List Range) (fs : List Free) : Type 0 where
+  pub cell : (r : Reading) → v r ≡ Var (domains_bounds (kind_domains (ManyPlaces ix fs))) (held r.mode (array_value ix (r.line line)))
