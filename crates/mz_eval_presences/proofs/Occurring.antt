@@ -1,14 +1,18 @@
 -- What nodes say of whether an element occurs.
-use Rattle.std.proofs.Common.{◌≡◌, ◌∙◌, ◌&&◌, ℕ, Bool, true, false, Option, Some, None, refl, sym, ap, if◌then◌else◌}
+use Rattle.std.proofs.Common.{◌≡◌, ◌∙◌, ◌&&◌, ℕ, ℤ, Bool, true, false, List, Option, Some, None, refl, sym, ap, if◌then◌else◌}
+use Rattle.std.specs.Option.{option_map}
+use Rattle.mz_value.specs.Ranges.{Range}
 use Rattle.mz_value.specs.Contents.{Content, absent}
+use Rattle.mz_value.specs.Contents as values
 use Rattle.mz_core.specs.declared.types.Base.{Base}
 use Rattle.mz_core.specs.declared.types.Base.TheVariants as base
 use Rattle.mz_arena.specs.Values as terms
-use Rattle.mz_arena.specs.Values.{Term, and_term, bit}
+use Rattle.mz_arena.specs.Values.{Term, and_term, as_set, bit, is_member, member_term, number}
 use Rattle.mz_operations.specs.Bounds as bounds
+use Rattle.mz_operations.specs.Views.{as_set as content_set}
 use Rattle.mz_meaning.specs.Runs.{State, Answer, Out}
 use Rattle.mz_meaning.specs.Cells.{Cell, Var, Mode, Blank, Given, held, is_true, value_of, bounds_in}
-use Rattle.mz_meaning.specs.Comprehensions.{both_occur, if_given, absent_unless, present}
+use Rattle.mz_meaning.specs.Comprehensions.{both_occur, if_given, absent_unless, present, set_has}
 use Rattle.mz_symbol.specs.declared.types.Symbol.{Symbol}
 use Rattle.mz_symbol.specs.Symbols.{value_by, value_at, symbol_value}
 use Rattle.mz_symbol.specs.Readings.{Reading}
@@ -17,7 +21,7 @@ use Rattle.mz_symbol_rows.proofs.RowLaws.{bit_true, truth_is}
 use Rattle.mz_eval_cells.specs.declared.types.Known.{Known}
 use Rattle.mz_eval_cells.specs.declared.types.Known.TheVariants as known
 use Rattle.mz_eval_cells.specs.Views.{cell_of, seen}
-use Rattle.mz_eval_presences.specs.Presences.{where_true, IsPlainTruth}
+use Rattle.mz_eval_presences.specs.Presences.{where_true, is_set_base, IsPlainSet, IsPlainTruth}
 
 -- ---- both
 
@@ -42,6 +46,41 @@ plain_truth t b o id e f = rw (e, f) (truth_is (t id))
 
 pub truth_told : (r : Reading) (s : Symbol) (v : Option Content) → IsPlainTruth s → held r.mode v ≡ argument r s → Some (if_given r.mode (is_true v)) ≡ where_true r s.term
 truth_told r s v p h = ap (λ b. Some b) (given_true r.mode (terms.is_true (r.term s.term)) (as_argument s.base s.occurs (symbol_value r.term s)) v (plain_truth r.term s.base s.occurs s.term p.base p.occurs) (sym h))
+
+-- ---- sets
+
+set_by : (b : Base) (o : Option ℕ) (u : Term) (n : ℤ) → is_set_base b ≡ true → o ≡ None → set_has (as_argument b o (value_by b u)) n ≡ is_member (Some n) (as_set u)
+unfolding content_set
+set_by base.SetInt o u n h e = has (as_set u)
+  where
+    has : (s : Option (List Range)) → set_has (option_map (λ s. values.set None s) s) n ≡ is_member (Some n) s
+    has None = refl
+    has (Some s) = refl
+set_by (base.SetEnum k) o u n h e = has (as_set u)
+  where
+    has : (s : Option (List Range)) → set_has (option_map (λ s. values.set (Some k) s) s) n ≡ is_member (Some n) s
+    has None = refl
+    has (Some s) = refl
+set_by b o u n h e = absurd (cc)
+
+plain_at : (t : ℕ → Term) (b : Base) (o : Option ℕ) (id : ℕ) → o ≡ None → value_at t b o id ≡ value_by b (t id)
+plain_at t b o id e = rw (e) refl
+
+has_given : (m : Mode) (v : Option Content) (n : ℤ) → if_given m (set_has (held m v) n) ≡ if_given m (set_has v n)
+has_given (Blank k) v n = refl
+has_given (Given f) v n = refl
+
+pub set_told : (r : Reading) (s : Symbol) (n : ℤ) (id : ℕ) → IsPlainSet s → member_term (Some (number n)) (r.term s.term) ≡ r.term id → Some (if_given r.mode (set_has (argument r s) n)) ≡ where_true r id
+unfolding member_term
+set_told r s n id p h =
+    let q = is_member (Some n) (as_set (r.term s.term)) in
+    ap (λ b. Some b)
+    (has_given r.mode (as_argument s.base s.occurs (symbol_value r.term s)) n
+    ∙ ap (if_given r.mode)
+    (ap (λ v. set_has (as_argument s.base s.occurs v) n) (plain_at r.term s.base s.occurs s.term p.occurs)
+    ∙ set_by s.base s.occurs (r.term s.term) n p.base p.occurs
+    ∙ sym (bit_true q)
+    ∙ ap (λ t. terms.is_true t) h))
 
 -- ---- elements
 

@@ -1,5 +1,5 @@
 -- Whether an element of a comprehension occurs, as the code has it.
-use Rattle.std.specs.Prelude.{◌≡◌, ℕ, Option, Some, None}
+use Rattle.std.specs.Prelude.{◌≡◌, ℕ, Bool, true, false, Option, Some, None}
 use Rattle.mz_core.specs.declared.types.Base.{Base}
 use Rattle.mz_core.specs.declared.types.Base.TheVariants as base
 use Rattle.mz_arena.specs.Values.{is_true}
@@ -22,4 +22,14 @@ presence_seen r (presence.Where id) = where_true r id
 -- a Boolean that is no option
 pub record IsPlainTruth (s : Symbol) : Type 0 where
   pub base : s.base ≡ base.Bool
+  pub occurs : s.occurs ≡ None
+
+abbrev pub is_set_base : Base → Bool
+is_set_base base.SetInt = true
+is_set_base (base.SetEnum e) = true
+is_set_base b = false
+
+-- a set that is no option
+pub record IsPlainSet (s : Symbol) : Type 0 where
+  pub base : is_set_base s.base ≡ true
   pub occurs : s.occurs ≡ None

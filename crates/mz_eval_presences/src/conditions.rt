@@ -1,18 +1,15 @@
 // What conditions, and sets that may have a number, say of the elements after them.
 
 ghost use Rattle.std.specs.Prelude.{◌≡◌, IfOk, None, Some};
-ghost use Rattle.mz_value.specs.Contents.{Content};
-ghost use Rattle.mz_core.specs.declared.types.Base.TheVariants as base;
-ghost use Rattle.mz_arena.specs.Values as terms;
 ghost use Rattle.mz_arena.specs.Values.{and_term, member_term, number};
 ghost use Rattle.mz_meaning.specs.Cells.{is_true, value_of};
 ghost use Rattle.mz_meaning.specs.Comprehensions as comprehensions;
 ghost use Rattle.mz_meaning.specs.Comprehensions.{if_given, set_has};
 ghost use Rattle.mz_meaning.specs.Runs.{give};
 ghost use Rattle.mz_symbol.specs.Makes.{GoesOnBy, Means};
-ghost use Rattle.mz_symbol.specs.Symbols.{symbol_value};
+ghost use Rattle.mz_symbol_rows.specs.RowValues.{argument};
 ghost use Rattle.mz_eval_cells.specs.Views.{seen};
-ghost use Rattle.mz_eval_presences.specs.Presences.{IsPlainTruth, presence_seen, where_true};
+ghost use Rattle.mz_eval_presences.specs.Presences.{IsPlainSet, IsPlainTruth, presence_seen, where_true};
 
 use crate::types::Presence;
 use mz_arena::{Id, Node, NodeKind};
@@ -105,4 +102,45 @@ pub fn occurs_where(alloc: Global, run: &mut Run, cond: &Known) -> Result<Presen
     let s = symbol_in(alloc, run, Base::Bool, false, cond)?;
     plain_truth(s)?;
     Ok(Presence::Where(s.term))
+}
+
+// a set that is no option
+fn plain_set(s: Symbol) -> Result<(), Memory>
+    ensures { IfOk result (λ _. IsPlainSet s) }
+{
+    match s.occurs {
+        Some(_) => Err(Memory),
+        None => match s.base {
+            Base::SetInt => Ok(()),
+            Base::SetEnum(_) => Ok(()),
+            _ => Err(Memory),
+        },
+    }
+}
+
+fn number_node(run: &mut Run, n: i64) -> Result<Id, Stop>
+    ensures goes { GoesOnBy 0 run.old run.new }
+    ensures means { Means (λ r. r.term) result run.old run.new (λ r. give (Some (number n))) }
+{
+    let node = Node {
+        kind: NodeKind::Int,
+        a: 0,
+        b: 0,
+        c: 0,
+        number: n,
+    };
+    run.node(&node)
+}
+
+/// What a var set says of a number that it may have: it occurs where the set has it.
+///
+/// Out of memory too where the symbol isn't a set's, and where the number leaves the limit.
+pub fn occurs_in(run: &mut Run, set: Symbol, n: i64) -> Result<Presence, Stop>
+    ensures goes { GoesOnBy 6 run.old run.new }
+    ensures means { Means presence_seen result run.old run.new (λ r. give (Some (if_given r.mode (set_has (argument r set) n)))) }
+{
+    plain_set(set)?;
+    let x = number_node(run, n)?;
+    let id = member_node(run, x, set.term)?;
+    Ok(Presence::Where(id))
 }

@@ -5,6 +5,6 @@ mod conditions;
 mod elements;
 mod types;
 
-pub use conditions::{both_occur, occurs_where};
+pub use conditions::{both_occur, occurs_in, occurs_where};
 pub use elements::present;
 pub use types::Presence;
