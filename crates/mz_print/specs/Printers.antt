@@ -7,7 +7,7 @@ use Rattle.mz_core.specs.Program.{PlainProgram, plain_program}
 use Rattle.mz_core.specs.Tree.{Decl}
 use Rattle.mz_meaning.specs.Runs.{start}
 use Rattle.mz_meaning.specs.Cells.{Bare}
-use Rattle.mz_meaning.specs.Walk.{Limits, Assignment}
+use Rattle.mz_meaning.specs.Walk.{Limits}
 use Rattle.soln_reader_items.specs.Forms.{Form}
 use Rattle.mz_output.specs.Output.{OutputName, assigned, variable_slots, output_text}
 use Rattle.mz_print_stream.specs.Printing.{Texts}

@@ -5,9 +5,9 @@ ghost use Rattle.mz_value.specs.Contents.{content};
 ghost use Rattle.mz_meaning.specs.Cells.{Par, bind};
 ghost use Rattle.mz_eval_cells.specs.Views.{cell_of};
 ghost use Rattle.mz_eval_scopes.specs.Views.{env_cells};
-ghost use Rattle.mz_output.specs.Output.{assigned, output_cell, output_env, variable_slots};
+ghost use Rattle.mz_output.specs.Output.{output_cell, variable_slots};
 ghost use Rattle.mz_print_values.specs.Lines.{value_at};
-ghost use Rattle.mz_print.specs.Names.{place_in, top_name, top_names};
+ghost use Rattle.mz_print.specs.Names.{cells_for, place_in, top_name, top_names};
 
 use crate::names::TopName;
 use mz_base::Memory;
@@ -68,7 +68,7 @@ pub(crate) fn output_env(
 ) -> Result<Env, Memory>
     requires many { length places.now ≡ length names.now }
     requires placed { places.now ≡ map (place_in (variable_slots (top_names names.now))) (top_names names.now) }
-    ensures { IfOk result (λ env. (k : ℕ) → env_cells env k ≡ output_env (assigned (variable_slots (top_names names.now)) (map content values.now)) (top_names names.now) k) }
+    ensures { IfOk result (λ env. (k : ℕ) → env_cells env k ≡ cells_for names.now values.now k) }
 {
     let mut env = Env::new(alloc);
     let count = names.len();

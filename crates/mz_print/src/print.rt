@@ -3,10 +3,10 @@
 ghost use Rattle.std.specs.Prelude.{◌≡◌, IfOk, map};
 ghost use Rattle.mz_value.specs.Contents.{content};
 ghost use Rattle.mz_core.specs.Program.{plain_program};
-ghost use Rattle.mz_output.specs.Output.{assigned, default_text, output_env, variable_slots};
+ghost use Rattle.mz_output.specs.Output.{default_text};
 ghost use Rattle.mz_print_stream.specs.Printing.{AreTaken, Says};
 ghost use Rattle.mz_print.specs.Items.{items_text};
-ghost use Rattle.mz_print.specs.Names.{top_names};
+ghost use Rattle.mz_print.specs.Names.{cells_for, values_of};
 ghost use Rattle.mz_print.specs.Printers.{IsMade, IsTaken, solution_texts};
 
 use crate::env::output_env;
@@ -24,7 +24,7 @@ fn by_default(
     values: &[Value],
 ) -> Result<Vec<u8>, Memory>
     requires { AreTaken (IsTaken printer.now) (map content values.now) }
-    ensures { IfOk result (λ t. t.items ≡ default_text printer.now.names.now (plain_program printer.now.program.now) (assigned (variable_slots (top_names printer.now.top.items)) (map content values.now))) }
+    ensures { IfOk result (λ t. t.items ≡ default_text printer.now.names.now (plain_program printer.now.program.now) (values_of printer.now.top.items values.now)) }
 {
     default_text(
         alloc,
@@ -42,7 +42,7 @@ fn by_items(
     block: u64,
 ) -> Result<Vec<u8>, Stop>
     requires { IsMade printer.now }
-    ensures { Says (items_text (plain_program printer.now.program.now) printer.now.budget printer.now.int_range (output_env (assigned (variable_slots (top_names printer.now.top.items)) (map content values.now)) (top_names printer.now.top.items)) block) result }
+    ensures { Says (items_text (plain_program printer.now.program.now) printer.now.budget printer.now.int_range (cells_for printer.now.top.items values.now) block) result }
 {
     let env = output_env(alloc, &printer.top, &printer.places, values)?;
     items_text(
