@@ -5,3 +5,4 @@ pub mod Seeding
 pub mod Rooting
 pub mod Parting
 pub mod Aiming
+pub mod Turning

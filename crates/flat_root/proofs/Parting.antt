@@ -15,15 +15,14 @@ use Rattle.mz_arena.specs.Extents.{Known, as_truth, extent, extents, node_extent
 use Rattle.mz_arena.specs.Arenas.{IsArena}
 use Rattle.mz_arena.proofs.Folds.{unroll}
 use Rattle.flat_reif_rows.proofs.Sorts.{both_there}
-use Rattle.flat_reif.specs.Needs.{is_needed, HasAlso}
 use Rattle.flat_reif.specs.Lists.{IsNode}
 use Rattle.mz_partial.specs.Totals.{IsTotal}
 use Rattle.flat_root.specs.Keeps.{AllTrue}
 use Rattle.flat_root.specs.Marks.{IsIn}
 use Rattle.flat_root.specs.Totals.{IsRootPart, AreRootParts}
-use Rattle.flat_root.specs.Parts.{is_and, AreSplit, IsKnown, IsParted, SplitSoFar, Visits, left_of, unseen, turned}
+use Rattle.flat_root.specs.Parts.{is_and, AreApart, AreSplit, HasOneMore, IsKnown, IsParted, SplitSoFar, Visits, left_of, unseen, turned}
 use Rattle.flat_root.proofs.Marking.{all_both, total_children, in_left, in_right}
-use Rattle.flat_root.proofs.Totaling.{root_of, true_both, true_first, true_second}
+use Rattle.flat_root.proofs.Totaling.{all_first, all_second, root_of, true_both, true_first, true_second}
 
 -- ---- a conjunction
 
@@ -87,15 +86,15 @@ only_in : (k i : ℕ) → IsIn k (i ∷ []) → k ≡ i
 only_in k i (inl e) = e
 only_in k i (inr h) = absurd h
 
-all_first : (P : ℕ → Type 0) (xs ys : List ℕ) → AllByRecursion P (xs ++ ys) → AllByRecursion P xs
-all_first P [] ys a = tt
-all_first P (x ∷ xs) ys a = (a.0, all_first P xs ys a.1)
+-- an id more, which is none of them
+apart_more : (is : List ℕ) (k : ℕ) → AreApart is → (IsIn k is → ⊥) → AreApart (is ++ k ∷ [])
+apart_more [] k a none = ((λ h. h), tt)
+apart_more (i ∷ is) k a none = (
+  (λ h. elim (in_either i is (k ∷ []) h) [ inl old ↦ a.0 old | inr new ↦ none (inl (sym (only_in i k new))) ]),
+  apart_more is k a.1 (λ h. none (inr h)),
+)
 
-all_second : (P : ℕ → Type 0) (xs ys : List ℕ) → AllByRecursion P (xs ++ ys) → AllByRecursion P ys
-all_second P [] ys a = a
-all_second P (x ∷ xs) ys a = all_second P xs ys a.1
-
-parted_moved : (es : List Entry) (s t : List ℕ) (a b : List Bool) (k : ℕ) → ((j : ℕ) → IsKnown s a j → IsKnown t b j) → IsParted es s a k → IsParted es t b k
+parted_moved : (es : List Entry) (s t : List ℕ) (a b : ℕ → Bool) (k : ℕ) → ((j : ℕ) → IsKnown s a j → IsKnown t b j) → IsParted es s a k → IsParted es t b k
 parted_moved es s t a b k f p = record { entry = p.entry; is = p.is; kind = p.kind; first = f p.entry.node.a p.first; second = f p.entry.node.b p.second }
 
 own_mark : (k : ℕ) (b : Bool) → (nat_eq k k || b) ≡ true
@@ -112,7 +111,7 @@ either_mark k i b h = by (nat_eq k i) refl h
     by true is h = let same : k ≡ i = grind (arith, nat_tests) in inr same
     by false is h = inl h
 
-module _ (es : List Entry) (ids rest : List ℕ) (id : ℕ) (seen : List Bool) (parts : List ℕ) (f : SplitSoFar es ids (rest ++ id ∷ []) seen parts) where
+module _ (es : List Entry) (ids rest : List ℕ) (id : ℕ) (seen : ℕ → Bool) (parts : List ℕ) (f : SplitSoFar es ids (rest ++ id ∷ []) seen parts) where
   pub here : IsRootPart es id
   here = (all_second (IsRootPart es) rest (id ∷ []) f.waiting).0
 
@@ -120,41 +119,45 @@ module _ (es : List Entry) (ids rest : List ℕ) (id : ℕ) (seen : List Bool) (
   waiting_rest = all_first (IsRootPart es) rest (id ∷ []) f.waiting
 
   -- it was looked at before
-  pub split_seen : is_needed seen id ≡ true → SplitSoFar es ids rest seen parts
+  pub split_seen : seen id ≡ true → SplitSoFar es ids rest seen parts
   split_seen was =
       let moved : (j : ℕ) → IsKnown (rest ++ id ∷ []) seen j → IsKnown rest seen j = λ j k. elim k [
-        | inl h ↦ elim (in_either j rest (id ∷ []) h) [ inl a ↦ inl a | inr b ↦ inr (ap (is_needed seen) (only_in j id b) ∙ was) ]
+        | inl h ↦ elim (in_either j rest (id ∷ []) h) [ inl a ↦ inl a | inr b ↦ inr (ap seen (only_in j id b) ∙ was) ]
         | inr s ↦ inr s
       ] in
       record {
         waiting = waiting_rest;
         each = f.each;
+        once = f.once;
+        met = f.met;
         to = λ v y. (let t = f.to v y in (true_first es rest (id ∷ []) v t.0, t.1));
         known = λ k h. moved k (f.known k h);
         handled = λ k h. elim (f.handled k h) [ inl a ↦ inl a | inr p ↦ inr (parted_moved es (rest ++ id ∷ []) rest seen seen k moved p) ];
       }
 
-  module _ (new : List Bool) (also : HasAlso seen new id) where
-    marked : is_needed new id ≡ true
-    marked = also id ∙ own_mark id (is_needed seen id)
+  module _ (new : ℕ → Bool) (also : HasOneMore seen new id) where
+    marked : new id ≡ true
+    marked = also id ∙ own_mark id (seen id)
 
-    kept : (j : ℕ) → is_needed seen j ≡ true → is_needed new j ≡ true
-    kept j h = also j ∙ old_mark (nat_eq j id) (is_needed seen j) h
+    kept : (j : ℕ) → seen j ≡ true → new j ≡ true
+    kept j h = also j ∙ old_mark (nat_eq j id) (seen j) h
 
-    was_or_is : (j : ℕ) → is_needed new j ≡ true → (is_needed seen j ≡ true) ⊎ (j ≡ id)
-    was_or_is j h = either_mark j id (is_needed seen j) (sym (also j) ∙ h)
+    was_or_is : (j : ℕ) → new j ≡ true → (seen j ≡ true) ⊎ (j ≡ id)
+    was_or_is j h = either_mark j id (seen j) (sym (also j) ∙ h)
 
     moved_to : (stack : List ℕ) → ((j : ℕ) → IsIn j rest → IsIn j stack) → (j : ℕ) → IsKnown (rest ++ id ∷ []) seen j → IsKnown stack new j
-    moved_to stack g j (inl h) = elim (in_either j rest (id ∷ []) h) [ inl a ↦ inl (g j a) | inr b ↦ inr (ap (is_needed new) (only_in j id b) ∙ marked) ]
+    moved_to stack g j (inl h) = elim (in_either j rest (id ∷ []) h) [ inl a ↦ inl (g j a) | inr b ↦ inr (ap new (only_in j id b) ∙ marked) ]
     moved_to stack g j (inr s) = inr (kept j s)
 
     -- it is no conjunction
-    pub split_leaf : SplitSoFar es ids rest new (parts ++ id ∷ [])
-    split_leaf =
+    pub split_leaf : seen id ≡ false → SplitSoFar es ids rest new (parts ++ id ∷ [])
+    split_leaf un =
         let moved = moved_to rest (λ j h. h) in
         record {
           waiting = waiting_rest;
           each = all_both (IsRootPart es) parts (id ∷ []) f.each (here, tt);
+          once = apart_more parts id f.once (λ h. (let was = f.met id h in absurd (cc)));
+          met = λ k h. elim (in_either k parts (id ∷ []) h) [ inl old ↦ kept k (f.met k old) | inr own ↦ ap new (only_in k id own) ∙ marked ];
           to = λ v y. (let t = f.to v y in (true_first es rest (id ∷ []) v t.0, true_both es parts (id ∷ []) v t.1 (true_second es rest (id ∷ []) v t.0)));
           known = λ k h. moved k (f.known k h);
           handled = λ k h. elim (was_or_is k h) [
@@ -179,6 +182,8 @@ module _ (es : List Entry) (ids rest : List ℕ) (id : ℕ) (seen : List Bool) (
             record {
               waiting = all_both (IsRootPart es) rest (e.node.b ∷ e.node.a ∷ []) waiting_rest (r.1, (r.0, tt));
               each = f.each;
+              once = f.once;
+              met = λ k h. kept k (f.met k h);
               to = λ v y.
                   let t = f.to v y in
                   let p = true_parts es arena id e is and v (true_second es rest (id ∷ []) v t.0).0 in
@@ -198,7 +203,7 @@ module _ (es : List Entry) (ids rest : List ℕ) (id : ℕ) (seen : List Bool) (
 
 -- ---- at the end
 
-none_known : (seen : List Bool) (k : ℕ) → IsKnown [] seen k → is_needed seen k ≡ true
+none_known : (seen : ℕ → Bool) (k : ℕ) → IsKnown [] seen k → seen k ≡ true
 none_known seen k (inl h) = absurd h
 none_known seen k (inr h) = h
 
@@ -211,8 +216,8 @@ true_in : (es : List Entry) (is : List ℕ) (v : terms.Values) → ((k : ℕ) �
 true_in es [] v f = tt
 true_in es (i ∷ is) v f = (f i (inl refl), true_in es is v (λ k h. f k (inr h)))
 
-module _ (es : List Entry) (arena : IsArena es) (ids : List ℕ) (seen : List Bool) (parts : List ℕ) (f : SplitSoFar es ids [] seen parts) where
-  seen_true : (v : terms.Values) → AllTrue es parts v → (n k : ℕ) → k < n → is_needed seen k ≡ true → is_true (term v es k) ≡ true
+module _ (es : List Entry) (arena : IsArena es) (ids : List ℕ) (seen : ℕ → Bool) (parts : List ℕ) (f : SplitSoFar es ids [] seen parts) where
+  seen_true : (v : terms.Values) → AllTrue es parts v → (n k : ℕ) → k < n → seen k ≡ true → is_true (term v es k) ≡ true
   seen_true v y zero k l h = absurd (omega (arith, l))
   seen_true v y (suc n) k l h = elim (f.handled k h) [
     | inl a ↦ in_true es parts k v y a
@@ -224,12 +229,21 @@ module _ (es : List Entry) (arena : IsArena es) (ids : List ℕ) (seen : List Bo
   pub split_all : AreSplit es ids parts
   split_all = record {
     each = f.each;
+    once = f.once;
     to = λ v y. (f.to v y).1;
     from = λ v y. true_in es ids v (λ k h. seen_true v y (suc k) k (omega arith) (none_known seen k (f.known k h)));
   }
 
-pub split_none : (es : List Entry) (ids stack : List ℕ) → AreRootParts es stack → ((v : terms.Values) → AllTrue es ids v → AllTrue es stack v) → ((k : ℕ) → IsIn k ids → IsIn k stack) → SplitSoFar es ids stack [] []
-split_none es ids stack r t i = record { waiting = r; each = tt; to = λ v y. (t v y, tt); known = λ k h. inl (i k h); handled = λ k h. absurd (cc) }
+pub split_none : (es : List Entry) (ids stack : List ℕ) (seen : ℕ → Bool) → AreRootParts es stack → ((v : terms.Values) → AllTrue es ids v → AllTrue es stack v) → ((k : ℕ) → IsIn k ids → IsIn k stack) → ((k : ℕ) → seen k ≡ false) → SplitSoFar es ids stack seen []
+split_none es ids stack seen r t i none = record {
+  waiting = r;
+  each = tt;
+  once = tt;
+  met = λ k h. absurd h;
+  to = λ v y. (t v y, tt);
+  known = λ k h. inl (i k h);
+  handled = λ k h. (let un = none k in absurd (cc));
+}
 
 -- ---- it ends
 
@@ -256,35 +270,35 @@ last zero (suc n) h = inl (omega arith)
 last (suc i) zero h = absurd (omega (arith, h))
 last (suc i) (suc n) h = elim (last i n (omega (arith, h))) [ inl l ↦ inl (omega (arith, l)) | inr e ↦ inr (ap suc e) ]
 
-module _ (seen new : List Bool) (id : ℕ) (h : HasAlso seen new id) where
-  stays : (n : ℕ) → is_needed seen n ≡ true → is_needed new n ≡ true
-  stays n y = h n ∙ old_mark (nat_eq n id) (is_needed seen n) y
+module _ (seen new : ℕ → Bool) (id : ℕ) (h : HasOneMore seen new id) where
+  stays : (n : ℕ) → seen n ≡ true → new n ≡ true
+  stays n y = h n ∙ old_mark (nat_eq n id) (seen n) y
 
   fewer_unseen : (n : ℕ) → unseen n new ≤ unseen n seen
   fewer_unseen zero = omega arith
-  fewer_unseen (suc n) = marks_at_most (is_needed seen n) (is_needed new n) (unseen n seen) (unseen n new) (fewer_unseen n) (stays n)
+  fewer_unseen (suc n) = marks_at_most (seen n) (new n) (unseen n seen) (unseen n new) (fewer_unseen n) (stays n)
 
-  one_seen : is_needed seen id ≡ false → (n : ℕ) → id < n → unseen n new + 1 ≤ unseen n seen
+  one_seen : seen id ≡ false → (n : ℕ) → id < n → unseen n new + 1 ≤ unseen n seen
   one_seen un zero l = absurd (omega (arith, l))
   one_seen un (suc n) l = elim (last id n l) [
-    | inl below ↦ marks_less (is_needed seen n) (is_needed new n) (unseen n seen) (unseen n new) (one_seen un n below) (stays n)
-    | inr same ↦ marks_here (is_needed seen n) (is_needed new n) (unseen n seen) (unseen n new) (fewer_unseen n) (ap (is_needed seen) (sym same) ∙ un) (ap (is_needed new) (sym same) ∙ h id ∙ own_mark id (is_needed seen id))
+    | inl below ↦ marks_less (seen n) (new n) (unseen n seen) (unseen n new) (one_seen un n below) (stays n)
+    | inr same ↦ marks_here (seen n) (new n) (unseen n seen) (unseen n new) (fewer_unseen n) (ap seen (sym same) ∙ un) (ap new (sym same) ∙ h id ∙ own_mark id (seen id))
   ]
 
-module _ (es : List Entry) (arena : IsArena es) (id : ℕ) (rest : List ℕ) (seen : List Bool) (parts : List ℕ) where
+module _ (es : List Entry) (arena : IsArena es) (id : ℕ) (rest : List ℕ) (seen : ℕ → Bool) (parts : List ℕ) where
   longer : length (rest ++ id ∷ []) ≡ length rest + 1
   longer = length-append rest (id ∷ [])
 
-  pub visited_seen : is_needed seen id ≡ true → Visits es id rest rest seen seen parts parts
+  pub visited_seen : seen id ≡ true → Visits es id rest rest seen seen parts parts
   visited_seen was = record { so_far = λ ids f. split_seen es ids rest id seen parts f was; less = omega (arith, longer) }
 
-  module _ (place : id < length es) (un : is_needed seen id ≡ false) (new : List Bool) (also : HasAlso seen new id) where
+  module _ (place : id < length es) (un : seen id ≡ false) (new : ℕ → Bool) (also : HasOneMore seen new id) where
     fewer : unseen (length es) new + 1 ≤ unseen (length es) seen
     fewer = one_seen seen new id also un (length es) place
 
     pub visited_leaf : (more : List ℕ) → more ≡ parts ++ id ∷ [] → Visits es id rest rest seen new parts more
     visited_leaf more items = record {
-      so_far = λ ids f. subst (SplitSoFar es ids rest new) (sym items) (split_leaf es ids rest id seen parts f new also);
+      so_far = λ ids f. subst (SplitSoFar es ids rest new) (sym items) (split_leaf es ids rest id seen parts f new also un);
       less = omega (arith, longer, fewer);
     }
 
@@ -312,11 +326,10 @@ turned_in k [] h = absurd h
 turned_in k (i ∷ is) (inl e) = in_right k (turned is) (i ∷ []) (inl e)
 turned_in k (i ∷ is) (inr h) = in_left k (turned is) (i ∷ []) (turned_in k is h)
 
-pub split_begins : (es : List Entry) (ids stack : List ℕ) (seen : List Bool) (parts : List ℕ) → AreRootParts es ids → stack ≡ turned ids → seen ≡ [] → parts ≡ [] → SplitSoFar es ids stack seen parts
-split_begins es ids stack seen parts r h s p =
+pub split_begins : (es : List Entry) (ids stack : List ℕ) (seen : ℕ → Bool) (parts : List ℕ) → AreRootParts es ids → stack ≡ turned ids → ((k : ℕ) → seen k ≡ false) → parts ≡ [] → SplitSoFar es ids stack seen parts
+split_begins es ids stack seen parts r h none p =
     subst (λ is. SplitSoFar es ids is seen parts) (sym h)
-    (subst (λ m. SplitSoFar es ids (turned ids) m parts) (sym s)
-    (subst (SplitSoFar es ids (turned ids) []) (sym p) (split_none es ids (turned ids) (turned_all (IsRootPart es) ids r) (turned_true es ids) (λ k. turned_in k ids))))
+    (subst (SplitSoFar es ids (turned ids) seen) (sym p) (split_none es ids (turned ids) seen (turned_all (IsRootPart es) ids r) (turned_true es ids) (λ k. turned_in k ids) none))
 
 pub drop_next : (is : List ℕ) (k : ℕ) → k < length is → drop k is ≡ slice_index_or is k 0 ∷ drop (suc k) is
 drop_next [] k h = absurd (omega (arith, h))

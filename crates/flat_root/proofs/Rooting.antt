@@ -17,7 +17,9 @@ use Rattle.mz_partial.specs.declared.part.Part.{Part}
 use Rattle.mz_partial.specs.Totals.{IsTotal, is_total, AreParts}
 use Rattle.mz_partial.proofs.Filling.{parts_later}
 use Rattle.fz_program.specs.declared.row_name.RowName.{RowName}
-use Rattle.fz_program.specs.Arguments.{Plain}
+use Rattle.fz_program.specs.Arguments.{Plain, bool}
+use Rattle.fz_program.specs.Flat.{plain_value}
+use Rattle.flat_reif_rows.specs.Standing.{seen}
 use Rattle.flat_reif_rows.specs.RootRows.{test_of}
 use Rattle.flat_reif.specs.States.{State, Spreads, Always, Flattened}
 use Rattle.flat_reif.specs.Lists.{IsNode, HasArg, IsGiven, HasFront}
@@ -27,10 +29,10 @@ use Rattle.flat_reif.proofs.Steps.{spreads_same}
 use Rattle.flat_reif.proofs.Nodes.{term_here}
 use Rattle.flat_root.specs.Keeps.{Keeps, IsReadyState, Leads, AllTrue, HasChoices, FlattenedFor}
 use Rattle.flat_root.specs.Marks.{AreMarked, AreTotalIds}
-use Rattle.flat_root.specs.Totals.{AreRoots, AreRootParts, Totals}
-use Rattle.flat_root.specs.Parts.{AreSplit}
+use Rattle.flat_root.specs.Totals.{AreRoots, IsRootPart, AreRootParts, Totals}
+use Rattle.flat_root.specs.Parts.{AddsParts, AreSplit, AreSplitEach, of_none, of_more, AreRootsSplit}
 use Rattle.flat_root.specs.Posts.{is_constant, seeds_by, seeds_of, seeds_at, all_seeds, IsPostable, ArePostable}
-use Rattle.flat_root.proofs.Marking.{take_next}
+use Rattle.flat_root.proofs.Marking.{all_both, take_next}
 use Rattle.flat_root.proofs.Keeping.{keeps_spread, keeps_twice, keeps_where, fewer_domains}
 use Rattle.flat_root.proofs.Totaling.{true_later, root_later, true_both, true_first, true_second}
 use Rattle.flat_root.proofs.Seeding.{seeds_are, roots_of, postable, marked_given}
@@ -79,6 +81,24 @@ module _ (s : State) (id : ℕ) (n : Node) (r : IsReadyState s) (h : IsNode s.es
     where
       clash : {A : Type 0} (b : Bool) → b ≡ true → b ≡ false → A
       clash b x y = absurd (cc)
+
+-- an argument that is the constant
+pub true_argument : (s : State) (id : ℕ) → IsReadyState s → at s.args id ≡ Some (bool true) → Leads s s (IsTrueAt s.es id)
+true_argument s id r has =
+    let k = keeps_spread s s Always (spreads_same s) in
+    record {
+      keeps = record {
+        extends = k.extends;
+        longer = k.longer;
+        keeps = k.keeps;
+        down = k.down;
+        holds = λ v f d m. ap is_true (r.state.right v f d m id (bool true) has);
+        up = λ v f d c m. k.up v f d tt m;
+        one = k.one;
+        made = k.made;
+      };
+      ready = r;
+    }
 
 -- ---- one node
 
@@ -204,14 +224,50 @@ if_on_ok (Err e) Q P f h = tt
 pub parts_in : (xs ys : List Entry) (is js : List ℕ) → ys ≡ xs → js ≡ is → AreRootParts xs is → AreRootParts ys js
 parts_in xs ys is js h k r = subst (λ es. AreRootParts es js) (sym h) (subst (AreRootParts xs) (sym k) r)
 
-pub totals_split : (s t : State) (roots terms parts : List ℕ) → Totals s t roots terms → AreSplit t.es terms parts → Totals s t roots parts
-totals_split s t roots terms parts f p = record {
-  keeps = f.keeps;
-  ready = f.ready;
-  each = p.each;
-  to = λ v d y. p.to v (f.to v d y);
-  from = λ v d y. f.from v d (p.from v y);
+-- the parts of roots are true exactly where these nodes are
+pub record AreSame (es : List Entry) (ids parts : List ℕ) : Type 0 where
+  pub each : AreRootParts es parts
+  pub to : (v : terms.Values) → AllTrue es ids v → AllTrue es parts v
+  pub from : (v : terms.Values) → AllTrue es parts v → AllTrue es ids v
+
+pub each_begin : (es : List Entry) (parts : List ℕ) → parts ≡ [] → AreSplitEach es [] parts
+each_begin es parts e = subst (AreSplitEach es []) (sym e) of_none
+
+pub each_next : (es : List Entry) (ids : List ℕ) (k i : ℕ) (before after : List ℕ) → slice_get ids k ≡ Some i → AreSplitEach es (take k ids) before → AddsParts es i before after → AreSplitEach es (take (k + 1) ids) after
+each_next es ids k i before after h s a =
+    let one : k + 1 ≡ suc k = omega arith in
+    subst (λ is. AreSplitEach es is after) (sym (ap (λ m. take m ids) one ∙ take_next ids k i h)) (of_more s a)
+
+pub part_at : (es : List Entry) (ids : List ℕ) (k i : ℕ) → slice_get ids k ≡ Some i → AreRootParts es ids → IsRootPart es i
+part_at es ids k i h r = all_at (IsRootPart es) ids k i h r
+
+same_split : (es : List Entry) (ids parts : List ℕ) → AreSplit es ids parts → AreSame es ids parts
+same_split es ids parts s = record { each = s.each; to = s.to; from = s.from }
+
+same_both : (es : List Entry) (is js ps qs : List ℕ) → AreSame es is ps → AreSame es js qs → AreSame es (is ++ js) (ps ++ qs)
+same_both es is js ps qs a b = record {
+  each = all_both (IsRootPart es) ps qs a.each b.each;
+  to = λ v h. true_both es ps qs v (a.to v (true_first es is js v h)) (b.to v (true_second es is js v h));
+  from = λ v h. true_both es is js v (a.from v (true_first es ps qs v h)) (b.from v (true_second es ps qs v h));
 }
+
+same_each : (es : List Entry) (ids parts : List ℕ) → AreSplitEach es ids parts → AreSame es ids parts
+same_each es _ _ of_none = record { each = tt; to = λ v h. h; from = λ v h. h }
+same_each es _ _ (of_more {ids = ids} {parts = parts} {id = id} e a) = subst (AreSame es (ids ++ id ∷ [])) (sym a.items) (same_both es ids (id ∷ []) parts a.more (same_each es ids parts e) (same_split es (id ∷ []) a.more a.split))
+
+same_roots : (es : List Entry) (defined terms parts : List ℕ) → AreRootsSplit es defined terms parts → AreSame es (defined ++ terms) parts
+same_roots es defined terms parts r = subst (AreSame es (defined ++ terms)) (sym r.items) (same_both es defined terms r.first r.more (same_split es defined r.first r.values) (same_each es terms r.more r.roots))
+
+pub totals_split : (s t : State) (roots defined terms parts : List ℕ) → Totals s t roots (defined ++ terms) → AreRootsSplit t.es defined terms parts → Totals s t roots parts
+totals_split s t roots defined terms parts f r =
+    let p = same_roots t.es defined terms parts r in
+    record {
+      keeps = f.keeps;
+      ready = f.ready;
+      each = p.each;
+      to = λ v d y. p.to v (f.to v d y);
+      from = λ v d y. f.from v d (p.from v y);
+    }
 
 -- ---- choices
 

@@ -1,5 +1,6 @@
 -- Roots as total terms, one after the other.
 use Rattle.std.proofs.Common.{◌≡◌, ℕ, zero, suc, ◌+◌, ◌<◌, Bool, true, false, List, [], ◌∷◌, ◌++◌, length, take, Some, None, IsSome, slice_get, refl, sym, ap, subst, ◌∙◌, arith}
+use Rattle.std.specs.List.{AllByRecursion}
 use Rattle.mz_arena.specs.Entries.{Entry}
 use Rattle.mz_arena.specs.Values as terms
 use Rattle.mz_arena.specs.Values.{Term, Val, bit, is_true}
@@ -87,13 +88,18 @@ one_totals s t id p r root g =
           (sym (ap is_true (true_later s.es t.es id v x root.place)) ∙ old_true (term v t.es p.defined) (term v t.es p.term) (term v t.es id) z.holds z.value z.is_defined z.has_value z.is_old y.0 y.1.0, tt);
     }
 
-pub one_added : (s t : State) (id : ℕ) (p : Pair) (before after : List ℕ) → IsReadyState s → IsRoot s.es id → GrownTo s t id p → after ≡ before ++ p.defined ∷ p.term ∷ [] → AddsTotal s t id before after
-one_added s t id p before after r root g items = record { parts = p.defined ∷ p.term ∷ []; items = items; totals = one_totals s t id p r root g }
-
 -- ---- several
 
 pub no_totals : (s : State) → IsReadyState s → Totals s s [] []
 no_totals s r = record { keeps = keeps_spread s s Always (spreads_same s); ready = r; each = tt; to = λ v d y. tt; from = λ v d y. tt }
+
+pub all_first : (P : ℕ → Type 0) (xs ys : List ℕ) → AllByRecursion P (xs ++ ys) → AllByRecursion P xs
+all_first P [] ys a = tt
+all_first P (x ∷ xs) ys a = (a.0, all_first P xs ys a.1)
+
+pub all_second : (P : ℕ → Type 0) (xs ys : List ℕ) → AllByRecursion P (xs ++ ys) → AllByRecursion P ys
+all_second P [] ys a = a
+all_second P (x ∷ xs) ys a = all_second P xs ys a.1
 
 pub true_both : (es : List Entry) (xs ys : List ℕ) (v : terms.Values) → AllTrue es xs v → AllTrue es ys v → AllTrue es (xs ++ ys) v
 true_both es [] ys v a b = b
@@ -107,34 +113,59 @@ pub true_second : (es : List Entry) (xs ys : List ℕ) (v : terms.Values) → Al
 true_second es [] ys v a = a
 true_second es (x ∷ xs) ys v a = true_second es xs ys v a.1
 
-pub totals_then : (s t u : State) (roots parts more : List ℕ) (id : ℕ) → IsRoot s.es id → Totals s t roots parts → AddsTotal t u id parts more → Totals s u (roots ++ id ∷ []) more
-totals_then s t u roots parts more id root f a =
-    let g = a.totals in
-    let x = g.keeps.extends in
-    let y = f.keeps.extends in
-    record {
-      keeps = keeps_where s u (λ v. Always v × Always v) Always (keeps_twice s t u Always Always f.keeps g.keeps) (λ v d c. tt) (λ v d c. (tt, tt));
-      ready = g.ready;
-      each = subst (AreRootParts u.es) (sym a.items) (all_both (IsRootPart u.es) parts a.parts (parts_later t.es u.es parts x f.each) g.each);
-      to = λ v d h.
-          let e = fewer_domains t.es u.es x v d in
-          subst (λ is. AllTrue u.es is v) (sym a.items)
-          (true_both u.es parts a.parts v
-          (all_true_later t.es u.es parts v x f.each (f.to v e (true_first s.es roots (id ∷ []) v h)))
-          (g.to v d (ap is_true (true_later s.es t.es id v y root.place) ∙ (true_second s.es roots (id ∷ []) v h).0, tt)));
-      from = λ v d h.
-          let e = fewer_domains t.es u.es x v d in
-          let all = subst (λ is. AllTrue u.es is v) a.items h in
-          true_both s.es roots (id ∷ []) v
-          (f.from v e (all_true_before t.es u.es parts v x f.each (true_first u.es parts a.parts v all)))
-          (sym (ap is_true (true_later s.es t.es id v y root.place)) ∙ (g.from v d (true_second u.es parts a.parts v all)).0, tt);
-    }
+pub one_added : (s t : State) (id : ℕ) (p : Pair) (d dn ts tn : List ℕ) → IsReadyState s → IsRoot s.es id → GrownTo s t id p → dn ≡ d ++ p.defined ∷ [] → tn ≡ ts ++ p.term ∷ [] → AddsTotal s t id d dn ts tn
+one_added s t id p d dn ts tn r root g e f = record { has = p.defined; term = p.term; defined_is = e; terms_are = f; totals = one_totals s t id p r root g }
+
+module _ (s t u : State) (roots d ts : List ℕ) (id x w : ℕ) (root : IsRoot s.es id) (f : Totals s t roots (d ++ ts)) (g : Totals t u (id ∷ []) (x ∷ w ∷ [])) where
+  grown : Extends t.es u.es
+  grown = g.keeps.extends
+
+  started : Extends s.es t.es
+  started = f.keeps.extends
+
+  old_all : (v : terms.Values) → AllTrue u.es ((d ++ x ∷ []) ++ (ts ++ w ∷ [])) v → AllTrue u.es (d ++ ts) v
+  old_all v h = true_both u.es d ts v (true_first u.es d (x ∷ []) v (true_first u.es (d ++ x ∷ []) (ts ++ w ∷ []) v h)) (true_first u.es ts (w ∷ []) v (true_second u.es (d ++ x ∷ []) (ts ++ w ∷ []) v h))
+
+  new_all : (v : terms.Values) → AllTrue u.es ((d ++ x ∷ []) ++ (ts ++ w ∷ [])) v → AllTrue u.es (x ∷ w ∷ []) v
+  new_all v h = ((true_second u.es d (x ∷ []) v (true_first u.es (d ++ x ∷ []) (ts ++ w ∷ []) v h)).0, true_second u.es ts (w ∷ []) v (true_second u.es (d ++ x ∷ []) (ts ++ w ∷ []) v h))
+
+  all_new : (v : terms.Values) → AllTrue u.es (d ++ ts) v → AllTrue u.es (x ∷ w ∷ []) v → AllTrue u.es ((d ++ x ∷ []) ++ (ts ++ w ∷ [])) v
+  all_new v h k = true_both u.es (d ++ x ∷ []) (ts ++ w ∷ []) v (true_both u.es d (x ∷ []) v (true_first u.es d ts v h) (k.0, tt)) (true_both u.es ts (w ∷ []) v (true_second u.es d ts v h) k.1)
+
+  parts_all : AreRootParts u.es ((d ++ x ∷ []) ++ (ts ++ w ∷ []))
+  parts_all =
+      let old = parts_later t.es u.es (d ++ ts) grown f.each in
+      all_both (IsRootPart u.es) (d ++ x ∷ []) (ts ++ w ∷ []) (all_both (IsRootPart u.es) d (x ∷ []) (all_first (IsRootPart u.es) d ts old) (g.each.0, tt)) (all_both (IsRootPart u.es) ts (w ∷ []) (all_second (IsRootPart u.es) d ts old) g.each.1)
+
+  totals_then : Totals s u (roots ++ id ∷ []) ((d ++ x ∷ []) ++ (ts ++ w ∷ []))
+  totals_then = record {
+    keeps = keeps_where s u (λ v. Always v × Always v) Always (keeps_twice s t u Always Always f.keeps g.keeps) (λ v e c. tt) (λ v e c. (tt, tt));
+    ready = g.ready;
+    each = parts_all;
+    to = λ v e h.
+        let b = fewer_domains t.es u.es grown v e in
+        all_new v
+        (all_true_later t.es u.es (d ++ ts) v grown f.each (f.to v b (true_first s.es roots (id ∷ []) v h)))
+        (g.to v e (ap is_true (true_later s.es t.es id v started root.place) ∙ (true_second s.es roots (id ∷ []) v h).0, tt));
+    from = λ v e h.
+        let b = fewer_domains t.es u.es grown v e in
+        true_both s.es roots (id ∷ []) v
+        (f.from v b (all_true_before t.es u.es (d ++ ts) v grown f.each (old_all v h)))
+        (sym (ap is_true (true_later s.es t.es id v started root.place)) ∙ (g.from v e (new_all v h)).0, tt);
+  }
 
 next_taken : (is : List ℕ) (k i : ℕ) → slice_get is k ≡ Some i → take (k + 1) is ≡ take k is ++ i ∷ []
 next_taken is k i h = let next : k + 1 ≡ suc k = omega arith in ap (λ m. take m is) next ∙ take_next is k i h
 
-pub totals_next : (s t u : State) (roots parts more : List ℕ) (k id : ℕ) → slice_get roots k ≡ Some id → IsRoot s.es id → Totals s t (take k roots) parts → AddsTotal t u id parts more → Totals s u (take (k + 1) roots) more
-totals_next s t u roots parts more k id h root f a = subst (λ is. Totals s u is more) (sym (next_taken roots k id h)) (totals_then s t u (take k roots) parts more id root f a)
+pub totals_next : (s t u : State) (roots d dn ts tn : List ℕ) (k id : ℕ) → slice_get roots k ≡ Some id → IsRoot s.es id → Totals s t (take k roots) (d ++ ts) → AddsTotal t u id d dn ts tn → Totals s u (take (k + 1) roots) (dn ++ tn)
+totals_next s t u roots d dn ts tn k id h root f a =
+    subst (λ is. Totals s u is (dn ++ tn)) (sym (next_taken roots k id h))
+    (subst (λ is. Totals s u (take k roots ++ id ∷ []) (is ++ tn)) (sym a.defined_is)
+    (subst (λ is. Totals s u (take k roots ++ id ∷ []) ((d ++ a.has ∷ []) ++ is)) (sym a.terms_are)
+    (totals_then s t u (take k roots) d ts id a.has a.term root f a.totals)))
+
+pub totals_begin : (s : State) (parts : List ℕ) → IsReadyState s → parts ≡ [] → Totals s s [] parts
+totals_begin s parts r e = subst (Totals s s []) (sym e) (no_totals s r)
 
 joined_two : (a : List ℕ) (x y : ℕ) → (a ++ x ∷ []) ++ y ∷ [] ≡ a ++ x ∷ y ∷ []
 joined_two [] x y = refl

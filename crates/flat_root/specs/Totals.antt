@@ -33,8 +33,10 @@ pub record Totals (old new : State) (roots parts : List ℕ) : Type 0 where
   pub to : (v : terms.Values) → AreInDomains new.es v → AllTrue old.es roots v → AllTrue new.es parts v
   pub from : (v : terms.Values) → AreInDomains new.es v → AllTrue new.es parts v → AllTrue old.es roots v
 
--- the parts of one root more
-pub record AddsTotal (old new : State) (id : ℕ) (before after : List ℕ) : Type 0 where
-  pub parts : List ℕ
-  pub items : after ≡ before ++ parts
-  pub totals : Totals old new (id ∷ []) parts
+-- where one root more has a value, and its total term
+pub record AddsTotal (old new : State) (id : ℕ) (defined defined_new terms terms_new : List ℕ) : Type 0 where
+  pub has : ℕ
+  pub term : ℕ
+  pub defined_is : defined_new ≡ defined ++ has ∷ []
+  pub terms_are : terms_new ≡ terms ++ term ∷ []
+  pub totals : Totals old new (id ∷ []) (has ∷ term ∷ [])

@@ -17,6 +17,7 @@ mod objective;
 mod parts;
 mod posts;
 mod totals;
+mod turns;
 
 pub use marks::needed_for;
 pub use objective::post_objective;

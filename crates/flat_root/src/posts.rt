@@ -1,20 +1,23 @@
 // The rows of roots.
 
-ghost use Rattle.std.specs.Prelude.{◌≡◌, ◌++◌, ◌<◌, IfOk, OnOk, false, length, pos, true};
+ghost use Rattle.std.specs.Prelude.{◌≡◌, ◌++◌, ◌<◌, IfOk, OnOk, Some, false, length, pos, true};
 ghost use Rattle.std.specs.Ordering.{int_eq};
+ghost use Rattle.mz_arena.specs.Entries.{at};
 ghost use Rattle.mz_partial.specs.Totals.{AreParts};
+ghost use Rattle.fz_program.specs.Arguments.{bool, plain};
 ghost use Rattle.flat_reif.specs.States.{state};
-ghost use Rattle.flat_reif.specs.Lists.{IsNode};
-ghost use Rattle.flat_reif.specs.Roots.{IsTrueAt};
+ghost use Rattle.flat_reif.specs.Lists.{HasArg, IsNode};
+ghost use Rattle.flat_reif.specs.Roots.{IsTrueAt, IsTruthNode};
 ghost use Rattle.flat_root.specs.Keeps.{AllTrue, HasChoices, IsReadyState, Leads};
 ghost use Rattle.flat_root.specs.Totals.{AreRoots, Totals};
 ghost use Rattle.flat_root.specs.Posts.{ArePostable, IsPostable, all_seeds, is_constant, seeds_at};
 
 use crate::given::flatten_for;
-use crate::parts::split;
+use crate::parts::root_parts;
 use crate::totals::totals;
 use flat_reif::Flat;
 use flat_reif_rows::test_of;
+use fz_program::Arg;
 use mz_arena::{Arena, Id, Node, NodeKind};
 use mz_base::Memory;
 use mz_partial::Memo;
@@ -42,6 +45,39 @@ fn post_constant(flat: &mut Flat, id: Id, n: &Node) -> Result<(), Memory>
     if is_one(n) { Ok(()) } else { flat.post_false() }
 }
 
+// Whether an argument is `true`.
+fn is_true(a: &Arg) -> bool
+    ensures { result ≡ true → plain a.now ≡ bool true }
+{
+    match a {
+        Arg::Bool(b) => *b,
+        Arg::Int(_) => false,
+        Arg::Set(_) => false,
+        Arg::Var(_) => false,
+        Arg::Array(_) => false,
+    }
+}
+
+// Whether the argument of an id is `true`.
+fn is_true_at(flat: &Flat, id: Id) -> Result<bool, Memory>
+    requires { HasArg (state flat.now) id }
+    ensures { IfOk result (λ holds. holds ≡ true → at (state flat.now).args id ≡ Some (bool true)) }
+{
+    let a = given!(flat.arg(id));
+    Ok(is_true(&a))
+}
+
+// Posts a node by its argument: `true` adds nothing.
+fn post_argument(flat: &mut Flat, id: Id) -> Result<(), Memory>
+    requires ready { IsReadyState (state flat.old) }
+    requires truth { IsTruthNode (state flat.old).es id }
+    requires has { HasArg (state flat.old) id }
+    ensures { IfOk result (λ _. Leads (state flat.old) (state flat.new) (IsTrueAt (state flat.old).es id)) }
+{
+    let holds = given!(is_true_at(flat, id));
+    if holds { Ok(()) } else { flat.post_true(id) }
+}
+
 // Posts a node that is no constant: by the row that tests it, or by its argument.
 fn post_row(flat: &mut Flat, id: Id, n: &Node) -> Result<(), Memory>
     requires ready { IsReadyState (state flat.old) }
@@ -52,7 +88,7 @@ fn post_row(flat: &mut Flat, id: Id, n: &Node) -> Result<(), Memory>
 {
     match test_of(n.kind) {
         Some(name) => flat.post_test(id, name),
-        None => flat.post_true(id),
+        None => post_argument(flat, id),
     }
 }
 
@@ -115,7 +151,7 @@ fn all_seeds(alloc: Global, arena: &Arena, ids: &[Id]) -> Result<Vec<Id>, Memory
 }
 
 // What must be true for these roots, with the conjunctions taken apart.
-fn root_parts(
+fn all_parts(
     alloc: Global,
     flat: &mut Flat,
     memo: &mut Memo,
@@ -127,16 +163,20 @@ fn root_parts(
     ensures totals { IfOk result (λ parts. Totals (state flat.old) (state flat.new) roots.now parts.items) }
     ensures memo { OnOk result (AreParts (state flat.new).es memo.new) }
 {
-    let terms = given!(totals(alloc, flat, memo, roots));
-    let parts = given!(split(alloc, flat.arena(), terms.as_slice()));
+    let mut defined = Vec::new(alloc);
+    let mut terms = Vec::new(alloc);
+    given!(totals(flat, memo, roots, &mut defined, &mut terms));
+    let parts = given!(root_parts(alloc, flat.arena(), defined.as_slice(), terms.as_slice()));
     Ok(parts)
 }
 
 /// Posts that these Boolean nodes are true: keeps just the solutions in which each has a value and is true.
 ///
-/// Each is made total, and conjunctions are taken apart; what the rows of the parts take gets its arguments;
-/// and then each part is posted, once and in order. A comparison, a disjunction, an equivalence or another
-/// test is one row without a variable of its own. Each choice gets a variable.
+/// Each is made total, and conjunctions are taken apart; what the rows of the parts take gets its arguments.
+/// Then the parts of what says where the roots have values are posted, each once; and then those of each root,
+/// in order and each once for the root, so that two equal roots are two rows. What is true adds nothing.
+/// A comparison, a disjunction, an equivalence or another test is one row without a variable of its own. Each
+/// choice gets a variable.
 pub fn post_roots(
     alloc: Global,
     flat: &mut Flat,
@@ -150,7 +190,7 @@ pub fn post_roots(
     ensures choices { IfOk result (λ _. HasChoices (state flat.new)) }
     ensures memo { OnOk result (AreParts (state flat.new).es memo.new) }
 {
-    let parts = given!(root_parts(alloc, flat, memo, roots));
+    let parts = given!(all_parts(alloc, flat, memo, roots));
     let seeds = given!(all_seeds(alloc, flat.arena(), parts.as_slice()));
     given!(flatten_for(alloc, flat, seeds.as_slice()));
     post_parts(flat, parts.as_slice())
