@@ -1,5 +1,5 @@
 -- What the terms tell is what the rows say of numbers.
-use Rattle.std.proofs.Common.{◌≡◌, ◌∙◌, ℕ, ℤ, pos, ◌+ℤ◌, ◌*ℤ◌, int_le, int_lt, Bool, true, false, not, ◌&&◌, ◌||◌, List, [], ◌∷◌, map, zip, Option, Some, None, refl, sym, ap, arith, if◌then◌else◌}
+use Rattle.std.proofs.Common.{◌≡◌, ◌∙◌, ℕ, ℤ, pos, ◌+ℤ◌, ◌*ℤ◌, int_le, int_lt, Bool, true, false, not, ◌&&◌, ◌||◌, List, map, zip, Option, Some, None, refl, ap, arith, if◌then◌else◌}
 use Rattle.std.proofs.lemmas.Int.{ints}
 use Rattle.std.specs.List.{list_all}
 use Rattle.std.specs.Ordering.{int_eq}
@@ -11,7 +11,7 @@ use Rattle.mz_globals.specs.Scheduling.{Task}
 use Rattle.mz_symbol.specs.Readings.{Reading}
 use Rattle.glob_nodes.specs.declared.nodes.Compare.TheVariants.{Equal, AtMost}
 use Rattle.glob_nodes.specs.Says.{num, compares}
-use Rattle.glob_lists.specs.Numbers.{plus, product, added}
+use Rattle.glob_lists.specs.Numbers.{added}
 use Rattle.glob_lists.proofs.Seen.{both, both_first, both_second, both_same, either_same, all_seen, pairs_seen, added_seen, zip_seen}
 use Rattle.glob_lists.specs.Places.{lies_within, known}
 use Rattle.glob_lists.proofs.Indexing.{place_seen, numbered_seen, index_seen, element_seen}

@@ -1,6 +1,6 @@
 // How two tasks stand to each other. A task is its start and its duration.
 
-ghost use Rattle.std.specs.Prelude.{◌≡◌, IfOk, Some, pos};
+ghost use Rattle.std.specs.Prelude.{◌≡◌, IfOk};
 ghost use Rattle.mz_symbol.specs.Makes.{GoesOnBy};
 ghost use Rattle.glob_nodes.specs.declared.nodes.Compare.TheVariants as compare;
 ghost use Rattle.glob_nodes.specs.Says.{Says, compares, num};

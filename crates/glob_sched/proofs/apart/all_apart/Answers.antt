@@ -1,4 +1,4 @@
-use Rattle.std.proofs.Common.{◌≡◌, ◌∙◌, ◌*◌, List, ℕ, zip, subst}
+use Rattle.std.proofs.Common.{◌≡◌, ◌∙◌, ◌*◌, zip, subst}
 use Rattle.mz_globals.specs.Lists.{pairwise}
 use Rattle.mz_symbol.specs.Makes.{GoesOnBy}
 use Rattle.glob_nodes.specs.Says.{Tells, pair_count}

@@ -1,4 +1,4 @@
-use Rattle.std.proofs.Common.{◌*◌, ◌+◌, ◌≤◌, List, ℤ, [], ◌∷◌, length, zip, arith}
+use Rattle.std.proofs.Common.{[], ◌∷◌, zip, arith}
 use Rattle.mz_globals.specs.declared.global.Global.TheVariants as global
 use Rattle.mz_globals.specs.Scheduling as scheduling
 use Rattle.glob_nodes.specs.Arguments.{array_value, numbers_in}
