@@ -1,0 +1,2 @@
+pub mod ArrayCells
+pub mod StepsLines
