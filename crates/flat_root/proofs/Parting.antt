@@ -20,7 +20,7 @@ use Rattle.mz_partial.specs.Totals.{IsTotal}
 use Rattle.flat_root.specs.Keeps.{AllTrue}
 use Rattle.flat_root.specs.Marks.{IsIn}
 use Rattle.flat_root.specs.Totals.{IsRootPart, AreRootParts}
-use Rattle.flat_root.specs.Parts.{is_and, AreApart, AreSplit, HasOneMore, IsKnown, IsParted, SplitSoFar, Visits, left_of, unseen, turned}
+use Rattle.flat_root.specs.Parts.{is_and, AreApart, AreSplit, HasOneMore, IsKnown, IsLeaf, IsParted, SplitSoFar, Visits, left_of, unseen, turned}
 use Rattle.flat_root.proofs.Marking.{all_both, total_children, in_left, in_right}
 use Rattle.flat_root.proofs.Totaling.{all_first, all_second, root_of, true_both, true_first, true_second}
 
@@ -86,6 +86,12 @@ only_in : (k i : ℕ) → IsIn k (i ∷ []) → k ≡ i
 only_in k i (inl e) = e
 only_in k i (inr h) = absurd h
 
+same_here : (d e : Entry) → Some d ≡ Some e → d ≡ e
+same_here d e h = cc
+
+leaf_of : (es : List Entry) (id : ℕ) (n : Node) → IsNode es id n → is_and n.kind ≡ false → IsLeaf es id
+leaf_of es id n h kind e is = ap (λ (d : Entry). is_and d.node.kind) (same_here e h.entry (sym is ∙ h.is)) ∙ ap (λ (m : Node). is_and m.kind) h.node ∙ kind
+
 -- an id more, which is none of them
 apart_more : (is : List ℕ) (k : ℕ) → AreApart is → (IsIn k is → ⊥) → AreApart (is ++ k ∷ [])
 apart_more [] k a none = ((λ h. h), tt)
@@ -129,6 +135,7 @@ module _ (es : List Entry) (ids rest : List ℕ) (id : ℕ) (seen : ℕ → Bool
         waiting = waiting_rest;
         each = f.each;
         once = f.once;
+        leaves = f.leaves;
         met = f.met;
         to = λ v y. (let t = f.to v y in (true_first es rest (id ∷ []) v t.0, t.1));
         known = λ k h. moved k (f.known k h);
@@ -150,13 +157,14 @@ module _ (es : List Entry) (ids rest : List ℕ) (id : ℕ) (seen : ℕ → Bool
     moved_to stack g j (inr s) = inr (kept j s)
 
     -- it is no conjunction
-    pub split_leaf : seen id ≡ false → SplitSoFar es ids rest new (parts ++ id ∷ [])
-    split_leaf un =
+    pub split_leaf : seen id ≡ false → IsLeaf es id → SplitSoFar es ids rest new (parts ++ id ∷ [])
+    split_leaf un leaf =
         let moved = moved_to rest (λ j h. h) in
         record {
           waiting = waiting_rest;
           each = all_both (IsRootPart es) parts (id ∷ []) f.each (here, tt);
           once = apart_more parts id f.once (λ h. (let was = f.met id h in absurd (cc)));
+          leaves = all_both (IsLeaf es) parts (id ∷ []) f.leaves (leaf, tt);
           met = λ k h. elim (in_either k parts (id ∷ []) h) [ inl old ↦ kept k (f.met k old) | inr own ↦ ap new (only_in k id own) ∙ marked ];
           to = λ v y. (let t = f.to v y in (true_first es rest (id ∷ []) v t.0, true_both es parts (id ∷ []) v t.1 (true_second es rest (id ∷ []) v t.0)));
           known = λ k h. moved k (f.known k h);
@@ -183,6 +191,7 @@ module _ (es : List Entry) (ids rest : List ℕ) (id : ℕ) (seen : ℕ → Bool
               waiting = all_both (IsRootPart es) rest (e.node.b ∷ e.node.a ∷ []) waiting_rest (r.1, (r.0, tt));
               each = f.each;
               once = f.once;
+              leaves = f.leaves;
               met = λ k h. kept k (f.met k h);
               to = λ v y.
                   let t = f.to v y in
@@ -230,6 +239,7 @@ module _ (es : List Entry) (arena : IsArena es) (ids : List ℕ) (seen : ℕ →
   split_all = record {
     each = f.each;
     once = f.once;
+    leaves = f.leaves;
     to = λ v y. (f.to v y).1;
     from = λ v y. true_in es ids v (λ k h. seen_true v y (suc k) k (omega arith) (none_known seen k (f.known k h)));
   }
@@ -239,6 +249,7 @@ split_none es ids stack seen r t i none = record {
   waiting = r;
   each = tt;
   once = tt;
+  leaves = tt;
   met = λ k h. absurd h;
   to = λ v y. (t v y, tt);
   known = λ k h. inl (i k h);
@@ -296,9 +307,9 @@ module _ (es : List Entry) (arena : IsArena es) (id : ℕ) (rest : List ℕ) (se
     fewer : unseen (length es) new + 1 ≤ unseen (length es) seen
     fewer = one_seen seen new id also un (length es) place
 
-    pub visited_leaf : (more : List ℕ) → more ≡ parts ++ id ∷ [] → Visits es id rest rest seen new parts more
-    visited_leaf more items = record {
-      so_far = λ ids f. subst (SplitSoFar es ids rest new) (sym items) (split_leaf es ids rest id seen parts f new also un);
+    pub visited_leaf : (n : Node) → IsNode es id n → is_and n.kind ≡ false → (more : List ℕ) → more ≡ parts ++ id ∷ [] → Visits es id rest rest seen new parts more
+    visited_leaf n h kind more items = record {
+      so_far = λ ids f. subst (SplitSoFar es ids rest new) (sym items) (split_leaf es ids rest id seen parts f new also un (leaf_of es id n h kind));
       less = omega (arith, longer, fewer);
     }
 

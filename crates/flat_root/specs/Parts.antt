@@ -1,5 +1,6 @@
 -- The parts of conjunctions.
 use Rattle.std.specs.Prelude.{◌≡◌, ◌⊎◌, ℕ, zero, suc, ◌+◌, ◌*◌, ◌<◌, nat_eq, List, [], ◌∷◌, ◌++◌, length, Bool, true, false, ◌||◌, Some, slice_get}
+use Rattle.std.specs.List.{AllByRecursion}
 use Rattle.mz_arena.specs.declared.node.NodeKind.{NodeKind}
 use Rattle.mz_arena.specs.declared.node.NodeKind.TheVariants as kinds
 use Rattle.mz_arena.specs.Entries.{Entry}
@@ -17,10 +18,15 @@ abbrev pub AreApart : List ℕ → Type 0
 AreApart [] = Unit {0}
 AreApart (i ∷ is) = (IsIn i is → ⊥) × AreApart is
 
--- Boolean nodes that are true exactly where some are, each once
+-- no conjunction
+abbrev pub IsLeaf : List Entry → ℕ → Type 0
+IsLeaf es id = (e : Entry) → slice_get es id ≡ Some e → is_and e.node.kind ≡ false
+
+-- Boolean nodes that are true exactly where some are, each once, and none of them a conjunction
 pub record AreSplit (es : List Entry) (ids parts : List ℕ) : Type 0 where
   pub each : AreRootParts es parts
   pub once : AreApart parts
+  pub leaves : AllByRecursion (IsLeaf es) parts
   pub to : (v : terms.Values) → AllTrue es ids v → AllTrue es parts v
   pub from : (v : terms.Values) → AllTrue es parts v → AllTrue es ids v
 
@@ -66,6 +72,7 @@ pub record SplitSoFar (es : List Entry) (ids stack : List ℕ) (seen : ℕ → B
   pub waiting : AreRootParts es stack
   pub each : AreRootParts es parts
   pub once : AreApart parts
+  pub leaves : AllByRecursion (IsLeaf es) parts
   pub met : (k : ℕ) → IsIn k parts → seen k ≡ true
   pub to : (v : terms.Values) → AllTrue es ids v → AllTrue es stack v × AllTrue es parts v
   pub known : (k : ℕ) → IsIn k ids → IsKnown stack seen k

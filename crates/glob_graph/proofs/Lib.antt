@@ -1,3 +1,4 @@
 pub mod BothWays
 pub mod ElementAt
 pub mod Rowwise
+pub mod Rounds

@@ -1,2 +1,3 @@
 pub mod Senses
 pub mod Tables
+pub mod Walks

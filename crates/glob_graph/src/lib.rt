@@ -1,10 +1,12 @@
 // The terms of the globals of graphs, tables and automata.
 #![tactic(auto)]
 
+mod circuits;
 mod elements;
 mod inverses;
 mod tables;
 
+pub use circuits::circuit;
 pub use elements::element;
 pub use inverses::inverse;
 pub use tables::{Rows, table};
