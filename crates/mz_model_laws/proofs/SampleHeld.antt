@@ -100,8 +100,8 @@ last_true false = refl
 
 rooted : IsRooted run constraint
 rooted = constraint_roots run constraint (λ r given reads.
-    let two = reads.nodes 8 _ refl refl no_values in
-    let root = reads.nodes 9 _ refl refl no_values in
+    let two = reads.nodes.kinds 8 _ refl refl no_values in
+    let root = reads.nodes.kinds 9 _ refl refl no_values in
     truth_held r.mode (is_two (symbol_value r.term choice.symbol)) given
     ∙ two_is (r.term 7)
     ∙ ap (λ x. is_true (comparison_term int_eq (r.term 7) x)) (sym two)

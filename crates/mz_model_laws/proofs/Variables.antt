@@ -1,5 +1,5 @@
 -- Cells, nodes and the choice nodes of what is in hand.
-use Rattle.std.proofs.Common.{◌≡◌, ◌∙◌, ℕ, zero, suc, ◌+◌, Bool, true, false, List, [], ◌∷◌, ◌++◌, length, map, Option, Some, None, is_some, IsSome, slice_get, refl, sym, ap, subst, arith, if◌then◌else◌}
+use Rattle.std.proofs.Common.{◌≡◌, ◌∙◌, ℕ, zero, suc, ◌+◌, Bool, true, false, List, [], ◌∷◌, ◌++◌, length, map, Option, Some, None, is_some, slice_get, refl, sym, ap, subst, arith, if◌then◌else◌}
 use Rattle.std.proofs.lemmas.List.{append-nil, map-append}
 use Rattle.std.proofs.lemmas.List.Concat.{flat_map-append}
 use Rattle.std.specs.List.{flat_map}
@@ -12,7 +12,7 @@ use Rattle.mz_arena.specs.Arenas.{Grew}
 use Rattle.mz_arena.specs.Entries.{Entry}
 use Rattle.mz_arena.specs.Instances.{ModelVar}
 use Rattle.mz_arena.specs.Numbering.{local_ids, Numbered}
-use Rattle.mz_arena.specs.Values.{Term, is_true}
+use Rattle.mz_arena.specs.Values.{Term}
 use Rattle.mz_meaning.specs.Cells.{Cell, Var, Mode, Blank, Given, held}
 use Rattle.mz_meaning.specs.Domains.{Domain, Domains, domains_bounds}
 use Rattle.mz_meaning.specs.Walk.{Assignment, variable}
@@ -21,12 +21,12 @@ use Rattle.mz_model_meaning.specs.Decoded.{Named}
 use Rattle.mz_model_meaning.specs.Modeled.{cell_domain, domains_by, domains_of, var_head, var_tail, names_of}
 use Rattle.mz_symbol.specs.declared.types.Free.{Free}
 use Rattle.mz_symbol.specs.Choices.{domain_parts, all_parts}
-use Rattle.mz_symbol.specs.Symbols.{symbol_ids, symbol_value, domain_of, free_ids, all_there, elements_value}
+use Rattle.mz_symbol.specs.Symbols.{symbol_ids, symbol_value, domain_of, free_ids}
 use Rattle.mz_symbol.specs.Runs.{Run, IsRun, taken}
 use Rattle.mz_symbol.specs.Readings.{Reading, IsGiven, Reads}
 use Rattle.mz_symbol.proofs.RunLaws.{nodes_later}
 use Rattle.mz_model_laws.specs.Hands.{NameKind, ParName, OnePlace, ManyPlaces, kind_places, kind_domains, HeldName, cell_at, name_at, named_as, all_places, AreOne, array_value, places_value, IsAssigned, AreVars, SlotsFrom}
-use Rattle.mz_model_laws.specs.Variables.{IsPlacesLine, HasCell, place_cell, ArePlacesOf, kind_index, IsMadeOf, is_var_kind, AreMadeOfNext, AreMadeOf, HasParts, AreNamesOf, part_count, AllNoted}
+use Rattle.mz_model_laws.specs.Variables.{HasCell, place_cell, ArePlacesOf, kind_index, IsMadeOf, is_var_kind, AreMadeOfNext, AreMadeOf, HasParts, AreNamesOf, part_count, AllNoted}
 
 abbrev named_by : ℕ → Domains → Named
 named_by slot ds = record { slot = slot; domains = ds }
@@ -40,33 +40,17 @@ same_held (Given f) x y same = same tt
 one_value : (x y : Option Content) → AreOne x y → x ≡ y
 one_value x y one = one.first ∙ sym one.second
 
-symbols_of : (t : ℕ → Term) (fs : List Free) → map (symbol_value t) (map (λ f. f.symbol) fs) ≡ map (λ f. symbol_value t f.symbol) fs
-symbols_of t [] = refl
-symbols_of t (f ∷ fs) = ap (λ xs. symbol_value t f.symbol ∷ xs) (symbols_of t fs)
-
 pub if_defined : (b : Bool) (v : Option (List Content)) → b ≡ true → option_and_then (λ xs. if b then Some xs else None) v ≡ v
 if_defined true None is = refl
 if_defined true (Some xs) is = refl
 if_defined false v is = absurd (cc)
-
-places_line : (s : Run) (line : ℕ) (fs : List Free) (r : Reading) → IsPlacesLine s line fs → Reads r s → IsSome (places_value r.term fs) → r.line line ≡ places_value r.term fs
-places_line s line fs r is reads some =
-    reads.lines line is.there is.stands
-    ∙ ap (elements_value r.term is.there.defined) is.items
-    ∙ if_defined (is_true (r.term is.there.defined)) (all_there (map (symbol_value r.term) (map (λ f. f.symbol) fs))) (is.always r reads some)
-    ∙ ap all_there (symbols_of r.term fs)
-
--- an array with a value has elements
-some_array : (ix : List Range) (o : Option (List Content)) (c : Content) → array_value ix o ≡ Some c → IsSome o
-some_array ix None c e = absurd (cc)
-some_array ix (Some xs) c e = refl
 
 kind_seen : (s : Run) (n : HeldName) (k : NameKind) (r : Reading) (a : Assignment) → HasCell s n k → Reads r s → (IsGiven r.mode → IsAssigned r.term a n.slot k) → Var (domains_bounds (kind_domains k)) (held r.mode (a n.slot)) ≡ n.cell r
 kind_seen s n ParName r a has reads assigned = absurd has
 kind_seen s n (OnePlace f) r a has reads assigned = ap (Var (domains_bounds (kind_domains (OnePlace f)))) (same_held r.mode (a n.slot) (symbol_value r.term f.symbol) (λ g. one_value (a n.slot) (symbol_value r.term f.symbol) (assigned g))) ∙ sym (has r (λ g. ap is_some (assigned g).second))
 kind_seen s n (ManyPlaces ix fs) r a has reads assigned =
     let own = places_value r.term fs in
-    let line : IsGiven r.mode → array_value ix own ≡ array_value ix (r.line has.line) = λ g. ap (array_value ix) (sym (places_line s has.line fs r has.places reads (some_array ix own (assigned g).content (assigned g).second))) in
+    let line : IsGiven r.mode → array_value ix own ≡ array_value ix (r.line has.line) = λ g. ap (array_value ix) (sym (has.places.value r reads)) in
     ap (Var (domains_bounds (kind_domains (ManyPlaces ix fs)))) (same_held r.mode (a n.slot) (array_value ix (r.line has.line)) (λ g. one_value (a n.slot) (array_value ix own) (assigned g) ∙ line g)) ∙ sym (has.cell r)
 
 pub variable_seen : (s : Run) (n : HeldName) (r : Reading) (a : Assignment) → HasCell s n n.kind → Reads r s → (IsGiven r.mode → IsAssigned r.term a n.slot n.kind) → variable r.mode a n.slot (kind_domains n.kind) (cell_at r n.value) ≡ name_at r n

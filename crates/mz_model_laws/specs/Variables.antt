@@ -6,14 +6,12 @@ use Rattle.mz_arena.specs.Arenas.{Grew}
 use Rattle.mz_arena.specs.Entries.{Entry, is_local}
 use Rattle.mz_arena.specs.Instances.{VarCell, ModelVar}
 use Rattle.mz_arena.specs.Numbering.{local_ids}
-use Rattle.mz_arena.specs.Values.{is_true}
 use Rattle.mz_meaning.specs.Cells.{Var, held}
 use Rattle.mz_meaning.specs.Domains.{domains_bounds}
 use Rattle.mz_meaning.specs.Walk.{Assignment, variable}
 use Rattle.mz_instance.specs.Parts.{base_of, ids, parts, AreNodes}
 use Rattle.mz_model_meaning.specs.Modeled.{names_of}
 use Rattle.mz_symbol.specs.declared.types.Free.{Free}
-use Rattle.mz_symbol.specs.declared.types.Line.{Line}
 use Rattle.mz_symbol.specs.Choices.{all_parts}
 use Rattle.mz_symbol.specs.Symbols.{symbol_value, domain_of, free_ids}
 use Rattle.mz_symbol.specs.Runs.{Run, IsRun}
@@ -22,12 +20,9 @@ use Rattle.mz_model_laws.specs.Hands.{View, NameKind, ParName, OnePlace, ManyPla
 
 -- ---- THE CELL OF A VARIABLE, as the code has it, is that of its declaration, under each assignment that goes with the reading. Nothing else in hand asks for an assignment
 
--- the elements of an array of variables: it is defined where each place has a value
+-- the elements of an array of variables
 pub record IsPlacesLine (s : Run) (line : ℕ) (fs : List Free) : Type 0 where
-  pub there : Line
-  pub stands : slice_get s.lines line ≡ Some there
-  pub items : there.items.items ≡ map (λ f. f.symbol) fs
-  pub always : (r : Reading) → Reads r s → IsSome (places_value r.term fs) → is_true (r.term there.defined) ≡ true
+  pub value : (r : Reading) → Reads r s → r.line line ≡ places_value r.term fs
 
 pub record IsArrayCell (s : Run) (v : View) (ix : List Range) (fs : List Free) : Type 0 where
   pub line : ℕ

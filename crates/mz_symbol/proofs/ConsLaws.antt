@@ -29,7 +29,7 @@ use Rattle.mz_symbol.proofs.RunLaws.{reads_back, nodes_back}
 use Rattle.mz_symbol.proofs.ChoiceLaws.{adds_both, adds_most, adds_state as added_state}
 
 pub put_means : (t : ℕ → Term) (es : List Entry) (n : Node) (id : ℕ) → Made es (entry n) id → is_free n.kind ≡ false → ReadsNodes t es → t id ≡ node_term no_values (entry n) (map t (children n))
-put_means t es n id m f h = h id (entry n) m.stands f no_values
+put_means t es n id m f h = h.kinds id (entry n) m.stands f no_values
 
 -- ---- what a list has
 

@@ -58,4 +58,4 @@ const_term v e k xs h = absurd (cc)
 pub set_means : (r : Reading) (new : Run) (u : List Range) (id : ℕ) → IsConst new.arena u id → Reads r new → Some (set u) ≡ r.term id
 set_means r new u id c h =
     let e : Entry = record { node = c.node; set = u } in
-    sym (h.nodes id e c.made.stands (bound_const c.node.kind c.const) no_values ∙ const_term no_values e c.node.kind _ c.const)
+    sym (h.nodes.kinds id e c.made.stands (bound_const c.node.kind c.const) no_values ∙ const_term no_values e c.node.kind _ c.const)

@@ -9,7 +9,7 @@ use Rattle.mz_core.specs.declared.types.Base.TheVariants as base
 use Rattle.mz_arena.specs.declared.node.NodeKind.{NodeKind}
 use Rattle.mz_arena.specs.declared.node.NodeKind.TheVariants.{Var, Local, SetVar, SetLocal}
 use Rattle.mz_arena.specs.Entries.{Entry, children, is_free}
-use Rattle.mz_arena.specs.Values.{Values, Term, number, set, is_true}
+use Rattle.mz_arena.specs.Values.{Values, Term, number, set, as_number, as_set, is_true}
 use Rattle.mz_arena.specs.Terms.{kind_term, term, own_id}
 use Rattle.mz_arena.specs.Arenas.{IsArena, Grew}
 use Rattle.mz_arena.specs.Numbering.{by_id, number_of, set_of}
@@ -22,7 +22,7 @@ use Rattle.mz_instance.specs.Parts.{Part, parts_of, occurrence, sort_of, next, i
 use Rattle.mz_instance.specs.Contents.{is_one, content_by}
 use Rattle.mz_symbol.specs.Choices.{content_at, cell_content, all_parts, domain_parts, Chooses, IsChoosable}
 use Rattle.mz_symbol.specs.Symbols.{with_id, symbol_ids, value_by, value_at, symbol_value, domain_of, free_ids}
-use Rattle.mz_symbol.specs.Runs.{Run, taken, IsRun}
+use Rattle.mz_symbol.specs.Runs.{Run, taken, IsRun, HasValue}
 use Rattle.mz_symbol.specs.Readings.{Reading, Reads, ReadsChoices, no_values, line_in, reading_in, reading, bare, blank, state_of}
 use Rattle.mz_symbol.specs.Makes.{MeetsAt, Means, MeansBare}
 use Rattle.mz_symbol.specs.Laws.{IsBlind}
@@ -38,14 +38,7 @@ values_unread v w e SetVar xs h = absurd (cc)
 values_unread v w e SetLocal xs h = absurd (cc)
 values_unread v w e k xs h = refl
 
-pub terms_read : (v : Values) (m : Mode) (s : Run) → IsArena s.arena → ReadsChoices m (λ id. term v s.arena id) s.choices → Reads (reading_in m v s) s
-terms_read v m s a h = record {
-  nodes = λ id e g f w. (made s.arena e id g (a.ordered id e g)).means v s.arena (grew_same s.arena) ∙ values_unread v w e e.node.kind (map (term v s.arena) (children e.node)) f;
-  choices = h;
-  lines = λ k l e. ap (line_in (λ id. term v s.arena id)) e;
-}
-
--- ---- the term of a part's node
+-- ---- the term of a node that is free
 
 free_number : (v : Values) (e : Entry) (k : NodeKind) (xs : List Term) → is_free k ≡ true → is_set_kind k ≡ false → kind_term v e k xs ≡ Some (number (v.number (own_id e.node)))
 free_number v e Var xs f s = refl
@@ -58,6 +51,26 @@ free_set : (v : Values) (e : Entry) (k : NodeKind) (xs : List Term) → is_free 
 free_set v e SetVar xs f s = refl
 free_set v e SetLocal xs f s = refl
 free_set v e k xs f s = absurd (cc)
+
+-- a variable or a choice has a value
+free_value : (v : Values) (e : Entry) (k : NodeKind) (xs : List Term) (x : Term) → is_free k ≡ true → x ≡ kind_term v e k xs → HasValue (is_set_kind k) x
+free_value v e Var xs x f is = ap is_some (ap as_number is)
+free_value v e Local xs x f is = ap is_some (ap as_number is)
+free_value v e SetVar xs x f is = ap is_some (ap as_set is)
+free_value v e SetLocal xs x f is = ap is_some (ap as_set is)
+free_value v e k xs x f is = absurd (cc)
+
+pub terms_read : (v : Values) (m : Mode) (s : Run) → IsArena s.arena → ReadsChoices m (λ id. term v s.arena id) s.choices → Reads (reading_in m v s) s
+terms_read v m s a h = record {
+  nodes = record {
+    kinds = λ id e g f w. (made s.arena e id g (a.ordered id e g)).means v s.arena (grew_same s.arena) ∙ values_unread v w e e.node.kind (map (term v s.arena) (children e.node)) f;
+    frees = λ id e g f. free_value v e e.node.kind (map (term v s.arena) (children e.node)) (term v s.arena id) f ((made s.arena e id g (a.ordered id e g)).means v s.arena (grew_same s.arena));
+  };
+  choices = h;
+  lines = λ k l e. ap (line_in (λ id. term v s.arena id)) e;
+}
+
+-- ---- the term of a part's node
 
 number_by_id : (es : List Entry) (x y : Values) (k : ℕ) (p : Part) (id : ℕ) → IsNode es true k p id → (by_id es x y).number id ≡ y.number k
 unfolding by_id

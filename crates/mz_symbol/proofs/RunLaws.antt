@@ -21,7 +21,10 @@ use Rattle.mz_symbol.specs.StepsNodes.{AddsNodes}
 -- ---- an arena that goes on
 
 pub reads_back : (t : ℕ → Term) (es fs : List Entry) → Grew es fs → ReadsNodes t fs → ReadsNodes t es
-reads_back t es fs g h = λ id e s f v. h id e (g.same id (get-below es id e s) ∙ s) f v
+reads_back t es fs g h = record {
+  kinds = λ id e s f v. h.kinds id e (g.same id (get-below es id e s) ∙ s) f v;
+  frees = λ id e s f. h.frees id e (g.same id (get-below es id e s) ∙ s) f;
+}
 
 node_later : (es fs : List Entry) (choice : Bool) (k : ℕ) (p : Part) (id : ℕ) → Grew es fs → IsNode es choice k p id → IsNode fs choice k p id
 node_later es fs choice k p id g n = record {
@@ -80,7 +83,7 @@ nodes_go n old new a = record {
     paid_for c d w v x y a b n p q s h = omega (arith, p, q, s, h)
 
 pub node_means : (r : Reading) (new : Run) (n : Node) (id : ℕ) → Made new.arena (entry n) id → is_free n.kind ≡ false → Reads r new → node_meaning r n ≡ r.term id
-node_means r new n id m f h = sym (h.nodes id (entry n) m.stands f no_values)
+node_means r new n id m f h = sym (h.nodes.kinds id (entry n) m.stands f no_values)
 
 pub node_tried : (old : List Entry) (new : Run) (n : Node) (o : Option ℕ) → is_free n.kind ≡ false → IsChecked old new.arena n o → IfSome o (IsNodeOf new n)
 node_tried old new n None f h = tt

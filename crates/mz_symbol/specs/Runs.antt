@@ -1,7 +1,8 @@
 -- RUNS: what an expansion has made so far, and what holds of it at all times.
-use Rattle.std.specs.Prelude.{◌≡◌, ℕ, true, false, List, map, length, Some, slice_get}
+use Rattle.std.specs.Prelude.{◌≡◌, ℕ, Bool, true, false, List, map, length, Some, IsSome, slice_get}
 use Rattle.mz_arena.specs.Entries.{Entry, children, is_free}
-use Rattle.mz_arena.specs.Values.{Values, Term}
+use Rattle.mz_arena.specs.FreeNodes.{is_set_kind}
+use Rattle.mz_arena.specs.Values.{Values, Term, as_number, as_set}
 use Rattle.mz_arena.specs.Terms.{node_term}
 use Rattle.mz_arena.specs.Arenas.{IsArena}
 use Rattle.mz_meaning.specs.Domains.{Domain}
@@ -22,9 +23,15 @@ pub record Run : Type 0 where
 abbrev pub taken : Run → List Domain
 taken s = map domain_of s.choices
 
--- terms of ids that obey the nodes: each node that isn't free means what its kind says
-abbrev pub ReadsNodes : (ℕ → Term) → List Entry → Type 0
-ReadsNodes t es = (id : ℕ) (e : Entry) → slice_get es id ≡ Some e → is_free e.node.kind ≡ false → (v : Values) → t id ≡ node_term v e (map t (children e.node))
+-- a variable or a choice has a value: a set, or a number
+abbrev pub HasValue : Bool → Term → Type 0
+HasValue true x = IsSome (as_set x)
+HasValue false x = IsSome (as_number x)
+
+-- terms of ids that obey the nodes: each node that isn't free means what its kind says, and each that is has a value
+pub record ReadsNodes (t : ℕ → Term) (es : List Entry) : Type 0 where
+  pub kinds : (id : ℕ) (e : Entry) → slice_get es id ≡ Some e → is_free e.node.kind ≡ false → (v : Values) → t id ≡ node_term v e (map t (children e.node))
+  pub frees : (id : ℕ) (e : Entry) → slice_get es id ≡ Some e → is_free e.node.kind ≡ true → HasValue (is_set_kind e.node.kind) (t id)
 
 abbrev pub AreLines : List Entry → List Line → Type 0
 AreLines es ls = (t : ℕ → Term) → ReadsNodes t es → (k : ℕ) (l : Line) → slice_get ls k ≡ Some l → IsLine t l

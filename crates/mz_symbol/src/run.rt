@@ -83,6 +83,15 @@ impl Run {
         &self.arena
     }
 
+    /// The nodes for good; what else the run holds is dropped.
+    pub fn into_arena(self) -> Arena
+        ensures nodes { result ≡ self.arena }
+        ensures sound { IsRun self }
+    {
+        let Run { arena, .. } = self;
+        arena
+    }
+
     /// The choices that were taken, in their order.
     pub fn choices(&self) -> &[Free]
         ensures { result.now ≡ self.now.choices }

@@ -132,7 +132,7 @@ fn moved_alone(run: &mut Run, range: &(i64, i64), x: Id) -> Result<Id, Memory>
 
 /// The place, from 1, of the only index of an access; an index stays as it is where the range begins
 /// with 1.
-pub(crate) fn alone_node(run: &mut Run, range: &(i64, i64), x: Id) -> Result<Id, Memory>
+pub fn alone_node(run: &mut Run, range: &(i64, i64), x: Id) -> Result<Id, Memory>
     ensures goes { GoesOnBy 32 run.old run.new }
     ensures alone { IfOk result (λ id. (r : Reading) → Reads r run.new → IsAlone r run.old run.new range.now x id) }
 {

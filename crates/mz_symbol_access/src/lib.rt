@@ -9,4 +9,5 @@ mod place;
 mod reached;
 mod shift;
 
+pub use alone::alone_node;
 pub use element::access;
