@@ -38,11 +38,12 @@ use Rattle.mz_eval_guards.proofs.Joined.{guard_like, open_is}
 -- ---- nodes
 
 ranges_same : (u : List Range) → same_set u u ≡ true
+unfolding same_set
 ranges_same [] = refl
-ranges_same (r ∷ rs) = ap (λ b. b && same_set rs rs) (ends r.0 r.1) ∙ ranges_same rs
+ranges_same (r ∷ rs) = ap (λ b. (b && int_eq r.1 r.1) && same_set rs rs) (equal r.0) ∙ ap (λ b. b && same_set rs rs) (equal r.1) ∙ ranges_same rs
   where
-    ends : (a b : ℤ) → (int_eq a a && int_eq b b) ≡ true
-    ends a b = grind (arith, ints)
+    equal : (n : ℤ) → int_eq n n ≡ true
+    equal n = grind (arith, ints)
 
 itself : (o : Option (List Range)) → holds o o same_set ≡ is_some o
 itself None = refl
@@ -63,9 +64,9 @@ pub option_tells : (n m : ℕ) (old one two new : Run) (b : Base) (o x there non
 option_tells n m old one two new b o x there none id f g s k t = record {
   same = λ r h. f.same r (g.back r (k.back r h)) ∙ s.same r (k.back r h) ∙ t.same r h;
   tells = λ r h.
-    t.tells r h
-    ∙ ap (λ p. p || is_true (r.term there)) (s.tells r (k.back r h))
-    ∙ ap (λ p. not (is_true (r.term o)) || p) (f.tells r (g.back r (k.back r h)));
+      t.tells r h
+      ∙ ap (λ p. p || is_true (r.term there)) (s.tells r (k.back r h))
+      ∙ ap (λ p. not (is_true (r.term o)) || p) (f.tells r (g.back r (k.back r h)));
 }
 
 -- ---- symbols
@@ -148,9 +149,9 @@ pub line_tells : (s : Run) (k d n : ℕ) → IsLineOf s k d n → Tells s s (λ 
 line_tells s k d n l = record {
   same = λ r h. refl;
   tells = λ r h.
-    elements_there r.term d l.line.items.items (l.whole r.term h.nodes)
-    ∙ ap (λ e. is_there (elements_value r.term e l.line.items.items)) (sym l.defined)
-    ∙ ap is_there (sym (h.lines k l.line l.stands));
+      elements_there r.term d l.line.items.items (l.whole r.term h.nodes)
+      ∙ ap (λ e. is_there (elements_value r.term e l.line.items.items)) (sym l.defined)
+      ∙ ap is_there (sym (h.lines k l.line l.stands));
 }
 
 -- ---- cells

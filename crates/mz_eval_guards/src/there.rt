@@ -23,7 +23,6 @@ use mz_symbol_lines::defined;
 
 // ---- symbols
 
-#[tactic(auto, using(crate::proofs::ThereLaws::set_tells))]
 fn set_there(run: &mut Run, x: Id) -> Result<Id, Memory>
     ensures goes { GoesOnBy 6 run.old run.new }
     ensures tells { IfOk result (Tells run.old run.new (λ r. is_some (as_set (r.term x)))) }
@@ -33,7 +32,7 @@ fn set_there(run: &mut Run, x: Id) -> Result<Id, Memory>
 }
 
 #[tactic(auto, using(crate::proofs::ThereLaws::number_tells))]
-fn number_there(run: &mut Run, x: Id) -> Result<Id, Memory>
+pub(crate) fn number_there(run: &mut Run, x: Id) -> Result<Id, Memory>
     ensures goes { GoesOnBy 6 run.old run.new }
     ensures tells { IfOk result (Tells run.old run.new (λ r. is_some (num r x))) }
 {
@@ -55,7 +54,7 @@ fn value_there(run: &mut Run, base: Base, x: Id) -> Result<Id, Memory>
 
 /// A truth value that is there.
 #[tactic(auto, using(crate::proofs::Joined::tells_of))]
-fn always(run: &mut Run, is: bool) -> Result<Id, Memory>
+pub(crate) fn always(run: &mut Run, is: bool) -> Result<Id, Memory>
     ensures goes { GoesOnBy 0 run.old run.new }
     ensures tells { IfOk result (Tells run.old run.new (λ _. is)) }
 {
@@ -99,7 +98,6 @@ fn symbol_there(run: &mut Run, base: Base, occurs: Option<Id>, x: Id) -> Result<
 
 // ---- what tells the values of var cells
 
-#[tactic(auto, using(crate::proofs::ThereLaws::symbol_tells))]
 fn symbol_valued(run: &mut Run, s: Symbol) -> Result<Id, Memory>
     ensures goes { GoesOnBy 18 run.old run.new }
     ensures tells { IfOk result (Tells run.old run.new (λ r. is_there (origin_value r.term (origin.Symbol s)))) }
@@ -152,7 +150,6 @@ fn origins_valued(run: &mut Run, o: &Origins) -> Result<Id, Memory>
 
 // ---- cells
 
-#[tactic(auto, using(crate::proofs::ThereLaws::var_guards))]
 fn var_there(run: &mut Run, v: &VarValue) -> Result<Guard, Memory>
     ensures goes { GoesOnBy 18 run.old run.new }
     ensures guards { IfOk result (IsGuard run.old run.new (λ r. open_sure r.mode (is_there (var_content r.term v.now)))) }
