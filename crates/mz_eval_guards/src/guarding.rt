@@ -63,7 +63,8 @@ fn is_truth(s: Symbol) -> bool
 #[tactic(auto, using(mz_symbol_rows::proofs::GoingOn::goes_most))]
 fn truth_kept(alloc: Global, run: &mut Run, bound: Bound, d: Id, x: Id) -> Result<Known, Memory>
     ensures goes { GoesOnBy 6 run.old run.new }
-    ensures cell { IfOk result (IsCell run.old run.new (λ r. Var (bounds.one (known_bound bound)) (held r.mode (only_if (is_true (r.term d)) (Some (values.bool (is_true (r.term x)))))))) }
+    ensures cell { IfOk result (IsCell run.old run.new (λ r.
+        Var (bounds.one (known_bound bound)) (held r.mode (only_if (is_true (r.term d)) (Some (values.bool (is_true (r.term x)))))))) }
 {
     let all = joined(run, Join::Both, d, x)?;
     let k = cell_of_truth(alloc, bound, all, d)?;
@@ -97,7 +98,8 @@ fn truth_symbol_kept(
 ) -> Result<Known, Memory>
     requires { IsTruth s }
     ensures goes { GoesOnBy 20 run.old run.new }
-    ensures cell { IfOk result (IsCell run.old run.new (λ r. Var (bounds.one (known_bound bound)) (held r.mode (only_if (is_true (r.term d)) (as_argument s.base s.occurs (symbol_value r.term s)))))) }
+    ensures cell { IfOk result (IsCell run.old run.new (λ r.
+        Var (bounds.one (known_bound bound)) (held r.mode (only_if (is_true (r.term d)) (as_argument s.base s.occurs (symbol_value r.term s)))))) }
 {
     let k = truth_kept(alloc, run, bound, d, s.term)?;
     Ok(k)
@@ -112,7 +114,8 @@ fn symbol_kept(
     s: Symbol,
 ) -> Result<Known, Memory>
     ensures goes { GoesOnBy 20 run.old run.new }
-    ensures cell { IfOk result (IsCell run.old run.new (λ r. Var (bounds.one (known_bound bound)) (held r.mode (only_if (is_true (r.term d)) (as_argument s.base s.occurs (symbol_value r.term s)))))) }
+    ensures cell { IfOk result (IsCell run.old run.new (λ r.
+        Var (bounds.one (known_bound bound)) (held r.mode (only_if (is_true (r.term d)) (as_argument s.base s.occurs (symbol_value r.term s)))))) }
 {
     if is_truth(s) {
         truth_symbol_kept(alloc, run, bound, d, s)
@@ -132,7 +135,8 @@ fn partial_kept(
     defined: Id,
 ) -> Result<Known, Memory>
     ensures goes { GoesOnBy 12 run.old run.new }
-    ensures cell { IfOk result (IsCell run.old run.new (λ r. Var (bounds.one (known_bound bound)) (held r.mode (only_if (is_true (r.term d)) (truth_by (is_true (r.term yes)) (is_true (r.term defined))))))) }
+    ensures cell { IfOk result (IsCell run.old run.new (λ r.
+        Var (bounds.one (known_bound bound)) (held r.mode (only_if (is_true (r.term d)) (truth_by (is_true (r.term yes)) (is_true (r.term defined))))))) }
 {
     let first = joined(run, Join::Both, d, yes)?;
     let second = joined(run, Join::Both, d, defined)?;
@@ -152,7 +156,8 @@ fn plain_kept(
     v: &Rc<VarValue>,
 ) -> Result<Known, Memory>
     ensures goes { GoesOnBy 28 run.old run.new }
-    ensures cell { IfOk result (IsCell run.old run.new (λ r. Var (bounds.one (known_bound bound)) (held r.mode (only_if (is_true (r.term d)) (held r.mode (var_content r.term v.now.value)))))) }
+    ensures cell { IfOk result (IsCell run.old run.new (λ r.
+        Var (bounds.one (known_bound bound)) (held r.mode (only_if (is_true (r.term d)) (held r.mode (var_content r.term v.now.value)))))) }
 {
     let k = same_cell(v)?;
     let Ok(s) = symbol_in(alloc, run, base, false, &k) else {
@@ -172,7 +177,8 @@ fn var_kept(
     v: &Rc<VarValue>,
 ) -> Result<Known, Memory>
     ensures goes { GoesOnBy 28 run.old run.new }
-    ensures cell { IfOk result (IsCell run.old run.new (λ r. Var (bounds.one (known_bound v.now.value.bound)) (held r.mode (only_if (is_true (r.term d)) (held r.mode (var_content r.term v.now.value)))))) }
+    ensures cell { IfOk result (IsCell run.old run.new (λ r.
+        Var (bounds.one (known_bound v.now.value.bound)) (held r.mode (only_if (is_true (r.term d)) (held r.mode (var_content r.term v.now.value)))))) }
 {
     let bound = share_bound(&v.bound)?;
     match truth_nodes(v) {
@@ -208,12 +214,12 @@ fn line_kept(alloc: Global, run: &mut Run, d: Id, line: u64, count: u64) -> Resu
 fn line_cell(
     alloc: Global,
     index: &Rc<Vec<(i64, i64)>>,
-    xs: &VarItems,
+    xs: &Rc<VarItems>,
     line: u64,
 ) -> Result<Known, AllocError>
-    ensures of { IfOk result (λ k. cell_of k ≡ Var (bounds.many index.now.value.items (map known_bound xs.now.bounds.value.items)) None) }
+    ensures of { IfOk result (λ k. cell_of k ≡ Var (bounds.many index.now.value.items (map known_bound xs.now.value.bounds.value.items)) None) }
     ensures seen { IfOk result (λ k. (r : Reading) → seen r k
-        ≡ Var (bounds.many index.now.value.items (map known_bound xs.now.bounds.value.items)) (array_argument r index.now.value.items line)) }
+        ≡ Var (bounds.many index.now.value.items (map known_bound xs.now.value.bounds.value.items)) (array_argument r index.now.value.items line)) }
 {
     let ranges = index.clone()?;
     let all = xs.bounds.clone()?;
@@ -231,7 +237,8 @@ fn row_kept(
     xs: &Rc<VarItems>,
 ) -> Result<Known, Memory>
     ensures goes { GoesOnBy (6 + 36 * length (map known_bound xs.now.value.bounds.value.items)) run.old run.new }
-    ensures cell { IfOk result (IsCell run.old run.new (λ r. Var (bounds.many index.now.value.items (map known_bound xs.now.value.bounds.value.items)) (held r.mode (only_if (is_true (r.term d)) (value_of (seen r (known.Row index.now xs.now))))))) }
+    ensures cell { IfOk result (IsCell run.old run.new (λ r.
+        Var (bounds.many index.now.value.items (map known_bound xs.now.value.bounds.value.items)) (held r.mode (only_if (is_true (r.term d)) (value_of (seen r (known.Row index.now xs.now))))))) }
 {
     let k = same_row(index, xs)?;
     let Ok(line) = line_in(alloc, run, base, &k) else {
