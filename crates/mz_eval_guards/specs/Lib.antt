@@ -1,0 +1,5 @@
+pub mod Guards
+pub mod There
+pub mod Lying
+pub mod StepsLines
+pub mod StepsGuarding
