@@ -10,7 +10,6 @@ use Rattle.mz_arena_laws.proofs.Terms as laws
 use Rattle.mz_partial.specs.declared.memo.Pair.{Pair}
 use Rattle.mz_partial.specs.Totals.{only}
 use Rattle.mz_partial.proofs.Standing.{total_later}
-use Rattle.fz_program.specs.Values.{Values}
 use Rattle.flat_reif.specs.States.{State, Always}
 use Rattle.flat_reif.specs.Lists.{HasArg}
 use Rattle.flat_reif.specs.Roots.{IsWholeNode, GrownTo, IsVariableFor}

@@ -18,8 +18,6 @@ use Rattle.mz_partial.specs.Totals.{IsTotal, is_total, AreParts}
 use Rattle.mz_partial.proofs.Filling.{parts_later}
 use Rattle.fz_program.specs.declared.row_name.RowName.{RowName}
 use Rattle.fz_program.specs.Arguments.{Plain, bool}
-use Rattle.fz_program.specs.Flat.{plain_value}
-use Rattle.flat_reif_rows.specs.Standing.{seen}
 use Rattle.flat_reif_rows.specs.RootRows.{test_of}
 use Rattle.flat_reif.specs.States.{State, Spreads, Always, Flattened}
 use Rattle.flat_reif.specs.Lists.{IsNode, HasArg, IsGiven, HasFront}

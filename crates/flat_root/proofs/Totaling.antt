@@ -5,7 +5,7 @@ use Rattle.mz_arena.specs.Entries.{Entry}
 use Rattle.mz_arena.specs.Values as terms
 use Rattle.mz_arena.specs.Values.{Term, Val, bit, is_true}
 use Rattle.mz_arena.specs.Terms.{term}
-use Rattle.mz_arena.specs.Extents.{Known, as_truth, truth, extent}
+use Rattle.mz_arena.specs.Extents.{Known, as_truth, extent}
 use Rattle.mz_arena.specs.Arenas.{Extends}
 use Rattle.mz_arena_laws.proofs.Terms as laws
 use Rattle.mz_partial.specs.declared.memo.Pair.{Pair}

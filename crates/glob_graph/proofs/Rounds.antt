@@ -5,16 +5,16 @@ use Rattle.std.specs.Option.{option_map}
 use Rattle.std.specs.Ordering.{int_eq}
 use Rattle.mz_value.specs.Ranges.{Range}
 use Rattle.mz_value.specs.Contents as values
-use Rattle.mz_index.specs.Places.{length_of, count_of, is_inside}
+use Rattle.mz_index.specs.Places.{length_of, is_inside}
 use Rattle.mz_core.specs.declared.types.Base.TheVariants as base
-use Rattle.mz_operations.specs.Views.{◌>>=◌, as_int}
+use Rattle.mz_operations.specs.Views.{◌>>=◌}
 use Rattle.mz_arena.specs.declared.node.NodeKind.TheVariants as kind
 use Rattle.mz_arena.specs.Values.{Term, access_term, as_number, cons_term, is_true}
 use Rattle.mz_arena.specs.Values as terms
 use Rattle.mz_globals.specs.declared.global.Global.TheVariants as global
 use Rattle.mz_globals.specs.Lists.{pairwise}
-use Rattle.mz_globals.specs.Order.{all_different, differ}
-use Rattle.mz_globals.specs.Reading.{Placed, placed_at}
+use Rattle.mz_globals.specs.Order.{all_different}
+use Rattle.mz_globals.specs.Reading.{Placed}
 use Rattle.mz_globals.specs.Graphs.{nth, element_at, walk, is_round, is_circuit}
 use Rattle.mz_globals.specs.Table.{line_of, truth}
 use Rattle.mz_symbol.specs.Runs.{Run}
@@ -35,7 +35,6 @@ use Rattle.glob_nodes.proofs.Rows.{found, array_found, at_first, pairs_map, row_
 use Rattle.glob_lists.specs.Numbers.{IsNumber}
 use Rattle.glob_lists.proofs.Seen.{head_there, tail_there}
 use Rattle.glob_lists.proofs.Several.{placed_are, placed_of}
-use Rattle.glob_lists.proofs.Several as arrays
 use Rattle.glob_lists.proofs.Squares.{pairs_below}
 use Rattle.glob_graph.specs.Walks.{range_of, with_items, from, onto, IsWalkOf, IsElement, IsNext, IsWalked, IsRound}
 

@@ -1,5 +1,5 @@
 -- Arrays of sets, and `all_disjoint`: its cost, its line, and what its term tells.
-use Rattle.std.proofs.Common.{◌≡◌, ◌∙◌, ℕ, suc, ◌+◌, ◌*◌, ◌≤◌, nat_eq, Bool, true, false, ◌&&◌, List, [], ◌∷◌, length, map, Option, Some, None, is_some, IsSome, refl, sym, ap, arith}
+use Rattle.std.proofs.Common.{◌≡◌, ◌∙◌, ℕ, suc, ◌+◌, ◌*◌, ◌≤◌, nat_eq, Bool, true, false, ◌&&◌, List, [], ◌∷◌, length, map, Option, Some, None, IsSome, refl, sym, ap, arith}
 use Rattle.std.proofs.lemmas.Bool.Decides.{nat_tests}
 use Rattle.std.specs.Option.{option_map, option_and_then}
 use Rattle.mz_value.specs.Ranges.{Range}
@@ -22,7 +22,7 @@ use Rattle.mz_globals.specs.Reading.{each, sets_at}
 use Rattle.mz_globals.specs.Table.{line_of, truth}
 use Rattle.mz_symbol.specs.Lines.{only_if}
 use Rattle.mz_symbol.specs.Runs.{Run}
-use Rattle.mz_symbol.specs.Readings.{Reading, Reads}
+use Rattle.mz_symbol.specs.Readings.{Reading}
 use Rattle.mz_symbol.specs.Makes.{GoesOnBy}
 use Rattle.glob_nodes.specs.declared.arguments.Numbers.{Numbers}
 use Rattle.glob_nodes.specs.Rows.{IsRow, row_cost}

@@ -1,5 +1,5 @@
 -- `partition_set`: its cost, its line, and what its term tells.
-use Rattle.std.proofs.Common.{◌≡◌, ◌∙◌, ℕ, zero, suc, ◌+◌, ◌*◌, ◌<◌, ◌≤◌, Bool, ◌&&◌, List, [], ◌∷◌, length, map, drop, slice_index_or, Option, Some, None, is_some, refl, sym, ap, subst, arith}
+use Rattle.std.proofs.Common.{◌≡◌, ◌∙◌, ℕ, suc, ◌+◌, ◌*◌, ◌<◌, ◌≤◌, ◌&&◌, List, [], ◌∷◌, length, map, drop, slice_index_or, Option, Some, None, is_some, refl, sym, ap, subst, arith}
 use Rattle.std.specs.Option.{option_map}
 use Rattle.mz_value.specs.Ranges.{Range}
 use Rattle.mz_value.specs.Contents.{Content}
@@ -14,11 +14,10 @@ use Rattle.mz_arena.specs.Values.{Term, as_set, holds, is_true, set_term}
 use Rattle.mz_arena.specs.Values as terms
 use Rattle.mz_globals.specs.declared.global.Global.TheVariants as global
 use Rattle.mz_globals.specs.Counting as counting
-use Rattle.mz_globals.specs.Lists.{pairwise}
 use Rattle.mz_globals.specs.Reading.{sets_at}
 use Rattle.mz_globals.specs.Table.{line_of, truth}
 use Rattle.mz_symbol.specs.Runs.{Run}
-use Rattle.mz_symbol.specs.Readings.{Reading, Reads}
+use Rattle.mz_symbol.specs.Readings.{Reading}
 use Rattle.mz_symbol.specs.Makes.{GoesOnBy}
 use Rattle.glob_nodes.specs.declared.arguments.Numbers.{Numbers}
 use Rattle.glob_nodes.specs.Rows.{IsRow, row_cost}

@@ -1,5 +1,5 @@
 -- What the terms tell of sets that may be undefined; private clauses only.
-use Rattle.std.specs.Prelude.{◌≡◌, ℕ, ◌*◌, ◌≤◌, Bool, ◌&&◌, List, [], ◌∷◌, drop, length, Some}
+use Rattle.std.specs.Prelude.{◌≡◌, ℕ, ◌*◌, ◌≤◌, Bool, ◌&&◌, List, [], ◌∷◌, drop, length}
 use Rattle.mz_operations.specs.declared.row.SetOp.TheVariants as rows
 use Rattle.mz_operations.specs.Sets.{same_set}
 use Rattle.mz_globals.specs.Lists.{pairwise}

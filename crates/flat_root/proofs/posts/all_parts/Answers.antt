@@ -1,4 +1,4 @@
-use Rattle.std.proofs.Common.{◌++◌, ap, ap₂, subst, sym, ◌∙◌}
+use Rattle.std.proofs.Common.{◌++◌, ap₂, subst}
 use Rattle.flat_reif.specs.States.{state}
 use Rattle.flat_root.specs.Parts.{AreRootsSplit}
 use Rattle.flat_root.specs.Totals.{IsRootPart}

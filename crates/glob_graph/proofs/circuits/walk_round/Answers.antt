@@ -1,4 +1,4 @@
-use Rattle.std.proofs.Common.{◌≡◌, ◌+◌, ◌*◌, ◌≤◌, ◌&&◌, Some, ap, arith, length, subst}
+use Rattle.std.proofs.Common.{◌≡◌, ◌+◌, ◌*◌, ◌&&◌, Some, ap, arith, length, subst}
 use Rattle.mz_globals.specs.Lists.{pairwise}
 use Rattle.mz_symbol.specs.Makes.{GoesOnBy}
 use Rattle.mz_symbol.specs.Symbols.{list_term}

@@ -1,4 +1,4 @@
-use Rattle.std.proofs.Common.{◌≡◌, ◌∙◌, map, option_map, Some, sym, ap, slice_get, rules}
+use Rattle.std.proofs.Common.{◌∙◌, map, option_map, sym, ap, rules}
 use Rattle.std.proofs.lemmas.Int.{to_z-of_z}
 use mir.Syntax.{w64}
 use Rattle.glob_sets.specs.StepsArguments.{set_symbol}

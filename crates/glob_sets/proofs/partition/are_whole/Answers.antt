@@ -1,6 +1,4 @@
-use Rattle.std.proofs.Common.{◌∙◌, ◌+◌, ◌*◌, ap, arith, length, subst}
-use Rattle.mz_operations.specs.Sets.{same_set}
-use Rattle.mz_arena.specs.Values.{as_set, bit, holds}
+use Rattle.std.proofs.Common.{◌*◌, arith, length, subst}
 use Rattle.mz_symbol.specs.Makes.{GoesOnBy}
 use Rattle.glob_nodes.specs.Says.{Gives}
 use Rattle.glob_nodes.proofs.Saying.{ok_so}

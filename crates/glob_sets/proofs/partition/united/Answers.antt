@@ -1,4 +1,4 @@
-use Rattle.std.proofs.Common.{◌≡◌, ◌+◌, ◌*◌, ◌≤◌, suc, arith, length}
+use Rattle.std.proofs.Common.{◌+◌, ◌*◌, arith}
 use Rattle.glob_nodes.proofs.Telling.{goes_less, goes_more}
 use Rattle.glob_sets.proofs.Together.{union_begins, union_goes, union_ends}
 use Rattle.glob_sets.proofs.partition.united.Goals as goal
