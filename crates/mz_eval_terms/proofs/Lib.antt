@@ -1,4 +1,3 @@
-pub mod HandedLaws
 pub mod LineLaws
 pub mod RowLaws
 pub mod ToldLaws

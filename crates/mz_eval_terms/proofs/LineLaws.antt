@@ -7,8 +7,10 @@ use Rattle.mz_value.specs.Contents.{Content, contents}
 use Rattle.mz_value.specs.Contents as values
 use Rattle.mz_operations.specs.declared.row.ScalarRow.{ScalarRow}
 use Rattle.mz_operations.specs.declared.row.ScalarRow.TheVariants as scalar
-use Rattle.mz_operations.specs.declared.row.Row.TheVariants.{Scalar}
-use Rattle.mz_operations.specs.Costs.{cost, counts_from, scalar_counts}
+use Rattle.mz_operations.specs.declared.row.MadeRow.{MadeRow}
+use Rattle.mz_operations.specs.declared.row.MadeRow.TheVariants as made
+use Rattle.mz_operations.specs.declared.row.Row.TheVariants.{Made, Scalar}
+use Rattle.mz_operations.specs.Costs.{cost, counts_from, made_counts, scalar_counts}
 use Rattle.mz_meaning.specs.Cells.{Mode, Blank, Given, held, length_of, or_zero}
 use Rattle.mz_meaning.specs.Operations.{own_size, row_cost, size_of}
 use Rattle.mz_symbol.specs.Readings.{Reading}
@@ -18,7 +20,7 @@ use Rattle.mz_eval_cells.specs.declared.types.VarItems.{VarItems}
 use Rattle.mz_eval_cells.specs.declared.types.Origins.TheVariants as origins
 use Rattle.mz_eval_cells.specs.Views.{array_of, cast_by, cell_of, origins_value, row_content}
 use Rattle.mz_eval_symbols.specs.Taken.{count_in}
-use Rattle.mz_eval_terms.specs.StepsRows.{takes_array}
+use Rattle.mz_eval_terms.specs.StepsRows.{takes_array, takes_sets}
 
 held_twice : (m : Mode) (v : Option Content) → held m v ≡ held m (held m v)
 held_twice (Blank n) v = refl
@@ -47,14 +49,28 @@ count_size : (o : Option ℕ) (n : ℕ) → or_zero o ≤ unwrap_or o n
 count_size None n = omega arith
 count_size (Some k) n = omega arith
 
-paid_for : (c n : ℕ) → c ≤ n → c < 2 ^ 60 → 64 * c + 20 ≤ 64 * (1 + min (2 ^ 62) (1 + (0 + n)))
+paid_for : (c n : ℕ) → c ≤ n → c < 2 ^ 60 → 64 * c + 28 ≤ 64 * (1 + min (2 ^ 62) (1 + (0 + n)))
 paid_for c n h p = omega (arith, h, p)
 
 -- what a row of an array spends pays for its elements
-pub array_pays : (w : ScalarRow) (k : Known) → takes_array w ≡ true → count_in k < 2 ^ 60 → 64 * count_in k + 20 ≤ 64 * (1 + row_cost (Scalar w) (cell_of k ∷ []))
+pub array_pays : (w : ScalarRow) (k : Known) → takes_array w ≡ true → count_in k < 2 ^ 60 → 64 * count_in k + 28 ≤ 64 * (1 + row_cost (Scalar w) (cell_of k ∷ []))
 unfolding cost counts_from scalar_counts
 array_pays (scalar.Fold op) k e h = paid_for (count_in k) (size_of (cell_of k)) (count_size (length_of (cell_of k)) (own_size (cell_of k))) h
 array_pays (scalar.Quantified op) k e h = paid_for (count_in k) (size_of (cell_of k)) (count_size (length_of (cell_of k)) (own_size (cell_of k))) h
 array_pays scalar.Count k e h = paid_for (count_in k) (size_of (cell_of k)) (count_size (length_of (cell_of k)) (own_size (cell_of k))) h
 array_pays (scalar.Extreme side) k e h = paid_for (count_in k) (size_of (cell_of k)) (count_size (length_of (cell_of k)) (own_size (cell_of k))) h
 array_pays w k e h = absurd (cc)
+
+pub sets_pay : (w : MadeRow) (k : Known) → takes_sets w ≡ true → count_in k < 2 ^ 60 → 64 * count_in k + 28 ≤ 64 * (1 + row_cost (Made w) (cell_of k ∷ []))
+unfolding cost counts_from made_counts
+sets_pay made.ArrayUnion k e h = paid_for (count_in k) (size_of (cell_of k)) (count_size (length_of (cell_of k)) (own_size (cell_of k))) h
+sets_pay made.ArrayIntersect k e h = paid_for (count_in k) (size_of (cell_of k)) (count_size (length_of (cell_of k)) (own_size (cell_of k))) h
+sets_pay w k e h = absurd (cc)
+
+-- `clause` pays for the elements of both arrays
+both_paid : (c d n m : ℕ) → c ≤ n → d ≤ m → c < 2 ^ 60 → d < 2 ^ 60 → 58 * c + 58 * d + 76 ≤ 64 * (1 + min (2 ^ 62) (1 + (0 + n + m)))
+both_paid c d n m h k p q = omega (arith, h, k, p, q)
+
+pub clause_pays : (a b : Known) → count_in a < 2 ^ 60 → count_in b < 2 ^ 60 → 58 * count_in a + 58 * count_in b + 76 ≤ 64 * (1 + row_cost (Scalar scalar.Clause) (cell_of a ∷ cell_of b ∷ []))
+unfolding cost counts_from scalar_counts
+clause_pays a b p q = both_paid (count_in a) (count_in b) (size_of (cell_of a)) (size_of (cell_of b)) (count_size (length_of (cell_of a)) (own_size (cell_of a))) (count_size (length_of (cell_of b)) (own_size (cell_of b))) p q

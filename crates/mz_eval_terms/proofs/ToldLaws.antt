@@ -84,6 +84,10 @@ pub two_values : (m : Mode) (f : List (Option Content) → Option Content) (p q 
 two_values (Blank n) f p q = refl
 two_values (Given c) f p q = refl
 
+pub second_value : (m : Mode) (f : List (Option Content) → Option Content) (p q : Option Content) → held m (f (p ∷ held m q ∷ [])) ≡ held m (f (p ∷ q ∷ []))
+second_value (Blank n) f p q = refl
+second_value (Given c) f p q = refl
+
 -- ---- cells of rows
 
 -- a par cell, and one without a shape, have no var value
@@ -102,16 +106,7 @@ symbol_cell r names row t b vs x c e h =
     ∙ ap (λ y. typed r.mode false t (Var b y)) h
     ∙ ap (typed r.mode false t) (sym e)
 
--- ---- the node of a row
-
--- after the row
-pub node_meets : {A : Type 0} (m : Mode) (names : Names) (row : Row) (t : PlainType) (at : Span) (cs : List Cell) (c : Cell) (s u : State) (see : A → Cell) (x : Result A Stop) → row_cell m names row t at cs s ≡ Out c s → makes.MeetsAt see x u (Out (typed m false t c) s) → makes.MeetsAt see x u (row_node m names row t at cs s)
-node_meets m names row t at cs c s u see x e h = subst (makes.MeetsAt see x u) (sym (ap (λ a. then_do a (λ y w. Out (typed m false t y) w)) e)) h
-
--- and where it stops
-pub node_stops : {A B : Type 0} (m : Mode) (names : Names) (row : Row) (t : PlainType) (at : Span) (cs : List Cell) (s : State) (see : A → Cell) (see' : B → Cell) (e : Stop) → MeetsAt see (Err e) s (row_cell m names row t at cs s) → makes.MeetsAt see' (Err e) s (row_node m names row t at cs s)
-node_stops m names row t at cs s see see' (Refused f) h = ap (λ a. then_do a (λ y w. Out (typed m false t y) w)) h
-node_stops m names row t at cs s see see' Memory h = tt
+-- ---- charges
 
 -- what a row's node spends is more than two units of work
 pub row_pays : (row : Row) (cs : List Cell) → 128 ≤ 64 * (1 + row_cost row cs)

@@ -1,5 +1,5 @@
 -- What a symbol tells at a node of a type.
-use Rattle.std.proofs.Common.{◌≡◌, ◌∙◌, ℕ, ℤ, Bool, true, false, not, ◌&&◌, List, [], ◌∷◌, Option, Some, None, refl, sym, ap, subst, if◌then◌else◌}
+use Rattle.std.proofs.Common.{◌≡◌, ◌∙◌, ℕ, ℤ, Bool, true, false, not, ◌&&◌, ◌||◌, List, [], ◌∷◌, Option, Some, None, refl, sym, ap, subst, if◌then◌else◌}
 use Rattle.std.specs.Option.{option_map, option_and_then}
 use Rattle.mz_value.specs.Ranges.{Range}
 use Rattle.mz_value.specs.Contents.{Content}
@@ -14,7 +14,8 @@ use Rattle.mz_operations.specs.declared.row.ScalarRow.TheVariants as scalar
 use Rattle.mz_operations.specs.declared.row.MadeRow.{MadeRow}
 use Rattle.mz_operations.specs.declared.row.MadeRow.TheVariants as made
 use Rattle.mz_operations.specs.declared.row.Row.TheVariants.{Scalar, Made}
-use Rattle.mz_operations.specs.Views.{as_option, is_single, is_absent}
+use Rattle.mz_operations.specs.declared.row.Quantifier.TheVariants.{Forall, Exists}
+use Rattle.mz_operations.specs.Views.{as_bool, as_option, is_single, is_absent}
 use Rattle.mz_operations.specs.Arguments.{Arguments, at, bool_at, option_at, set_at, element_at, items_at, pair}
 use Rattle.mz_operations.specs.Arrays.{fold_from, instance}
 use Rattle.mz_operations.specs.Numbers.{connected, ordered, quantified, quantifier_start}
@@ -32,7 +33,7 @@ use Rattle.mz_symbol.specs.Readings.{Reading, symbol_seen}
 use Rattle.mz_symbol_rows.specs.RowValues.{truth_of, as_argument, argument}
 use Rattle.mz_eval_cells.proofs.Held.{held_map}
 use Rattle.mz_eval_terms.specs.NodeRows.{told, told_by, exact_row, row_told}
-use Rattle.mz_eval_terms.specs.StepsRows.{gives_truth, made_truth, is_own_base, IsOwn, IsTold}
+use Rattle.mz_eval_terms.specs.StepsRows.{gives_truth, made_truth, is_own_base, is_set_sort, IsAt, IsOwn, IsSetTold, IsTold}
 
 -- ---- truth values
 
@@ -151,6 +152,16 @@ truth_stays names (scalar.Quantified op) args h = items (items_at args 0)
     items : (xs : Option (List Content)) → option_map (recast base.Bool) (option_and_then (λ xs. option_and_then (λ b. Some (values.bool b)) (fold_from (instance op) (quantified op) (quantifier_start op) xs)) xs) ≡ option_and_then (λ xs. option_and_then (λ b. Some (values.bool b)) (fold_from (instance op) (quantified op) (quantifier_start op) xs)) xs
     items None = refl
     items (Some xs) = one_stays (λ b. b) (fold_from (instance op) (quantified op) (quantifier_start op) xs)
+truth_stays names scalar.Clause args h = four_stay (items_at args 0) (items_at args 1)
+  where
+    two_folds : (o p : Option Bool) → option_map (recast base.Bool) (option_and_then (λ a. option_and_then (λ b. Some (values.bool (a || not b))) p) o) ≡ option_and_then (λ a. option_and_then (λ b. Some (values.bool (a || not b))) p) o
+    two_folds None p = refl
+    two_folds (Some a) p = one_stays (λ b. a || not b) p
+
+    four_stay : (xs ys : Option (List Content)) → option_map (recast base.Bool) (option_and_then (λ xs. option_and_then (λ ys. option_and_then (λ a. option_and_then (λ b. Some (values.bool (a || not b))) (fold_from as_bool (quantified Forall) true ys)) (fold_from as_bool (quantified Exists) false xs)) ys) xs) ≡ option_and_then (λ xs. option_and_then (λ ys. option_and_then (λ a. option_and_then (λ b. Some (values.bool (a || not b))) (fold_from as_bool (quantified Forall) true ys)) (fold_from as_bool (quantified Exists) false xs)) ys) xs
+    four_stay None ys = refl
+    four_stay (Some xs) None = refl
+    four_stay (Some xs) (Some ys) = two_folds (fold_from as_bool (quantified Exists) false xs) (fold_from as_bool (quantified Forall) true ys)
 truth_stays names scalar.Occurs args h = one_stays (λ x. not (is_absent x)) (option_at args 0)
 truth_stays names scalar.Absent args h = one_stays is_absent (option_at args 0)
 truth_stays names w args h = absurd (cc)
@@ -197,3 +208,89 @@ scalar_told r names w t s vs f h = f r (exact_value names (Scalar w) vs) (truth_
 
 pub made_told : (r : Reading) (names : Names) (w : MadeRow) (t : PlainType) (s : Symbol) (vs : List (Option Content)) → IsTold (made_truth w) t s → symbol_seen r s ≡ held r.mode (told_by (made_truth w) (exact_value names (Made w) vs)) → argument r s ≡ row_told r names (Made w) t vs
 made_told r names w t s vs f h = f r (exact_value names (Made w) vs) (made_stays names w vs) h
+
+-- ---- sets
+
+set_recast : (b c : Base) (x : Term) → is_set_sort b ≡ true → is_set_sort c ≡ true → value_by b x ≡ option_map (recast b) (value_by c x)
+set_recast base.SetInt base.SetInt x p q = sym (recast_by base.SetInt x refl)
+set_recast base.SetInt (base.SetEnum e) x p q = by (as_set x)
+  where
+    by : (o : Option (List Range)) → option_map (λ s. values.set None s) o ≡ option_map (recast base.SetInt) (option_map (λ s. values.set (Some e) s) o)
+    by None = refl
+    by (Some s) = refl
+set_recast (base.SetEnum d) base.SetInt x p q = by (as_set x)
+  where
+    by : (o : Option (List Range)) → option_map (λ s. values.set (Some d) s) o ≡ option_map (recast (base.SetEnum d)) (option_map (λ s. values.set None s) o)
+    by None = refl
+    by (Some s) = refl
+set_recast (base.SetEnum d) (base.SetEnum e) x p q = by (as_set x)
+  where
+    by : (o : Option (List Range)) → option_map (λ s. values.set (Some d) s) o ≡ option_map (recast (base.SetEnum d)) (option_map (λ s. values.set (Some e) s) o)
+    by None = refl
+    by (Some s) = refl
+set_recast base.SetInt c x p q = absurd (cc)
+set_recast (base.SetEnum d) c x p q = absurd (cc)
+set_recast b c x p q = absurd (cc)
+
+set_own : (b : Base) → is_set_sort b ≡ true → is_own_base b ≡ true
+set_own base.SetInt h = refl
+set_own (base.SetEnum e) h = refl
+set_own b h = absurd (cc)
+
+pub set_told : (t : PlainType) (s : Symbol) → is_set_sort t.base ≡ true → is_set_sort s.base ≡ true → s.occurs ≡ None → IsSetTold t s (record { base = t.base; occurs = None; term = s.term })
+set_told t s p q e r v h =
+    let own : is_own_base t.base ≡ true = set_own t.base p in
+    ap (held r.mode) (own_argument t.base None (value_by t.base (r.term s.term)) own)
+    ∙ ap (held r.mode) (set_recast t.base s.base (r.term s.term) p q)
+    ∙ sym (held_map r.mode (recast t.base) (value_by s.base (r.term s.term)))
+    ∙ ap (λ o. option_map (recast t.base) (held r.mode (value_at r.term s.base o s.term))) (sym e)
+    ∙ ap (option_map (recast t.base)) h
+    ∙ held_map r.mode (recast t.base) v
+    ∙ ap (λ b. held r.mode (told_by b (option_map (recast t.base) v))) (sym (no_truth t.opt t.base (no_dims t.dims) own))
+
+-- ---- a symbol that is handed on
+
+inner_held : (m : Mode) (f : Option Content → Option Content) (v : Option Content) → held m (f (held m v)) ≡ held m (f v)
+inner_held (Blank n) f v = refl
+inner_held (Given c) f v = refl
+
+abbrev at_type : PlainType → Option Content → Option Content
+at_type t v = told t (option_map (recast t.base) v)
+
+pub at_own : (t : PlainType) (s : Symbol) → IsOwn t.base s.base → IsAt t s
+at_own t s p r =
+    stated_own r t s (symbol_value r.term s) p refl
+    ∙ sym (inner_held r.mode (at_type t) (symbol_value r.term s))
+    ∙ ap (λ x. held r.mode (at_type t (held r.mode x))) (sym (own_argument s.base s.occurs (symbol_value r.term s) p.own))
+
+pub at_truth : (t : PlainType) (s : Symbol) → s.base ≡ base.Bool → s.occurs ≡ None → is_truth t ≡ true → IsAt t s
+at_truth t s e f p r =
+    let v = symbol_value r.term s in
+    let w = truth_of v in
+    let arg : argument r s ≡ held r.mode w = ap (λ b. held r.mode (as_argument b s.occurs v)) e ∙ ap (λ o. held r.mode (as_argument base.Bool o v)) f in
+    arg
+    ∙ ap (λ b. held r.mode (told_by true (option_map (recast b) w))) (sym (truth_base t.opt t.base (no_dims t.dims) p))
+    ∙ ap (λ b. held r.mode (told_by b (option_map (recast t.base) w))) (sym p)
+    ∙ sym (inner_held r.mode (at_type t) w)
+    ∙ ap (λ x. held r.mode (at_type t x)) (sym arg)
+
+option_stays : (t : ℕ → Term) (b : Base) (q : Option ℕ) (o id : ℕ) → b ≡ base.Bool → q ≡ Some o → option_map (recast base.Bool) (value_at t b q id) ≡ value_at t b q id
+option_stays t base.Bool (Some p) o id e f = by (terms.is_true (t p)) (as_number (t id))
+  where
+    by : (x : Bool) (i : Option ℤ) → option_map (recast base.Bool) (if x then option_map (λ n. content_by base.Bool n []) i else Some values.absent) ≡ (if x then option_map (λ n. content_by base.Bool n []) i else Some values.absent)
+    by true None = refl
+    by true (Some n) = refl
+    by false i = refl
+option_stays t b None o id e f = absurd (cc)
+option_stays t b (Some p) o id e f = absurd (cc)
+
+pub at_option : (t : PlainType) (s : Symbol) (o : ℕ) → s.base ≡ base.Bool → s.occurs ≡ Some o → is_truth t ≡ false → t.base ≡ base.Bool → IsAt t s
+at_option t s o e f p q r =
+    let v = symbol_value r.term s in
+    let arg : argument r s ≡ held r.mode v = ap (λ b. held r.mode (as_argument b s.occurs v)) e ∙ ap (λ x. held r.mode (as_argument base.Bool x v)) f in
+    arg
+    ∙ ap (held r.mode) (sym (option_stays r.term s.base s.occurs o s.term e f))
+    ∙ ap (λ b. held r.mode (option_map (recast b) v)) (sym q)
+    ∙ ap (λ b. held r.mode (told_by b (option_map (recast t.base) v))) (sym p)
+    ∙ sym (inner_held r.mode (at_type t) v)
+    ∙ ap (λ x. held r.mode (at_type t x)) (sym arg)

@@ -1,5 +1,5 @@
--- Mirror of src/singles.rt, src/lines.rt, src/stated.rt and src/handed.rt; private clauses only.
-use Rattle.std.specs.Prelude.{◌≡◌, ℕ, Bool, true, false, List, length, Option, Some, None}
+-- Mirror of src/singles.rt, src/lines.rt, src/sets.rt and src/stated.rt; private clauses only.
+use Rattle.std.specs.Prelude.{◌≡◌, Bool, true, false, Option, None}
 use Rattle.std.specs.Option.{option_map}
 use Rattle.mz_value.specs.Contents.{Content}
 use Rattle.mz_core.specs.declared.types.Base.{Base}
@@ -27,6 +27,7 @@ gives_truth scalar.SetEqual = true
 gives_truth scalar.SetUnequal = true
 gives_truth scalar.In = true
 gives_truth (scalar.Quantified op) = true
+gives_truth scalar.Clause = true
 gives_truth scalar.Occurs = true
 gives_truth scalar.Absent = true
 gives_truth w = false
@@ -38,6 +39,12 @@ takes_array (scalar.Quantified op) = true
 takes_array scalar.Count = true
 takes_array (scalar.Extreme side) = true
 takes_array w = false
+
+-- rows that go through the sets of one array
+abbrev pub takes_sets : MadeRow → Bool
+takes_sets made.ArrayUnion = true
+takes_sets made.ArrayIntersect = true
+takes_sets w = false
 
 abbrev pub made_truth : MadeRow → Bool
 made_truth made.Subset = true
@@ -61,7 +68,16 @@ pub record IsOwn (b c : Base) : Type 0 where
 abbrev pub IsTold : Bool → PlainType → Symbol → Type 0
 IsTold truth t s = (r : Reading) (v : Option Content) → (truth ≡ true → option_map (recast base.Bool) v ≡ v) → symbol_seen r s ≡ held r.mode (told_by truth v) → argument r s ≡ held r.mode (told t (option_map (recast t.base) v))
 
--- elements that are there are so many
-abbrev pub HasCount : Option (List Content) → ℕ → Type 0
-HasCount None n = Unit {0}
-HasCount (Some ys) n = length ys ≡ n
+-- sets, which are no options
+abbrev pub is_set_sort : Base → Bool
+is_set_sort base.SetInt = true
+is_set_sort (base.SetEnum e) = true
+is_set_sort b = false
+
+-- WHAT A ROW OF SETS TELLS OF ITS SYMBOL is its argument's value at a node of this type, where the set is recast
+abbrev pub IsSetTold : PlainType → Symbol → Symbol → Type 0
+IsSetTold t s x = (r : Reading) (v : Option Content) → symbol_seen r s ≡ held r.mode v → argument r x ≡ held r.mode (told t (option_map (recast t.base) v))
+
+-- a symbol's argument is what it is at a node of this type
+abbrev pub IsAt : PlainType → Symbol → Type 0
+IsAt t s = (r : Reading) → argument r s ≡ held r.mode (told t (option_map (recast t.base) (argument r s)))

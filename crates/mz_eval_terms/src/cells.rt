@@ -25,7 +25,7 @@ use mz_symbol::{Run, Symbol};
 use std::alloc::{AllocError, Global};
 
 /// The var cell of a symbol, with these bounds.
-fn bounded(alloc: Global, bound: &Bound, s: Symbol) -> Result<Known, AllocError>
+pub fn bounded(alloc: Global, bound: &Bound, s: Symbol) -> Result<Known, AllocError>
     ensures { IfOk result (λ k. (r : Reading) → seen r k ≡ Var (bounds.one (known_bound bound.now)) (argument r s)) }
 {
     let same = share_bound(bound)?;
@@ -60,7 +60,7 @@ fn single_of_two(
     b: &Argument,
     run: &mut Run,
 ) -> Result<Known, Stop>
-    ensures goes { GoesOnBy 108 run.old run.new }
+    ensures goes { GoesOnBy (64 * (1 + row_cost row (cell_of a.now.cell ∷ cell_of b.now.cell ∷ []))) run.old run.new }
     ensures means { (names : Names) → Means (stamped (plain_type t.now)) result run.old run.new
         (λ r. give (typed r.mode false (plain_type t.now)
         (Var (bounds.one (known_bound bound.now)) (var_value r.mode names row (plain_type t.now) (seen r a.now.cell ∷ seen r b.now.cell ∷ []))))) }
@@ -83,7 +83,7 @@ fn is_open(k: &Known) -> bool
 
 /// A cell that has no var value. Out of memory where it may have one.
 #[tactic(auto, using(crate::proofs::ToldLaws::known_whole))]
-pub(crate) fn whole(k: Known) -> Result<Known, Memory>
+pub fn whole(k: Known) -> Result<Known, Memory>
     ensures { IfOk result (λ x. (r : Reading) (v : Option Content) → with_value v (cell_of k) ≡ seen r x) }
 {
     if is_open(&k) { Err(Memory) } else { Ok(k) }
@@ -98,7 +98,7 @@ fn whole_shape(k: &Known) -> Result<Known, Memory>
 }
 
 /// The cell of a row of one argument, from its shape.
-pub(crate) fn cell_of_one(
+pub fn cell_of_one(
     alloc: Global,
     row: Row,
     t: &TypeInst,
@@ -120,7 +120,7 @@ pub(crate) fn cell_of_one(
 }
 
 /// The cell of a row of two arguments, from its shape.
-pub(crate) fn cell_of_two(
+pub fn cell_of_two(
     alloc: Global,
     row: Row,
     t: &TypeInst,
@@ -129,7 +129,7 @@ pub(crate) fn cell_of_two(
     b: &Argument,
     run: &mut Run,
 ) -> Result<Known, Stop>
-    ensures goes { GoesOnBy 108 run.old run.new }
+    ensures goes { GoesOnBy (64 * (1 + row_cost row (cell_of a.now.cell ∷ cell_of b.now.cell ∷ []))) run.old run.new }
     ensures means { (names : Names) → Means (stamped (plain_type t.now)) result run.old run.new
         (λ r. give (shape_stamped r names row (plain_type t.now) (seen r a.now.cell ∷ seen r b.now.cell ∷ []) shape.now)) }
 {

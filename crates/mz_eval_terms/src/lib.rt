@@ -1,15 +1,17 @@
-// Rows over cells in a run: what a row gives of its arguments, with its value under each reading.
+// Terms of rows over cells: a row and its arguments as cells → its cell without values, and with that the cell whose value a symbol tells.
 #![tactic(auto)]
 
 mod cells;
-mod handed;
 mod lines;
-mod rows;
+mod pairs;
+mod sets;
 mod shapes;
 mod singles;
 mod stated;
 mod told;
 mod types;
 
-pub use rows::{row_of_all, row_of_one, row_of_two};
+pub use cells::{bounded, cell_of_one, cell_of_two, whole};
+pub use shapes::{shape_of_all, shape_of_one, shape_of_two};
+pub use stated::symbol_at;
 pub use types::Argument;

@@ -1,4 +1,4 @@
-// Rows over the elements of var arrays: sums, products, quantifiers and counts.
+// Rows over the elements of var arrays: sums, products, the least and the greatest, quantifiers and counts.
 
 ghost use Rattle.std.specs.Prelude.{◌≡◌, ◌+◌, ◌*◌, ◌^◌, ◌<◌, ◌≤◌, ◌∷◌, [], List, true, IfOk, IfSome, slice_get};
 ghost use Rattle.mz_value.specs.Ranges.{Range};
@@ -27,8 +27,9 @@ use mz_base::{Memory, Stop};
 use mz_core::TypeInst;
 use mz_eval_cells::{Known, Origins, VarItems, length_of};
 use mz_eval_symbols::line_in;
-use mz_operations::{Fold, Quantifier, ScalarRow};
+use mz_operations::{Fold, Quantifier, ScalarRow, Side};
 use mz_symbol::{Run, Symbol};
+use mz_symbol_extremes::extreme;
 use mz_symbol_lines::{count, defined, quantified};
 use mz_symbol_sums::fold;
 use std::alloc::Global;
@@ -37,7 +38,7 @@ use std::rc::Rc;
 const MOST: u64 = 1 << 60;
 
 /// How many elements an array has.
-fn count_in(k: &Known) -> u64
+pub(crate) fn count_in(k: &Known) -> u64
     ensures { result ≡ count_in k.now }
 {
     match length_of(k) {
@@ -77,7 +78,7 @@ fn line_number(k: &Known) -> Option<u64>
 }
 
 /// The same of an argument, which has as many elements as the cell says.
-fn direct_line(run: &Run, a: &Argument) -> Result<u64, Memory>
+pub(crate) fn direct_line(run: &Run, a: &Argument) -> Result<u64, Memory>
     ensures means { IfOk result (λ n. (r : Reading) → line_seen a.now.cell r n ≡ cell_value r a.now.cell) }
     ensures size { IfOk result (λ n. count_of (slice_get run.now.lines n) ≡ count_in a.now.cell) }
 {
@@ -93,7 +94,7 @@ fn direct_line(run: &Run, a: &Argument) -> Result<u64, Memory>
 
 /// The number of the line that an argument's elements are. Out of memory where it hasn't as many
 /// elements as the cell says.
-fn line_of(alloc: Global, run: &mut Run, a: &Argument) -> Result<u64, Stop>
+pub(crate) fn line_of(alloc: Global, run: &mut Run, a: &Argument) -> Result<u64, Stop>
     ensures goes { GoesOnBy (20 * count_in a.now.cell) run.old run.new }
     ensures means { Means (line_seen a.now.cell) result run.old run.new (λ r. give (cell_value r a.now.cell)) }
     ensures size { IfOk result (λ n. count_of (slice_get run.new.lines n) ≡ count_in a.now.cell) }
@@ -115,6 +116,17 @@ fn folded(run: &mut Run, op: Fold, n: u64, a: &Argument) -> Result<Symbol, Stop>
         (λ r. give (held r.mode (exact_value names (Scalar (row.Fold op)) (array_argument r ix n ∷ [])))) }
 {
     fold(run, op, n)
+}
+
+/// `min` and `max` of a line that has as many elements as a cell.
+#[tactic(auto, using(mz_symbol_rows::proofs::GoingOn::goes_most))]
+fn extremed(run: &mut Run, side: Side, n: u64, a: &Argument) -> Result<Symbol, Stop>
+    requires { count_of (slice_get run.old.lines n) ≡ count_in a.now.cell }
+    ensures goes { GoesOnBy (44 * count_in a.now.cell + 28) run.old run.new }
+    ensures means { (names : Names) (ix : List Range) → Means symbol_seen result run.old run.new
+        (λ r. give (held r.mode (exact_value names (Scalar (row.Extreme side)) (array_argument r ix n ∷ [])))) }
+{
+    extreme(run, side, n)
 }
 
 /// A quantifier over a line that has as many elements as a cell.
@@ -172,6 +184,27 @@ fn symbol_of_fold(
     Ok(told)
 }
 
+/// `min` and `max` of an array.
+#[tactic(auto, using(mz_symbol_rows::proofs::GoingOn::goes_both, mz_symbol_rows::proofs::GoingOn::goes_most))]
+fn symbol_of_extreme(
+    alloc: Global,
+    side: Side,
+    t: &TypeInst,
+    a: &Argument,
+    run: &mut Run,
+) -> Result<Symbol, Stop>
+    ensures goes { GoesOnBy (64 * count_in a.now.cell + 28) run.old run.new }
+    ensures means { (names : Names) → Means argument result run.old run.new
+        (λ r. give (row_told r names (Scalar (row.Extreme side)) (plain_type t.now) (cell_value r a.now.cell ∷ []))) }
+{
+    let n = line_of(alloc, run, a)?;
+    let Ok(s) = extremed(run, side, n, a) else {
+        return Err(Stop::Memory);
+    };
+    let told = stated(t, false, s)?;
+    Ok(told)
+}
+
 /// `forall`, `exists`, `xorall` and `count`. Out of memory too where the array isn't a line as it is.
 #[tactic(auto, using(mz_symbol_rows::proofs::GoingOn::goes_both, mz_symbol_rows::proofs::GoingOn::goes_most))]
 fn symbol_of_truths(w: ScalarRow, t: &TypeInst, a: &Argument, run: &mut Run) -> Result<Symbol, Stop>
@@ -187,6 +220,7 @@ fn symbol_of_truths(w: ScalarRow, t: &TypeInst, a: &Argument, run: &mut Run) -> 
     Ok(told)
 }
 
+#[tactic(auto, using(mz_symbol_rows::proofs::GoingOn::goes_most))]
 fn symbol_of_line(
     alloc: Global,
     w: ScalarRow,
@@ -194,12 +228,13 @@ fn symbol_of_line(
     a: &Argument,
     run: &mut Run,
 ) -> Result<Symbol, Stop>
-    ensures goes { GoesOnBy (64 * count_in a.now.cell + 20) run.old run.new }
+    ensures goes { GoesOnBy (64 * count_in a.now.cell + 28) run.old run.new }
     ensures means { (names : Names) → Means argument result run.old run.new
         (λ r. give (row_told r names (Scalar w) (plain_type t.now) (cell_value r a.now.cell ∷ []))) }
 {
     match w {
         ScalarRow::Fold(op) => symbol_of_fold(alloc, op, t, a, run),
+        ScalarRow::Extreme(side) => symbol_of_extreme(alloc, side, t, a, run),
         _ => symbol_of_truths(w, t, a, run),
     }
 }
@@ -217,7 +252,7 @@ pub(crate) fn takes_array(w: ScalarRow) -> bool
     }
 }
 
-fn is_few(n: u64) -> bool
+pub(crate) fn is_few(n: u64) -> bool
     ensures { result ≡ true → n < 2 ^ 60 }
 {
     n < MOST
@@ -225,7 +260,7 @@ fn is_few(n: u64) -> bool
 
 /// Whether a row goes through the elements of an array, and its node pays for them.
 fn is_paid(w: ScalarRow, k: &Known) -> bool
-    ensures { result ≡ true → 64 * count_in k.now + 20 ≤ 64 * (1 + row_cost (Scalar w) (cell_of k.now ∷ [])) }
+    ensures { result ≡ true → 64 * count_in k.now + 28 ≤ 64 * (1 + row_cost (Scalar w) (cell_of k.now ∷ [])) }
 {
     if takes_array(w) {
         is_few(count_in(k))

@@ -18,7 +18,7 @@ use mz_value::Cases;
 use std::alloc::Global;
 
 /// The cell of a row of one argument, which lacks its value under a reading alone.
-pub(crate) fn shape_of_one(
+pub fn shape_of_one(
     alloc: Global,
     cases: &Cases,
     row: Row,
@@ -33,7 +33,7 @@ pub(crate) fn shape_of_one(
 }
 
 /// The same of two arguments.
-pub(crate) fn shape_of_two(
+pub fn shape_of_two(
     alloc: Global,
     cases: &Cases,
     row: Row,
@@ -49,7 +49,7 @@ pub(crate) fn shape_of_two(
 }
 
 /// The same of any number of arguments.
-pub(crate) fn shape_of_all(
+pub fn shape_of_all(
     alloc: Global,
     cases: &Cases,
     row: Row,

@@ -15,24 +15,17 @@ ghost use Rattle.mz_eval_symbols.specs.Taken.{cell_value};
 ghost use Rattle.mz_eval_terms.specs.NodeRows.{row_told};
 
 use crate::lines::{symbol_of_array, takes_array};
+use crate::pairs::{clause_of, power_of};
+use crate::sets::{symbol_of_sets, takes_sets};
 use crate::singles::{made_over_two, over_one, over_two, unbuilt_row};
-use crate::stated::{gives_truth, made_truth, stated};
+use crate::stated::{gives_truth, made_truth, stated, taken};
 use crate::types::Argument;
 use mz_base::Stop;
 use mz_core::{Base, TypeInst};
-use mz_eval_symbols::symbol_in;
 use mz_operations::{MadeRow, Row, ScalarRow};
 use mz_symbol::{Run, Symbol};
 use mz_symbol_options::deopt;
 use std::alloc::Global;
-
-/// The symbol of an argument that is no array.
-fn taken(alloc: Global, run: &mut Run, a: &Argument) -> Result<Symbol, Stop>
-    ensures goes { GoesOnBy 8 run.old run.new }
-    ensures means { Means argument result run.old run.new (λ r. give (cell_value r a.now.cell)) }
-{
-    symbol_in(alloc, run, a.base, a.opt, &a.cell)
-}
 
 #[tactic(auto, using(mz_symbol_rows::proofs::GoingOn::goes_both, mz_symbol_rows::proofs::GoingOn::goes_most))]
 fn scalar_of_one(
@@ -150,6 +143,46 @@ fn scalar_with_one(
     }
 }
 
+/// A row of one argument that makes its value.
+#[tactic(auto, using(crate::proofs::ToldLaws::goes_paid))]
+fn made_with_one(
+    alloc: Global,
+    w: MadeRow,
+    t: &TypeInst,
+    a: &Argument,
+    run: &mut Run,
+) -> Result<Symbol, Stop>
+    ensures goes { GoesOnBy (64 * (1 + row_cost (Made w) (cell_of a.now.cell ∷ []))) run.old run.new }
+    ensures means { (names : Names) → Means argument result run.old run.new (λ r. give (row_told r names (Made w) (plain_type t.now) (cell_value r a.now.cell ∷ []))) }
+{
+    if takes_sets(w) {
+        symbol_of_sets(alloc, w, t, a, run)
+    } else {
+        made_of_one(alloc, w, t, a, run)
+    }
+}
+
+/// A row of two arguments that gives a truth value, an integer or a case.
+#[tactic(auto, using(crate::proofs::ToldLaws::goes_paid))]
+fn scalar_with_two(
+    alloc: Global,
+    w: ScalarRow,
+    t: &TypeInst,
+    a: &Argument,
+    b: &Argument,
+    run: &mut Run,
+) -> Result<Symbol, Stop>
+    ensures goes { GoesOnBy (64 * (1 + row_cost (Scalar w) (cell_of a.now.cell ∷ cell_of b.now.cell ∷ []))) run.old run.new }
+    ensures means { (names : Names) → Means argument result run.old run.new
+        (λ r. give (row_told r names (Scalar w) (plain_type t.now) (cell_value r a.now.cell ∷ cell_value r b.now.cell ∷ []))) }
+{
+    match w {
+        ScalarRow::Power => power_of(alloc, t, a, b, run),
+        ScalarRow::Clause => clause_of(t, a, b, run),
+        _ => scalar_of_two(alloc, w, t, a, b, run),
+    }
+}
+
 /// The symbol of a row of one argument.
 #[tactic(auto, using(crate::proofs::ToldLaws::goes_paid))]
 pub(crate) fn symbol_of_one(
@@ -165,13 +198,13 @@ pub(crate) fn symbol_of_one(
 {
     match row {
         Row::Scalar(w) => scalar_with_one(alloc, w, t, a, run),
-        Row::Made(w) => made_of_one(alloc, w, t, a, run),
+        Row::Made(w) => made_with_one(alloc, w, t, a, run),
         _ => unbuilt_row(),
     }
 }
 
 /// The symbol of a row of two arguments.
-#[tactic(auto, using(mz_symbol_rows::proofs::GoingOn::goes_most))]
+#[tactic(auto, using(crate::proofs::ToldLaws::goes_paid))]
 pub(crate) fn symbol_of_two(
     alloc: Global,
     row: Row,
@@ -180,12 +213,12 @@ pub(crate) fn symbol_of_two(
     b: &Argument,
     run: &mut Run,
 ) -> Result<Symbol, Stop>
-    ensures goes { GoesOnBy 108 run.old run.new }
+    ensures goes { GoesOnBy (64 * (1 + row_cost row (cell_of a.now.cell ∷ cell_of b.now.cell ∷ []))) run.old run.new }
     ensures means { (names : Names) → Means argument result run.old run.new
         (λ r. give (row_told r names row (plain_type t.now) (cell_value r a.now.cell ∷ cell_value r b.now.cell ∷ []))) }
 {
     match row {
-        Row::Scalar(w) => scalar_of_two(alloc, w, t, a, b, run),
+        Row::Scalar(w) => scalar_with_two(alloc, w, t, a, b, run),
         Row::Made(w) => made_of_two(alloc, w, t, a, b, run),
         _ => unbuilt_row(),
     }

@@ -8,4 +8,4 @@ use Rattle.mz_eval_terms.proofs.lines.symbol_of_array.Goals as goal
 
 pub returns-clause-goes : goal.returns-clause-goes
 returns-clause-goes c =
-    goes_most (64 * count_in c.args.a.now.cell + 20) (64 * (1 + row_cost (Scalar c.args.w) (cell_of c.args.a.now.cell ∷ []))) c.args.run.now c.symbol_of_line.new.run (c.is_paid.ensures c.if-not-is_paid.false) c.symbol_of_line.ensures.goes
+    goes_most (64 * count_in c.args.a.now.cell + 28) (64 * (1 + row_cost (Scalar c.args.w) (cell_of c.args.a.now.cell ∷ []))) c.args.run.now c.symbol_of_line.new.run (c.is_paid.ensures c.if-not-is_paid.false) c.symbol_of_line.ensures.goes

@@ -1,0 +1,3 @@
+pub mod HandedLaws
+pub mod NodeLaws
+pub mod SettledLaws

@@ -1,0 +1,9 @@
+// Rows over cells in a run: what a row gives of its arguments, with its value under each reading.
+#![tactic(auto)]
+
+mod handed;
+mod rows;
+mod settled;
+
+pub use mz_eval_terms::Argument;
+pub use rows::{row_of_all, row_of_one, row_of_two};
