@@ -1,3 +1,4 @@
+pub mod BranchLaws
 pub mod ElementLaws
 pub mod Gathering
 pub mod Seeing

@@ -1,2 +1,3 @@
 pub mod ArrayCells
+pub mod StepsBranches
 pub mod StepsLines
