@@ -60,7 +60,7 @@ values_count xs n h = length-map xs content ∙ h
 
 -- ---- `array1d` of an array alone
 
-recast_array : (b : Base) (ix : List Range) (xs : values.Contents) → recast b (values.array ix xs) ≡ values.array ix xs
+pub recast_array : (b : Base) (ix : List Range) (xs : values.Contents) → recast b (values.array ix xs) ≡ values.array ix xs
 recast_array base.Bool ix xs = refl
 recast_array base.Int ix xs = refl
 recast_array (base.Enum e) ix xs = refl

@@ -1,3 +1,5 @@
+pub mod AssertedLaws
 pub mod HandedLaws
 pub mod NodeLaws
+pub mod ReshapedLaws
 pub mod SettledLaws

@@ -4,6 +4,7 @@ use Rattle.mz_value.specs.Contents.{Content}
 use Rattle.mz_value.specs.Shown.{Names}
 use Rattle.mz_operations.specs.declared.row.ScalarRow.{ScalarRow}
 use Rattle.mz_operations.specs.declared.row.ScalarRow.TheVariants as scalar
+use Rattle.mz_operations.specs.declared.row.MadeRow.TheVariants as made
 use Rattle.mz_operations.specs.declared.row.Row.{Row}
 use Rattle.mz_operations.specs.declared.row.Row.TheVariants.{Scalar, Made}
 use Rattle.mz_operations.specs.Values.{value}
@@ -42,3 +43,9 @@ is_fold row = false
 abbrev pub is_power : Row → Bool
 is_power (Scalar scalar.Power) = true
 is_power row = false
+
+-- `assert` of three arguments
+abbrev pub is_assert : Row → Bool
+is_assert (Made made.AssertValue) = true
+is_assert (Made made.AssertArray) = true
+is_assert row = false

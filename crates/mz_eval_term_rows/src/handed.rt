@@ -36,7 +36,7 @@ fn has_count(run: &Run, n: u64, count: usize) -> bool
 
 /// Whether a var array has as many elements as bounds, where it is defined.
 #[tactic(auto, using(crate::proofs::HandedLaws::values_count))]
-fn is_whole(run: &Run, xs: &Rc<VarItems>) -> bool
+pub(crate) fn is_whole(run: &Run, xs: &Rc<VarItems>) -> bool
     ensures { result ≡ true → (r : Reading) → Reads r run.now
         → HasCount (origins_value r.line xs.now.value.origins) (length xs.now.value.bounds.value.items) }
 {

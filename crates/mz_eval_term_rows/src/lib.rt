@@ -1,7 +1,9 @@
 // Rows over cells in a run: what a row gives of its arguments, with its value under each reading.
 #![tactic(auto)]
 
+mod asserted;
 mod handed;
+mod reshaped;
 mod rows;
 mod settled;
 

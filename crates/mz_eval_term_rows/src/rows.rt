@@ -1,8 +1,10 @@
 // Rows over cells in a run, one function for each number of arguments.
 
-ghost use Rattle.std.specs.Prelude.{◌≡◌, ◌+◌, ◌*◌, ◌∷◌, []};
+ghost use Rattle.std.specs.Prelude.{◌≡◌, ◌+◌, ◌*◌, ◌∷◌, [], IfOk, IfSome};
 ghost use Rattle.mz_value.specs.Contents.{case_names};
 ghost use Rattle.mz_core.specs.Types.{plain_type};
+ghost use Rattle.mz_operations.specs.declared.row.MadeRow.TheVariants as made;
+ghost use Rattle.mz_operations.specs.declared.row.Row.TheVariants.{Made};
 ghost use Rattle.mz_meaning.specs.Cells.{value_of};
 ghost use Rattle.mz_meaning.specs.Operations.{row_cost};
 ghost use Rattle.mz_symbol.specs.Makes.{GoesOn, GoesOnBy, Means};
@@ -10,19 +12,19 @@ ghost use Rattle.mz_eval_cells.specs.Views.{all_seen, cell_of, cells_of, seen};
 ghost use Rattle.mz_eval_terms.specs.NodeRows.{row_node, stamped};
 ghost use Rattle.mz_eval_term_rows.specs.Settled.{IsExact, IsSettled};
 
+use crate::asserted::{is_assert, row_of_asserted};
 use crate::handed::{is_lined, lined_row};
+use crate::reshaped::{row_of_shaped, row_of_whole};
 use crate::settled::{settled_one, settled_two, valued};
 use mz_base::{Span, Stop};
 use mz_core::TypeInst;
 use mz_eval_cells::{Known, is_par, share};
 use mz_eval_rows as plain;
-use mz_eval_terms::{
-    Argument, cell_of_one, cell_of_two, shape_of_all, shape_of_one, shape_of_two, whole,
-};
-use mz_operations::Row;
+use mz_eval_terms::{Argument, cell_of_one, cell_of_two, shape_of_one, shape_of_two, whole};
+use mz_operations::{MadeRow, Row};
 use mz_symbol::Run;
 use mz_value::Cases;
-use std::alloc::Global;
+use std::alloc::{AllocError, Global};
 
 /// A row of a par argument, which no other cell holds.
 fn row_of_par(
@@ -220,10 +222,23 @@ pub fn row_of_two(
     if is_par(&a.cell) && is_par(&b.cell) {
         return rows_of_par(alloc, cases, row, t, at, a.cell, b.cell, run);
     }
+    if shaped_sets(row).is_some() {
+        return row_of_list(alloc, cases, row, t, at, (a.cell, b.cell), run);
+    }
     let Ok(pars) = settled_two(row, &a.cell, &b.cell) else {
         return rows_of_var(alloc, cases, row, t, at, &a, &b, run);
     };
     rows_of_settled(alloc, cases, row, t, at, (a.cell, b.cell), pars, run)
+}
+
+/// How many index sets a row gives to an array.
+fn shaped_sets(row: Row) -> Option<u64>
+    ensures { IfSome result (λ d. row ≡ Made (made.Shaped d)) }
+{
+    match row {
+        Row::Made(MadeRow::Shaped(d)) => Some(d),
+        _ => None,
+    }
 }
 
 /// What a row gives of these arguments in a run, as `row_of_one` says. They are no single values:
@@ -234,6 +249,7 @@ pub fn row_of_two(
 /// is false; Bounds where all arguments are par and the value is an integer outside
 /// the limit, with this integer, or where one is var and an end of the bounds leaves the limit,
 /// with this end, the lower one first. All are at `at`.
+#[tactic(auto, using(mz_eval_terms::proofs::ToldLaws::goes_paid))]
 pub fn row_of_all(
     alloc: Global,
     cases: &Cases,
@@ -247,7 +263,38 @@ pub fn row_of_all(
     ensures means { Means (stamped (plain_type t.now)) result run.old run.new
         (λ r. row_node r.mode (case_names cases.now) row (plain_type t.now) at (all_seen r cells.items)) }
 {
-    let shape = shape_of_all(alloc, cases, row, t, at, cells)?;
-    let k = whole(shape)?;
-    Ok(k)
+    if is_assert(row) {
+        return row_of_asserted(alloc, cases, row, t, at, cells, run);
+    }
+    let Some(d) = shaped_sets(row) else {
+        return row_of_whole(alloc, cases, row, t, at, cells, run);
+    };
+    row_of_shaped(alloc, cases, d, t, at, cells, run)
+}
+
+fn list_of(alloc: Global, a: Known, b: Known) -> Result<Vec<Known>, AllocError>
+    ensures { IfOk result (λ v. v.items ≡ a ∷ b ∷ []) }
+{
+    let mut all = Vec::new(alloc);
+    all.push(a)?;
+    all.push(b)?;
+    Ok(all)
+}
+
+/// The same of two arguments.
+fn row_of_list(
+    alloc: Global,
+    cases: &Cases,
+    row: Row,
+    t: &TypeInst,
+    at: Span,
+    args: (Known, Known),
+    run: &mut Run,
+) -> Result<Known, Stop>
+    ensures goes { GoesOnBy (64 * (1 + row_cost row (cell_of args.0 ∷ cell_of args.1 ∷ []))) run.old run.new }
+    ensures means { Means (stamped (plain_type t.now)) result run.old run.new
+        (λ r. row_node r.mode (case_names cases.now) row (plain_type t.now) at (seen r args.0 ∷ seen r args.1 ∷ [])) }
+{
+    let all = list_of(alloc, args.0, args.1)?;
+    row_of_all(alloc, cases, row, t, at, all, run)
 }

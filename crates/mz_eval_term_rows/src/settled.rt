@@ -111,7 +111,7 @@ fn par_again(k: &Known) -> Result<Known, Memory>
 
 /// The par cell that has a cell's value under each reading. Out of memory too where a node tells it.
 #[tactic(auto, using(crate::proofs::SettledLaws::unshaped_settled))]
-fn settled(k: &Known) -> Result<Known, Memory>
+pub(crate) fn settled(k: &Known) -> Result<Known, Memory>
     ensures { IfOk result (IsSettled k.now) }
 {
     match k {
@@ -248,14 +248,14 @@ fn origin_of(c: &Known) -> Result<Origin, Memory>
     }
 }
 
-fn same_ranges(a: &[(i64, i64)], b: &[(i64, i64)]) -> bool
+pub(crate) fn same_ranges(a: &[(i64, i64)], b: &[(i64, i64)]) -> bool
     ensures { result ≡ true → a.now ≡ b.now }
 {
     a == b
 }
 
 /// Whether two arrays have the same index ranges.
-fn same_index(a: &Rc<Vec<(i64, i64)>>, b: &Rc<Vec<(i64, i64)>>) -> bool
+pub(crate) fn same_index(a: &Rc<Vec<(i64, i64)>>, b: &Rc<Vec<(i64, i64)>>) -> bool
     ensures { result ≡ true → a.now.value.items ≡ b.now.value.items }
 {
     same_ranges(a.as_slice(), b.as_slice())
@@ -327,7 +327,7 @@ fn valued_array(
     Ok(k)
 }
 
-fn whole_again(k: &Known) -> Result<Known, Memory>
+pub(crate) fn whole_again(k: &Known) -> Result<Known, Memory>
     ensures { IfOk result (λ x. (r : Reading) (v : Option Content) → with_value v (cell_of k.now) ≡ seen r x) }
 {
     let same = share(k)?;
