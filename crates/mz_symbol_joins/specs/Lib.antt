@@ -1,0 +1,2 @@
+pub mod JoinValues
+pub mod StepsJoins
