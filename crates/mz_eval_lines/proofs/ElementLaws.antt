@@ -41,7 +41,7 @@ node_counted base.Bool false v = refl
 node_counted base.Bool true v = refl
 node_counted b o v = refl
 
-counted_twice : (q : Bool) (v : Option Content) → counted q (counted q v) ≡ counted q v
+pub counted_twice : (q : Bool) (v : Option Content) → counted q (counted q v) ≡ counted q v
 counted_twice true v = refl
 counted_twice false v = refl
 

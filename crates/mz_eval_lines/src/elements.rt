@@ -16,7 +16,9 @@ ghost use Rattle.mz_eval_symbols.specs.Taken.{count_in, ranges_in};
 ghost use Rattle.mz_eval_lines.specs.ArrayCells.{element_charge, element_value, typed_seen};
 
 use crate::indices::indices_of;
+use crate::items::item_symbol;
 use crate::kinds::of_kind;
+use crate::places::par_place;
 use mz_base::Stop;
 use mz_core::{Base, TypeInst};
 use mz_eval_access::access_cell;
@@ -51,8 +53,8 @@ fn access_at(
     access(alloc, run, line, ranges, &indices, base, opt)
 }
 
-/// The element of an array at indices, of a node of this base, an option or not.
-fn element_symbol(
+/// The element of an array at indices, by a list, of a node of this base, an option or not.
+fn accessed_symbol(
     alloc: Global,
     run: &mut Run,
     base: Base,
@@ -71,6 +73,29 @@ fn element_symbol(
     let s = access_at(alloc, run, line, ranges, indices, base, opt)?;
     let x = of_kind(s, base, opt)?;
     Ok(x)
+}
+
+/// The element of an array, which or of which an index is var, of a node of this base, an option or
+/// not: at par indices the line's own.
+fn element_symbol(
+    alloc: Global,
+    run: &mut Run,
+    base: Base,
+    opt: bool,
+    a: &Known,
+    at: &[Known],
+) -> Result<Symbol, Stop>
+    ensures goes { GoesOnBy (element_charge (count_in a.now) (length at.now) opt) run.old run.new }
+    ensures means { Means argument result run.old run.new (λ r. give (element_value r base opt a.now at.now)) }
+{
+    let ranges = ranges_in(a);
+    let Ok(place) = par_place(alloc, ranges, at) else {
+        return Err(Stop::Memory);
+    };
+    match place {
+        None => accessed_symbol(alloc, run, base, opt, a, at),
+        Some(n) => item_symbol(alloc, run, base, opt, a, at, n),
+    }
 }
 
 fn are_par(a: &Known, at: &[Known]) -> bool
@@ -127,8 +152,8 @@ fn is_scalar(t: &TypeInst) -> bool
 /// The element of an array at these indices, of a node of this type, as `access_cell` gives it, once the
 /// type is stamped on it.
 ///
-/// Where all are par no node is made. A par array is a line of constants, which is made at each access
-/// at var indices. What the nodes may cost the caller's work has to pay for. Out of memory too where the
+/// Where all are par no node is made. At par indices the element of a var array is its line's own, and
+/// no list is made. A par array is a line of constants, which is made at each access at var indices. What the nodes may cost the caller's work has to pay for. Out of memory too where the
 /// type is one of arrays.
 pub fn access_cell_in(
     alloc: Global,

@@ -4,8 +4,10 @@
 mod branches;
 mod elements;
 mod indices;
+mod items;
 mod kinds;
 mod lines;
+mod places;
 mod symbols;
 
 pub use branches::branch_cell_in;
