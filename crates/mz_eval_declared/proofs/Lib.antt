@@ -1,2 +1,4 @@
 pub mod Suiting
 pub mod Choosing
+pub mod Taking
+pub mod Lined
