@@ -1,0 +1,3 @@
+pub mod BareLaws
+pub mod NodeLaws
+pub mod WorkLaws
