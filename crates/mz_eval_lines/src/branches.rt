@@ -40,7 +40,7 @@ fn truth_node(s: Symbol) -> Result<Id, Memory>
 }
 
 /// The node that is true where a condition is.
-fn condition(alloc: Global, run: &mut Run, k: &Known) -> Result<Id, Stop>
+pub fn condition(alloc: Global, run: &mut Run, k: &Known) -> Result<Id, Stop>
     ensures goes { GoesOnBy 8 run.old run.new }
     ensures holds { IfOk result (λ id. (r : Reading) → Reads r run.new → IsCondition r run.old run.new k.now id) }
 {

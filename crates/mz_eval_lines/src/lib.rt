@@ -10,6 +10,6 @@ mod lines;
 mod places;
 mod symbols;
 
-pub use branches::branch_cell_in;
+pub use branches::{branch_cell_in, condition};
 pub use elements::access_cell_in;
 pub use lines::line_cell_in;

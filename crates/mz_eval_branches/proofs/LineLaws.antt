@@ -1,0 +1,98 @@
+-- Branches as lines under a reading.
+use Rattle.std.proofs.Common.{◌≡◌, ◌∙◌, ℕ, ◌+◌, ◌*◌, Bool, true, false, ◌&&◌, List, [], ◌∷◌, Option, Some, None, refl, ap, subst, arith, if◌then◌else◌}
+use Rattle.std.specs.Option.{option_map}
+use Rattle.std.specs.Ordering.{int_eq}
+use Rattle.std.proofs.lemmas.Bool.Decides.{Decides-int_eq}
+use Rattle.mz_value.specs.Ranges.{Range}
+use Rattle.mz_value.specs.Contents.{Content, contents}
+use Rattle.mz_value.specs.Contents as values
+use Rattle.mz_core.specs.declared.types.Base.{Base}
+use Rattle.mz_operations.specs.Sets.{same_set}
+use Rattle.mz_arena.specs.Values.{is_true}
+use Rattle.mz_meaning.specs.Cells.{Mode, Blank, Given, held}
+use Rattle.mz_symbol.specs.Runs.{Run}
+use Rattle.mz_symbol.specs.Readings.{Reading}
+use Rattle.mz_symbol.specs.Makes.{GoesOnBy}
+use Rattle.mz_symbol_rows.proofs.GoingOn.{goes_both, goes_most}
+use Rattle.mz_symbol_branches.specs.ChosenValues.{chosen_line}
+use Rattle.mz_eval_cells.specs.declared.types.Known.{Known}
+use Rattle.mz_eval_cells.specs.declared.types.Known.TheVariants as known
+use Rattle.mz_eval_cells.specs.declared.types.Origins.{Origins}
+use Rattle.mz_eval_cells.specs.declared.types.Origins.TheVariants as origins
+use Rattle.mz_eval_cells.specs.Views.{array_of, cast_by, origins_value}
+use Rattle.mz_eval_symbols.specs.Taken.{cell_value, line_seen, ranges_in}
+use Rattle.mz_eval_lines.specs.StepsBranches.{one_value}
+use Rattle.mz_eval_branches.specs.BranchLines.{has_no_value, is_nothing}
+
+-- ---- index ranges
+
+both_true : (a b : Bool) → a && b ≡ true → (a ≡ true) × (b ≡ true)
+both_true true b h = (refl, h)
+both_true false b h = absurd (cc)
+
+pub ranges_equal : (xs ys : List Range) → same_set xs ys ≡ true → xs ≡ ys
+unfolding same_set
+ranges_equal [] [] h = refl
+ranges_equal [] (y ∷ ys) h = absurd (cc)
+ranges_equal (x ∷ xs) [] h = absurd (cc)
+ranges_equal (x ∷ xs) (y ∷ ys) h =
+    let first = both_true (int_eq x.0 y.0 && int_eq x.1 y.1) (same_set xs ys) h in
+    let ends = both_true (int_eq x.0 y.0) (int_eq x.1 y.1) first.0 in
+    ap (λ n. (n, x.1) ∷ xs) ((Decides-int_eq x.0 y.0).0 ends.0) ∙ ap (λ n. (y.0, n) ∷ xs) ((Decides-int_eq x.1 y.1).0 ends.1) ∙ ap (λ cs. y ∷ cs) (ranges_equal xs ys first.1)
+
+-- ---- values
+
+held_none : (m : Mode) → held m None ≡ None
+held_none (Blank n) = refl
+held_none (Given f) = refl
+
+nothing_held : (m : Mode) (c : Option Base) (ix : List Range) (l : ℕ → Option (List Content)) (o : Origins) → is_nothing o ≡ true → held m (held m (cast_by c (array_of ix (origins_value l o)))) ≡ None
+nothing_held m None ix l origins.Nothing h = ap (held m) (held_none m) ∙ held_none m
+nothing_held m (Some b) ix l origins.Nothing h = ap (held m) (held_none m) ∙ held_none m
+nothing_held m c ix l (origins.Values xs) h = absurd (cc)
+nothing_held m c ix l (origins.Line k) h = absurd (cc)
+
+-- what has no value has none under a reading
+pub no_value : (r : Reading) (k : Known) → has_no_value k ≡ true → cell_value r k ≡ None
+no_value r known.Undefined h = held_none r.mode
+no_value r (known.One i) h = absurd (cc)
+no_value r (known.Array ix xs) h = absurd (cc)
+no_value r (known.Var x) h = absurd (cc)
+no_value r (known.Row ix xs) h = nothing_held r.mode xs.value.cast ix.value.items r.line xs.value.origins h
+no_value r (known.Unshaped d) h = held_none r.mode
+
+-- ---- one of two arrays
+
+abbrev array_in : List Range → Option (List Content) → Option Content
+array_in ix o = option_map (λ xs. values.array ix (contents xs)) o
+
+chosen_by : (m : Mode) (b : Bool) (ix : List Range) (u v : Option (List Content)) → held m (if b then held m (array_in ix u) else held m (array_in ix v)) ≡ held m (array_in ix (if b then u else v))
+chosen_by (Blank n) b ix u v = refl
+chosen_by (Given f) true ix u v = refl
+chosen_by (Given f) false ix u v = refl
+
+pub one_told : (r : Reading) (like : Known) (id p q k : ℕ) (x y : Option Content) → x ≡ line_seen like r p → y ≡ line_seen like r q → chosen_line r id p q ≡ r.line k → one_value r id x y ≡ line_seen like r k
+one_told r like id p q k x y f g e =
+    let b = is_true (r.term id) in
+    ap (λ v. held r.mode (if b then v else y)) f
+    ∙ ap (λ v. held r.mode (if b then line_seen like r p else v)) g
+    ∙ chosen_by r.mode b (ranges_in like) (r.line p) (r.line q)
+    ∙ ap (λ o. held r.mode (array_in (ranges_in like) o)) e
+
+-- ---- what it costs
+
+pub goes_counted : (n m : ℕ) (old new : Run) → n ≡ m → GoesOnBy (20 * n) old new → GoesOnBy (20 * m) old new
+goes_counted n m old new e g = subst (λ k. GoesOnBy (20 * k) old new) e g
+
+pub goes_chosen : (n m : ℕ) (old new : Run) → n ≡ m → GoesOnBy (48 * n + 16) old new → GoesOnBy (48 * m + 16) old new
+goes_chosen n m old new e g = subst (λ k. GoesOnBy (48 * k + 16) old new) e g
+
+pub goes_first : (n : ℕ) (old new : Run) → GoesOnBy (20 * n) old new → GoesOnBy (88 * n + 16) old new
+goes_first n old new f = goes_most (20 * n) (88 * n + 16) old new (omega arith) f
+
+pub goes_second : (n : ℕ) (old mid new : Run) → GoesOnBy (20 * n) old mid → GoesOnBy (20 * n) mid new → GoesOnBy (88 * n + 16) old new
+goes_second n old mid new f g = goes_most (20 * n + 20 * n) (88 * n + 16) old new (omega arith) (goes_both (20 * n) (20 * n) old mid new f g)
+
+pub goes_line : (n c : ℕ) (old first mid new : Run) → c ≡ n → GoesOnBy (20 * n) old first → GoesOnBy (20 * n) first mid → GoesOnBy (48 * c + 16) mid new → GoesOnBy (88 * n + 16) old new
+goes_line n c old first mid new e f g h =
+    goes_most (20 * n + (20 * n + (48 * n + 16))) (88 * n + 16) old new (omega arith) (goes_both (20 * n) (20 * n + (48 * n + 16)) old first new f (goes_both (20 * n) (48 * n + 16) first mid new g (goes_chosen c n mid new e h)))

@@ -1,0 +1,36 @@
+use Rattle.std.proofs.Common.{◌∙◌, ap, length}
+use Rattle.mz_symbol.proofs.ConstantLaws.{out_value, out_state}
+use Rattle.mz_symbol_rows.proofs.RowLaws.{out_both}
+use Rattle.mz_eval_symbols.specs.Taken.{count_in}
+use Rattle.mz_eval_lines.specs.StepsBranches.{branches_value}
+use Rattle.mz_eval_lines.proofs.BranchLaws.{more_told}
+use Rattle.mz_eval_branches.specs.BranchLines.{option_seen}
+use Rattle.mz_eval_branches.proofs.FoldLaws.{fold_last, fold_more, fold_rest}
+use Rattle.mz_eval_branches.proofs.folding.+chosen_line.Goals as goal
+
+pub returns-then-is_none-clause-goes : goal.returns-then-is_none-clause-goes
+returns-then-is_none-clause-goes t c = fold_last (count_in c.args.like.now) c.count_in-count.result (length c.args.branches.now) c.args.run.now c.ranged_line.new.run c.count_in-count.ensures c.ranged_line.ensures.goes
+
+pub returns-then-is_none-clause-means : goal.returns-then-is_none-clause-means
+returns-then-is_none-clause-means t c r h = rw (c.is_none.ensures c.if-is_none.true) (c.ranged_line.ensures.means r h)
+
+pub returns-in_err-rest-clause-goes : goal.returns-in_err-rest-clause-goes
+returns-in_err-rest-clause-goes t c = fold_rest (count_in c.args.like.now) c.in-Some.x.0.now c.in-Some.x.1.now c.args.branches.now c.args.run.now c.chosen_line.new.run c.in-Some.ensures.are c.chosen_line.ensures.goes
+
+pub returns-in_err-all-clause-goes : goal.returns-in_err-all-clause-goes
+returns-in_err-all-clause-goes t c = fold_more (count_in c.args.like.now) c.in-Some.x.0.now c.in-Some.x.1.now c.args.branches.now c.args.run.now c.chosen_line.new.run c.with_first.new.run c.in-Some.ensures.are c.chosen_line.ensures.goes c.with_first.ensures.goes
+
+pub returns-clause-goes : goal.returns-clause-goes
+returns-clause-goes t c = fold_more (count_in c.args.like.now) c.in-Some.x.0.now c.in-Some.x.1.now c.args.branches.now c.args.run.now c.chosen_line.new.run c.with_first.new.run c.in-Some.ensures.are c.chosen_line.ensures.goes c.with_first.ensures.goes
+
+pub returns-clause-means : goal.returns-clause-means
+returns-clause-means t c r h =
+    let e = c.in_ok-all.ensures.means r h in
+    let v = c.in_ok-rest.ensures.means r (c.in_ok-all.ensures.goes.back r h) in
+    out_both
+    (
+    ap (λ ps. branches_value r ps c.args.last.now) c.in-Some.ensures.are
+    ∙ more_told r c.in-Some.x.0.now c.in-Some.x.1.now c.args.last.now (option_seen c.args.like.now r c.in_ok-rest.rest) (out_value v)
+    ∙ out_value e
+    )
+    (out_state v ∙ out_state e)

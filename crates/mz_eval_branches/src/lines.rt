@@ -1,0 +1,184 @@
+// Branches as lines of the run: an undefined branch is no line, until another one has a line.
+
+ghost use Rattle.std.specs.Prelude.{◌≡◌, ◌*◌, ◌+◌, IfOk, None, true};
+ghost use Rattle.mz_meaning.specs.Runs.{give};
+ghost use Rattle.mz_symbol.specs.Makes.{GoesOnBy, Means};
+ghost use Rattle.mz_symbol_branches.specs.ChosenValues.{chosen_line};
+ghost use Rattle.mz_eval_symbols.specs.Taken.{cell_value, count_in, line_seen, ranges_in};
+ghost use Rattle.mz_eval_lines.specs.StepsBranches.{one_value};
+ghost use Rattle.mz_eval_branches.specs.BranchLines.{has_no_value, option_seen};
+
+use mz_arena::Id;
+use mz_base::{Memory, Stop};
+use mz_core::Base;
+use mz_eval_cells::{Known, Origins, length_of};
+use mz_eval_symbols::line_in;
+use mz_symbol::Run;
+use mz_symbol_branches::choose_lines;
+use mz_symbol_lines::defined;
+use std::alloc::Global;
+
+fn same_ranges(a: &[(i64, i64)], b: &[(i64, i64)]) -> bool
+    ensures { result ≡ true → a.now ≡ b.now }
+{
+    a == b
+}
+
+fn ranges_in(k: &Known) -> &[(i64, i64)]
+    ensures { result.now ≡ ranges_in k.now }
+{
+    match k {
+        Known::Array(index, _) => index.as_slice(),
+        Known::Row(index, _) => index.as_slice(),
+        _ => &[],
+    }
+}
+
+fn has_ranges(k: &Known, like: &Known) -> bool
+    ensures { result ≡ true → ranges_in k.now ≡ ranges_in like.now }
+{
+    same_ranges(ranges_in(k), ranges_in(like))
+}
+
+pub(crate) fn count_in(k: &Known) -> u64
+    ensures { result ≡ count_in k.now }
+{
+    match length_of(k) {
+        None => 0,
+        Some(n) => n,
+    }
+}
+
+fn are_so_many(own: u64, count: u64) -> Result<(), Memory>
+    ensures { IfOk result (λ _. own ≡ count) }
+{
+    if own == count { Ok(()) } else { Err(Memory) }
+}
+
+/// Out of memory where the index ranges of two cells aren't the same.
+fn are_ranges_of(k: &Known, like: &Known) -> Result<(), Memory>
+    ensures { IfOk result (λ _. ranges_in k.now ≡ ranges_in like.now) }
+{
+    if has_ranges(k, like) {
+        Ok(())
+    } else {
+        Err(Memory)
+    }
+}
+
+/// The line of an array whose index ranges are those of another cell, and that has so many elements.
+fn fitting_line(
+    alloc: Global,
+    run: &mut Run,
+    base: Base,
+    count: u64,
+    like: &Known,
+    k: &Known,
+) -> Result<u64, Stop>
+    ensures goes { GoesOnBy (20 * count) run.old run.new }
+    ensures means { Means (line_seen like.now) result run.old run.new (λ r. give (cell_value r k.now)) }
+{
+    are_ranges_of(k, like)?;
+    let own = count_in(k);
+    are_so_many(own, count)?;
+    let line = line_in(alloc, run, base, k)?;
+    Ok(line)
+}
+
+/// The line of a branch; none of one that is undefined.
+///
+/// Out of memory too of what is no array, and where its index ranges aren't those of `like`, or its
+/// elements aren't so many.
+pub(crate) fn ranged_line(
+    alloc: Global,
+    run: &mut Run,
+    base: Base,
+    count: u64,
+    like: &Known,
+    k: &Known,
+) -> Result<Option<u64>, Stop>
+    ensures goes { GoesOnBy (20 * count) run.old run.new }
+    ensures means { Means (option_seen like.now) result run.old run.new (λ r. give (cell_value r k.now)) }
+{
+    if has_no_value(k) {
+        return Ok(None);
+    }
+    let line = fitting_line(alloc, run, base, count, like, k)?;
+    Ok(Some(line))
+}
+
+/// Whether a cell is an array that is undefined wherever it is read.
+fn has_no_value(k: &Known) -> bool
+    ensures { result ≡ has_no_value k.now }
+{
+    match k {
+        Known::Undefined => true,
+        Known::Unshaped(_) => true,
+        Known::Row(_, xs) => match &xs.origins {
+            Origins::Nothing => true,
+            _ => false,
+        },
+        _ => false,
+    }
+}
+
+/// The line of a cell without a value.
+fn blank_line(alloc: Global, run: &mut Run, base: Base, like: &Known) -> Result<u64, Stop>
+    requires { has_no_value like.now ≡ true }
+    ensures goes { GoesOnBy (20 * count_in like.now) run.old run.new }
+    ensures means { Means (line_seen like.now) result run.old run.new (λ r. give None) }
+{
+    let line = line_in(alloc, run, base, like)?;
+    Ok(line)
+}
+
+/// The line that an option of a line is; of none one of a cell without a value.
+fn line_or(
+    alloc: Global,
+    run: &mut Run,
+    base: Base,
+    like: &Known,
+    p: Option<u64>,
+) -> Result<u64, Stop>
+    requires { has_no_value like.now ≡ true }
+    ensures goes { GoesOnBy (20 * count_in like.now) run.old run.new }
+    ensures means { Means (line_seen like.now) result run.old run.new (λ r. give (option_seen like.now r p)) }
+{
+    match p {
+        Some(k) => Ok(k),
+        None => blank_line(alloc, run, base, like),
+    }
+}
+
+/// The first of two arrays with so many elements under a condition, else the second.
+fn one_line(alloc: Global, run: &mut Run, id: Id, count: u64, p: u64, q: u64) -> Result<u64, Stop>
+    ensures goes { GoesOnBy (48 * count + 16) run.old run.new }
+    ensures means { Means (λ r. r.line) result run.old run.new (λ r. give (chosen_line r id p q)) }
+{
+    let found = defined(run, p)?;
+    are_so_many(found.1, count)?;
+    let line = choose_lines(alloc, run, id, p, q)?;
+    Ok(line)
+}
+
+/// The same of arrays under the index ranges of a cell without a value, of which one may be undefined.
+pub(crate) fn one_option(
+    alloc: Global,
+    run: &mut Run,
+    base: Base,
+    like: &Known,
+    id: Id,
+    p: Option<u64>,
+    q: Option<u64>,
+) -> Result<Option<u64>, Stop>
+    requires { has_no_value like.now ≡ true }
+    ensures goes { GoesOnBy (88 * count_in like.now + 16) run.old run.new }
+    ensures means { Means (option_seen like.now) result run.old run.new
+        (λ r. give (one_value r id (option_seen like.now r p) (option_seen like.now r q))) }
+{
+    let count = count_in(like);
+    let first = line_or(alloc, run, base, like, p)?;
+    let second = line_or(alloc, run, base, like, q)?;
+    let line = one_line(alloc, run, id, count, first, second)?;
+    Ok(Some(line))
+}
