@@ -190,7 +190,8 @@ fn third_array(
     all: &Rc<Vec<Bound>>,
     k: &Known,
 ) -> Result<Known, Memory>
-    ensures { IfOk result (λ x. (r : Reading) (b : PlainBase) → Var (bounds.many ix.now.value.items (map known_bound all.now.value.items)) (held r.mode (option_map (meant.recast b) (value_of (seen r k.now)))) ≡ seen r x) }
+    ensures { IfOk result (λ x. (r : Reading) (b : PlainBase) → Var (bounds.many ix.now.value.items (map known_bound all.now.value.items))
+        (held r.mode (option_map (meant.recast b) (value_of (seen r k.now)))) ≡ seen r x) }
 {
     let Known::Row(jx, xs) = k else {
         return Err(Memory);

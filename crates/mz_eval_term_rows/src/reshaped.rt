@@ -67,7 +67,8 @@ pub(crate) fn handed_as(
     all: &Rc<Vec<Bound>>,
     xs: &Rc<VarItems>,
 ) -> Result<Known, AllocError>
-    ensures { IfOk result (λ k. (r : Reading) → Var (bounds.many ix.now.value.items (map known_bound all.now.value.items)) (held r.mode (row_content r.line ix.now.value.items xs.now.value)) ≡ seen r k) }
+    ensures { IfOk result (λ k. (r : Reading) → Var (bounds.many ix.now.value.items (map known_bound all.now.value.items))
+        (held r.mode (row_content r.line ix.now.value.items xs.now.value)) ≡ seen r k) }
 {
     let ranges = ix.clone()?;
     let bounds = all.clone()?;

@@ -273,7 +273,8 @@ fn array_origins(
     jx: &Rc<Vec<(i64, i64)>>,
     items: &Rc<Vec<Value>>,
 ) -> Result<Origins, Memory>
-    ensures { IfOk result (λ o. (l : ℕ → Option (List Content)) → array_of ix.now.value.items (origins_value l o) ≡ Some (values.array jx.now.value.items (contents (map content items.now.value.items)))) }
+    ensures { IfOk result (λ o. (l : ℕ → Option (List Content)) → array_of ix.now.value.items (origins_value l o)
+        ≡ Some (values.array jx.now.value.items (contents (map content items.now.value.items)))) }
 {
     if !same_index(ix, jx) {
         return Err(Memory);
@@ -298,7 +299,8 @@ fn array_with(
     all: &Rc<Vec<Bound>>,
     origins: Origins,
 ) -> Result<Known, AllocError>
-    ensures { IfOk result (λ k. (r : Reading) → seen r k ≡ Var (bounds.many ix.now.value.items (map known_bound all.now.value.items)) (held r.mode (array_of ix.now.value.items (origins_value r.line origins)))) }
+    ensures { IfOk result (λ k. (r : Reading) → seen r k ≡ Var (bounds.many ix.now.value.items (map known_bound all.now.value.items))
+        (held r.mode (array_of ix.now.value.items (origins_value r.line origins)))) }
 {
     let ranges = ix.clone()?;
     let held = all.clone()?;
