@@ -1,0 +1,4 @@
+pub mod Steps
+pub mod Names
+pub mod Declared
+pub mod Constrained
