@@ -2,3 +2,4 @@ pub mod Steps
 pub mod Names
 pub mod Declared
 pub mod Constrained
+pub mod Walked

@@ -32,6 +32,10 @@ pub record ConstraintsEnd (t : Task) (old new : Run) (ns : List hands.HeldName) 
 pub record AreInHand (t : Task) (old now : Run) (ns : List hands.HeldName) (all : List Tree) (cs : List HeldConstraint) (rest : List Tree) : Type 0 where
   pub by : IsAmong (limits_of t) (program_of t) old ns [] all → IsAmong (limits_of t) (program_of t) now ns (map held_constraint cs) rest
 
+-- all names are declared, and all constraints are in hand
+pub record WalkEnds (t : Task) (new : Run) (ns : List hands.HeldName) (x : Result (Vec HeldConstraint Global) Stop) : Type 0 where
+  pub ends : Ends x (λ cs. IsAmong (limits_of t) (program_of t) new ns (map held_constraint cs.items) []) (λ f. WalkStops (limits_of t) (program_of t) f new ns)
+
 -- the objective's cell, if there is one
 abbrev pub aim_seen : Reading → Option Known → Option Cell
 aim_seen r None = None

@@ -7,3 +7,4 @@ mod evaluation;
 mod forms;
 mod objective;
 mod types;
+mod whole;
