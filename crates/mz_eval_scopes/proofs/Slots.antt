@@ -3,12 +3,13 @@ use Rattle.std.proofs.Common.{◌≡◌, ◌∙◌, ℕ, zero, suc, ◌+◌, ◌
 use Rattle.std.proofs.lemmas.Bool.{eqb-true}
 use Rattle.std.proofs.lemmas.Bool.Decides.{nat_tests}
 use Rattle.mz_eval_cells.specs.declared.types.Known.{Known}
-use Rattle.mz_eval_cells.specs.Views.{cell_of}
+use Rattle.mz_symbol.specs.Readings.{Reading}
+use Rattle.mz_eval_cells.specs.Views.{cell_of, seen}
 use Rattle.mz_meaning.specs.Cells.{Cell, Env, bind, bind_all, undefined}
 use Rattle.mz_eval_scopes.specs.declared.types.World.{World}
 use Rattle.mz_eval_scopes.specs.declared.types.Scope.{Scope}
 use Rattle.mz_eval_scopes.specs.declared.types.Scope.TheViews.{Frame}
-use Rattle.mz_eval_scopes.specs.Views.{env_by, known_if}
+use Rattle.mz_eval_scopes.specs.Views.{env_by, known_by, known_if}
 
 pub frame_env : (see : Known → Cell) (w : World) (slots : Bor (List ℕ)) (ks : Bor (List Known)) (rest : Bor Scope) → env_by see w (Frame slots ks rest) ≡ bind_all slots.now (map see ks.now) (env_by see w rest.now)
 frame_env see w slots ks rest = refl
@@ -38,11 +39,17 @@ all_of_them see (suc m) (s ∷ ss) [] env slot h = absurd (omega arith)
 all_of_them see (suc m) (s ∷ ss) (k ∷ ks) env slot h = all_of_them see m ss ks (bind s (see k) env) slot (omega arith)
 
 -- one place more changes nothing
+pushed_by : (see : Known → Cell) (ks : List Known) (u : Known) (k : ℕ) → see u ≡ undefined → known_by see (slice_get (ks ++ u ∷ []) k) ≡ known_by see (slice_get ks k)
+pushed_by see [] u zero h = h
+pushed_by see [] u (suc k) h = refl
+pushed_by see (x ∷ ks) u zero h = refl
+pushed_by see (x ∷ ks) u (suc k) h = pushed_by see ks u k h
+
 pub pushed_undefined : (ks : List Known) (u : Known) (k : ℕ) → cell_of u ≡ undefined → known_if (slice_get (ks ++ u ∷ []) k) ≡ known_if (slice_get ks k)
-pushed_undefined [] u zero h = h
-pushed_undefined [] u (suc k) h = refl
-pushed_undefined (x ∷ ks) u zero h = refl
-pushed_undefined (x ∷ ks) u (suc k) h = pushed_undefined ks u k h
+pushed_undefined ks u k h = pushed_by cell_of ks u k h
+
+pub pushed_seen : (ks : List Known) (u : Known) (r : Reading) (k : ℕ) → seen r u ≡ undefined → known_by (seen r) (slice_get (ks ++ u ∷ []) k) ≡ known_by (seen r) (slice_get ks k)
+pushed_seen ks u r k h = pushed_by (seen r) ks u k h
 
 put_same : (ks : List Known) (i : ℕ) (u : Known) → i < length ks → slice_get (set ks i u) i ≡ Some u
 put_same [] i u h = absurd (omega arith)
@@ -57,9 +64,15 @@ put_other (x ∷ ks) (suc i) zero u h = refl
 put_other (x ∷ ks) (suc i) (suc k) u h = put_other ks i k u (λ e. h (ap suc e))
 
 -- what is put at a place is there, and all else is as it was
-pub put_at : (ks : List Known) (i : ℕ) (u : Known) (k : ℕ) → i < length ks → known_if (slice_get (set ks i u) k) ≡ (if nat_eq k i then cell_of u else known_if (slice_get ks k))
-put_at ks i u k h = by (nat_eq k i) refl
+put_by : (see : Known → Cell) (ks : List Known) (i : ℕ) (u : Known) (k : ℕ) → i < length ks → known_by see (slice_get (set ks i u) k) ≡ (if nat_eq k i then see u else known_by see (slice_get ks k))
+put_by see ks i u k h = by (nat_eq k i) refl
   where
-    by : (t : Bool) → nat_eq k i ≡ t → known_if (slice_get (set ks i u) k) ≡ (if t then cell_of u else known_if (slice_get ks k))
-    by true p = ap known_if (subst (λ j. slice_get (set ks i u) j ≡ Some u) (sym (eqb-true k i p)) (put_same ks i u h))
-    by false p = ap known_if (put_other ks i k u (λ e. let q : nat_eq k i ≡ true = grind (arith, nat_tests) in cc))
+    by : (t : Bool) → nat_eq k i ≡ t → known_by see (slice_get (set ks i u) k) ≡ (if t then see u else known_by see (slice_get ks k))
+    by true p = ap (known_by see) (subst (λ j. slice_get (set ks i u) j ≡ Some u) (sym (eqb-true k i p)) (put_same ks i u h))
+    by false p = ap (known_by see) (put_other ks i k u (λ e. let q : nat_eq k i ≡ true = grind (arith, nat_tests) in cc))
+
+pub put_at : (ks : List Known) (i : ℕ) (u : Known) (k : ℕ) → i < length ks → known_if (slice_get (set ks i u) k) ≡ (if nat_eq k i then cell_of u else known_if (slice_get ks k))
+put_at ks i u k h = put_by cell_of ks i u k h
+
+pub put_seen : (ks : List Known) (i : ℕ) (u : Known) (r : Reading) (k : ℕ) → i < length ks → known_by (seen r) (slice_get (set ks i u) k) ≡ (if nat_eq k i then seen r u else known_by (seen r) (slice_get ks k))
+put_seen ks i u r k h = put_by (seen r) ks i u k h

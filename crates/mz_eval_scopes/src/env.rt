@@ -5,7 +5,8 @@ ghost use Rattle.std.specs.Option.{option_map};
 ghost use Rattle.mz_value.specs.Contents.{content};
 ghost use Rattle.mz_meaning.specs.Cells as cells;
 ghost use Rattle.mz_meaning.specs.Cells.{Par, bind};
-ghost use Rattle.mz_eval_cells.specs.Views.{cell_of};
+ghost use Rattle.mz_symbol.specs.Readings.{Reading};
+ghost use Rattle.mz_eval_cells.specs.Views.{cell_of, seen};
 ghost use Rattle.mz_eval_scopes.specs.Views.{View, env_cells, env_cells_by};
 
 use crate::types::Env;
@@ -39,6 +40,7 @@ impl Env {
     /// Gives a slot this cell, par or var; all else as `set` does.
     pub fn set_cell(&mut self, slot: u64, cell: Known) -> Result<(), Memory>
         ensures set { OnOk result ((k : ℕ) → env_cells self.new k ≡ bind slot (cell_of cell) (env_cells self.old) k) }
+        ensures seen { OnOk result ((r : Reading) (k : ℕ) → env_cells_by (seen r) self.new k ≡ bind slot (seen r cell) (env_cells_by (seen r) self.old) k) }
         ensures kept { OnErr result ((k : ℕ) → env_cells self.new k ≡ env_cells self.old k) }
     {
         self.grow(slot)?;
@@ -49,6 +51,7 @@ impl Env {
     // has a place for the slot
     fn grow(&mut self, slot: u64) -> Result<(), Memory>
         ensures same { (k : ℕ) → env_cells self.new k ≡ env_cells self.old k }
+        ensures seen { (r : Reading) (k : ℕ) → env_cells_by (seen r) self.new k ≡ env_cells_by (seen r) self.old k }
         ensures place { OnOk result (slot < length self.new.cells.items) }
     {
         'places: while self.cells.len() as u64 <= slot {
@@ -58,19 +61,21 @@ impl Env {
     }
 
     // one slot more that is not set
-    #[tactic(auto, using(crate::proofs::Slots::pushed_undefined))]
+    #[tactic(auto, using(crate::proofs::Slots::pushed_undefined, crate::proofs::Slots::pushed_seen))]
     fn push(&mut self) -> Result<(), Memory>
         ensures same { (k : ℕ) → env_cells self.new k ≡ env_cells self.old k }
+        ensures seen { (r : Reading) (k : ℕ) → env_cells_by (seen r) self.new k ≡ env_cells_by (seen r) self.old k }
         ensures longer { OnOk result (length self.new.cells.items ≡ length self.old.cells.items + 1) }
     {
         self.cells.push(undefined())?;
         Ok(())
     }
 
-    #[tactic(auto, using(crate::proofs::Slots::put_at))]
+    #[tactic(auto, using(crate::proofs::Slots::put_at, crate::proofs::Slots::put_seen))]
     fn put(&mut self, slot: u64, cell: Known)
         requires { slot < length self.old.cells.items }
-        ensures { (k : ℕ) → env_cells self.new k ≡ bind slot (cell_of cell) (env_cells self.old) k }
+        ensures set { (k : ℕ) → env_cells self.new k ≡ bind slot (cell_of cell) (env_cells self.old) k }
+        ensures seen { (r : Reading) (k : ℕ) → env_cells_by (seen r) self.new k ≡ bind slot (seen r cell) (env_cells_by (seen r) self.old) k }
     {
         self.cells[slot as usize] = cell;
     }

@@ -1,0 +1,5 @@
+pub mod Steps
+pub mod Names
+pub mod Declared
+pub mod Constrained
+pub mod Walked
