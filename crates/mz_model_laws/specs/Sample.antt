@@ -56,7 +56,7 @@ abbrev pub choice : Free
 choice = place base.Int None 7 one_or_two
 
 abbrev pub run : Run
-run = record { work = 23; weight = 4; arena = arena; choices = choice ∷ []; lines = [] }
+run = record { work = 23; weight = 4; saved = 0; arena = arena; choices = choice ∷ []; lines = [] }
 
 -- the value of a place, or of places
 abbrev pub value_under : Reading → NameKind → Option Content

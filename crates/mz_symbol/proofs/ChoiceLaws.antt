@@ -36,6 +36,7 @@ pub adds_both : (n m : ℕ) (old mid new : Run) → AddsNodes n old mid → Adds
 adds_both n m old mid new f g = record {
   work = g.work ∙ f.work;
   weight = g.weight ∙ f.weight;
+  saved = g.saved ∙ f.saved;
   choices = g.choices ∙ f.choices;
   lines = g.lines ∙ f.lines;
   grew = grew_both f.grew g.grew;
@@ -43,7 +44,7 @@ adds_both n m old mid new f g = record {
 }
 
 pub adds_most : (n m : ℕ) (old new : Run) → n ≤ m → AddsNodes n old new → AddsNodes m old new
-adds_most n m old new h f = record { work = f.work; weight = f.weight; choices = f.choices; lines = f.lines; grew = f.grew; charged = omega (arith, h, f.charged) }
+adds_most n m old new h f = record { work = f.work; weight = f.weight; saved = f.saved; choices = f.choices; lines = f.lines; grew = f.grew; charged = omega (arith, h, f.charged) }
 
 pub adds_state : (n : ℕ) (old new : Run) (r : Reading) → AddsNodes n old new → state_of r old ≡ state_of r new
 adds_state n old new r l =
@@ -111,8 +112,8 @@ counted_more es fs gs ls f parts more e s n c m = subst (λ gs. IsCounted es gs 
 })
 
 -- as the code has it, whose copy of the set is the same
-pub counted_noted : (w k : ℕ) (es : List Entry) (fs gs : List Free) (ls : List Line) (s : Run) (y : Symbol) (u v : List Range) (parts more : ℕ) → record { work = w; weight = k; arena = es; choices = fs; lines = ls } ≡ s → v ≡ u → gs ≡ fs ++ free_of y v ∷ [] → IsCounted es fs ls parts → AreNodes s.arena true (length (free_ids s.choices)) (symbol_ids y) (domain_parts (domain_of (free_of y u))) → IsChoosable (domain_of (free_of y u)) → more ≡ parts + length (symbol_ids y) → IsCounted es gs ls more
-counted_noted w k es fs gs ls s y u v parts more i q e c n d m = counted_more es fs gs ls (free_of y u) parts more (e ∙ ap (λ v. fs ++ free_of y v ∷ []) q) c (subst (λ (s : Run). AreNodes s.arena true (length (free_ids s.choices)) (symbol_ids y) (domain_parts (domain_of (free_of y u)))) (sym i) n) d m
+pub counted_noted : (w k saved : ℕ) (es : List Entry) (fs gs : List Free) (ls : List Line) (s : Run) (y : Symbol) (u v : List Range) (parts more : ℕ) → record { work = w; weight = k; saved = saved; arena = es; choices = fs; lines = ls } ≡ s → v ≡ u → gs ≡ fs ++ free_of y v ∷ [] → IsCounted es fs ls parts → AreNodes s.arena true (length (free_ids s.choices)) (symbol_ids y) (domain_parts (domain_of (free_of y u))) → IsChoosable (domain_of (free_of y u)) → more ≡ parts + length (symbol_ids y) → IsCounted es gs ls more
+counted_noted w k saved es fs gs ls s y u v parts more i q e c n d m = counted_more es fs gs ls (free_of y u) parts more (e ∙ ap (λ v. fs ++ free_of y v ∷ []) q) c (subst (λ (s : Run). AreNodes s.arena true (length (free_ids s.choices)) (symbol_ids y) (domain_parts (domain_of (free_of y u)))) (sym i) n) d m
 
 -- ---- what reads a run with a choice more
 
@@ -132,8 +133,8 @@ noted_back old new f r n h = record {
   lines = λ k l e. h.lines k l (ap (λ ls. slice_get ls k) n.lines ∙ e);
 }
 
-paid_for : (c d w v x y a b n : ℕ) → y ≡ x → b ≡ a → v ≡ w → d ≤ c + n → d + 16 * v + 64 * (x + a) ≤ c + 16 * w + 64 * (y + b) + n
-paid_for c d w v x y a b n p q s h = omega (arith, p, q, s, h)
+paid_for : (c d w v x y a b e f n : ℕ) → y ≡ x → b ≡ a → f ≡ e → v ≡ w → d ≤ c + n → d + 16 * v + f + 64 * (x + a) ≤ c + 16 * w + e + 64 * (y + b) + n
+paid_for c d w v x y a b e f n p q k s h = omega (arith, p, q, k, s, h)
 
 same_charges : (c d n : ℕ) (es fs gs : List Entry) → gs ≡ fs → charges fs ≤ charges es + n → charges gs ≤ charges es + n
 same_charges c d n es fs gs e h = subst (λ gs. charges gs ≤ charges es + n) (sym e) h
@@ -141,13 +142,13 @@ same_charges c d n es fs gs e h = subst (λ gs. charges gs ≤ charges es + n) (
 pub takes : (n : ℕ) (old mid new : Run) (f : Free) → AddsNodes n old mid → IsNoted mid new f → GoesOnBy n old new
 takes n old mid new f a m = record {
   back = λ r h. nodes_back n old mid r a (noted_back mid new f r m h);
-  paid = paid_for (charges old.arena) (charges new.arena) (waiting old.lines) (waiting new.lines) old.work new.work old.weight new.weight n (m.work ∙ a.work) (m.weight ∙ a.weight) (ap waiting (m.lines ∙ a.lines)) (same_charges 0 0 n old.arena mid.arena new.arena m.arena a.charged);
+  paid = paid_for (charges old.arena) (charges new.arena) (waiting old.lines) (waiting new.lines) old.work new.work old.weight new.weight old.saved new.saved n (m.work ∙ a.work) (m.weight ∙ a.weight) (m.saved ∙ a.saved) (ap waiting (m.lines ∙ a.lines)) (same_charges 0 0 n old.arena mid.arena new.arena m.arena a.charged);
 }
 
 pub takes_nothing : (n : ℕ) (old mid new : Run) → AddsNodes n old mid → new ≡ mid → GoesOnBy n old new
 takes_nothing n old mid new a e = subst (λ s. GoesOnBy n old s) (sym e) (record {
   back = λ r h. nodes_back n old mid r a h;
-  paid = paid_for (charges old.arena) (charges mid.arena) (waiting old.lines) (waiting mid.lines) old.work mid.work old.weight mid.weight n a.work a.weight (ap waiting a.lines) a.charged;
+  paid = paid_for (charges old.arena) (charges mid.arena) (waiting old.lines) (waiting mid.lines) old.work mid.work old.weight mid.weight old.saved mid.saved n a.work a.weight a.saved (ap waiting a.lines) a.charged;
 })
 
 last_append : (cs : List Free) (c : Free) → slice_get (cs ++ c ∷ []) (length cs) ≡ Some c

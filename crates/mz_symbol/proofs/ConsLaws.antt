@@ -246,12 +246,12 @@ begun_waits old m1 k h b =
 pub begun_goes : (old m1 m2 : Run) (k : ℕ) → IsListed old k listing.Wanted → IsMarked old m1 k listing.Begun → AddsNodes (16 * length (items_at m1 k)) m1 m2 → GoesOn old m2
 begun_goes old m1 m2 k h b a = record {
   back = λ r q. marked_back old m1 k listing.Begun r b (nodes_back (16 * length (items_at m1 k)) m1 m2 r a q);
-  paid = sums (charges old.arena) (charges m1.arena) (charges m2.arena) (waiting old.lines) (waiting m1.lines) (waiting m2.lines) old.work m1.work m2.work old.weight m1.weight m2.weight (length (items_at m1 k))
-      (ap charges b.arena) a.charged (begun_waits old m1 k h b) (ap waiting a.lines) b.work a.work b.weight a.weight;
+  paid = sums (charges old.arena) (charges m1.arena) (charges m2.arena) (waiting old.lines) (waiting m1.lines) (waiting m2.lines) old.work m1.work m2.work old.weight m1.weight m2.weight old.saved m1.saved m2.saved (length (items_at m1 k))
+      (ap charges b.arena) a.charged (begun_waits old m1 k h b) (ap waiting a.lines) b.work a.work b.weight a.weight b.saved a.saved;
 }
   where
-    sums : (c d e u v w x y z f g i n : ℕ) → d ≡ c → e ≤ d + 16 * n → v + n ≡ u → w ≡ v → y ≡ x → z ≡ y → g ≡ f → i ≡ g → e + 16 * w + 64 * (x + f) ≤ c + 16 * u + 64 * (z + i) + 0
-    sums c d e u v w x y z f g i n p q r s t j k l = omega (arith, p, q, r, s, t, j, k, l)
+    sums : (c d e u v w x y z f g i a b o n : ℕ) → d ≡ c → e ≤ d + 16 * n → v + n ≡ u → w ≡ v → y ≡ x → z ≡ y → g ≡ f → i ≡ g → b ≡ a → o ≡ b → e + 16 * w + o + 64 * (x + f) ≤ c + 16 * u + a + 64 * (z + i) + 0
+    sums c d e u v w x y z f g i a b o n p q r s t j k l m h = omega (arith, p, q, r, s, t, j, k, l, m, h)
 
 pub begun_state : (old m1 m2 : Run) (k n : ℕ) (r : Reading) → IsMarked old m1 k listing.Begun → AddsNodes n m1 m2 → state_of r old ≡ state_of r m2
 begun_state old m1 m2 k n r b a = marked_state old m1 k listing.Begun r b ∙ added_state n m1 m2 r a
@@ -266,12 +266,12 @@ made_goes old m1 m2 new k ls m =
     let g = begun_goes old m1 m2 k m.wanted m.begun m.adds in
     record {
       back = λ r q. g.back r (marked_back m2 new k (listing.Made ls) r m.made q);
-      paid = sums (charges old.arena) (charges m2.arena) (charges new.arena) (waiting old.lines) (waiting m2.lines) (waiting new.lines) old.work m2.work new.work old.weight m2.weight new.weight
-          g.paid (ap charges m.made.arena) (done_waits m2 new k m.wanted.line ls (begun_line old m1 m2 k m.wanted m.begun m.adds.lines) m.made) m.made.work m.made.weight;
+      paid = sums (charges old.arena) (charges m2.arena) (charges new.arena) (waiting old.lines) (waiting m2.lines) (waiting new.lines) old.work m2.work new.work old.weight m2.weight new.weight old.saved m2.saved new.saved
+          g.paid (ap charges m.made.arena) (done_waits m2 new k m.wanted.line ls (begun_line old m1 m2 k m.wanted m.begun m.adds.lines) m.made) m.made.work m.made.weight m.made.saved;
     }
   where
-    sums : (c d e u v w x y z f g i : ℕ) → d + 16 * v + 64 * (x + f) ≤ c + 16 * u + 64 * (y + g) + 0 → e ≡ d → w ≡ v → z ≡ y → i ≡ g → e + 16 * w + 64 * (x + f) ≤ c + 16 * u + 64 * (z + i) + 0
-    sums c d e u v w x y z f g i p q r s t = omega (arith, p, q, r, s, t)
+    sums : (c d e u v w x y z f g i a b o : ℕ) → d + 16 * v + b + 64 * (x + f) ≤ c + 16 * u + a + 64 * (y + g) + 0 → e ≡ d → w ≡ v → z ≡ y → i ≡ g → o ≡ b → e + 16 * w + o + 64 * (x + f) ≤ c + 16 * u + a + 64 * (z + i) + 0
+    sums c d e u v w x y z f g i a b o p q r s t m = omega (arith, p, q, r, s, t, m)
 
 pub made_state : (old m1 m2 new : Run) (k : ℕ) (ls : Lists) (r : Reading) → AreMade old m1 m2 new k ls → state_of r old ≡ state_of r new
 made_state old m1 m2 new k ls r m = begun_state old m1 m2 k (16 * length (items_at m1 k)) r m.begun m.adds ∙ marked_state m2 new k (listing.Made ls) r m.made
@@ -291,15 +291,16 @@ set_marked [] (suc k) x v e = refl
 set_marked (y ∷ ls) zero x v e = ap (λ m. with_listing m x ∷ ls) e
 set_marked (y ∷ ls) (suc k) x v e = ap (λ zs. y ∷ zs) (set_marked ls k x v e)
 
-pub mark_counted : (w k : ℕ) (es : List Entry) (cs : List Free) (ls : List Line) (s : Run) (line parts : ℕ) (x : Listing) (v : Line) → record { work = w; weight = k; arena = es; choices = cs; lines = ls } ≡ s → ((t : ℕ → Term) → ReadsNodes t s.arena → IsListing t (items_at s line) x) → v ≡ get_or ls line v → IsCounted es cs ls parts → IsCounted es cs (set ls line (with_listing v x)) parts
-mark_counted w k es cs ls s line parts x v i h e c =
+pub mark_counted : (w k saved : ℕ) (es : List Entry) (cs : List Free) (ls : List Line) (s : Run) (line parts : ℕ) (x : Listing) (v : Line) → record { work = w; weight = k; saved = saved; arena = es; choices = cs; lines = ls } ≡ s → ((t : ℕ → Term) → ReadsNodes t s.arena → IsListing t (items_at s line) x) → v ≡ get_or ls line v → IsCounted es cs ls parts → IsCounted es cs (set ls line (with_listing v x)) parts
+mark_counted w k saved es cs ls s line parts x v i h e c =
     let listed = subst (λ (s : Run). (t : ℕ → Term) → ReadsNodes t s.arena → IsListing t (items_at s line) x) (sym i) h in
     subst (λ ms. IsCounted es cs ms parts) (sym (set_marked ls line x v e)) (counted_mark es cs ls line parts x listed c)
 
-pub mark_marked : (w k : ℕ) (es : List Entry) (cs : List Free) (ls : List Line) (s : Run) (line : ℕ) (x : Listing) (v : Line) → record { work = w; weight = k; arena = es; choices = cs; lines = ls } ≡ s → v ≡ get_or ls line v → IsMarked s (record { work = w; weight = k; arena = es; choices = cs; lines = set ls line (with_listing v x) }) line x
-mark_marked w k es cs ls s line x v i e = record {
+pub mark_marked : (w k saved : ℕ) (es : List Entry) (cs : List Free) (ls : List Line) (s : Run) (line : ℕ) (x : Listing) (v : Line) → record { work = w; weight = k; saved = saved; arena = es; choices = cs; lines = ls } ≡ s → v ≡ get_or ls line v → IsMarked s (record { work = w; weight = k; saved = saved; arena = es; choices = cs; lines = set ls line (with_listing v x) }) line x
+mark_marked w k saved es cs ls s line x v i e = record {
   work = ap (λ (s : Run). s.work) i;
   weight = ap (λ (s : Run). s.weight) i;
+  saved = ap (λ (s : Run). s.saved) i;
   arena = ap (λ (s : Run). s.arena) i;
   choices = ap (λ (s : Run). s.choices) i;
   lines = set_marked ls line x v e ∙ ap (λ (s : Run). marked s.lines line x) i;

@@ -27,8 +27,8 @@ lines_more t [] x (suc k) l h p e = absurd (cc)
 lines_more t (y ∷ ls) x zero l h p e = h zero l e
 lines_more t (y ∷ ls) x (suc k) l h p e = lines_more t ls x k l (λ j m q. h (suc j) m q) p e
 
-pub counted_line : (w k : ℕ) (es : List Entry) (cs : List Free) (ls ms : List Line) (s : Run) (x : Line) (parts : ℕ) → record { work = w; weight = k; arena = es; choices = cs; lines = ls } ≡ s → ms ≡ ls ++ x ∷ [] → ((t : ℕ → Term) → ReadsNodes t s.arena → IsLine t x) → IsCounted es cs ls parts → IsCounted es cs ms parts
-counted_line w k es cs ls ms s x parts i e h c =
+pub counted_line : (w k saved : ℕ) (es : List Entry) (cs : List Free) (ls ms : List Line) (s : Run) (x : Line) (parts : ℕ) → record { work = w; weight = k; saved = saved; arena = es; choices = cs; lines = ls } ≡ s → ms ≡ ls ++ x ∷ [] → ((t : ℕ → Term) → ReadsNodes t s.arena → IsLine t x) → IsCounted es cs ls parts → IsCounted es cs ms parts
+counted_line w k saved es cs ls ms s x parts i e h c =
     let whole = subst (λ (s : Run). (t : ℕ → Term) → ReadsNodes t s.arena → IsLine t x) (sym i) h in
     subst (λ ms. IsCounted es cs ms parts) (sym e) (record {
       sound = record {
@@ -61,13 +61,13 @@ lined_back old new x r n h = record {
   lines = λ k l e. h.lines k l (ap (λ ls. slice_get ls k) n.lines ∙ below_append old.lines x l k e);
 }
 
-paid_for : (c d w v k x y a b n : ℕ) → y ≡ x → b ≡ a → v ≡ w + k → d ≡ c → k ≤ n → d + 16 * v + 64 * (x + a) ≤ c + 16 * w + 64 * (y + b) + 16 * n
-paid_for c d w v k x y a b n p q s t h = omega (arith, p, q, s, t, h)
+paid_for : (c d w v k x y a b e f n : ℕ) → y ≡ x → b ≡ a → f ≡ e → v ≡ w + k → d ≡ c → k ≤ n → d + 16 * v + f + 64 * (x + a) ≤ c + 16 * w + e + 64 * (y + b) + 16 * n
+paid_for c d w v k x y a b e f n p q m s t h = omega (arith, p, q, m, s, t, h)
 
 waits_at_most : (old new : Run) (x : Line) (n : ℕ) → IsLined old new x → length x.items.items ≡ n → waiting_in x.listing (length x.items.items) ≤ n → GoesOnBy (16 * n) old new
 waits_at_most old new x n l e h = record {
   back = λ r g. lined_back old new x r l g;
-  paid = paid_for (charges old.arena) (charges new.arena) (waiting old.lines) (waiting new.lines) (waiting_in x.listing (length x.items.items)) old.work new.work old.weight new.weight n l.work l.weight (ap waiting l.lines ∙ waiting_more old.lines x) (ap charges l.arena) h;
+  paid = paid_for (charges old.arena) (charges new.arena) (waiting old.lines) (waiting new.lines) (waiting_in x.listing (length x.items.items)) old.work new.work old.weight new.weight old.saved new.saved n l.work l.weight l.saved (ap waiting l.lines ∙ waiting_more old.lines x) (ap charges l.arena) h;
 }
 
 pub lined_goes : (old new : Run) (x : Line) → IsLined old new x → x.listing ≡ listing.Wanted → GoesOnBy (16 * length x.items.items) old new

@@ -76,11 +76,11 @@ nodes_back n old new r a h = record {
 pub nodes_go : (n : ℕ) (old new : Run) → AddsNodes n old new → GoesOnBy n old new
 nodes_go n old new a = record {
   back = λ r h. nodes_back n old new r a h;
-  paid = paid_for (charges old.arena) (charges new.arena) (waiting old.lines) (waiting new.lines) old.work new.work old.weight new.weight n a.work a.weight (ap waiting a.lines) a.charged;
+  paid = paid_for (charges old.arena) (charges new.arena) (waiting old.lines) (waiting new.lines) old.work new.work old.weight new.weight old.saved new.saved n a.work a.weight a.saved (ap waiting a.lines) a.charged;
 }
   where
-    paid_for : (c d w v x y a b n : ℕ) → y ≡ x → b ≡ a → v ≡ w → d ≤ c + n → d + 16 * v + 64 * (x + a) ≤ c + 16 * w + 64 * (y + b) + n
-    paid_for c d w v x y a b n p q s h = omega (arith, p, q, s, h)
+    paid_for : (c d w v x y a b e f n : ℕ) → y ≡ x → b ≡ a → f ≡ e → v ≡ w → d ≤ c + n → d + 16 * v + f + 64 * (x + a) ≤ c + 16 * w + e + 64 * (y + b) + n
+    paid_for c d w v x y a b e f n p q k s h = omega (arith, p, q, k, s, h)
 
 pub node_means : (r : Reading) (new : Run) (n : Node) (id : ℕ) → Made new.arena (entry n) id → is_free n.kind ≡ false → Reads r new → node_meaning r n ≡ r.term id
 node_means r new n id m f h = sym (h.nodes.kinds id (entry n) m.stands f no_values)

@@ -15,9 +15,9 @@ MeetsAt see (Ok x) s answer = answer ≡ Out (see x) s
 MeetsAt see (Err (Refused f)) s answer = answer ≡ Stopped f
 MeetsAt see (Err Memory) s answer = Unit {0}
 
--- what the nodes of a run may cost, and what the lists of its arrays will
+-- what the nodes of a run may cost, what the lists of its arrays will, and what is saved for further nodes
 abbrev pub owed : Run → ℕ
-owed s = charges s.arena + 16 * waiting s.lines
+owed s = charges s.arena + 16 * waiting s.lines + s.saved
 
 -- what work and weight pay for
 abbrev pub earned : Run → ℕ
@@ -32,6 +32,11 @@ pub record GoesOnBy (n : ℕ) (old new : Run) : Type 0 where
 pub record Earns (n : ℕ) (old new : Run) : Type 0 where
   pub back : (r : Reading) → Reads r new → Reads r old
   pub paid : owed new + (earned old + 64 * n) ≤ owed old + earned new
+
+-- THE SAME, and n more is paid for than is owed
+pub record Spares (n : ℕ) (old new : Run) : Type 0 where
+  pub back : (r : Reading) → Reads r new → Reads r old
+  pub paid : owed new + earned old + n ≤ owed old + earned new
 
 -- and all is paid for
 abbrev pub GoesOn : Run → Run → Type 0

@@ -15,6 +15,8 @@ use Rattle.mz_symbol.specs.Symbols.{domain_of, free_ids, IsLine}
 pub record Run : Type 0 where
   pub work : ℕ
   pub weight : ℕ
+  -- charges that work and weight have paid for, and that no node has taken yet
+  pub saved : ℕ
   pub arena : List Entry
   pub choices : List Free
   pub lines : List Line

@@ -36,6 +36,7 @@ pub record IsPartNode (choice : Bool) (b : Base) (over k id : ℕ) (n : Node) : 
 pub record IsNoted (old new : Run) (f : Free) : Type 0 where
   pub work : new.work ≡ old.work
   pub weight : new.weight ≡ old.weight
+  pub saved : new.saved ≡ old.saved
   pub arena : new.arena ≡ old.arena
   pub choices : new.choices ≡ old.choices ++ f ∷ []
   pub lines : new.lines ≡ old.lines

@@ -56,6 +56,7 @@ marked (l ∷ ls) (suc k) x = l ∷ marked ls k x
 pub record IsMarked (old new : Run) (k : ℕ) (x : Listing) : Type 0 where
   pub work : new.work ≡ old.work
   pub weight : new.weight ≡ old.weight
+  pub saved : new.saved ≡ old.saved
   pub arena : new.arena ≡ old.arena
   pub choices : new.choices ≡ old.choices
   pub lines : new.lines ≡ marked old.lines k x

@@ -7,6 +7,7 @@ use Rattle.mz_symbol.specs.Runs.{Run}
 pub record IsLined (old new : Run) (l : Line) : Type 0 where
   pub work : new.work ≡ old.work
   pub weight : new.weight ≡ old.weight
+  pub saved : new.saved ≡ old.saved
   pub arena : new.arena ≡ old.arena
   pub choices : new.choices ≡ old.choices
   pub lines : new.lines ≡ old.lines ++ l ∷ []

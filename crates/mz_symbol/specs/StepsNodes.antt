@@ -8,6 +8,7 @@ use Rattle.mz_symbol.specs.Runs.{Run}
 pub record AddsNodes (n : ℕ) (old new : Run) : Type 0 where
   pub work : new.work ≡ old.work
   pub weight : new.weight ≡ old.weight
+  pub saved : new.saved ≡ old.saved
   pub choices : new.choices ≡ old.choices
   pub lines : new.lines ≡ old.lines
   pub grew : Grew old.arena new.arena

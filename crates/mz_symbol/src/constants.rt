@@ -106,7 +106,7 @@ impl Run {
 
     /// The node of a set.
     #[tactic(auto, using(crate::proofs::RunLaws::nodes_go, crate::proofs::ConstantLaws::set_means))]
-    fn set_term(&mut self, set: RangeSet) -> Result<Id, Stop>
+    pub fn set_term(&mut self, set: RangeSet) -> Result<Id, Stop>
         ensures goes { GoesOn self.old self.new }
         ensures means { Means (λ r. r.term) result self.old self.new (λ r. give (Some (terms.set set))) }
     {

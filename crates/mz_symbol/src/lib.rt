@@ -4,6 +4,7 @@
 mod choices;
 mod cons;
 mod constants;
+mod credit;
 mod law;
 mod lines;
 mod run;

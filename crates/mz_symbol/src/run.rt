@@ -5,6 +5,7 @@ ghost use Rattle.mz_arena.specs.Charges.{charge_of};
 ghost use Rattle.mz_arena.specs.Entries.{is_free};
 
 use crate::types::{Free, Line};
+use indexmap::IndexMap;
 use mz_arena::{Arena, Id, Node};
 use mz_base::{Fault, Kind, Memory, Span, Stop};
 use mz_value::RangeSet;
@@ -18,11 +19,15 @@ pub struct Run {
     pub(crate) alloc: Global,
     pub(crate) work: u64,
     pub(crate) weight: u64,
+    /// Charges that work and weight have paid for, and that no node has taken yet.
+    pub(crate) saved: u64,
     pub(crate) arena: Arena,
     pub(crate) choices: Vec<Free>,
     /// How many choice nodes the choices have.
     pub(crate) parts: u64,
     pub(crate) lines: Vec<Line>,
+    /// Numbers of var arrays by keys of callers; no contract speaks of them.
+    pub(crate) hints: IndexMap<u64, u64>,
 }
 
 impl Model for Run {
@@ -30,7 +35,7 @@ impl Model for Run {
 
     ghost Value = { PlainRun };
 
-    ghost view = { λ s. record { work = s.work; weight = s.weight; arena = s.arena; choices = s.choices.items; lines = s.lines.items } };
+    ghost view = { λ s. record { work = s.work; weight = s.weight; saved = s.saved; arena = s.arena; choices = s.choices.items; lines = s.lines.items } };
 
     ghost invariant = { λ s. IsCounted s.arena s.choices.items s.lines.items s.parts };
 }
@@ -47,7 +52,7 @@ impl Run {
 
     /// Nothing is made yet.
     pub fn new(alloc: Global) -> Run
-        ensures { result ≡ record { work = 0; weight = 0; arena = []; choices = []; lines = [] } }
+        ensures { result ≡ record { work = 0; weight = 0; saved = 0; arena = []; choices = []; lines = [] } }
     {
         Run::after(alloc, 0)
     }
@@ -55,16 +60,18 @@ impl Run {
     /// Nothing is made yet, and this much work is spent.
     #[tactic(auto, using(crate::proofs::RunLaws::nothing_counted))]
     pub fn after(alloc: Global, work: u64) -> Run
-        ensures { result ≡ record { work = work; weight = 0; arena = []; choices = []; lines = [] } }
+        ensures { result ≡ record { work = work; weight = 0; saved = 0; arena = []; choices = []; lines = [] } }
     {
         Run {
             alloc,
             work,
             weight: 0,
+            saved: 0,
             arena: Arena::new(alloc),
             choices: Vec::new(alloc),
             parts: 0,
             lines: Vec::new(alloc),
+            hints: IndexMap::new(alloc),
         }
     }
 
