@@ -1,12 +1,12 @@
 -- A row's node with its work, under each reading.
-use Rattle.std.proofs.Common.{◌≡◌, ◌∙◌, ℕ, ◌+◌, ◌*◌, ◌≤◌, ◌^◌, min, false, List, [], ◌∷◌, map, Some, Result, Ok, Err, Fits, w64, refl, sym, ap, subst, arith}
+use Rattle.std.proofs.Common.{◌≡◌, ◌∙◌, ℕ, ◌+◌, ◌*◌, ◌≤◌, ◌^◌, false, List, [], ◌∷◌, map, Some, Result, Err, Fits, w64, refl, sym, ap, subst, arith}
 use Rattle.mz_base.specs.declared.fault.Span.{Span}
 use Rattle.mz_base.specs.declared.stop.Stop.{Stop}
 use Rattle.mz_base.specs.declared.stop.Stop.TheVariants.{Refused, Memory}
 use Rattle.mz_core.specs.Types.{PlainType}
 use Rattle.mz_operations.specs.declared.row.Row.{Row}
 use Rattle.mz_operations.specs.Costs.{cost}
-use Rattle.mz_meaning.specs.Runs.{State, Answer, Out, Stopped, then_do, give, spend}
+use Rattle.mz_meaning.specs.Runs.{State, Out, then_do, give, spend}
 use Rattle.mz_meaning.specs.Cells.{Cell, typed}
 use Rattle.mz_meaning.specs.Operations.{row_cell, row_cost, size_of}
 use Rattle.mz_meaning.specs.Forms.{World}

@@ -1,5 +1,5 @@
 -- THE NODE OF A ROW over cells: its work, its cell, and the node's type.
-use Rattle.std.specs.Prelude.{false, List, Option, None}
+use Rattle.std.specs.Prelude.{false, List, Option}
 use Rattle.mz_base.specs.declared.fault.Span.{Span}
 use Rattle.mz_core.specs.Types.{PlainType}
 use Rattle.mz_operations.specs.declared.row.Row.{Row}

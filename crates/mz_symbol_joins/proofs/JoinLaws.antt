@@ -3,7 +3,7 @@ use Rattle.std.proofs.Common.{◌≡◌, ◌∙◌, ◌+◌, ◌*◌, ◌≤◌,
 use Rattle.std.proofs.lemmas.List.{map-append, length-append}
 use Rattle.std.specs.Option.{option_map, option_and_then}
 use Rattle.mz_value.specs.Contents.{Content}
-use Rattle.mz_arena.specs.Values.{Term, and_term, bit, is_true}
+use Rattle.mz_arena.specs.Values.{Term, and_term, is_true}
 use Rattle.mz_symbol_rows.proofs.RowLaws.{bit_true}
 use Rattle.mz_meaning.specs.Cells.{Bare}
 use Rattle.mz_symbol.specs.declared.types.Symbol.{Symbol}

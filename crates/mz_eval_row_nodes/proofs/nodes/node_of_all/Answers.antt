@@ -1,4 +1,4 @@
-use Rattle.std.proofs.Common.{[], ◌∷◌, false}
+use Rattle.std.proofs.Common.{false}
 use Rattle.mz_core.specs.Types.{plain_type}
 use Rattle.mz_meaning.specs.Cells.{Bare, typed}
 use Rattle.mz_symbol.specs.Readings.{blank, state_of}

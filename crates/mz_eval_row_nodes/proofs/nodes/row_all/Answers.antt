@@ -1,10 +1,9 @@
-use Rattle.std.proofs.Common.{◌≡◌, ◌∙◌, ◌+◌, ◌*◌, [], ◌∷◌, ap, subst, sym}
+use Rattle.std.proofs.Common.{◌≡◌, ◌∙◌, ◌+◌, ◌*◌, ap, subst, sym}
 use Rattle.std.proofs.lemmas.Result.{err_from_is_err_and}
 use Rattle.mz_core.specs.Types.{plain_type}
 use Rattle.mz_meaning.specs.Operations.{row_cost}
 use Rattle.mz_symbol.specs.Makes.{GoesOnBy}
 use Rattle.mz_symbol.specs.Readings.{blank, state_of}
-use Rattle.mz_symbol.proofs.ConstantLaws.{out_value}
 use Rattle.mz_eval_cells.specs.declared.types.Known.{Known}
 use Rattle.mz_eval_cells.specs.Views.{all_seen, cells_of}
 use Rattle.mz_eval_scopes.specs.Seen.{world_seen}

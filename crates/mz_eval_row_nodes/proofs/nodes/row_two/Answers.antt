@@ -1,14 +1,12 @@
-use Rattle.std.proofs.Common.{◌∙◌, ◌+◌, ◌*◌, [], ◌∷◌, ap, subst, sym}
+use Rattle.std.proofs.Common.{◌∙◌, ◌+◌, ◌*◌, [], ◌∷◌, subst, sym}
 use Rattle.mz_core.specs.Types.{plain_type}
-use Rattle.mz_meaning.specs.Operations.{row_cost}
 use Rattle.mz_symbol.specs.Makes.{GoesOnBy}
 use Rattle.mz_symbol.specs.Readings.{state_of}
-use Rattle.mz_symbol.proofs.ConstantLaws.{out_value}
 use Rattle.mz_eval_cells.specs.Views.{all_seen, cells_of}
 use Rattle.mz_eval_scopes.specs.Seen.{world_seen}
 use Rattle.mz_eval_terms.specs.NodeRows.{stamped}
 use Rattle.mz_eval_row_nodes.proofs.BareLaws.{node_bare}
-use Rattle.mz_eval_row_nodes.proofs.WorkLaws.{cost_fits, cost_seen, earns_pays, node_meets, node_stops}
+use Rattle.mz_eval_row_nodes.proofs.WorkLaws.{cost_fits, cost_seen, earns_pays, node_meets}
 use Rattle.mz_eval_row_nodes.proofs.nodes.row_two.Goals as goal
 
 pub overflow_add-cost : goal.overflow_add-cost
