@@ -1,0 +1,3 @@
+mod VarLaws
+mod NameLaws
+mod Placed
