@@ -1,2 +1,5 @@
+pub mod ChoiceLaws
 pub mod FoldLaws
 pub mod LineLaws
+pub mod NoValues
+pub mod Settling

@@ -1,12 +1,11 @@
 -- Branches as lines under a reading.
-use Rattle.std.proofs.Common.{◌≡◌, ◌∙◌, ℕ, ◌+◌, ◌*◌, Bool, true, false, ◌&&◌, List, [], ◌∷◌, Option, Some, None, refl, ap, subst, arith, if◌then◌else◌}
+use Rattle.std.proofs.Common.{◌≡◌, ◌∙◌, ℕ, ◌+◌, ◌*◌, Bool, true, false, ◌&&◌, List, [], ◌∷◌, Option, refl, ap, subst, arith, if◌then◌else◌}
 use Rattle.std.specs.Option.{option_map}
 use Rattle.std.specs.Ordering.{int_eq}
 use Rattle.std.proofs.lemmas.Bool.Decides.{Decides-int_eq}
 use Rattle.mz_value.specs.Ranges.{Range}
 use Rattle.mz_value.specs.Contents.{Content, contents}
 use Rattle.mz_value.specs.Contents as values
-use Rattle.mz_core.specs.declared.types.Base.{Base}
 use Rattle.mz_operations.specs.Sets.{same_set}
 use Rattle.mz_arena.specs.Values.{is_true}
 use Rattle.mz_meaning.specs.Cells.{Mode, Blank, Given, held}
@@ -16,13 +15,8 @@ use Rattle.mz_symbol.specs.Makes.{GoesOnBy}
 use Rattle.mz_symbol_rows.proofs.GoingOn.{goes_both, goes_most}
 use Rattle.mz_symbol_branches.specs.ChosenValues.{chosen_line}
 use Rattle.mz_eval_cells.specs.declared.types.Known.{Known}
-use Rattle.mz_eval_cells.specs.declared.types.Known.TheVariants as known
-use Rattle.mz_eval_cells.specs.declared.types.Origins.{Origins}
-use Rattle.mz_eval_cells.specs.declared.types.Origins.TheVariants as origins
-use Rattle.mz_eval_cells.specs.Views.{array_of, cast_by, origins_value}
-use Rattle.mz_eval_symbols.specs.Taken.{cell_value, line_seen, ranges_in}
+use Rattle.mz_eval_symbols.specs.Taken.{line_seen, ranges_in}
 use Rattle.mz_eval_lines.specs.StepsBranches.{one_value}
-use Rattle.mz_eval_branches.specs.BranchLines.{has_no_value, is_nothing}
 
 -- ---- index ranges
 
@@ -39,27 +33,6 @@ ranges_equal (x ∷ xs) (y ∷ ys) h =
     let first = both_true (int_eq x.0 y.0 && int_eq x.1 y.1) (same_set xs ys) h in
     let ends = both_true (int_eq x.0 y.0) (int_eq x.1 y.1) first.0 in
     ap (λ n. (n, x.1) ∷ xs) ((Decides-int_eq x.0 y.0).0 ends.0) ∙ ap (λ n. (y.0, n) ∷ xs) ((Decides-int_eq x.1 y.1).0 ends.1) ∙ ap (λ cs. y ∷ cs) (ranges_equal xs ys first.1)
-
--- ---- values
-
-held_none : (m : Mode) → held m None ≡ None
-held_none (Blank n) = refl
-held_none (Given f) = refl
-
-nothing_held : (m : Mode) (c : Option Base) (ix : List Range) (l : ℕ → Option (List Content)) (o : Origins) → is_nothing o ≡ true → held m (held m (cast_by c (array_of ix (origins_value l o)))) ≡ None
-nothing_held m None ix l origins.Nothing h = ap (held m) (held_none m) ∙ held_none m
-nothing_held m (Some b) ix l origins.Nothing h = ap (held m) (held_none m) ∙ held_none m
-nothing_held m c ix l (origins.Values xs) h = absurd (cc)
-nothing_held m c ix l (origins.Line k) h = absurd (cc)
-
--- what has no value has none under a reading
-pub no_value : (r : Reading) (k : Known) → has_no_value k ≡ true → cell_value r k ≡ None
-no_value r known.Undefined h = held_none r.mode
-no_value r (known.One i) h = absurd (cc)
-no_value r (known.Array ix xs) h = absurd (cc)
-no_value r (known.Var x) h = absurd (cc)
-no_value r (known.Row ix xs) h = nothing_held r.mode xs.value.cast ix.value.items r.line xs.value.origins h
-no_value r (known.Unshaped d) h = held_none r.mode
 
 -- ---- one of two arrays
 

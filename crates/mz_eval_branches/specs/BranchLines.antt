@@ -4,6 +4,8 @@ use Rattle.mz_value.specs.Contents.{Content}
 use Rattle.mz_symbol.specs.Readings.{Reading}
 use Rattle.mz_eval_cells.specs.declared.types.Known.{Known}
 use Rattle.mz_eval_cells.specs.declared.types.Known.TheVariants as known
+use Rattle.mz_eval_cells.specs.declared.types.Origin.{Origin}
+use Rattle.mz_eval_cells.specs.declared.types.Origin.TheVariants as origin
 use Rattle.mz_eval_cells.specs.declared.types.Origins.{Origins}
 use Rattle.mz_eval_cells.specs.declared.types.Origins.TheVariants as origins
 use Rattle.mz_eval_symbols.specs.Taken.{line_seen}
@@ -13,14 +15,21 @@ abbrev pub option_seen : Known → Reading → Option ℕ → Option Content
 option_seen like r None = None
 option_seen like r (Some k) = line_seen like r k
 
+-- nothing tells a value
+abbrev pub is_untold : Origin → Bool
+is_untold origin.Nothing = true
+is_untold o = false
+
+-- nothing tells an array's elements
 abbrev pub is_nothing : Origins → Bool
 is_nothing origins.Nothing = true
 is_nothing o = false
 
--- an array that is undefined wherever it is read
+-- a cell that is undefined wherever it is read
 abbrev pub has_no_value : Known → Bool
 has_no_value known.Undefined = true
 has_no_value (known.Unshaped d) = true
+has_no_value (known.Var x) = is_untold x.value.origin
 has_no_value (known.Row ix xs) = is_nothing xs.value.origins
 has_no_value k = false
 

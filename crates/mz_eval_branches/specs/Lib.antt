@@ -1,1 +1,2 @@
 pub mod BranchLines
+pub mod StepsConditions

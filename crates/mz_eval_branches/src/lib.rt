@@ -1,7 +1,13 @@
-// Branches of an `if` under var conditions whose type is one of arrays, under every reading.
+// Branches of an `if` under var conditions, of any type, under every reading.
 #![tactic(auto)]
 
+mod charges;
+mod choosing;
+mod conditions;
 mod folding;
 mod lines;
+mod undefined;
 
+pub use choosing::chosen_branch;
 pub use folding::chosen_line;
+pub use undefined::{has_no_value, unvalued};

@@ -8,10 +8,11 @@ ghost use Rattle.mz_eval_symbols.specs.Taken.{cell_value, count_in, line_seen, r
 ghost use Rattle.mz_eval_lines.specs.StepsBranches.{one_value};
 ghost use Rattle.mz_eval_branches.specs.BranchLines.{has_no_value, option_seen};
 
+use crate::undefined::has_no_value;
 use mz_arena::Id;
 use mz_base::{Memory, Stop};
 use mz_core::Base;
-use mz_eval_cells::{Known, Origins, length_of};
+use mz_eval_cells::{Known, length_of};
 use mz_eval_symbols::line_in;
 use mz_symbol::Run;
 use mz_symbol_branches::choose_lines;
@@ -105,21 +106,6 @@ pub(crate) fn ranged_line(
     }
     let line = fitting_line(alloc, run, base, count, like, k)?;
     Ok(Some(line))
-}
-
-/// Whether a cell is an array that is undefined wherever it is read.
-fn has_no_value(k: &Known) -> bool
-    ensures { result ≡ has_no_value k.now }
-{
-    match k {
-        Known::Undefined => true,
-        Known::Unshaped(_) => true,
-        Known::Row(_, xs) => match &xs.origins {
-            Origins::Nothing => true,
-            _ => false,
-        },
-        _ => false,
-    }
 }
 
 /// The line of a cell without a value.

@@ -17,7 +17,7 @@ use Rattle.mz_instance.specs.Contents.{content_by}
 use Rattle.mz_meaning.specs.Runs as runs
 use Rattle.mz_meaning.specs.Runs.{State, Out, Stopped, give, stop}
 use Rattle.mz_meaning.specs.Cells as cells
-use Rattle.mz_meaning.specs.Cells.{Cell, Par, Var, Unshaped, Mode, Blank, Given, Bare, held, value_of}
+use Rattle.mz_meaning.specs.Cells.{Cell, Var, Unshaped, Mode, Blank, Given, Bare, held, value_of}
 use Rattle.mz_meaning.specs.Arrays.{all_bounds, branch_bounds_of, branch_cell, branches_cell, chosen_value, same_shape}
 use Rattle.mz_symbol.specs.declared.types.Symbol.{Symbol}
 use Rattle.mz_symbol.specs.Symbols.{symbol_value, value_at}
@@ -36,7 +36,7 @@ use Rattle.mz_eval_symbols.specs.Taken.{cell_value}
 use Rattle.mz_eval_arrays.specs.Gathered.{pairs_by}
 use Rattle.mz_eval_lines.specs.ArrayCells.{counted, is_counted}
 use Rattle.mz_eval_lines.specs.StepsBranches.{IsTruthOf, branch_value, branches_value, one_value, with_value}
-use Rattle.mz_eval_lines.proofs.ElementLaws.{as_counted}
+use Rattle.mz_eval_lines.proofs.KindLaws.{as_counted}
 
 -- ---- conditions
 

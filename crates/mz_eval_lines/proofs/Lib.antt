@@ -1,5 +1,5 @@
 pub mod BranchLaws
-pub mod ElementLaws
+pub mod KindLaws
 pub mod Gathering
 pub mod Seeing
-pub mod ItemLaws
+pub mod Missing

@@ -53,7 +53,7 @@ bounds_same r (known.Var x) = refl
 bounds_same r (known.Row ix xs) = refl
 bounds_same r (known.Unshaped d) = refl
 
-all_bounds : (r : Reading) (ks : List Known) → map bound_in (all_seen r ks) ≡ map bound_in (cells_of ks)
+pub all_bounds : (r : Reading) (ks : List Known) → map bound_in (all_seen r ks) ≡ map bound_in (cells_of ks)
 all_bounds r [] = refl
 all_bounds r (k ∷ ks) = ap (λ b. scalar_bound b ∷ map bound_in (all_seen r ks)) (bounds_same r k) ∙ ap (λ bs. bound_in (cell_of k) ∷ bs) (all_bounds r ks)
 

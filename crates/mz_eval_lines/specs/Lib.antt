@@ -1,4 +1,4 @@
 pub mod ArrayCells
 pub mod StepsBranches
 pub mod StepsLines
-pub mod StepsPlaces
+pub mod Told

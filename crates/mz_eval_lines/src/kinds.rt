@@ -38,7 +38,7 @@ fn symbol_counted(s: Symbol) -> bool
 }
 
 /// A symbol, which counts as what a node of this base does, an option or not; else out of memory.
-pub(crate) fn of_kind(s: Symbol, base: Base, opt: bool) -> Result<Symbol, Memory>
+pub fn of_kind(s: Symbol, base: Base, opt: bool) -> Result<Symbol, Memory>
     ensures is { IfOk result (λ x. x ≡ s) }
     ensures kind { IfOk result (λ x. is_counted s.base (is_some s.occurs) ≡ is_counted base opt) }
 {
@@ -52,8 +52,8 @@ pub(crate) fn of_kind(s: Symbol, base: Base, opt: bool) -> Result<Symbol, Memory
 }
 
 /// A symbol whose value as an argument is its own: not of a Boolean that is no option.
-#[tactic(auto, using(crate::proofs::ElementLaws::own_argument))]
-pub(crate) fn uncounted(s: Symbol) -> Result<Symbol, Memory>
+#[tactic(auto, using(crate::proofs::KindLaws::own_argument))]
+pub fn uncounted(s: Symbol) -> Result<Symbol, Memory>
     ensures { IfOk result (λ x. (r : Reading) → argument r s ≡ symbol_seen r x) }
 {
     let own = symbol_counted(s);

@@ -23,7 +23,7 @@ use std::alloc::{AllocError, Global};
 use std::rc::Rc;
 
 #[tactic(auto, using(crate::proofs::Gathering::values_par))]
-fn are_par(g: &Gathered) -> bool
+pub(crate) fn are_par(g: &Gathered) -> bool
     ensures { result ≡ cells.all_par (gathered g.now) }
 {
     match g {
@@ -32,7 +32,7 @@ fn are_par(g: &Gathered) -> bool
     }
 }
 
-fn par_line(alloc: Global, g: Gathered) -> Result<Known, AllocError>
+pub(crate) fn par_line(alloc: Global, g: Gathered) -> Result<Known, AllocError>
     requires { cells.all_par (gathered g) ≡ true }
     ensures { IfOk result (λ k. (r : Reading) → seen r k ≡ arrays.line_cell r.mode (gathered_by (seen r) g)) }
 {
@@ -47,7 +47,7 @@ fn symbols_line(alloc: Global, run: &mut Run, ss: Vec<Symbol>) -> Result<u64, St
     line_of(alloc, run, &ss)
 }
 
-fn bounds_of(alloc: Global, all: &[Known]) -> Result<Vec<Bound>, AllocError>
+pub(crate) fn bounds_of(alloc: Global, all: &[Known]) -> Result<Vec<Bound>, AllocError>
     ensures { IfOk result (λ v. map known_bound v.items ≡ map bound_in (cells_of all.now)) }
 {
     let mut bounds = Vec::new(alloc);
@@ -67,7 +67,7 @@ fn held_bounds(alloc: Global, all: &[Known]) -> Result<Rc<Vec<Bound>>, AllocErro
 }
 
 /// The index range 1..n of so many cells.
-fn one_to(alloc: Global, all: &[Known]) -> Result<Vec<(i64, i64)>, AllocError>
+pub(crate) fn one_to(alloc: Global, all: &[Known]) -> Result<Vec<(i64, i64)>, AllocError>
     ensures { IfOk result (λ v. v.items ≡ (pos 1, pos (length all.now)) ∷ []) }
 {
     let mut index = Vec::new(alloc);
@@ -83,7 +83,11 @@ fn held_ranges(alloc: Global, ranges: Vec<(i64, i64)>) -> Result<Rc<Vec<(i64, i6
 }
 
 /// The var array of cells with these index ranges: a line of the run, which is made here.
-pub(crate) fn array_over(
+///
+/// Its elements' base is that of the node, and they are options where `opt` says so. What the line,
+/// its elements' symbols and its lists may cost the caller's work has to pay for. Out of memory too
+/// where a cell has no symbol.
+pub fn array_over(
     alloc: Global,
     run: &mut Run,
     base: Base,
@@ -105,7 +109,7 @@ pub(crate) fn array_over(
 }
 
 /// A var array of cells.
-fn open_line(
+pub(crate) fn open_line(
     alloc: Global,
     run: &mut Run,
     base: Base,

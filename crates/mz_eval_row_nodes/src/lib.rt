@@ -3,4 +3,4 @@
 
 mod nodes;
 
-pub use nodes::{node_of_all, node_of_one, node_of_two};
+pub use nodes::{node_of_two, untyped_all, untyped_one, untyped_two};

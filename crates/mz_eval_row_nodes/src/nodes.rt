@@ -68,14 +68,10 @@ fn row_one(
     ensures goes { GoesOn run.old run.new }
     ensures means { Means (stamped (plain_type t.now)) result run.old run.new
         (λ r. node_by (world_seen r world.now) at (plain_type t.now) (seen r a.cell ∷ []) (Some row)) }
-    ensures bare { MeansBare (stamped (plain_type t.now)) result run.old run.new
-        (λ r. node_by (world_seen r world.now) at (plain_type t.now) (seen r a.cell ∷ []) (Some row)) }
 {
     let cost = cost_of_one(row, &a.cell);
     run.spend(world.budget, at, 1 + cost)?;
-    let k = row_of_one(alloc, &world.program.cases, row, t, at, a, run);
-    sound(run);
-    k
+    row_of_one(alloc, &world.program.cases, row, t, at, a, run)
 }
 
 fn row_two(
@@ -112,18 +108,22 @@ fn row_all(
     ensures goes { GoesOn run.old run.new }
     ensures means { Means (stamped (plain_type t.now)) result run.old run.new
         (λ r. node_by (world_seen r world.now) at (plain_type t.now) (all_seen r all.items) (Some row)) }
-    ensures bare { MeansBare (stamped (plain_type t.now)) result run.old run.new
-        (λ r. node_by (world_seen r world.now) at (plain_type t.now) (all_seen r all.items) (Some row)) }
 {
     let cost = cost_of_all(alloc, row, &all)?;
     run.spend(world.budget, at, 1 + cost)?;
-    let k = row_of_all(alloc, &world.program.cases, row, t, at, all, run);
-    sound(run);
-    k
+    row_of_all(alloc, &world.program.cases, row, t, at, all, run)
 }
 
-/// The node of a row with one argument; undefined where there is no row.
-pub fn node_of_one(
+/// Where there is no row.
+fn untyped(world: &World, at: Span, t: &TypeInst, run: &mut Run) -> Result<Known, Stop>
+    ensures goes { GoesOn run.old run.new }
+    ensures means { Means (stamped (plain_type t.now)) result run.old run.new (λ r. nothing_by (world_seen r world.now) at (plain_type t.now)) }
+{
+    done(world, at, undefined(), run)
+}
+
+/// The node of a row with one argument before it takes its type; undefined where there is no row.
+pub fn untyped_one(
     alloc: Global,
     world: &World,
     at: Span,
@@ -133,17 +133,53 @@ pub fn node_of_one(
     run: &mut Run,
 ) -> Result<Known, Stop>
     ensures goes { GoesOn run.old run.new }
-    ensures means { Means seen result run.old run.new
-        (λ r. node_by (world_seen r world.now) at (plain_type t.now) (seen r a.cell ∷ []) row) }
-    ensures bare { MeansBare seen result run.old run.new
+    ensures means { Means (stamped (plain_type t.now)) result run.old run.new
         (λ r. node_by (world_seen r world.now) at (plain_type t.now) (seen r a.cell ∷ []) row) }
 {
     let Some(w) = row else {
-        return no_row(alloc, world, at, t, run);
+        return untyped(world, at, t, run);
     };
-    let k = row_one(alloc, world, at, t, w, a, run)?;
-    let x = typed_row(alloc, t, k)?;
-    Ok(x)
+    row_one(alloc, world, at, t, w, a, run)
+}
+
+/// The node of a row with two arguments before it takes its type; undefined where there is no row.
+pub fn untyped_two(
+    alloc: Global,
+    world: &World,
+    at: Span,
+    t: &TypeInst,
+    row: Option<Row>,
+    args: (Argument, Argument),
+    run: &mut Run,
+) -> Result<Known, Stop>
+    ensures goes { GoesOn run.old run.new }
+    ensures means { Means (stamped (plain_type t.now)) result run.old run.new
+        (λ r. node_by (world_seen r world.now) at (plain_type t.now) (seen r args.0.cell ∷ seen r args.1.cell ∷ []) row) }
+{
+    let Some(w) = row else {
+        return untyped(world, at, t, run);
+    };
+    row_two(alloc, world, at, t, w, args, run)
+}
+
+/// The node of a row before it takes its type; undefined where there is no row.
+pub fn untyped_all(
+    alloc: Global,
+    world: &World,
+    at: Span,
+    t: &TypeInst,
+    row: Option<Row>,
+    all: Vec<Known>,
+    run: &mut Run,
+) -> Result<Known, Stop>
+    ensures goes { GoesOn run.old run.new }
+    ensures means { Means (stamped (plain_type t.now)) result run.old run.new
+        (λ r. node_by (world_seen r world.now) at (plain_type t.now) (all_seen r all.items) row) }
+{
+    let Some(w) = row else {
+        return untyped(world, at, t, run);
+    };
+    row_all(alloc, world, at, t, w, all, run)
 }
 
 /// The node of a row with two arguments; undefined where there is no row.
@@ -166,30 +202,6 @@ pub fn node_of_two(
         return no_row(alloc, world, at, t, run);
     };
     let k = row_two(alloc, world, at, t, w, args, run)?;
-    let x = typed_row(alloc, t, k)?;
-    Ok(x)
-}
-
-/// The node of a row; undefined where there is no row.
-pub fn node_of_all(
-    alloc: Global,
-    world: &World,
-    at: Span,
-    t: &TypeInst,
-    row: Option<Row>,
-    all: Vec<Known>,
-    run: &mut Run,
-) -> Result<Known, Stop>
-    ensures goes { GoesOn run.old run.new }
-    ensures means { Means seen result run.old run.new
-        (λ r. node_by (world_seen r world.now) at (plain_type t.now) (all_seen r all.items) row) }
-    ensures bare { MeansBare seen result run.old run.new
-        (λ r. node_by (world_seen r world.now) at (plain_type t.now) (all_seen r all.items) row) }
-{
-    let Some(w) = row else {
-        return no_row(alloc, world, at, t, run);
-    };
-    let k = row_all(alloc, world, at, t, w, all, run)?;
     let x = typed_row(alloc, t, k)?;
     Ok(x)
 }

@@ -1,7 +1,7 @@
 use Rattle.std.proofs.Common.{◌∙◌, sym}
 use Rattle.mz_symbol.proofs.ConstantLaws.{out_value, out_state}
 use Rattle.mz_symbol_rows.proofs.RowLaws.{out_both}
-use Rattle.mz_eval_branches.proofs.LineLaws.{no_value}
+use Rattle.mz_eval_branches.proofs.NoValues.{no_value}
 use Rattle.mz_eval_branches.proofs.lines.blank_line.Goals as goal
 
 pub returns-clause-means : goal.returns-clause-means

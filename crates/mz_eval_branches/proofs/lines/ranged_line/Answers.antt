@@ -1,7 +1,7 @@
 use Rattle.std.proofs.Common.{◌∙◌, ap, sym}
 use Rattle.mz_meaning.specs.Runs.{Out}
 use Rattle.mz_symbol.specs.Readings.{state_of}
-use Rattle.mz_eval_branches.proofs.LineLaws.{no_value}
+use Rattle.mz_eval_branches.proofs.NoValues.{no_value}
 use Rattle.mz_eval_branches.proofs.lines.ranged_line.Goals as goal
 
 pub returns-then-has_no_value-clause-means : goal.returns-then-has_no_value-clause-means

@@ -3,12 +3,11 @@ use Rattle.std.proofs.lemmas.Result.{err_from_is_err_and}
 use Rattle.mz_core.specs.Types.{plain_type}
 use Rattle.mz_meaning.specs.Operations.{row_cost}
 use Rattle.mz_symbol.specs.Makes.{GoesOnBy}
-use Rattle.mz_symbol.specs.Readings.{blank, state_of}
+use Rattle.mz_symbol.specs.Readings.{state_of}
 use Rattle.mz_eval_cells.specs.declared.types.Known.{Known}
 use Rattle.mz_eval_cells.specs.Views.{all_seen, cells_of}
 use Rattle.mz_eval_scopes.specs.Seen.{world_seen}
 use Rattle.mz_eval_terms.specs.NodeRows.{stamped}
-use Rattle.mz_eval_row_nodes.proofs.BareLaws.{node_bare}
 use Rattle.mz_eval_row_nodes.proofs.WorkLaws.{cost_fits, cost_seen, earns_pays, node_meets, node_stops}
 use Rattle.mz_eval_row_nodes.proofs.nodes.row_all.Goals as goal
 
@@ -17,17 +16,14 @@ overflow_add-cost c = cost_fits c.args.row (cells_of (c.args.all.items)) c.in_ok
 
 pub returns-clause-goes : goal.returns-clause-goes
 returns-clause-goes c =
-    earns_pays (1 + c.in_ok-cost.cost) c.args.run.now c.spend.new.self c.row_of_all-k.new.run c.in_ok-spend.ensures.earns
-    (subst (λ n. GoesOnBy (64 * (1 + n)) c.spend.new.self c.row_of_all-k.new.run) (sym (c.in_ok-cost.ensures ∙ ap (λ ks. row_cost c.args.row (cells_of ks)) c.deref.ensures.value)) c.row_of_all-k.ensures.goes)
+    earns_pays (1 + c.in_ok-cost.cost) c.args.run.now c.spend.new.self c.row_of_all.new.run c.in_ok-spend.ensures.earns
+    (subst (λ n. GoesOnBy (64 * (1 + n)) c.spend.new.self c.row_of_all.new.run) (sym (c.in_ok-cost.ensures ∙ ap (λ ks. row_cost c.args.row (cells_of ks)) c.deref.ensures.value)) c.row_of_all.ensures.goes)
 
 pub returns-clause-means : goal.returns-clause-means
 returns-clause-means c r h =
     let ks = c.args.all.items in
-    node_meets (world_seen r c.args.world.now) c.args.at (plain_type c.args.t.now) (all_seen r ks) c.args.row c.in_ok-cost.cost (state_of r c.args.run.now) (state_of r c.spend.new.self) (state_of r c.row_of_all-k.new.run) (stamped (plain_type c.args.t.now) r) c.row_of_all-k.result
-    ((c.in_ok-cost.ensures ∙ ap (λ ks. row_cost c.args.row (cells_of ks)) c.deref.ensures.value) ∙ cost_seen r c.args.row ks) (c.in_ok-spend.ensures.means r (c.row_of_all-k.ensures.goes.back r h)) (c.row_of_all-k.ensures.means r h)
-
-pub returns-clause-bare : goal.returns-clause-bare
-returns-clause-bare c = node_bare c.args.world.now c.args.at (plain_type c.args.t.now) (c.args.all.items) c.args.row c.row_of_all-k.result c.args.run.now c.row_of_all-k.new.run c.sound.ensures.arena (returns-clause-means c)
+    node_meets (world_seen r c.args.world.now) c.args.at (plain_type c.args.t.now) (all_seen r ks) c.args.row c.in_ok-cost.cost (state_of r c.args.run.now) (state_of r c.spend.new.self) (state_of r c.row_of_all.new.run) (stamped (plain_type c.args.t.now) r) c.row_of_all.result
+    ((c.in_ok-cost.ensures ∙ ap (λ ks. row_cost c.args.row (cells_of ks)) c.deref.ensures.value) ∙ cost_seen r c.args.row ks) (c.in_ok-spend.ensures.means r (c.row_of_all.ensures.goes.back r h)) (c.row_of_all.ensures.means r h)
 
 pub returns-in_err-spend-clause-means : goal.returns-in_err-spend-clause-means
 returns-in_err-spend-clause-means c r h =
@@ -36,11 +32,3 @@ returns-in_err-spend-clause-means c r h =
     let t = plain_type c.args.t.now in
     let same : c.in_ok-cost.cost ≡ row_cost c.args.row (cells_of ks) = c.in_ok-cost.ensures ∙ ap (λ xs. row_cost c.args.row (cells_of xs)) c.deref.ensures.value in
     rw (p.1, p.2) (node_stops {A = Known} {B = Unit {0}} (world_seen r c.args.world.now) c.args.at t (all_seen r ks) c.args.row c.in_ok-cost.cost (state_of r c.args.run.now) (state_of r c.spend.new.self) (stamped t r) (λ _. tt) c.in_err-spend.field-0.0 (same ∙ cost_seen r c.args.row ks) (c.in_err-spend.ensures.means r h))
-
-pub returns-in_err-spend-clause-bare : goal.returns-in_err-spend-clause-bare
-returns-in_err-spend-clause-bare c =
-    let p = err_from_is_err_and c.from_residual-in_err-spend.result c.from_residual-in_err-spend.ensures.1 in
-    let ks = c.args.all.items in
-    let t = plain_type c.args.t.now in
-    let same : c.in_ok-cost.cost ≡ row_cost c.args.row (cells_of ks) = c.in_ok-cost.ensures ∙ ap (λ xs. row_cost c.args.row (cells_of xs)) c.deref.ensures.value in
-    rw (p.1, p.2) (node_stops {A = Known} {B = Unit {0}} (world_seen blank c.args.world.now) c.args.at t (all_seen blank ks) c.args.row c.in_ok-cost.cost (state_of blank c.args.run.now) (state_of blank c.spend.new.self) (stamped t blank) (λ _. tt) c.in_err-spend.field-0.0 (same ∙ cost_seen blank c.args.row ks) c.in_err-spend.ensures.bare)

@@ -5,7 +5,6 @@ use Rattle.mz_symbol.specs.Readings.{state_of}
 use Rattle.mz_eval_cells.specs.Views.{all_seen, cells_of}
 use Rattle.mz_eval_scopes.specs.Seen.{world_seen}
 use Rattle.mz_eval_terms.specs.NodeRows.{stamped}
-use Rattle.mz_eval_row_nodes.proofs.BareLaws.{node_bare}
 use Rattle.mz_eval_row_nodes.proofs.WorkLaws.{cost_fits, cost_seen, earns_pays, node_meets}
 use Rattle.mz_eval_row_nodes.proofs.nodes.row_one.Goals as goal
 
@@ -14,14 +13,11 @@ overflow_add-cost c = cost_fits c.args.row (cells_of (c.args.a.cell ∷ [])) c.c
 
 pub returns-clause-goes : goal.returns-clause-goes
 returns-clause-goes c =
-    earns_pays (1 + c.cost_of_one-cost.result) c.args.run.now c.spend.new.self c.row_of_one-k.new.run c.in_ok-spend.ensures.earns
-    (subst (λ n. GoesOnBy (64 * (1 + n)) c.spend.new.self c.row_of_one-k.new.run) (sym c.cost_of_one-cost.ensures) c.row_of_one-k.ensures.goes)
+    earns_pays (1 + c.cost_of_one-cost.result) c.args.run.now c.spend.new.self c.row_of_one.new.run c.in_ok-spend.ensures.earns
+    (subst (λ n. GoesOnBy (64 * (1 + n)) c.spend.new.self c.row_of_one.new.run) (sym c.cost_of_one-cost.ensures) c.row_of_one.ensures.goes)
 
 pub returns-clause-means : goal.returns-clause-means
 returns-clause-means c r h =
     let ks = c.args.a.cell ∷ [] in
-    node_meets (world_seen r c.args.world.now) c.args.at (plain_type c.args.t.now) (all_seen r ks) c.args.row c.cost_of_one-cost.result (state_of r c.args.run.now) (state_of r c.spend.new.self) (state_of r c.row_of_one-k.new.run) (stamped (plain_type c.args.t.now) r) c.row_of_one-k.result
-    (c.cost_of_one-cost.ensures ∙ cost_seen r c.args.row ks) (c.in_ok-spend.ensures.means r (c.row_of_one-k.ensures.goes.back r h)) (c.row_of_one-k.ensures.means r h)
-
-pub returns-clause-bare : goal.returns-clause-bare
-returns-clause-bare c = node_bare c.args.world.now c.args.at (plain_type c.args.t.now) (c.args.a.cell ∷ []) c.args.row c.row_of_one-k.result c.args.run.now c.row_of_one-k.new.run c.sound.ensures.arena (returns-clause-means c)
+    node_meets (world_seen r c.args.world.now) c.args.at (plain_type c.args.t.now) (all_seen r ks) c.args.row c.cost_of_one-cost.result (state_of r c.args.run.now) (state_of r c.spend.new.self) (state_of r c.row_of_one.new.run) (stamped (plain_type c.args.t.now) r) c.row_of_one.result
+    (c.cost_of_one-cost.ensures ∙ cost_seen r c.args.row ks) (c.in_ok-spend.ensures.means r (c.row_of_one.ensures.goes.back r h)) (c.row_of_one.ensures.means r h)

@@ -1,0 +1,4 @@
+pub mod GuardLaws
+pub mod ItemLaws
+pub mod SetLaws
+pub mod WhereLaws

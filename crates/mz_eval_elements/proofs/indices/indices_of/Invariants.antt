@@ -1,0 +1,10 @@
+use Rattle.std.proofs.Common.{◌≡◌, ◌*◌, length, take}
+use Rattle.mz_symbol.specs.Readings.{Reading, Reads, symbol_seen}
+use Rattle.mz_symbol.specs.Makes.{GoesOnBy}
+use Rattle.mz_eval_lines.specs.StepsLines.{AreSymbols}
+use Rattle.mz_eval_elements.proofs.indices.indices_of.Given as goal
+
+abbrev pub invariant-loop-k : goal.invariant-loop-k
+invariant-loop-k l =
+    GoesOnBy (8 * l.k-index) l.fn.run l.run
+    × (((r : Reading) → Reads r l.run → AreSymbols symbol_seen r l.fn.run l.run (take l.k-index l.at) l.made.items) × (length l.made.items ≡ l.k-index))

@@ -1,0 +1,4 @@
+pub mod ElementCells
+pub mod StepsElements
+pub mod StepsLines
+pub mod StepsPlacing

@@ -1,0 +1,6 @@
+use Rattle.mz_eval_domains.specs.Wants.{wanted}
+use Rattle.mz_eval_declared.proofs.Suiting.{only_sets}
+use Rattle.mz_eval_names.proofs.suiting.parameter_suits.Goals as goal
+
+pub returns-in-false-true-clause-guards : goal.returns-in-false-true-clause-guards
+returns-in-false-true-clause-guards c = only_sets c.args.run.now c.args.var c.args.of_var (wanted c.args.w.now) c.args.k.now c.set_there.result c.in-false-true.is-0 c.in-false-true.is-1 c.set_there.ensures

@@ -1,0 +1,6 @@
+use Rattle.mz_eval_domains.specs.Wants.{wants_of}
+use Rattle.mz_eval_declared.proofs.Suiting.{all_sets}
+use Rattle.mz_eval_names.proofs.suiting.sets_there.Goals as goal
+
+pub returns : goal.returns
+returns c r = all_sets (wants_of c.args.ws.now) c.all_have_sets-s.result.par c.all_have_sets-s.result.is c.all_have_sets-s.ensures
