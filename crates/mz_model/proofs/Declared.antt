@@ -1,5 +1,5 @@
 -- The loop over the declarations, in the order of evaluation.
-use Rattle.std.proofs.Common.{◌≡◌, ◌∙◌, Bor, ℕ, zero, suc, ◌+◌, ◌<◌, List, [], ◌∷◌, map, length, drop, get_or, Option, Some, None, Result, Ok, Err, slice_get, refl, sym, ap, subst}
+use Rattle.std.proofs.Common.{◌≡◌, ◌∙◌, Bor, ℕ, zero, suc, ◌+◌, ◌<◌, List, [], ◌∷◌, map, length, drop, get_or, Some, None, Result, Ok, Err, slice_get, refl, sym, ap, subst}
 use Rattle.std.specs.Prelude.{IsErrAnd}
 use Rattle.std.specs.Slice.{IsItemAt}
 use Rattle.std.proofs.lemmas.List.{drop_more}
@@ -7,7 +7,6 @@ use Rattle.std.proofs.lemmas.Option.{slice_get_past, slice_get-get_or}
 use Rattle.mz_base.specs.declared.stop.Stop.{Stop}
 use Rattle.mz_base.specs.declared.stop.Stop.TheVariants.{Refused, Memory}
 use Rattle.mz_core.specs.Program.{plain_program}
-use Rattle.mz_core.specs.Tree.{Decl}
 use Rattle.mz_core.specs.TreeViews.{decl}
 use Rattle.mz_core.specs.declared.tree.CoreDecl.{CoreDecl}
 use Rattle.mz_meaning.specs.Walk.{ordered, with_decl}
@@ -17,12 +16,12 @@ use Rattle.mz_model.specs.declared.types.Task.{Task}
 use Rattle.mz_model.specs.Walks.{program_of, IsUpTo, DeclarationEnds, NumberEnds}
 use Rattle.mz_model.specs.Loops.{NumbersEnd, AreToCome}
 
-declared_there : (xs : List CoreDecl) (k : ℕ) (d : CoreDecl) → slice_get xs k ≡ Some d → slice_get (map decl xs) k ≡ Some (decl d)
+pub declared_there : (xs : List CoreDecl) (k : ℕ) (d : CoreDecl) → slice_get xs k ≡ Some d → slice_get (map decl xs) k ≡ Some (decl d)
 declared_there [] k d h = absurd (cc)
 declared_there (x ∷ xs) zero d h = let same : x ≡ d = cc in ap (λ z. Some (decl z)) same
 declared_there (x ∷ xs) (suc k) d h = declared_there xs k d h
 
-none_there : (xs : List CoreDecl) (k : ℕ) → slice_get xs k ≡ None → slice_get (map decl xs) k ≡ None
+pub none_there : (xs : List CoreDecl) (k : ℕ) → slice_get xs k ≡ None → slice_get (map decl xs) k ≡ None
 none_there [] k h = refl
 none_there (x ∷ xs) zero h = absurd (cc)
 none_there (x ∷ xs) (suc k) h = none_there xs k h

@@ -3,3 +3,6 @@ pub mod Names
 pub mod Declared
 pub mod Constrained
 pub mod Walked
+mod Vars
+mod Starts
+mod Endings

@@ -3,7 +3,6 @@ use Rattle.std.proofs.Common.{◌≡◌, ◌∙◌, ℕ, suc, ◌+◌, Bool, tru
 use Rattle.std.proofs.Math.Path.{fun_ext}
 use Rattle.std.proofs.lemmas.Bool.{eqb-true}
 use Rattle.std.proofs.lemmas.List.{length-map}
-use Rattle.mz_core.specs.Tree.{Decl}
 use Rattle.mz_meaning.specs.Cells.{bind}
 use Rattle.mz_meaning.specs.Walk.{names_env}
 use Rattle.mz_symbol.specs.Readings.{Reading}

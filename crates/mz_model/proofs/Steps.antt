@@ -11,7 +11,7 @@ use Rattle.mz_meaning.specs.Contexts.{Positive}
 use Rattle.mz_meaning.specs.Evaluation.{eval}
 use Rattle.mz_meaning.specs.Forms.{World}
 use Rattle.mz_meaning.specs.Runs as runs
-use Rattle.mz_meaning.specs.Runs.{Out, Stopped}
+use Rattle.mz_meaning.specs.Runs.{Out}
 use Rattle.mz_meaning.specs.Walk.{levels}
 use Rattle.mz_symbol.specs.Runs.{Run}
 use Rattle.mz_symbol.specs.Readings.{Reading, Reads, state_of}
@@ -27,11 +27,10 @@ use Rattle.mz_model_hand.specs.Names.{HasForm, FormFaults}
 use Rattle.mz_model_hand.specs.Progress.{IsBetween, OneMoreName, OneMoreConstraint, DeclarationHalts, ConstraintHalts}
 use Rattle.mz_model_domains.specs.declared.forms.Form.{Form}
 use Rattle.mz_model_domains.specs.Formed.{form_seen}
-use Rattle.mz_model_names.specs.Named.{IsNameOver, held_name}
 use Rattle.mz_model.specs.declared.types.Task.{Task}
 use Rattle.mz_model.specs.declared.types.Names.{Names}
 use Rattle.mz_model.specs.declared.types.HeldConstraint.{HeldConstraint}
-use Rattle.mz_model.specs.Walks.{limits_of, program_of, names_of, held_constraint, AreReadable, IsAdded, IsUpTo, FormEnds, DeclarationEnds, NumberEnds, ConstraintEnds}
+use Rattle.mz_model.specs.Walks.{limits_of, program_of, names_of, held_constraint, AreReadable, IsAdded, FormEnds, DeclarationEnds, ConstraintEnds}
 
 -- ---- the world in which names are declared
 
@@ -92,10 +91,10 @@ none_goes s = record { back = λ r h. h; paid = omega arith }
 abbrev cell_at : World → Tree → runs.Run Cell
 cell_at w e = eval w levels Positive e w.top
 
-abbrev nothing : Unit {0}
+abbrev pub nothing : Unit {0}
 nothing = tt
 
-out_state : {A : Type 0} (x y : A) (s t : runs.State) → Out x s ≡ Out y t → s ≡ t
+pub out_state : {A : Type 0} (x y : A) (s t : runs.State) → Out x s ≡ Out y t → s ≡ t
 out_state x y s t h = cc
 
 pub constraint_done : OneMoreConstraint → (t : Task) (ns : Names) (e : Tree) (old mid new : Run) (w : Reading → World) (k : Known) (o : Option ℕ) → ((r : Reading) → w r ≡ world_after (limits_of t) (program_of t) r (names_of ns)) → ReadBack old mid → ((r : Reading) → Reads r mid → cell_at (w r) e (state_of r old) ≡ Out (seen r k) (state_of r mid)) → ReadBack mid new → ((r : Reading) → Reads r new → Out nothing (state_of r mid) ≡ Out nothing (state_of r new)) → AreRootsOfConstraint new (view k) (if_one o) → ConstraintEnds t old new (names_of ns) e (Ok (record { cell = k; root = o }))

@@ -1,12 +1,11 @@
 -- All declarations, and then all constraints.
-use Rattle.std.proofs.Common.{◌≡◌, ◌∙◌, ℕ, List, [], ◌∷◌, map, Result, Ok, Err, refl, sym, ap, subst}
+use Rattle.std.proofs.Common.{◌≡◌, ◌∙◌, ℕ, List, [], ◌∷◌, map, Result, Ok, Err, sym, ap, subst}
 use Rattle.std.specs.Prelude.{IsErrAnd, Vec}
 use Rattle.std.specs.Global.{Global}
 use Rattle.mz_base.specs.declared.stop.Stop.{Stop}
 use Rattle.mz_base.specs.declared.stop.Stop.TheVariants.{Refused, Memory}
 use Rattle.mz_core.specs.Program.{plain_program}
 use Rattle.mz_core.specs.TreeViews.{tree}
-use Rattle.mz_core.specs.Tree.{Tree}
 use Rattle.mz_core.specs.declared.tree.Core.{Core}
 use Rattle.mz_meaning.specs.Walk.{ordered}
 use Rattle.mz_symbol.specs.Runs.{Run}

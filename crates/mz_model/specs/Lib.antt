@@ -1,2 +1,4 @@
 pub mod Walks
 pub mod Loops
+pub mod Matching
+pub mod Ending

@@ -1,5 +1,5 @@
 -- What the code of the walk has in hand, and how each of its steps goes on.
-use Rattle.std.specs.Prelude.{◌≡◌, ℕ, List, [], ◌∷◌, ◌++◌, map, length, Option, Some, None, Result, Ok, Err}
+use Rattle.std.specs.Prelude.{◌≡◌, ℕ, List, [], ◌∷◌, ◌++◌, map, Result, Ok, Err}
 use Rattle.mz_base.specs.declared.fault.Fault.{Fault}
 use Rattle.mz_base.specs.declared.stop.Stop.{Stop}
 use Rattle.mz_base.specs.declared.stop.Stop.TheVariants.{Refused, Memory}
@@ -10,7 +10,6 @@ use Rattle.mz_meaning.specs.Walk.{Limits, names_env, ordered}
 use Rattle.mz_symbol.specs.Runs.{Run}
 use Rattle.mz_symbol.specs.Readings.{Reading}
 use Rattle.mz_eval_cells.specs.Views.{seen}
-use Rattle.mz_eval_scopes.specs.declared.types.Env.{Env}
 use Rattle.mz_eval_scopes.specs.Views.{env_cells_by}
 use Rattle.mz_model_laws.specs.Hands as hands
 use Rattle.mz_model_laws.specs.Hands.{names_at, SlotsFrom, WalkStops}

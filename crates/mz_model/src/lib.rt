@@ -3,8 +3,14 @@
 
 mod constraints;
 mod declarations;
+mod ending;
 mod evaluation;
 mod forms;
+mod matching;
 mod objective;
+mod start;
 mod types;
+mod walk;
 mod whole;
+
+pub use walk::model;

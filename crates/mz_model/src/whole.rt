@@ -1,5 +1,6 @@
 // All declarations, and then all constraints.
 
+ghost use Rattle.std.specs.Prelude.{IfOk};
 ghost use Rattle.mz_meaning.specs.Walk.{ordered};
 ghost use Rattle.mz_model.specs.Walks.{AreReadable, IsUpTo, names_of, program_of};
 ghost use Rattle.mz_model.specs.Loops.{WalkEnds};
@@ -21,7 +22,8 @@ pub(crate) fn walked(
 ) -> Result<Vec<HeldConstraint>, Stop>
     requires readable { AreReadable names.old }
     requires begun { IsUpTo task.now run.old (names_of names.old) (ordered (program_of task.now).decls (program_of task.now).order) }
-    ensures { WalkEnds task.now run.new (names_of names.new) result }
+    ensures ends { WalkEnds task.now run.new (names_of names.new) result }
+    ensures readable { IfOk result (λ _. AreReadable names.new) }
 {
     walks_go_on();
     declare_each(alloc, task, names, task.program.order.as_slice(), run)?;

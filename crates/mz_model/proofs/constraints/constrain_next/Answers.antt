@@ -1,5 +1,4 @@
 use Rattle.mz_core.specs.TreeViews.{tree}
-use Rattle.mz_symbol.specs.Readings.{Reading}
 use Rattle.mz_eval_scopes.specs.Seen.{world_seen}
 use Rattle.mz_model.proofs.Steps.{constraint_done, constraint_ends}
 use Rattle.mz_model.proofs.constraints.constrain_next.Goals as goal

@@ -1,5 +1,4 @@
 use Rattle.mz_core.specs.TreeViews.{decl}
-use Rattle.mz_symbol.specs.Readings.{Reading}
 use Rattle.mz_eval_scopes.specs.Seen.{world_seen}
 use Rattle.mz_model.proofs.Steps.{form_ends}
 use Rattle.mz_model.proofs.declarations.next_form.Goals as goal
