@@ -4,9 +4,10 @@ use Rattle.std.specs.Option.{option_map}
 use Rattle.mz_value.specs.declared.value.Value.{Value}
 use Rattle.mz_value.specs.Contents.{Content, content}
 use Rattle.mz_value.specs.Contents as values
+use Rattle.mz_value.specs.Ranges.{Range}
 use Rattle.mz_core.specs.declared.types.Base.{Base}
 use Rattle.mz_core.specs.declared.types.Base.TheVariants as base
-use Rattle.mz_arena.specs.Values.{Term, as_number, bit, is_true, number}
+use Rattle.mz_arena.specs.Values.{Term, as_number, bit, is_true, number, set}
 use Rattle.mz_instance.specs.Contents.{content_by}
 use Rattle.mz_meaning.specs.Runs.{Out}
 use Rattle.mz_meaning.specs.Cells.{Mode, Blank, Given, held}
@@ -20,7 +21,7 @@ use Rattle.mz_symbol.specs.Readings.{Reading, state_of, symbol_seen}
 use Rattle.mz_symbol.proofs.ConstantLaws.{out_value, out_state}
 use Rattle.mz_symbol_rows.specs.RowValues.{argument, as_argument, is_single}
 use Rattle.mz_symbol_rows.proofs.RowLaws.{argument_kept, truth_by}
-use Rattle.mz_eval_symbols.specs.Steps.{IsConstant, OneConstant, Stands, item_cast}
+use Rattle.mz_eval_symbols.specs.Steps.{IsConstant, OneConstant, Stands, item_cast, set_base}
 
 -- ---- elements
 
@@ -52,6 +53,23 @@ case_told r old new e n m id q h = record {
   stands = record {
     value = ap (value_by (base.Enum e)) (sym (out_value h)) ∙ ap (λ k. Some (values.case e k)) q;
     item = record { value = subst (λ t. IsSome (value_by (base.Enum e) t)) (out_value h) refl; occurs = tt };
+  };
+}
+
+set_value : (of : Option ℕ) (s : List Range) → value_by (set_base of) (Some (set s)) ≡ Some (values.set of s)
+set_value None s = refl
+set_value (Some e) s = refl
+
+some_set : (of : Option ℕ) (s : List Range) → IsSome (value_by (set_base of) (Some (set s)))
+some_set None s = refl
+some_set (Some e) s = refl
+
+pub set_told : (r : Reading) (old new : Run) (of : Option ℕ) (s : List Range) (b : Base) (id : ℕ) → b ≡ set_base of → Out (Some (set s)) (state_of r old) ≡ Out (r.term id) (state_of r new) → IsConstant r old new (values.set of s) (record { base = b; occurs = None; term = id })
+set_told r old new of s b id e h = record {
+  same = out_state h;
+  stands = record {
+    value = ap (λ d. value_by d (r.term id)) e ∙ ap (value_by (set_base of)) (sym (out_value h)) ∙ set_value of s;
+    item = record { value = subst (λ d. IsSome (value_by d (r.term id))) (sym e) (subst (λ t. IsSome (value_by (set_base of) t)) (out_value h) (some_set of s)); occurs = tt };
   };
 }
 

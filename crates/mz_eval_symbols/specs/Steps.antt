@@ -62,6 +62,11 @@ pub record IsRecast (r : Reading) (old new : Run) (b : Base) (s x : Symbol) : Ty
 
 -- ---- constants
 
+-- the base of sets of integers, or of cases of an enum
+abbrev pub set_base : Option ℕ → Base
+set_base None = base.SetInt
+set_base (Some e) = base.SetEnum e
+
 -- an element that has this value
 pub record Stands (t : ℕ → Term) (x : Content) (s : Symbol) : Type 0 where
   pub value : symbol_value t s ≡ Some x

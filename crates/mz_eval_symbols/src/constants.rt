@@ -10,7 +10,7 @@ ghost use Rattle.mz_meaning.specs.Runs.{give};
 ghost use Rattle.mz_symbol.specs.Readings.{Reading, Reads, state_of, symbol_seen};
 ghost use Rattle.mz_symbol.specs.Makes.{GoesOn, GoesOnBy, Means};
 ghost use Rattle.mz_symbol_rows.specs.RowValues.{argument, is_single};
-ghost use Rattle.mz_eval_symbols.specs.Steps.{AreConstants, IsConstant, OneConstant, argued, item_cast};
+ghost use Rattle.mz_eval_symbols.specs.Steps.{AreConstants, IsConstant, OneConstant, argued, item_cast, set_base};
 
 use crate::casts::cast_value;
 use mz_arena::{Id, Node, NodeKind};
@@ -129,8 +129,30 @@ fn absent_item(run: &mut Run, base: Base) -> Result<Symbol, Stop>
     })
 }
 
-/// The symbol of an element, or the absent option of a base. Out of memory too of a set, of a text
-/// and of an array.
+fn set_base(of: Option<u64>) -> Base
+    ensures { result ≡ set_base of }
+{
+    match of {
+        None => Base::SetInt,
+        Some(e) => Base::SetEnum(e),
+    }
+}
+
+fn set_item(run: &mut Run, s: SetValue) -> Result<Symbol, Stop>
+    ensures goes { GoesOn run.old run.new }
+    ensures constant { IfOk result (λ x. (r : Reading) → Reads r run.new → IsConstant r run.old run.new (values.set s.of s.ranges) x) }
+{
+    let SetValue { of, ranges } = s;
+    let term = run.set_term(ranges)?;
+    Ok(Symbol {
+        base: set_base(of),
+        occurs: None,
+        term,
+    })
+}
+
+/// The symbol of an element, or the absent option of a base. Out of memory too of a text and of an
+/// array.
 fn item(run: &mut Run, base: Base, v: Value) -> Result<Symbol, Stop>
     ensures goes { GoesOn run.old run.new }
     ensures constant { IfOk result (λ s. (r : Reading) → Reads r run.new → IsConstant r run.old run.new (content v) s) }
@@ -139,7 +161,7 @@ fn item(run: &mut Run, base: Base, v: Value) -> Result<Symbol, Stop>
         Value::Bool(b) => truth_item(run, b),
         Value::Int(n) => integer_item(run, n),
         Value::Enum(e, k) => case_item(run, e, k),
-        Value::Set(_set) => Err(Stop::Memory),
+        Value::Set(s) => set_item(run, s),
         Value::Absent => absent_item(run, base),
         Value::Text(_text) => Err(Stop::Memory),
         Value::Array(_array) => Err(Stop::Memory),

@@ -257,7 +257,7 @@ fn no_line(alloc: Global, run: &mut Run, base: Base) -> Result<u64, Stop>
 /// A var array that is a line already, and isn't recast, is that line. Of another one a line is made
 /// at each call: its elements are constants, or elements of a line, recast. An undefined array is a
 /// line that isn't defined. What the line and its lists may cost the caller's work has to pay for.
-/// Out of memory too of what is no array; of an array of sets or texts that is par or was; and where
+/// Out of memory too of what is no array; of an array of texts that is par or was; and where
 /// an option of a truth value is recast to an integer.
 #[tactic(auto, unfolding(mz_operations::specs::Views::as_items))]
 pub fn line_in(alloc: Global, run: &mut Run, base: Base, k: &Known) -> Result<u64, Stop>

@@ -2,3 +2,4 @@ pub mod LineLaws
 pub mod RowLaws
 pub mod ToldLaws
 pub mod ValueLaws
+pub mod NeverLaws

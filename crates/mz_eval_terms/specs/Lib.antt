@@ -1,2 +1,3 @@
 pub mod NodeRows
 pub mod StepsRows
+pub mod StepsNever

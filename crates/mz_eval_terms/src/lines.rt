@@ -11,7 +11,7 @@ ghost use Rattle.mz_meaning.specs.Exact.{exact_value};
 ghost use Rattle.mz_meaning.specs.Operations.{row_cost};
 ghost use Rattle.mz_meaning.specs.Runs.{give};
 ghost use Rattle.mz_symbol.specs.Readings.{Reading, symbol_seen};
-ghost use Rattle.mz_symbol.specs.Makes.{GoesOnBy, Means};
+ghost use Rattle.mz_symbol.specs.Makes.{GoesOn, GoesOnBy, Means};
 ghost use Rattle.mz_symbol_rows.specs.RowValues.{argument, truth_of};
 ghost use Rattle.mz_symbol_lines.specs.LineValues.{array_argument, array_row, count_of};
 ghost use Rattle.mz_eval_symbols.specs.Taken.{cell_value, count_in, line_seen};
@@ -77,19 +77,42 @@ fn line_number(k: &Known) -> Option<u64>
     }
 }
 
-/// The same of an argument, which has as many elements as the cell says.
-pub(crate) fn direct_line(run: &Run, a: &Argument) -> Result<u64, Memory>
-    ensures means { IfOk result (λ n. (r : Reading) → line_seen a.now.cell r n ≡ cell_value r a.now.cell) }
-    ensures size { IfOk result (λ n. count_of (slice_get run.now.lines n) ≡ count_in a.now.cell) }
+/// A new line of an argument's elements; what it may cost is drawn.
+#[tactic(auto, using(mz_symbol_rows::proofs::GoingOn::goes_drawn))]
+fn made_line(alloc: Global, run: &mut Run, a: &Argument) -> Result<u64, Stop>
+    ensures goes { GoesOn run.old run.new }
+    ensures means { Means (line_seen a.now.cell) result run.old run.new (λ r. give (cell_value r a.now.cell)) }
 {
-    let Some(n) = line_number(&a.cell) else {
-        return Err(Memory);
-    };
+    let count = count_in(&a.cell);
+    if count > u64::MAX / 20 {
+        return Err(Stop::Memory);
+    }
+    run.draw(20 * count)?;
+    let n = line_in(alloc, run, a.base, &a.cell)?;
+    Ok(n)
+}
+
+/// The number of the line that an argument's elements are: one that stands, or a new one, for which
+/// what it may cost is drawn.
+pub(crate) fn drawn_line(alloc: Global, run: &mut Run, a: &Argument) -> Result<u64, Stop>
+    ensures goes { GoesOn run.old run.new }
+    ensures means { Means (line_seen a.now.cell) result run.old run.new (λ r. give (cell_value r a.now.cell)) }
+{
+    match line_number(&a.cell) {
+        Some(n) => Ok(n),
+        None => made_line(alloc, run, a),
+    }
+}
+
+/// Out of memory where a line hasn't as many elements as an argument's cell says.
+pub(crate) fn has_size(run: &Run, n: u64, a: &Argument) -> Result<(), Memory>
+    ensures { IfOk result (λ _. count_of (slice_get run.now.lines n) ≡ count_in a.now.cell) }
+{
     let found = defined(run, n)?;
     if found.1 != count_in(&a.cell) {
         return Err(Memory);
     }
-    Ok(n)
+    Ok(())
 }
 
 /// The number of the line that an argument's elements are. Out of memory where it hasn't as many
@@ -205,14 +228,21 @@ fn symbol_of_extreme(
     Ok(told)
 }
 
-/// `forall`, `exists`, `xorall` and `count`. Out of memory too where the array isn't a line as it is.
+/// `forall`, `exists`, `xorall` and `count`. What a line that is made may cost is drawn.
 #[tactic(auto, using(mz_symbol_rows::proofs::GoingOn::goes_both, mz_symbol_rows::proofs::GoingOn::goes_most))]
-fn symbol_of_truths(w: ScalarRow, t: &TypeInst, a: &Argument, run: &mut Run) -> Result<Symbol, Stop>
+fn symbol_of_truths(
+    alloc: Global,
+    w: ScalarRow,
+    t: &TypeInst,
+    a: &Argument,
+    run: &mut Run,
+) -> Result<Symbol, Stop>
     ensures goes { GoesOnBy (64 * count_in a.now.cell + 20) run.old run.new }
     ensures means { (names : Names) → Means argument result run.old run.new
         (λ r. give (row_told r names (Scalar w) (plain_type t.now) (cell_value r a.now.cell ∷ []))) }
 {
-    let n = direct_line(run, a)?;
+    let n = drawn_line(alloc, run, a)?;
+    has_size(run, n, a)?;
     let Ok(s) = over_truths(run, w, n, a) else {
         return Err(Stop::Memory);
     };
@@ -235,7 +265,7 @@ fn symbol_of_line(
     match w {
         ScalarRow::Fold(op) => symbol_of_fold(alloc, op, t, a, run),
         ScalarRow::Extreme(side) => symbol_of_extreme(alloc, side, t, a, run),
-        _ => symbol_of_truths(w, t, a, run),
+        _ => symbol_of_truths(alloc, w, t, a, run),
     }
 }
 

@@ -19,7 +19,7 @@ ghost use Rattle.mz_eval_symbols.specs.Taken.{cell_value, count_in};
 ghost use Rattle.mz_eval_cells.specs.Views.{cell_of, item_content};
 ghost use Rattle.mz_eval_terms.specs.NodeRows.{row_told};
 
-use crate::lines::{count_in, direct_line, is_few};
+use crate::lines::{count_in, drawn_line, has_size, is_few};
 use crate::stated::{stated, taken};
 use crate::types::Argument;
 use mz_base::{Memory, Stop};
@@ -112,13 +112,22 @@ fn clause_over(run: &mut Run, n: u64, m: u64, a: &Argument, b: &Argument) -> Res
     clause(run, n, m)
 }
 
-fn clause_row(t: &TypeInst, a: &Argument, b: &Argument, run: &mut Run) -> Result<Symbol, Stop>
+#[tactic(auto, using(mz_symbol_rows::proofs::GoingOn::goes_both, mz_symbol_rows::proofs::GoingOn::goes_most))]
+fn clause_row(
+    alloc: Global,
+    t: &TypeInst,
+    a: &Argument,
+    b: &Argument,
+    run: &mut Run,
+) -> Result<Symbol, Stop>
     ensures goes { GoesOnBy (58 * count_in a.now.cell + 58 * count_in b.now.cell + 76) run.old run.new }
     ensures means { (names : Names) → Means argument result run.old run.new
         (λ r. give (row_told r names (Scalar row.Clause) (plain_type t.now) (cell_value r a.now.cell ∷ cell_value r b.now.cell ∷ []))) }
 {
-    let n = direct_line(run, a)?;
-    let m = direct_line(run, b)?;
+    let n = drawn_line(alloc, run, a)?;
+    let m = drawn_line(alloc, run, b)?;
+    has_size(run, n, a)?;
+    has_size(run, m, b)?;
     let Ok(s) = clause_over(run, n, m, a, b) else {
         return Err(Stop::Memory);
     };
@@ -126,9 +135,10 @@ fn clause_row(t: &TypeInst, a: &Argument, b: &Argument, run: &mut Run) -> Result
     Ok(told)
 }
 
-/// `clause`, which the row's node pays for. Out of memory too where an array isn't a line as it is,
-/// or has 2^60 elements or more.
+/// `clause`, which the row's node pays for; what lines that are made may cost is drawn. Out of memory
+/// too where an array has 2^60 elements or more.
 pub(crate) fn clause_of(
+    alloc: Global,
     t: &TypeInst,
     a: &Argument,
     b: &Argument,
@@ -144,5 +154,5 @@ pub(crate) fn clause_of(
     if !is_few(count_in(&b.cell)) {
         return Err(Stop::Memory);
     }
-    clause_row(t, a, b, run)
+    clause_row(alloc, t, a, b, run)
 }

@@ -1,6 +1,6 @@
 // The symbols of rows over cells.
 
-ghost use Rattle.std.specs.Prelude.{◌≡◌, ◌+◌, ◌*◌, ◌∷◌, []};
+ghost use Rattle.std.specs.Prelude.{◌≡◌, ◌+◌, ◌*◌, ◌∷◌, [], None, true, ℕ};
 ghost use Rattle.mz_value.specs.Shown.{Names};
 ghost use Rattle.mz_core.specs.Types.{plain_type};
 ghost use Rattle.mz_operations.specs.declared.row.MadeRow.TheVariants as made;
@@ -9,10 +9,13 @@ ghost use Rattle.mz_meaning.specs.Cells.{is_bool};
 ghost use Rattle.mz_meaning.specs.Operations.{row_cost};
 ghost use Rattle.mz_meaning.specs.Runs.{give};
 ghost use Rattle.mz_symbol.specs.Makes.{GoesOnBy, Means};
+ghost use Rattle.mz_symbol.specs.Readings.{Reading};
 ghost use Rattle.mz_symbol_rows.specs.RowValues.{argument};
-ghost use Rattle.mz_eval_cells.specs.Views.{cell_of};
+ghost use Rattle.mz_arena.specs.Values.{Term};
+ghost use Rattle.mz_eval_cells.specs.Views.{cell_of, var_content};
 ghost use Rattle.mz_eval_symbols.specs.Taken.{cell_value};
 ghost use Rattle.mz_eval_terms.specs.NodeRows.{row_told};
+ghost use Rattle.mz_eval_terms.specs.StepsNever.{IsNever, is_comparison};
 
 use crate::lines::{symbol_of_array, takes_array};
 use crate::pairs::{clause_of, power_of};
@@ -22,6 +25,7 @@ use crate::stated::{gives_truth, made_truth, stated, taken};
 use crate::types::Argument;
 use mz_base::Stop;
 use mz_core::{Base, TypeInst};
+use mz_eval_cells::{Known, Origin, VarValue};
 use mz_operations::{MadeRow, Row, ScalarRow};
 use mz_symbol::{Run, Symbol};
 use mz_symbol_options::deopt;
@@ -63,6 +67,98 @@ fn scalar_of_two(
     let s = over_two(run, w, x, y)?;
     let told = stated(t, gives_truth(w), s)?;
     Ok(told)
+}
+
+/// Whether a row is a comparison, which is false where an argument is undefined.
+fn is_comparison(w: ScalarRow) -> bool
+    ensures { result ≡ is_comparison w }
+{
+    match w {
+        ScalarRow::Order(_) => true,
+        ScalarRow::Equal => true,
+        ScalarRow::Unequal => true,
+        ScalarRow::SetEqual => true,
+        ScalarRow::SetUnequal => true,
+        ScalarRow::In => true,
+        _ => false,
+    }
+}
+
+/// Whether a cell is undefined wherever it is read.
+fn is_missing(k: &Known) -> bool
+    ensures { result ≡ true → (r : Reading) → cell_value r k.now ≡ None }
+{
+    match k {
+        Known::Undefined => true,
+        Known::Var(v) => is_nothing(v),
+        _ => false,
+    }
+}
+
+/// Whether nothing tells the value of a var cell.
+#[tactic(auto, using(crate::proofs::NeverLaws::none_content))]
+fn is_nothing(v: &VarValue) -> bool
+    ensures { result ≡ true → (t : ℕ → Term) → var_content t v.now ≡ None }
+{
+    match &v.origin {
+        Origin::Nothing => true,
+        Origin::Item(_) => false,
+        Origin::Symbol(_) => false,
+        Origin::Truth(_, _) => false,
+    }
+}
+
+/// Whether a row is a comparison of which an argument is undefined wherever it is read.
+fn is_never(w: ScalarRow, a: &Argument, b: &Argument) -> bool
+    ensures { result ≡ true → IsNever w a.now.cell b.now.cell }
+{
+    if !is_comparison(w) {
+        return false;
+    }
+    if is_missing(&a.cell) {
+        return true;
+    }
+    is_missing(&b.cell)
+}
+
+/// Such a comparison: it is false, and no node tests it.
+fn never(
+    w: ScalarRow,
+    t: &TypeInst,
+    a: &Argument,
+    b: &Argument,
+    run: &mut Run,
+) -> Result<Symbol, Stop>
+    requires { IsNever w a.now.cell b.now.cell }
+    ensures goes { GoesOnBy 108 run.old run.new }
+    ensures means { (names : Names) → Means argument result run.old run.new
+        (λ r. give (row_told r names (Scalar w) (plain_type t.now) (cell_value r a.now.cell ∷ cell_value r b.now.cell ∷ []))) }
+{
+    let _row = w;
+    let _first = a.base;
+    let _second = b.base;
+    let s = run.truth(false)?;
+    let told = stated(t, true, s)?;
+    Ok(told)
+}
+
+/// A row of two arguments that are no arrays, which gives a truth value, an integer or a case.
+fn plain_of_two(
+    alloc: Global,
+    w: ScalarRow,
+    t: &TypeInst,
+    a: &Argument,
+    b: &Argument,
+    run: &mut Run,
+) -> Result<Symbol, Stop>
+    ensures goes { GoesOnBy 108 run.old run.new }
+    ensures means { (names : Names) → Means argument result run.old run.new
+        (λ r. give (row_told r names (Scalar w) (plain_type t.now) (cell_value r a.now.cell ∷ cell_value r b.now.cell ∷ []))) }
+{
+    if is_never(w, a, b) {
+        return never(w, t, a, b, run);
+    }
+    scalar_of_two(alloc, w, t, a, b, run)
 }
 
 #[tactic(auto, using(mz_symbol_rows::proofs::GoingOn::goes_both, mz_symbol_rows::proofs::GoingOn::goes_most))]
@@ -178,8 +274,8 @@ fn scalar_with_two(
 {
     match w {
         ScalarRow::Power => power_of(alloc, t, a, b, run),
-        ScalarRow::Clause => clause_of(t, a, b, run),
-        _ => scalar_of_two(alloc, w, t, a, b, run),
+        ScalarRow::Clause => clause_of(alloc, t, a, b, run),
+        _ => plain_of_two(alloc, w, t, a, b, run),
     }
 }
 

@@ -1,4 +1,4 @@
-use Rattle.std.proofs.Common.{◌∙◌, [], ◌∷◌, refl, sym, ap}
+use Rattle.std.proofs.Common.{◌∙◌, [], ◌∷◌, sym, ap}
 use Rattle.mz_core.specs.Types.{plain_type}
 use Rattle.mz_operations.specs.declared.row.Row.TheVariants.{Scalar}
 use Rattle.mz_symbol.proofs.ConstantLaws.{out_value, out_state}
@@ -15,7 +15,8 @@ returns-clause-means c names r h =
     let e = c.in-Ok.ensures.means names (ranges_in c.args.a.now.cell) r h in
     let t = plain_type c.args.t.now in
     let v = line_seen c.args.a.now.cell r c.in_ok-n.n in
+    let f = c.in_ok-n.ensures.means r (c.in-Ok.ensures.goes.back r h) in
     let told : IsTold (gives_truth c.args.w) t c.in-Ok.s = told_same t c.gives_truth.ensures c.in_ok-told.ensures.same c.in_ok-told.ensures.told in
-    out_both (ap (λ x. row_told r names (Scalar c.args.w) t (x ∷ [])) (sym (c.in_ok-n.ensures.means r))
+    out_both (ap (λ x. row_told r names (Scalar c.args.w) t (x ∷ [])) (out_value f)
     ∙ sym (scalar_told r names c.args.w t c.in-Ok.s (v ∷ []) told (sym (out_value e)))
-    ∙ ap (argument r) (sym c.in_ok-told.ensures.same)) (out_state e)
+    ∙ ap (argument r) (sym c.in_ok-told.ensures.same)) (out_state f ∙ out_state e)

@@ -17,8 +17,11 @@ returns-clause-means c names r h =
     let t = plain_type c.args.t.now in
     let v = line_seen c.args.a.now.cell r c.in_ok-n.n in
     let w = line_seen c.args.b.now.cell r c.in_ok-m.m in
+    let back = c.in-Ok.ensures.goes.back r h in
+    let g = c.in_ok-m.ensures.means r back in
+    let f = c.in_ok-n.ensures.means r (c.in_ok-m.ensures.goes.back r back) in
     let is : IsTold (gives_truth scalar.Clause) t c.in-Ok.s = told_same t refl c.in_ok-told.ensures.same c.in_ok-told.ensures.told in
-    out_both (ap (λ x. row_told r names (Scalar scalar.Clause) t (x ∷ cell_value r c.args.b.now.cell ∷ [])) (sym (c.in_ok-n.ensures.means r))
-    ∙ ap (λ x. row_told r names (Scalar scalar.Clause) t (v ∷ x ∷ [])) (sym (c.in_ok-m.ensures.means r))
+    out_both (ap (λ x. row_told r names (Scalar scalar.Clause) t (x ∷ cell_value r c.args.b.now.cell ∷ [])) (out_value f)
+    ∙ ap (λ x. row_told r names (Scalar scalar.Clause) t (v ∷ x ∷ [])) (out_value g)
     ∙ sym (scalar_told r names scalar.Clause t c.in-Ok.s (v ∷ w ∷ []) is (sym (out_value e)))
-    ∙ ap (argument r) (sym c.in_ok-told.ensures.same)) (out_state e)
+    ∙ ap (argument r) (sym c.in_ok-told.ensures.same)) (out_state f ∙ out_state g ∙ out_state e)

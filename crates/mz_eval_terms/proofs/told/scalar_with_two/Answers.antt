@@ -18,6 +18,6 @@ returns-in-Power-clause-goes c = goes_paid 128 (Scalar c.args.w) (cell_of c.args
 
 pub returns-in_default : goal.returns-in_default
 returns-in_default c = record {
-  goes = goes_paid 108 (Scalar c.args.w) (cell_of c.args.a.now.cell ∷ cell_of c.args.b.now.cell ∷ []) c.args.run.now c.scalar_of_two.new.run (omega arith) c.scalar_of_two.ensures.goes;
-  means = c.scalar_of_two.ensures.means;
+  goes = goes_paid 108 (Scalar c.args.w) (cell_of c.args.a.now.cell ∷ cell_of c.args.b.now.cell ∷ []) c.args.run.now c.plain_of_two.new.run (omega arith) c.plain_of_two.ensures.goes;
+  means = c.plain_of_two.ensures.means;
 }
