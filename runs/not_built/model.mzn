@@ -1,3 +1,4 @@
-var 1..9: cost;
-constraint cost > 3;
-solve minimize cost;
+var 1..9: early;
+var 1..9: late;
+constraint all_different([early, late]);
+solve satisfy;

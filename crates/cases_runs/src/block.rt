@@ -1,7 +1,7 @@
 // A block of the input: a command, the files that it runs over, and the calls that fail.
 
 use crate::gathered;
-use crate::running::{print_run, run_line};
+use crate::running::{print_run, print_solved, run_line};
 use crate::streams::SlowWriter;
 use crate::torn::TornSink;
 use cases::{Page, bytes_of};
@@ -82,7 +82,20 @@ impl<'a> Block<'a> {
         if let Some(line) = command.strip_prefix("mzc") {
             return self.run(alloc, line, page);
         }
+        if let Some(line) = command.strip_prefix("solutions") {
+            return self.solve(alloc, line, page);
+        }
         Ok(())
+    }
+
+    /// A run's status, what it noted, and the solutions of the program that it wrote.
+    fn solve(self, alloc: Global, line: &str, page: &mut Page) -> Result<(), Memory> {
+        let mut files = MemFiles::new(self.files, self.fetches);
+        let mut notes = MemSink::new(alloc, self.notes);
+        let mut out = MemSink::new(alloc, self.puts);
+        let status = run_line(alloc, line, &mut files, &mut out, &mut notes)?;
+        print_run(page, status, b"", notes.bytes())?;
+        print_solved(alloc, page, out.bytes())
     }
 
     fn run(self, alloc: Global, line: &str, page: &mut Page) -> Result<(), Memory> {

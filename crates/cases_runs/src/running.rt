@@ -2,6 +2,8 @@
 
 use crate::outcome::put_lines;
 use cases::Page;
+use cases_solver::print_solutions;
+use fz_text::read;
 use mz_base::Memory;
 use mz_io::{Files, MemSource, Sink};
 use mz_tool::{Status, run};
@@ -36,4 +38,12 @@ pub fn print_run(page: &mut Page, status: Status, out: &[u8], notes: &[u8]) -> R
     put_lines(page, "> ", out);
     put_lines(page, "! ", notes);
     Ok(())
+}
+
+/// The solutions of the program that bytes spell, one on a line; nothing where they spell none.
+pub fn print_solved(alloc: Global, page: &mut Page, bytes: &[u8]) -> Result<(), Memory> {
+    match read(alloc, bytes) {
+        Ok(p) => print_solutions(alloc, page, &p),
+        Err(_) => Ok(()),
+    }
 }

@@ -1,6 +1,12 @@
 pub mod OneLevel
+pub mod Stamps
 pub mod Chains
 pub mod Ends
 pub mod Arguments
 pub mod Parts
 pub mod PlainCalls
+pub mod WeightLaws
+pub mod Wanting
+pub mod Sets
+pub mod Left
+pub mod Blind

@@ -1,23 +1,21 @@
 -- Calls of functions whose parameters have no declared sets, argument by argument.
-use Rattle.std.proofs.Common.{◌≡◌, ◌∙◌, ℕ, suc, ◌-◌, Bool, Option, List, [], ◌∷◌, ◌++◌, map, take, drop, length, get_or, append_assoc, append-nil, refl, sym, ap, arith}
+use Rattle.std.proofs.Common.{◌≡◌, ◌∙◌, ℕ, suc, ◌+◌, ◌-◌, Bool, Option, List, [], ◌∷◌, ◌++◌, map, take, drop, length, get_or, append_assoc, append-nil, refl, sym, ap, arith}
 use Rattle.mz_base.specs.declared.fault.Span.{Span}
 use Rattle.mz_core.specs.declared.tree.Core.{Core}
 use Rattle.mz_core.specs.declared.tree.CoreDecl.{CoreDecl}
 use Rattle.mz_core.specs.Program.{Function}
 use Rattle.mz_core.specs.Tree.{Tree, Decl, place_of}
 use Rattle.mz_core.specs.TreeViews.{tree, decl}
-use Rattle.mz_eval_scopes.specs.declared.types.World.{World as FrameWorld}
-use Rattle.mz_eval_scopes.specs.Views.{world_of}
-use Rattle.mz_meaning.specs.Runs.{State, Answer, Out, Stopped, Run, ◌>>=◌, then_do, give, loop}
-use Rattle.mz_meaning.specs.Cells.{Cell, Env, Sure, both_sure, bind, bind_all}
+use Rattle.mz_meaning.specs.Runs.{State, Answer, Out, Stopped, Run, ◌>>=◌, ◌>>◌, then_do, give, loop, noted, weigh}
+use Rattle.mz_meaning.specs.Cells.{Cell, Env, Sure, both_sure, bind, bind_all, length_of, or_zero}
 use Rattle.mz_meaning.specs.Arrays.{Anything, fitted}
 use Rattle.mz_meaning.specs.Contexts.{Context}
 use Rattle.mz_meaning.specs.Forms.{World, Eval, part, parts}
 use Rattle.mz_meaning.specs.Lets.{Names, nothing_bound, names_in, with_local, index_wants, want, all_have_sets}
-use Rattle.mz_meaning.specs.Calls.{argument_suits, arguments, parameter, called, call_of, call}
+use Rattle.mz_meaning.specs.Calls.{all_lengths, argument_suits, arguments, parameter, called, call_of, call}
 use Rattle.mz_eval_chains.proofs.Runs.{then_again, then_same}
 use Rattle.mz_eval.specs.Calls.{called_in}
-use Rattle.mz_eval.specs.PlainCalls.{IsPlain, ArePlain, IsPlainAt, all_suit, with_arguments, called_on, called_on_all}
+use Rattle.mz_eval.specs.PlainCalls.{IsPlain, ArePlain, IsPlainAt, all_suit, with_arguments, called_on, called_on_all, called_on_none}
 
 -- ---- parts, the first one apart
 
@@ -47,13 +45,16 @@ parts_then go ctx env e es k s = by (go ctx e env s)
 
 -- ---- a call, an argument more
 
-pub called_next : (w : World) (go : Eval) (ctx : Context) (f : Function) (at : Span) (d : Decl) (ds : List Decl) (e : Tree) (es : List Tree) (holds : Sure) (env inner : Env) (s : State) → called_on w go ctx f at (d ∷ ds) (e ∷ es) holds env inner s ≡ then_do (go ctx e env s) (λ c. called_on w go ctx f at ds es (both_sure holds (argument_suits f.result.ty.var d.ty.ty.var Anything c)) env (bind d.slot c inner))
-called_next w go ctx f at d ds e es holds env inner s = parts_then go ctx env e es (λ cs. called_in w go ctx f at (all_suit f.result.ty.var (d ∷ ds) cs holds) (with_arguments (d ∷ ds) cs inner)) s
+abbrev all_bound : World → Eval → Context → Function → Span → List Decl → ℕ → Sure → Env → List Cell → Run Cell
+all_bound w go ctx f at ds n holds inner cs = weigh w.mode (all_lengths n cs) >> called_in w go ctx f at (all_suit f.result.ty.var ds cs holds) (with_arguments ds cs inner)
 
-pub called_last : (w : World) (go : Eval) (ctx : Context) (f : Function) (at : Span) (ds : List Decl) (es : List Core) (holds : Sure) (env inner : Env) (s : State) → length es ≡ 0 → called_on w go ctx f at ds (map tree es) holds env inner s ≡ called_in w go ctx f at holds inner s
-called_last w go ctx f at [] [] holds env inner s h = refl
-called_last w go ctx f at (d ∷ ds) [] holds env inner s h = refl
-called_last w go ctx f at ds (e ∷ es) holds env inner s h = absurd (omega arith)
+pub called_next : (w : World) (go : Eval) (ctx : Context) (f : Function) (at : Span) (d : Decl) (ds : List Decl) (e : Tree) (es : List Tree) (n : ℕ) (holds : Sure) (env inner : Env) (s : State) → called_on w go ctx f at (d ∷ ds) (e ∷ es) n holds env inner s ≡ then_do (go ctx e env s) (λ c. called_on w go ctx f at ds es (n + or_zero (length_of c)) (both_sure holds (argument_suits f.result.ty.var d.ty.ty.var Anything c)) env (bind d.slot c inner))
+called_next w go ctx f at d ds e es n holds env inner s = parts_then go ctx env e es (all_bound w go ctx f at (d ∷ ds) n holds inner) s
+
+pub called_last : (w : World) (go : Eval) (ctx : Context) (f : Function) (at : Span) (ds : List Decl) (es : List Core) (n : ℕ) (holds : Sure) (env inner : Env) (s : State) → length es ≡ 0 → called_on w go ctx f at ds (map tree es) n holds env inner s ≡ called_on_none w go ctx f at n holds inner s
+called_last w go ctx f at [] [] n holds env inner s h = refl
+called_last w go ctx f at (d ∷ ds) [] n holds env inner s h = refl
+called_last w go ctx f at ds (e ∷ es) n holds env inner s h = absurd (omega arith)
 
 pub no_decls : (ds : List CoreDecl) → length ds ≡ 0 → map decl ds ≡ []
 no_decls [] h = refl
@@ -103,31 +104,35 @@ length_last : {A : Type 0} (xs : List A) (x : A) → length (xs ++ x ∷ []) ≡
 length_last [] x = refl
 length_last (y ∷ xs) x = ap suc (length_last xs x)
 
--- what follows the arguments: the parameters after those of `b`, and the call
+-- what follows the arguments: their weight, the parameters after those of `b`, and the call
 abbrev bound_then : World → Eval → Context → Function → Span → Names → List Decl → List Tree → List Cell → Run Cell
 bound_then w go ctx f at b ds es cs = loop (parameter go ctx f.result.ty.var w.top) b (arguments ds es cs) >>= called w go ctx f at
 
-bound_all : (w : World) (go : Eval) (ctx : Context) (f : Function) (at : Span) (env : Env) (ds : List Decl) (es : List Tree) (b : Names) (s : State) → ArePlain ds → length b.slots ≡ length b.cells → then_do (parts go ctx es env s) (bound_then w go ctx f at b ds es) ≡ called_on w go ctx f at ds es b.holds env (names_in b w.top) s
-bound_all w go ctx f at env [] [] b s p h = refl
-bound_all w go ctx f at env (d ∷ ds) [] b s p h = refl
-bound_all w go ctx f at env [] (e ∷ es) b s p h = refl
-bound_all w go ctx f at env (d ∷ ds) (e ∷ es) b s p h =
-    parts_then go ctx env e es (bound_then w go ctx f at b (d ∷ ds) (e ∷ es)) s
-    ∙ then_same (go ctx e env s) (λ c t. then_do (parts go ctx es env t) (λ cs. bound_then w go ctx f at b (d ∷ ds) (e ∷ es) (c ∷ cs))) (λ c. called_on w go ctx f at ds es (both_sure b.holds (argument_suits f.result.ty.var d.ty.ty.var Anything c)) env (bind d.slot c (names_in b w.top))) (next (bound_all w go ctx f at env ds es))
-    ∙ sym (called_next w go ctx f at d ds e es b.holds env (names_in b w.top) s)
+abbrev weighed_then : World → Eval → Context → Function → Span → Names → List Decl → List Tree → ℕ → List Cell → Run Cell
+weighed_then w go ctx f at b ds es n cs = weigh w.mode (all_lengths n cs) >> bound_then w go ctx f at b ds es cs
+
+bound_all : (w : World) (go : Eval) (ctx : Context) (f : Function) (at : Span) (env : Env) (ds : List Decl) (es : List Tree) (n : ℕ) (b : Names) (s : State) → ArePlain ds → length b.slots ≡ length b.cells → then_do (parts go ctx es env s) (weighed_then w go ctx f at b ds es n) ≡ called_on w go ctx f at ds es n b.holds env (names_in b w.top) s
+bound_all w go ctx f at env [] [] n b s p h = refl
+bound_all w go ctx f at env (d ∷ ds) [] n b s p h = refl
+bound_all w go ctx f at env [] (e ∷ es) n b s p h = refl
+bound_all w go ctx f at env (d ∷ ds) (e ∷ es) n b s p h =
+    parts_then go ctx env e es (weighed_then w go ctx f at b (d ∷ ds) (e ∷ es) n) s
+    ∙ then_same (go ctx e env s) (λ c t. then_do (parts go ctx es env t) (λ cs. weighed_then w go ctx f at b (d ∷ ds) (e ∷ es) n (c ∷ cs))) (λ c. called_on w go ctx f at ds es (n + or_zero (length_of c)) (both_sure b.holds (argument_suits f.result.ty.var d.ty.ty.var Anything c)) env (bind d.slot c (names_in b w.top))) (next (bound_all w go ctx f at env ds es))
+    ∙ sym (called_next w go ctx f at d ds e es n b.holds env (names_in b w.top) s)
   where
-    next : ((x : Names) (t : State) → ArePlain ds → length x.slots ≡ length x.cells → then_do (parts go ctx es env t) (bound_then w go ctx f at x ds es) ≡ called_on w go ctx f at ds es x.holds env (names_in x w.top) t) → (c : Cell) (t : State) → then_do (parts go ctx es env t) (λ cs. bound_then w go ctx f at b (d ∷ ds) (e ∷ es) (c ∷ cs)) ≡ called_on w go ctx f at ds es (both_sure b.holds (argument_suits f.result.ty.var d.ty.ty.var Anything c)) env (bind d.slot c (names_in b w.top)) t
+    next : ((m : ℕ) (x : Names) (t : State) → ArePlain ds → length x.slots ≡ length x.cells → then_do (parts go ctx es env t) (weighed_then w go ctx f at x ds es m) ≡ called_on w go ctx f at ds es m x.holds env (names_in x w.top) t) → (c : Cell) (t : State) → then_do (parts go ctx es env t) (λ cs. weighed_then w go ctx f at b (d ∷ ds) (e ∷ es) n (c ∷ cs)) ≡ called_on w go ctx f at ds es (n + or_zero (length_of c)) (both_sure b.holds (argument_suits f.result.ty.var d.ty.ty.var Anything c)) env (bind d.slot c (names_in b w.top)) t
     next rest c t =
         let more : Names = named f.result.ty.var b d c in
+        let m : ℕ = n + or_zero (length_of c) in
         let longer : length more.slots ≡ length more.cells = length_last b.slots d.slot ∙ ap suc h ∙ sym (length_last b.cells c) in
-        then_same (parts go ctx es env t) (λ cs. bound_then w go ctx f at b (d ∷ ds) (e ∷ es) (c ∷ cs)) (bound_then w go ctx f at more ds es) (λ cs u. ap (λ a. then_do (then_do a (λ x. loop (parameter go ctx f.result.ty.var w.top) x (arguments ds es cs))) (called w go ctx f at)) (plain_parameter go ctx f.result.ty.var w.top b d e c u p.0))
-        ∙ rest more t p.1 longer
-        ∙ ap (λ x. called_on w go ctx f at ds es more.holds env x t) (names_last b.slots b.cells d.slot c w.top h)
+        then_same (parts go ctx es env t) (λ cs. weighed_then w go ctx f at b (d ∷ ds) (e ∷ es) n (c ∷ cs)) (weighed_then w go ctx f at more ds es m) (λ cs u. ap (λ a. then_do (then_do a (λ x. loop (parameter go ctx f.result.ty.var w.top) x (arguments ds es cs))) (called w go ctx f at)) (plain_parameter go ctx f.result.ty.var w.top b d e c (noted w.mode [] (all_lengths m cs) u) p.0))
+        ∙ rest m more t p.1 longer
+        ∙ ap (λ x. called_on w go ctx f at ds es m more.holds env x t) (names_last b.slots b.cells d.slot c w.top h)
 
 abbrev call_by : World → Eval → Context → Span → List Tree → Env → Option Function → Run Cell
 call_by w go ctx at es env o = parts go ctx es env >>= λ cells. call_of w go ctx o es cells at
 
-pub plain_call : (x : FrameWorld) (go : Eval) (ctx : Context) (n : ℕ) (f : Function) (es : List Tree) (at : Span) (env : Env) (s : State) → IsPlainAt (world_of x).functions n f → call (world_of x) go ctx n es at env s ≡ called_on_all (world_of x) go ctx f at es env s
-plain_call x go ctx n f es at env s p =
-    ap (λ o. call_by (world_of x) go ctx at es env o s) p.found
-    ∙ bound_all (world_of x) go ctx f at env f.params es nothing_bound s p.plain refl
+pub plain_call : (w : World) (go : Eval) (ctx : Context) (n : ℕ) (f : Function) (es : List Tree) (at : Span) (env : Env) (s : State) → IsPlainAt w.functions n f → call w go ctx n es at env s ≡ called_on_all w go ctx f at es env s
+plain_call w go ctx n f es at env s p =
+    ap (λ o. call_by w go ctx at es env o s) p.found
+    ∙ bound_all w go ctx f at env f.params es 0 nothing_bound s p.plain refl

@@ -1,36 +1,36 @@
 // Calls of a program's functions.
 
-ghost use Rattle.std.specs.Prelude.{◌≡◌, map, IfOk, MatchOption, slice_get, None, Some};
+ghost use Rattle.std.specs.Prelude.{◌≡◌, map, MatchOption, slice_get, None, Some};
 ghost use Rattle.mz_core.specs.Types.{plain_type};
 ghost use Rattle.mz_core.specs.Program.{function};
 ghost use Rattle.mz_core.specs.TreeViews.{tree, decl};
 ghost use Rattle.mz_meaning.specs.Runs.{loop};
-ghost use Rattle.mz_meaning.specs.Cells.{Bare};
-ghost use Rattle.mz_meaning.specs.Lets.{all_have_sets, names_in};
-ghost use Rattle.mz_meaning.specs.Calls.{argument_suits, parameter, call_of, call};
-ghost use Rattle.mz_eval_cells.specs.Views.{cell_of, sure_of, seen, all_seen};
-ghost use Rattle.mz_eval_domains.specs.Wants.{wanted, wants_of, local_of};
-ghost use Rattle.mz_symbol.specs.Makes.{GoesOn, MeansBare};
-ghost use Rattle.mz_eval.specs.Levels.{at_level, in_scope};
-ghost use Rattle.mz_eval_nodes.specs.Views.{names_seen, local_seen};
-ghost use Rattle.mz_eval_nodes.specs.Operators.{argument};
-ghost use Rattle.mz_eval.specs.Calls.{arguments_of, resulting, called_in};
+ghost use Rattle.mz_meaning.specs.Lets.{names_in};
+ghost use Rattle.mz_meaning.specs.Calls.{parameter, call_of, call};
+ghost use Rattle.mz_eval_cells.specs.Views.{seen, all_seen};
+ghost use Rattle.mz_eval_guards.specs.Guards.{guard_seen};
+ghost use Rattle.mz_eval_declared.specs.Locals.{local_in};
+ghost use Rattle.mz_eval_names.specs.Names.{names_seen};
+ghost use Rattle.mz_symbol.specs.Makes.{GoesOn, Means};
+ghost use Rattle.mz_eval_domains.specs.Wants.{wanted, wants_of};
+ghost use Rattle.mz_eval.specs.Levels.{world_in, at_level, in_scope};
+ghost use Rattle.mz_eval.specs.Calls.{argument, arguments_seen, called_in, ended_call};
 ghost use Rattle.mz_meaning.specs.Lets as lets;
-ghost use Rattle.mz_meaning.specs.Cells as meaning;
 
 use crate::forms::{eval_expression, eval_parts};
 use crate::locals::{eval_indices, eval_want};
 use crate::plain_calls::{eval_plain_call, plain_function};
 use crate::types::{CallScope, Level};
+use crate::weights::{lengths_on, weighed};
 use mz_base::{Span, Stop};
-use mz_core::{Core, CoreDecl, CoreFunction, Program, TypeInst};
-use mz_eval_cells::{Known, Sure, both_sure, guarded, share, undefined};
+use mz_core::{Core, CoreDecl, CoreFunction, Program};
+use mz_eval_cells::{Known, share, undefined};
 use mz_eval_chains::place_of;
-use mz_eval_domains::{Want, all_have_sets, argument_suits, fitted, suits};
-use mz_eval_nodes::{Names, nothing_bound, with_local};
+use mz_eval_domains::{Want, fitted};
+use mz_eval_guards::Guard;
+use mz_eval_names::{Names, handed, nothing_bound, resulting, suited, with_local};
 use mz_eval_scopes::{Scope, done};
 use mz_symbol::Run;
-use std::alloc::{AllocError, Global};
 
 // A call of a function of the program.
 #[cycle(forms)]
@@ -43,7 +43,7 @@ pub(crate) fn eval_call(
     run: &mut Run,
 ) -> Result<Known, Stop>
     ensures goes { GoesOn run.old run.new }
-    ensures means { MeansBare seen result run.old run.new (λ r. in_scope r level.now scope.now (λ w go ctx env. call w go ctx f (map tree all.now) at env)) }
+    ensures means { Means seen result run.old run.new (λ r. in_scope r level.now scope.now (λ w go ctx env. call w go ctx f (map tree all.now) at env)) }
 {
     match plain_function(level.world.program, f) {
         Some(function) => eval_plain_call(level, function, all, at, scope, run),
@@ -62,7 +62,7 @@ fn eval_declared_call(
     run: &mut Run,
 ) -> Result<Known, Stop>
     ensures goes { GoesOn run.old run.new }
-    ensures means { MeansBare seen result run.old run.new (λ r. in_scope r level.now scope.now (λ w go ctx env. call w go ctx f (map tree all.now) at env)) }
+    ensures means { Means seen result run.old run.new (λ r. in_scope r level.now scope.now (λ w go ctx env. call w go ctx f (map tree all.now) at env)) }
 {
     let cells = eval_parts(level, all, scope, run)?;
     eval_call_of(level, f, all, &cells, at, run)
@@ -95,7 +95,7 @@ fn eval_call_of(
     run: &mut Run,
 ) -> Result<Known, Stop>
     ensures goes { GoesOn run.old run.new }
-    ensures means { MeansBare seen result run.old run.new (λ r. at_level r level.now (λ w go ctx. call_of w go ctx (slice_get w.functions f) (map tree all.now) (all_seen r cells.now) at)) }
+    ensures means { Means seen result run.old run.new (λ r. at_level r level.now (λ w go ctx. call_of w go ctx (slice_get w.functions f) (map tree all.now) (all_seen r cells.now) at)) }
 {
     match function_at(level.world.program, f) {
         None => done(level.world, at, undefined(), run),
@@ -114,13 +114,16 @@ fn eval_function(
     run: &mut Run,
 ) -> Result<Known, Stop>
     ensures goes { GoesOn run.old run.new }
-    ensures means { MeansBare seen result run.old run.new (λ r. at_level r level.now (λ w go ctx. call_of w go ctx (Some (function f.now)) (map tree all.now) (all_seen r cells.now) at)) }
+    ensures means { Means seen result run.old run.new (λ r. at_level r level.now (λ w go ctx. call_of w go ctx (Some (function f.now)) (map tree all.now) (all_seen r cells.now) at)) }
 {
+    let elements = lengths_on(0, cells)?;
+    weighed(run, elements)?;
     let b = eval_parameters(level, f.result.ty.var, &f.params, all, cells, run)?;
     let top = Scope::Top;
     let frame = Scope::Frame(&b.slots, &b.cells, &top);
     let bound = CallScope {
         scope: &frame,
+        elements,
         holds: b.holds,
     };
     eval_called(level, f, at, &bound, run)
@@ -138,8 +141,8 @@ fn eval_parameters(
     run: &mut Run,
 ) -> Result<Names, Stop>
     ensures goes { GoesOn run.old run.new }
-    ensures means { MeansBare names_seen result run.old run.new
-        (λ r. at_level r level.now (λ w go ctx. loop (parameter go ctx var w.top) lets.nothing_bound (arguments_of params.now all.now cells.now))) }
+    ensures means { Means names_seen result run.old run.new
+        (λ r. at_level r level.now (λ w go ctx. loop (parameter go ctx var w.top) lets.nothing_bound (arguments_seen r params.now all.now cells.now))) }
 {
     let mut b = nothing_bound(level.alloc);
     let count = params.len().min(all.len()).min(cells.len());
@@ -161,10 +164,10 @@ fn eval_parameter(
     run: &mut Run,
 ) -> Result<Names, Stop>
     ensures goes { GoesOn run.old run.new }
-    ensures means { MeansBare names_seen result run.old run.new (λ r. at_level r level.now (λ w go ctx. parameter go ctx var w.top (names_seen r b) (decl d.now, tree e.now, seen r k.now))) }
+    ensures means { Means names_seen result run.old run.new (λ r. at_level r level.now (λ w go ctx. parameter go ctx var w.top (names_seen r b) (decl d.now, tree e.now, seen r k.now))) }
 {
     let x = eval_suited(level, var, d, e, k, &b, run)?;
-    Ok(with_local(b, d.slot, x)?)
+    with_local(run, b, d.slot, x)
 }
 
 #[cycle(forms)]
@@ -176,9 +179,9 @@ fn eval_suited(
     k: &Known,
     b: &Names,
     run: &mut Run,
-) -> Result<(Known, Sure), Stop>
+) -> Result<(Known, Guard), Stop>
     ensures goes { GoesOn run.old run.new }
-    ensures means { MeansBare local_seen result run.old run.new
+    ensures means { Means local_in result run.old run.new
         (λ r. at_level r level.now (λ w go ctx. argument go ctx var (names_in (names_seen r b.now) w.top) (decl d.now) (tree e.now) (seen r k.now))) }
 {
     let top = Scope::Top;
@@ -197,30 +200,23 @@ fn eval_argument(
     k: &Known,
     scope: &Scope,
     run: &mut Run,
-) -> Result<(Known, Sure), Stop>
+) -> Result<(Known, Guard), Stop>
     ensures goes { GoesOn run.old run.new }
-    ensures means { MeansBare local_seen result run.old run.new (λ r. in_scope r level.now scope.now (λ w go ctx env. argument go ctx var env (decl d.now) (tree e.now) (seen r k.now))) }
+    ensures means { Means local_in result run.old run.new (λ r. in_scope r level.now scope.now (λ w go ctx env. argument go ctx var env (decl d.now) (tree e.now) (seen r k.now))) }
 {
     let index = eval_indices(level, &d.ty.index, scope, run)?;
     let set = eval_want(level, &d.ty.set, scope, run)?;
-    let shared = share(k)?;
-    let c = fitted(level.alloc, place_of(e), &index, shared)?;
-    Ok(suited(level.alloc, var, d.ty.ty.var, &index, &set, c)?)
-}
-
-// an argument, and whether it suits its parameter
-fn suited(
-    alloc: Global,
-    var: bool,
-    of_var: bool,
-    index: &[Want],
-    set: &Want,
-    c: Known,
-) -> Result<(Known, Sure), AllocError>
-    ensures { IfOk result (λ p. local_of p ≡ (cell_of c, meaning.both_sure (all_have_sets (wants_of index.now)) (argument_suits var of_var (wanted set.now) (cell_of c)))) }
-{
-    let there = argument_suits(alloc, var, of_var, set, &c)?;
-    Ok((c, both_sure(all_have_sets(index), there)))
+    let same = share(k)?;
+    suited(
+        level.alloc,
+        run,
+        var,
+        d.ty.ty.var,
+        place_of(e),
+        &index,
+        &set,
+        same,
+    )
 }
 
 // The body in the scope of its parameters, and then the result's sets.
@@ -233,28 +229,31 @@ pub(crate) fn eval_called(
     run: &mut Run,
 ) -> Result<Known, Stop>
     ensures goes { GoesOn run.old run.new }
-    ensures means { MeansBare seen result run.old run.new (λ r. in_scope r level.now bound.now.scope.now (λ w go ctx env. called_in w go ctx (function f.now) at (sure_of bound.now.holds) env)) }
+    ensures means { Means seen result run.old run.new (λ r. in_scope r level.now bound.now.scope.now (λ w go ctx env. called_in w go ctx (function f.now) at (guard_seen r bound.now.holds) env)) }
 {
     let c = eval_expression(level, &f.body, bound.scope, run)?;
     let index = eval_indices(level, &f.result.index, bound.scope, run)?;
     let set = eval_want(level, &f.result.set, bound.scope, run)?;
     let r = fitted(level.alloc, place_of(&f.body), &index, c)?;
-    let cell = resulting(level.alloc, &f.result.ty, &index, &set, bound.holds, r)?;
-    done(level.world, at, cell, run)
+    result_of(level, f, at, bound.holds, (index, set), r, run)
 }
 
-// a call's cell, undefined where something doesn't hold
-fn resulting(
-    alloc: Global,
-    t: &TypeInst,
-    index: &[Want],
-    set: &Want,
-    holds: Sure,
-    r: Known,
-) -> Result<Known, AllocError>
-    ensures { IfOk result (λ k. cell_of k ≡ resulting Bare (plain_type t.now) (sure_of holds) (wants_of index.now) (wanted set.now) (cell_of r)) }
+// the result under its index sets, which it takes, and its set
+#[tactic(auto, unfolding(mz_core::specs::Types::plain_type))]
+fn result_of(
+    level: &Level,
+    f: &CoreFunction,
+    at: Span,
+    holds: Guard,
+    sets: (Vec<Want>, Want),
+    c: Known,
+    run: &mut Run,
+) -> Result<Known, Stop>
+    ensures goes { GoesOn run.old run.new }
+    ensures means { Means seen result run.old run.new
+        (λ r. ended_call (world_in r level.now) (function f.now) at (guard_seen r holds) (wants_of sets.0.items) (wanted sets.1) (seen r c)) }
 {
-    let there = suits(alloc, set, &r)?;
-    let all = both_sure(holds, both_sure(all_have_sets(index), there));
-    guarded(alloc, t, all, r)
+    handed(run, &c)?;
+    let cell = resulting(level.alloc, run, &f.result.ty, &sets.0, &sets.1, holds, c)?;
+    done(level.world, at, cell, run)
 }

@@ -3,10 +3,12 @@
 ghost use Rattle.std.specs.Prelude.{◌≡◌, [], map};
 ghost use Rattle.mz_core.specs.Types.{plain_type};
 ghost use Rattle.mz_core.specs.TreeViews.{tree, branch};
+ghost use Rattle.mz_meaning.specs.Cells as cells;
 ghost use Rattle.mz_meaning.specs.Cells.{Open};
 ghost use Rattle.mz_meaning.specs.Forms.{is_met, last_branch, otherwise, branches};
 ghost use Rattle.mz_eval_cells.specs.Views.{test_if, seen};
-ghost use Rattle.mz_symbol.specs.Makes.{GoesOn, MeansBare};
+ghost use Rattle.mz_symbol.specs.Makes.{GoesOn, Means};
+ghost use Rattle.mz_symbol.specs.Readings.{Reading};
 ghost use Rattle.mz_eval_nodes.specs.Views.{pairs_seen};
 ghost use Rattle.mz_eval.specs.Choices.{else_tree, branch_cell, open_branch};
 ghost use Rattle.mz_eval.specs.Levels.{world_in, at_node};
@@ -15,8 +17,9 @@ use crate::forms::eval_expression;
 use crate::types::Level;
 use mz_base::Stop;
 use mz_core::Core;
-use mz_eval_arrays::branch_cell;
+use mz_eval_branches::chosen_branch;
 use mz_eval_cells::{Item, Known, one, test_of};
+use mz_eval_names::handed;
 use mz_eval_nodes::{elsewhere, with_branch};
 use mz_eval_scopes::Scope;
 use mz_symbol::Run;
@@ -32,7 +35,7 @@ pub(crate) fn eval_if(
     run: &mut Run,
 ) -> Result<Known, Stop>
     ensures goes { GoesOn run.old run.new }
-    ensures means { MeansBare seen result run.old run.new (λ r. at_node r level.now scope.now node.now (λ w go ctx at t env. branches w go ctx (map branch all.now) (else_tree last.now) at t env [])) }
+    ensures means { Means seen result run.old run.new (λ r. at_node r level.now scope.now node.now (λ w go ctx at t env. branches w go ctx (map branch all.now) (else_tree last.now) at t env [])) }
 {
     let ctx = elsewhere(level.ctx);
     let outside = Level {
@@ -44,13 +47,21 @@ pub(crate) fn eval_if(
     let mut others = Vec::new(level.alloc);
     for b in all {
         let cond = eval_expression(&outside, &b.0, scope, run)?;
-        let test = test_of(&cond);
+        let test = settled(&cond);
         if is_met(test) {
             return eval_last(level, node, &b.1, others, scope, run);
         }
         others = eval_open(level, &b.1, others, cond, test, scope, run)?;
     }
     eval_otherwise(level, node, last, others, scope, run)
+}
+
+/// What a par condition says; nothing of a var one.
+#[tactic(auto, using(crate::proofs::Wanting::test_seen))]
+pub(crate) fn settled(k: &Known) -> Option<bool>
+    ensures { (r : Reading) → cells.test_of (seen r k.now) ≡ test_if result }
+{
+    test_of(k)
 }
 
 // whether a branch is the last: a par condition that is true
@@ -63,7 +74,8 @@ fn is_met(test: Option<bool>) -> bool
     }
 }
 
-fn chosen_branch(
+// the node, once all its branches are evaluated
+fn ended(
     level: &Level,
     node: &Core,
     others: Vec<(Known, Known)>,
@@ -71,10 +83,10 @@ fn chosen_branch(
     run: &mut Run,
 ) -> Result<Known, Stop>
     ensures goes { GoesOn run.old run.new }
-    ensures means { MeansBare seen result run.old run.new (λ r. branch_cell (world_in r level.now) node.now.span (plain_type node.now.ty) (pairs_seen r others.items) (seen r cell)) }
+    ensures means { Means seen result run.old run.new (λ r. branch_cell (world_in r level.now) node.now.span (plain_type node.now.ty) (pairs_seen r others.items) (seen r cell)) }
 {
     run.spend(level.world.budget, node.span, 1)?;
-    branch_cell(level.alloc, &node.ty, node.span, &others, cell)
+    chosen_branch(level.alloc, run, &node.ty, node.span, &others, cell)
 }
 
 // The last branch.
@@ -88,10 +100,11 @@ fn eval_last(
     run: &mut Run,
 ) -> Result<Known, Stop>
     ensures goes { GoesOn run.old run.new }
-    ensures means { MeansBare seen result run.old run.new (λ r. at_node r level.now scope.now node.now (λ w go ctx at t env. last_branch w go ctx (tree e.now) at t env (pairs_seen r others.items))) }
+    ensures means { Means seen result run.old run.new (λ r. at_node r level.now scope.now node.now (λ w go ctx at t env. last_branch w go ctx (tree e.now) at t env (pairs_seen r others.items))) }
 {
     let cell = eval_expression(level, e, scope, run)?;
-    chosen_branch(level, node, others, cell, run)
+    handed(run, &cell)?;
+    ended(level, node, others, cell, run)
 }
 
 // What follows `else`; without it, true.
@@ -105,11 +118,11 @@ fn eval_otherwise(
     run: &mut Run,
 ) -> Result<Known, Stop>
     ensures goes { GoesOn run.old run.new }
-    ensures means { MeansBare seen result run.old run.new
+    ensures means { Means seen result run.old run.new
         (λ r. at_node r level.now scope.now node.now (λ w go ctx at t env. otherwise w go ctx (else_tree last.now) at t env (pairs_seen r others.items))) }
 {
     match last {
-        None => chosen_branch(level, node, others, one(Item::Bool(true)), run),
+        None => ended(level, node, others, one(Item::Bool(true)), run),
         Some(e) => eval_last(level, node, e, others, scope, run),
     }
 }
@@ -126,7 +139,7 @@ fn eval_open(
     run: &mut Run,
 ) -> Result<Vec<(Known, Known)>, Stop>
     ensures goes { GoesOn run.old run.new }
-    ensures means { MeansBare (λ r v. pairs_seen r v.items) result run.old run.new (λ r. open_branch r level.now scope.now e.now others.items cond (test_if test)) }
+    ensures means { Means (λ r v. pairs_seen r v.items) result run.old run.new (λ r. open_branch r level.now scope.now e.now others.items cond (test_if test)) }
 {
     match test {
         Some(_) => Ok(others),
@@ -144,8 +157,9 @@ fn eval_branch(
     run: &mut Run,
 ) -> Result<Vec<(Known, Known)>, Stop>
     ensures goes { GoesOn run.old run.new }
-    ensures means { MeansBare (λ r v. pairs_seen r v.items) result run.old run.new (λ r. open_branch r level.now scope.now e.now others.items cond Open) }
+    ensures means { Means (λ r v. pairs_seen r v.items) result run.old run.new (λ r. open_branch r level.now scope.now e.now others.items cond Open) }
 {
     let cell = eval_expression(level, e, scope, run)?;
+    handed(run, &cell)?;
     Ok(with_branch(others, cond, cell)?)
 }

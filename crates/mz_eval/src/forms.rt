@@ -1,18 +1,24 @@
 // The evaluation of expressions: one function for each definition.
 
-ghost use Rattle.std.specs.Prelude.{◌∷◌, [], map};
+ghost use Rattle.std.specs.Prelude.{◌≡◌, ◌∷◌, [], IfOk, map};
 ghost use Rattle.mz_core.specs.TreeViews.{tree, form_layer};
 ghost use Rattle.mz_core.specs.declared.tree.CoreForm.TheViews.{out-CoreForm};
 ghost use Rattle.mz_meaning.specs.Runs.{loop};
 ghost use Rattle.mz_meaning.specs.Cells.{par_value};
+ghost use Rattle.mz_meaning.specs.Arrays.{line_cell, set_cell};
 ghost use Rattle.mz_meaning.specs.Forms.{done, parts, text_at, text_cell, all_cases, builtin, array, row_of_parts, table, set, access};
+ghost use Rattle.mz_symbol.specs.Readings.{Reading};
 ghost use Rattle.mz_meaning.specs.Evaluation as meaning;
-ghost use Rattle.mz_symbol.specs.Makes.{GoesOn, MeansBare};
+ghost use Rattle.mz_core.specs.Types.{plain_type};
+ghost use Rattle.mz_symbol.specs.Makes.{GoesOn, Means};
 ghost use Rattle.mz_eval_cells.specs.Views.{seen, all_seen};
 ghost use Rattle.mz_eval_scopes.specs.Seen.{ctx_of};
 ghost use Rattle.mz_eval_nodes.specs.Views.{gathered_seen};
+ghost use Rattle.mz_eval_terms.specs.NodeRows.{stamped};
+ghost use Rattle.mz_eval_tables.specs.TableCells.{rows_seen};
 ghost use Rattle.mz_eval.specs.Levels.{world_in, go_of, scope_of, in_scope, at_node};
-ghost use Rattle.mz_eval.specs.Rows.{with_row, with_row_or_global, row_trees, row_cells_seen};
+ghost use Rattle.mz_eval.specs.Nodes.{access_node, node_stamped, stamped_at, table_node, typed_by};
+ghost use Rattle.mz_eval.specs.Rows.{with_row, with_row_or_global, row_trees};
 
 use crate::calls::eval_call;
 use crate::choices::eval_if;
@@ -23,17 +29,20 @@ use crate::operators::eval_chain;
 use crate::types::Level;
 use mz_base::{Fault, Kind, Name, Span, Stop};
 use mz_core::{Core, CoreForm};
-use mz_eval_access::access_cell;
-use mz_eval_arrays::{Gathered, gathered_with, line_cell, nothing_gathered, set_cell, table_cell};
+use mz_eval_arrays::{Gathered, nothing_gathered, set_cell};
 use mz_eval_cells::{Item, Known, one, undefined};
 use mz_eval_chains::{finished, inner};
-use mz_eval_nodes::{
-    arguments_base, arguments_within, operated_all, operated_one, operated_two, within,
-};
+use mz_eval_elements::element_cell_in;
+use mz_eval_lines::array_cell_in;
+use mz_eval_nodes::{argument_of, arguments_base, arguments_within, within};
+use mz_eval_row_nodes::{untyped_all, untyped_one, untyped_two};
 use mz_eval_rows::row_at;
 use mz_eval_scopes::{Scope, all_cases, at_slot, done, literal_text};
+use mz_eval_tables::table_cell_in;
+use mz_eval_turns::gathered_with;
 use mz_operations::Row;
 use mz_symbol::Run;
+use std::alloc::{AllocError, Global};
 
 // An expression.
 #[cycle(forms)]
@@ -45,7 +54,7 @@ pub(crate) fn eval_expression(
     run: &mut Run,
 ) -> Result<Known, Stop>
     ensures goes { GoesOn run.old run.new }
-    ensures means { MeansBare seen result run.old run.new (λ r. go_of r level.now (ctx_of level.now.ctx) (tree e.now) (scope_of r level.now scope.now)) }
+    ensures means { Means seen result run.old run.new (λ r. go_of r level.now (ctx_of level.now.ctx) (tree e.now) (scope_of r level.now scope.now)) }
 {
     let node = inner(e);
     if level.left == 0 {
@@ -66,11 +75,27 @@ pub(crate) fn eval_expression(
     finished(level.alloc, level.world, e, node, cell, run)
 }
 
-// A node below its coercions, whose parts are one level deeper.
+// A node below its coercions, whose parts are one level deeper, as it is once its type is stamped on
+// it.
+#[inline(always)]
 #[cycle(forms)]
 fn eval_form(level: &Level, node: &Core, scope: &Scope, run: &mut Run) -> Result<Known, Stop>
     ensures goes { GoesOn run.old run.new }
-    ensures means { MeansBare seen result run.old run.new
+    ensures means { Means (stamped_at node.now) result run.old run.new
+        (λ r. at_node r level.now scope.now node.now (λ w go ctx at t env. node_stamped w go ctx (form_layer (out-CoreForm node.now.form)) at t env)) }
+{
+    match &node.form {
+        CoreForm::Builtin(n, all) => eval_builtin(level, node, *n, all, scope, run),
+        CoreForm::Access(a, all) => eval_access(level, node, a, all, scope, run),
+        _ => eval_whole(level, node, scope, run),
+    }
+}
+
+// A node that isn't told by its type: a row's and an access are.
+#[cycle(forms)]
+fn eval_whole(level: &Level, node: &Core, scope: &Scope, run: &mut Run) -> Result<Known, Stop>
+    ensures goes { GoesOn run.old run.new }
+    ensures means { Means seen result run.old run.new
         (λ r. at_node r level.now scope.now node.now (λ w go ctx at t env. meaning.node w go ctx (form_layer (out-CoreForm node.now.form)) at t env)) }
 {
     let at = node.span;
@@ -84,11 +109,11 @@ fn eval_form(level: &Level, node: &Core, scope: &Scope, run: &mut Run) -> Result
         CoreForm::Slot(s) => eval_slot(level, *s, at, scope, run),
         CoreForm::Whole => done(level.world, at, undefined(), run),
         CoreForm::Chain(first, all) => { eval_chain(level, first, all, at, scope, run) }
-        CoreForm::Builtin(n, all) => eval_builtin(level, node, *n, all, scope, run),
+        CoreForm::Builtin(_, _) => Err(Stop::Memory),
         CoreForm::Call(f, all) => eval_call(level, *f, all, at, scope, run),
-        CoreForm::Access(a, all) => eval_access(level, node, a, all, scope, run),
-        CoreForm::Array(all) => eval_array(level, all, at, scope, run),
-        CoreForm::Rows(rows) => eval_table(level, rows, at, scope, run),
+        CoreForm::Access(_, _) => Err(Stop::Memory),
+        CoreForm::Array(all) => eval_array(level, node, all, scope, run),
+        CoreForm::Rows(rows) => eval_table(level, node, rows, scope, run),
         CoreForm::Set(all) => eval_set(level, node, all, scope, run),
         CoreForm::Comp(braces, head, gens) => {
             eval_comprehension(level, node, *braces, head, gens, scope, run)
@@ -107,7 +132,7 @@ fn eval_slot(
     run: &mut Run,
 ) -> Result<Known, Stop>
     ensures goes { GoesOn run.old run.new }
-    ensures means { MeansBare seen result run.old run.new (λ r. in_scope r level.now scope.now (λ w go ctx env. done w at (env slot))) }
+    ensures means { Means seen result run.old run.new (λ r. in_scope r level.now scope.now (λ w go ctx env. done w at (env slot))) }
 {
     let cell = at_slot(level.world, scope, slot)?;
     done(level.world, at, cell, run)
@@ -115,7 +140,7 @@ fn eval_slot(
 
 fn eval_text(level: &Level, n: Name, at: Span, run: &mut Run) -> Result<Known, Stop>
     ensures goes { GoesOn run.old run.new }
-    ensures means { MeansBare seen result run.old run.new (λ r. done (world_in r level.now) at (text_cell (text_at (world_in r level.now).texts n))) }
+    ensures means { Means seen result run.old run.new (λ r. done (world_in r level.now) at (text_cell (text_at (world_in r level.now).texts n))) }
 {
     let cell = literal_text(level.alloc, level.world, n)?;
     done(level.world, at, cell, run)
@@ -123,7 +148,7 @@ fn eval_text(level: &Level, n: Name, at: Span, run: &mut Run) -> Result<Known, S
 
 fn eval_cases(level: &Level, e: u64, at: Span, run: &mut Run) -> Result<Known, Stop>
     ensures goes { GoesOn run.old run.new }
-    ensures means { MeansBare seen result run.old run.new (λ r. done (world_in r level.now) at (par_value (all_cases (world_in r level.now).cases e))) }
+    ensures means { Means seen result run.old run.new (λ r. done (world_in r level.now) at (par_value (all_cases (world_in r level.now).cases e))) }
 {
     let cell = all_cases(level.alloc, level.world, e)?;
     done(level.world, at, cell, run)
@@ -138,7 +163,7 @@ pub(crate) fn eval_parts(
     run: &mut Run,
 ) -> Result<Vec<Known>, Stop>
     ensures goes { GoesOn run.old run.new }
-    ensures means { MeansBare (λ r v. all_seen r v.items) result run.old run.new (λ r. in_scope r level.now scope.now (λ w go ctx env. parts go ctx (map tree all.now) env)) }
+    ensures means { Means (λ r v. all_seen r v.items) result run.old run.new (λ r. in_scope r level.now scope.now (λ w go ctx env. parts go ctx (map tree all.now) env)) }
 {
     let mut cells = Vec::new(level.alloc);
     for e in all {
@@ -157,7 +182,7 @@ fn eval_gathered(
     run: &mut Run,
 ) -> Result<Gathered, Stop>
     ensures goes { GoesOn run.old run.new }
-    ensures means { MeansBare gathered_seen result run.old run.new (λ r. in_scope r level.now scope.now (λ w go ctx env. parts go ctx (map tree all.now) env)) }
+    ensures means { Means gathered_seen result run.old run.new (λ r. in_scope r level.now scope.now (λ w go ctx env. parts go ctx (map tree all.now) env)) }
 {
     let mut cells = nothing_gathered(level.alloc);
     for e in all {
@@ -178,7 +203,7 @@ fn eval_builtin(
     run: &mut Run,
 ) -> Result<Known, Stop>
     ensures goes { GoesOn run.old run.new }
-    ensures means { MeansBare seen result run.old run.new (λ r. at_node r level.now scope.now node.now (λ w go ctx at t env. builtin w go ctx n (map tree all.now) at t env)) }
+    ensures means { Means (stamped (plain_type node.now.ty)) result run.old run.new (λ r. at_node r level.now scope.now node.now (λ w go ctx at t env. typed_by w t (builtin w go ctx n (map tree all.now) at t env))) }
 {
     let base = arguments_base(all, &node.ty);
     let row = row_at(n, base);
@@ -204,7 +229,7 @@ fn eval_called(
     run: &mut Run,
 ) -> Result<Known, Stop>
     ensures goes { GoesOn run.old run.new }
-    ensures means { MeansBare seen result run.old run.new (λ r. at_node r level.now scope.now node.now (λ w go ctx at t env. with_row_or_global w at t n row (parts go ctx (map tree all.now) env))) }
+    ensures means { Means (stamped (plain_type node.now.ty)) result run.old run.new (λ r. at_node r level.now scope.now node.now (λ w go ctx at t env. typed_by w t (with_row_or_global w at t n row (parts go ctx (map tree all.now) env)))) }
 {
     match row {
         None => eval_global(level, node, n, all, scope, run),
@@ -224,7 +249,7 @@ fn eval_row(
     run: &mut Run,
 ) -> Result<Known, Stop>
     ensures goes { GoesOn run.old run.new }
-    ensures means { MeansBare seen result run.old run.new (λ r. at_node r level.now scope.now node.now (λ w go ctx at t env. with_row w at t row (parts go ctx (map tree all.now) env))) }
+    ensures means { Means (stamped (plain_type node.now.ty)) result run.old run.new (λ r. at_node r level.now scope.now node.now (λ w go ctx at t env. typed_by w t (with_row w at t row (parts go ctx (map tree all.now) env)))) }
 {
     let count = all.len();
     if count == 1 {
@@ -234,7 +259,7 @@ fn eval_row(
         return eval_two(level, node, row, &all[0], &all[1], scope, run);
     }
     let cells = eval_parts(level, all, scope, run)?;
-    operated_all(
+    untyped_all(
         level.alloc,
         level.world,
         node.span,
@@ -255,10 +280,11 @@ fn eval_one(
     run: &mut Run,
 ) -> Result<Known, Stop>
     ensures goes { GoesOn run.old run.new }
-    ensures means { MeansBare seen result run.old run.new (λ r. at_node r level.now scope.now node.now (λ w go ctx at t env. with_row w at t row (parts go ctx (tree a.now ∷ []) env))) }
+    ensures means { Means (stamped (plain_type node.now.ty)) result run.old run.new (λ r. at_node r level.now scope.now node.now (λ w go ctx at t env. typed_by w t (with_row w at t row (parts go ctx (tree a.now ∷ []) env)))) }
 {
     let x = eval_expression(level, a, scope, run)?;
-    operated_one(level.alloc, level.world, node.span, &node.ty, row, x, run)
+    let arg = argument_of(a, x);
+    untyped_one(level.alloc, level.world, node.span, &node.ty, row, arg, run)
 }
 
 #[cycle(forms)]
@@ -272,37 +298,54 @@ fn eval_two(
     run: &mut Run,
 ) -> Result<Known, Stop>
     ensures goes { GoesOn run.old run.new }
-    ensures means { MeansBare seen result run.old run.new (λ r. at_node r level.now scope.now node.now (λ w go ctx at t env. with_row w at t row (parts go ctx (tree a.now ∷ tree b.now ∷ []) env))) }
+    ensures means { Means (stamped (plain_type node.now.ty)) result run.old run.new (λ r. at_node r level.now scope.now node.now (λ w go ctx at t env. typed_by w t (with_row w at t row (parts go ctx (tree a.now ∷ tree b.now ∷ []) env)))) }
 {
     let x = eval_expression(level, a, scope, run)?;
     let y = eval_expression(level, b, scope, run)?;
-    operated_two(
+    let args = (argument_of(a, x), argument_of(b, y));
+    untyped_two(
         level.alloc,
         level.world,
         node.span,
         &node.ty,
         row,
-        x,
-        y,
+        args,
         run,
     )
+}
+
+// the array of these cells, with the node's work
+fn array_of(level: &Level, node: &Core, cells: Gathered, run: &mut Run) -> Result<Known, Stop>
+    ensures goes { GoesOn run.old run.new }
+    ensures means { Means seen result run.old run.new (λ r. done (world_in r level.now) node.now.span (line_cell r.mode (gathered_seen r cells))) }
+{
+    let cell = array_cell_in(level.alloc, run, node.ty.base, node.ty.opt, cells)?;
+    done(level.world, node.span, cell, run)
 }
 
 // A list of elements.
 #[cycle(forms)]
 fn eval_array(
     level: &Level,
+    node: &Core,
     all: &[Core],
-    at: Span,
     scope: &Scope,
     run: &mut Run,
 ) -> Result<Known, Stop>
     ensures goes { GoesOn run.old run.new }
-    ensures means { MeansBare seen result run.old run.new (λ r. in_scope r level.now scope.now (λ w go ctx env. array w go ctx (map tree all.now) at env)) }
+    ensures means { Means seen result run.old run.new (λ r. at_node r level.now scope.now node.now (λ w go ctx at t env. array w go ctx (map tree all.now) at env)) }
 {
     let cells = eval_gathered(level, all, scope, run)?;
-    let cell = line_cell(level.alloc, cells)?;
-    done(level.world, at, cell, run)
+    array_of(level, node, cells, run)
+}
+
+// the set of these cells
+#[tactic(auto, using(crate::proofs::Sets::set_seen))]
+fn set_of(alloc: Global, node: &Core, g: &Gathered) -> Result<Known, AllocError>
+    ensures { IfOk result (λ k. (r : Reading) → seen r k ≡ set_cell (plain_type node.now.ty) (gathered_seen r g.now)) }
+{
+    let k = set_cell(alloc, &node.ty, g)?;
+    Ok(k)
 }
 
 // A set of elements.
@@ -315,28 +358,43 @@ fn eval_set(
     run: &mut Run,
 ) -> Result<Known, Stop>
     ensures goes { GoesOn run.old run.new }
-    ensures means { MeansBare seen result run.old run.new (λ r. at_node r level.now scope.now node.now (λ w go ctx at t env. set w go ctx (map tree all.now) at t env)) }
+    ensures means { Means seen result run.old run.new (λ r. at_node r level.now scope.now node.now (λ w go ctx at t env. set w go ctx (map tree all.now) at t env)) }
 {
     let cells = eval_gathered(level, all, scope, run)?;
-    let cell = set_cell(level.alloc, &node.ty, &cells)?;
+    let cell = set_of(level.alloc, node, &cells)?;
     done(level.world, node.span, cell, run)
+}
+
+// the array of these rows, with the node's work
+fn table_of(level: &Level, node: &Core, rows: Vec<Vec<Known>>, run: &mut Run) -> Result<Known, Stop>
+    ensures goes { GoesOn run.old run.new }
+    ensures means { Means seen result run.old run.new (λ r. table_node (world_in r level.now) node.now.span (rows_seen r rows.items)) }
+{
+    run.spend(level.world.budget, node.span, 1)?;
+    table_cell_in(
+        level.alloc,
+        run,
+        node.ty.base,
+        node.ty.opt,
+        node.span,
+        &rows,
+    )
 }
 
 // Rows of elements.
 #[cycle(forms)]
 fn eval_table(
     level: &Level,
+    node: &Core,
     rows: &[Vec<Core>],
-    at: Span,
     scope: &Scope,
     run: &mut Run,
 ) -> Result<Known, Stop>
     ensures goes { GoesOn run.old run.new }
-    ensures means { MeansBare seen result run.old run.new (λ r. in_scope r level.now scope.now (λ w go ctx env. table w go ctx (row_trees rows.now) at env)) }
+    ensures means { Means seen result run.old run.new (λ r. at_node r level.now scope.now node.now (λ w go ctx at t env. table w go ctx (row_trees rows.now) at env)) }
 {
     let cells = eval_rows(level, rows, scope, run)?;
-    run.spend(level.world.budget, at, 1)?;
-    table_cell(level.alloc, at, &cells)
+    table_of(level, node, cells, run)
 }
 
 #[cycle(forms)]
@@ -347,7 +405,7 @@ fn eval_rows(
     run: &mut Run,
 ) -> Result<Vec<Vec<Known>>, Stop>
     ensures goes { GoesOn run.old run.new }
-    ensures means { MeansBare (λ r v. row_cells_seen r v.items) result run.old run.new (λ r. in_scope r level.now scope.now (λ w go ctx env. loop (row_of_parts go ctx env) [] (row_trees rows.now))) }
+    ensures means { Means (λ r v. rows_seen r v.items) result run.old run.new (λ r. in_scope r level.now scope.now (λ w go ctx env. loop (row_of_parts go ctx env) [] (row_trees rows.now))) }
 {
     let mut all = Vec::new(level.alloc);
     for row in rows {
@@ -355,6 +413,36 @@ fn eval_rows(
         all.push(cells)?;
     }
     Ok(all)
+}
+
+// the element of an array at these indices, with the node's work
+fn element_of(
+    level: &Level,
+    node: &Core,
+    a: &Known,
+    at: &[Known],
+    run: &mut Run,
+) -> Result<Known, Stop>
+    ensures goes { GoesOn run.old run.new }
+    ensures means { Means (stamped (plain_type node.now.ty)) result run.old run.new
+        (λ r. access_node (world_in r level.now) (plain_type node.now.ty) node.now.span (seen r a.now) (all_seen r at.now)) }
+{
+    let element = element_cell_in(level.alloc, run, &node.ty, a, at)?;
+    done(level.world, node.span, element, run)
+}
+
+fn element_among(
+    level: &Level,
+    node: &Core,
+    a: &Known,
+    at: Vec<Known>,
+    run: &mut Run,
+) -> Result<Known, Stop>
+    ensures goes { GoesOn run.old run.new }
+    ensures means { Means (stamped (plain_type node.now.ty)) result run.old run.new
+        (λ r. access_node (world_in r level.now) (plain_type node.now.ty) node.now.span (seen r a.now) (all_seen r at.items)) }
+{
+    element_of(level, node, a, &at, run)
 }
 
 // An array's element at indices.
@@ -369,7 +457,7 @@ fn eval_access(
     run: &mut Run,
 ) -> Result<Known, Stop>
     ensures goes { GoesOn run.old run.new }
-    ensures means { MeansBare seen result run.old run.new (λ r. at_node r level.now scope.now node.now (λ w go ctx at t env. access w go ctx (tree a.now) (map tree all.now) at t env)) }
+    ensures means { Means (stamped (plain_type node.now.ty)) result run.old run.new (λ r. at_node r level.now scope.now node.now (λ w go ctx at t env. typed_by w t (access w go ctx (tree a.now) (map tree all.now) at t env))) }
 {
     let count = all.len();
     if count == 1 {
@@ -377,8 +465,7 @@ fn eval_access(
     }
     let cell = eval_expression(level, a, scope, run)?;
     let cells = eval_parts(level, all, scope, run)?;
-    let element = access_cell(level.alloc, &node.ty, &cell, &cells)?;
-    done(level.world, node.span, element, run)
+    element_among(level, node, &cell, cells, run)
 }
 
 #[cycle(forms)]
@@ -391,11 +478,10 @@ fn eval_element(
     run: &mut Run,
 ) -> Result<Known, Stop>
     ensures goes { GoesOn run.old run.new }
-    ensures means { MeansBare seen result run.old run.new (λ r. at_node r level.now scope.now node.now (λ w go ctx at t env. access w go ctx (tree a.now) (tree i.now ∷ []) at t env)) }
+    ensures means { Means (stamped (plain_type node.now.ty)) result run.old run.new (λ r. at_node r level.now scope.now node.now (λ w go ctx at t env. typed_by w t (access w go ctx (tree a.now) (tree i.now ∷ []) at t env))) }
 {
     let cell = eval_expression(level, a, scope, run)?;
     let index = eval_expression(level, i, scope, run)?;
     let indices = [index];
-    let element = access_cell(level.alloc, &node.ty, &cell, &indices)?;
-    done(level.world, node.span, element, run)
+    element_of(level, node, &cell, &indices, run)
 }

@@ -1,4 +1,4 @@
-// The values of par expressions.
+// The cells of expressions in a run, and the values of par ones.
 #![tactic(auto)]
 
 mod calls;
@@ -11,6 +11,7 @@ mod operators;
 mod plain_calls;
 mod top_call;
 mod types;
+mod weights;
 
 pub use mz_eval_scopes::Env;
-pub use top_call::{evaluated, value};
+pub use top_call::{evaluated, expanded, value};

@@ -1,11 +1,12 @@
 // Chains of operators of one level.
 
 ghost use Rattle.std.specs.Prelude.{◌≡◌, is_some, map, true, false};
+ghost use Rattle.mz_core.specs.Tree.{place_of};
 ghost use Rattle.mz_core.specs.TreeViews.{tree, step};
 ghost use Rattle.mz_meaning.specs.Chains as chains;
 ghost use Rattle.mz_meaning.specs.Chains.{chain_level, chained};
 ghost use Rattle.mz_meaning.specs.Forms.{chain, chain_by, operators, append_operand};
-ghost use Rattle.mz_symbol.specs.Makes.{GoesOn, MeansBare};
+ghost use Rattle.mz_symbol.specs.Makes.{GoesOn, Means};
 ghost use Rattle.mz_eval_cells.specs.Views.{seen};
 ghost use Rattle.mz_eval_scopes.specs.Seen.{ctx_of};
 ghost use Rattle.mz_eval.specs.Chains.{own_operators, operands};
@@ -17,12 +18,12 @@ ghost use Rattle.mz_eval_nodes.specs.Operators.{operator_step, appended_seen};
 use crate::forms::eval_expression;
 use crate::types::Level;
 use mz_base::{Span, Stop};
-use mz_core::{Core, CoreStep};
+use mz_core::{Base, Core, CoreStep};
 use mz_eval_cells::Known;
 use mz_eval_chains::{Innermost, Operator, all_operators, has_innermost, is_appended, place_of};
 use mz_eval_nodes::{
-    Appended, append_operand, appended_nodes, contexts_before, first_within, is_settled,
-    nothing_appended, operand_within, operated_on, prepared, right_within,
+    Appended, append_operand, appended_nodes, contexts_before, first_within, is_settled, kind_of,
+    left_argument, nothing_appended, operand_within, operated_on, prepared, right_within,
 };
 use mz_eval_scopes::{Context, Scope};
 use mz_symbol::Run;
@@ -38,7 +39,7 @@ pub(crate) fn eval_chain(
     run: &mut Run,
 ) -> Result<Known, Stop>
     ensures goes { GoesOn run.old run.new }
-    ensures means { MeansBare seen result run.old run.new (λ r. in_scope r level.now scope.now (λ w go ctx env. chain w go ctx (tree first.now) (map step all.now) at env)) }
+    ensures means { Means seen result run.old run.new (λ r. in_scope r level.now scope.now (λ w go ctx env. chain w go ctx (tree first.now) (map step all.now) at env)) }
 {
     if is_appended(all) {
         return eval_appended(level, first, all, at, scope, run);
@@ -70,13 +71,15 @@ fn eval_plain(
 ) -> Result<Known, Stop>
     requires { settled (ctx_of level.now.ctx) ≡ true }
     ensures goes { GoesOn run.old run.new }
-    ensures means { MeansBare seen result run.old run.new (λ r. in_scope r level.now scope.now (λ w go ctx env. chain_by w go ctx env false (own_operators at first.now all.now))) }
+    ensures means { Means seen result run.old run.new (λ r. in_scope r level.now scope.now (λ w go ctx env. chain_by w go ctx env false (own_operators at first.now all.now))) }
 {
     let mut cell = eval_expression(level, first, scope, run)?;
     let mut place = place_of(first);
+    let mut kind = kind_of(&first.ty);
     for s in all {
-        cell = eval_step(level, place, cell, at, s, scope, run)?;
+        cell = eval_step(level, place, kind, cell, at, s, scope, run)?;
         place = at;
+        kind = kind_of(&s.ty);
     }
     Ok(cell)
 }
@@ -85,6 +88,7 @@ fn eval_plain(
 fn eval_step(
     level: &Level,
     place: Span,
+    kind: (Base, bool),
     cell: Known,
     at: Span,
     s: &CoreStep,
@@ -92,7 +96,7 @@ fn eval_step(
     run: &mut Run,
 ) -> Result<Known, Stop>
     ensures goes { GoesOn run.old run.new }
-    ensures means { MeansBare seen result run.old run.new
+    ensures means { Means seen result run.old run.new
         (λ r. in_scope r level.now scope.now (λ w go ctx env. operator_step w go ctx env place (seen r cell) (record { at = at; step = step s.now }))) }
 {
     let o = Operator {
@@ -102,24 +106,27 @@ fn eval_step(
         operand: &s.operand,
         after: None,
     };
-    eval_operator(level, place, cell, &o, scope, run)
+    eval_operator(level, place, kind, cell, &o, scope, run)
 }
 
+// An operator over its left operand, of which `kind` says what its node's type is, and its right one.
 #[cycle(forms)]
 fn eval_operator(
     level: &Level,
     place: Span,
+    kind: (Base, bool),
     cell: Known,
     o: &Operator,
     scope: &Scope,
     run: &mut Run,
 ) -> Result<Known, Stop>
     ensures goes { GoesOn run.old run.new }
-    ensures means { MeansBare seen result run.old run.new (λ r. in_scope r level.now scope.now (λ w go ctx env. operator_step w go ctx env place (seen r cell) (operator_of o.now))) }
+    ensures means { Means seen result run.old run.new (λ r. in_scope r level.now scope.now (λ w go ctx env. operator_step w go ctx env place (seen r cell) (operator_of o.now))) }
 {
     let a = prepared(level.alloc, level.world, place, o, cell, run)?;
     let c = eval_expression(level, o.operand, scope, run)?;
-    operated_on(level.alloc, level.world, o, a, c, run)
+    let left = left_argument(o, kind, a);
+    operated_on(level.alloc, level.world, o, left, c, run)
 }
 
 // With the operators of the first operand.
@@ -133,7 +140,7 @@ fn eval_with_innermost(
     run: &mut Run,
 ) -> Result<Known, Stop>
     ensures goes { GoesOn run.old run.new }
-    ensures means { MeansBare seen result run.old run.new (λ r. in_scope r level.now scope.now (λ w go ctx env. chain_by w go ctx env false (chained at (tree first.now) (map step all.now)))) }
+    ensures means { Means seen result run.old run.new (λ r. in_scope r level.now scope.now (λ w go ctx env. chain_by w go ctx env false (chained at (tree first.now) (map step all.now)))) }
 {
     let f = all_operators(level.alloc, at, &*first, &*all)?;
     eval_innermost(level, &f, scope, run)
@@ -142,7 +149,7 @@ fn eval_with_innermost(
 #[cycle(forms)]
 fn eval_innermost(level: &Level, f: &Innermost, scope: &Scope, run: &mut Run) -> Result<Known, Stop>
     ensures goes { GoesOn run.old run.new }
-    ensures means { MeansBare seen result run.old run.new (λ r. in_scope r level.now scope.now (λ w go ctx env. chain_by w go ctx env false (innermost_of f.now))) }
+    ensures means { Means seen result run.old run.new (λ r. in_scope r level.now scope.now (λ w go ctx env. chain_by w go ctx env false (innermost_of f.now))) }
 {
     let (ctx, contexts) = contexts_before(level.alloc, level.ctx, &f.operators)?;
     let first = Level {
@@ -152,15 +159,14 @@ fn eval_innermost(level: &Level, f: &Innermost, scope: &Scope, run: &mut Run) ->
         ctx,
     };
     let cell = eval_expression(&first, f.first, scope, run)?;
-    let place = place_of(f.first);
-    eval_operators(level, place, cell, &f.operators, contexts, scope, run)
+    eval_operators(level, f.first, cell, &f.operators, contexts, scope, run)
 }
 
 #[cycle(forms)]
 #[tactic(auto, using(crate::proofs::Chains::operators_next))]
 fn eval_operators(
     level: &Level,
-    first: Span,
+    first: &Core,
     left_cell: Known,
     all: &[Operator],
     contexts: Vec<Context>,
@@ -169,10 +175,11 @@ fn eval_operators(
 ) -> Result<Known, Stop>
     requires { map ctx_of contexts.items ≡ later (ctx_of level.now.ctx) (map operator_of all.now) }
     ensures goes { GoesOn run.old run.new }
-    ensures means { MeansBare seen result run.old run.new (λ r. in_scope r level.now scope.now (λ w go ctx env. operators w go ctx env first (seen r left_cell) (map operator_of all.now))) }
+    ensures means { Means seen result run.old run.new (λ r. in_scope r level.now scope.now (λ w go ctx env. operators w go ctx env (place_of (tree first.now)) (seen r left_cell) (map operator_of all.now))) }
 {
     let mut cell = left_cell;
-    let mut place = first;
+    let mut place = place_of(first);
+    let mut kind = kind_of(&first.ty);
     let mut stack = contexts;
     for i in 0..all.len() {
         let o = &all[i];
@@ -183,8 +190,9 @@ fn eval_operators(
             left: level.left,
             ctx,
         };
-        cell = eval_operator(&inside, place, cell, o, scope, run)?;
+        cell = eval_operator(&inside, place, kind, cell, o, scope, run)?;
         place = o.at;
+        kind = kind_of(&o.step.ty);
     }
     Ok(cell)
 }
@@ -200,7 +208,7 @@ fn eval_appended(
     run: &mut Run,
 ) -> Result<Known, Stop>
     ensures goes { GoesOn run.old run.new }
-    ensures means { MeansBare seen result run.old run.new (λ r. in_scope r level.now scope.now (λ w go ctx env. chain_by w go ctx env true (chained at (tree first.now) (map step all.now)))) }
+    ensures means { Means seen result run.old run.new (λ r. in_scope r level.now scope.now (λ w go ctx env. chain_by w go ctx env true (chained at (tree first.now) (map step all.now)))) }
 {
     let f = all_operators(level.alloc, at, &*first, &*all)?;
     eval_back(level, &f, scope, run)
@@ -209,7 +217,7 @@ fn eval_appended(
 #[cycle(forms)]
 fn eval_back(level: &Level, f: &Innermost, scope: &Scope, run: &mut Run) -> Result<Known, Stop>
     ensures goes { GoesOn run.old run.new }
-    ensures means { MeansBare seen result run.old run.new (λ r. in_scope r level.now scope.now (λ w go ctx env. chain_by w go ctx env true (innermost_of f.now))) }
+    ensures means { Means seen result run.old run.new (λ r. in_scope r level.now scope.now (λ w go ctx env. chain_by w go ctx env true (innermost_of f.now))) }
 {
     let ctx = first_within(level.ctx, &f.operators);
     let first = Level {
@@ -234,7 +242,7 @@ fn eval_operands<'a>(
     run: &mut Run,
 ) -> Result<Appended<'a>, Stop>
     ensures goes { GoesOn run.old run.new }
-    ensures means { MeansBare appended_seen result run.old run.new (λ r. in_scope r level.now scope.now (λ w go ctx env. operands w go ctx env first (seen r cell) (map operator_of all.now))) }
+    ensures means { Means appended_seen result run.old run.new (λ r. in_scope r level.now scope.now (λ w go ctx env. operands w go ctx env first (seen r cell) (map operator_of all.now))) }
 {
     let mut x = nothing_appended(level.alloc, first, cell);
     let mut ctx = level.ctx;
@@ -262,7 +270,7 @@ fn eval_operand<'a>(
     run: &mut Run,
 ) -> Result<Appended<'a>, Stop>
     ensures goes { GoesOn run.old run.new }
-    ensures means { MeansBare appended_seen result run.old run.new (λ r. in_scope r level.now scope.now (λ w go ctx env. append_operand w go ctx env (appended_seen r x.entry) (operator_of o.entry))) }
+    ensures means { Means appended_seen result run.old run.new (λ r. in_scope r level.now scope.now (λ w go ctx env. append_operand w go ctx env (appended_seen r x.entry) (operator_of o.entry))) }
 {
     let Appended { lefts, place, last } = x;
     let a = prepared(level.alloc, level.world, place, &o, last, run)?;

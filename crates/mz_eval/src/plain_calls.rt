@@ -4,32 +4,22 @@
 ghost use Rattle.std.specs.Prelude.{◌≡◌, ◌∷◌, [], map, true, IfSome};
 ghost use Rattle.mz_core.specs.Program.{function};
 ghost use Rattle.mz_core.specs.TreeViews.{tree, decl};
-ghost use Rattle.mz_meaning.specs.Arrays.{Anything};
-ghost use Rattle.mz_meaning.specs.Calls.{argument_suits};
-ghost use Rattle.mz_eval_cells.specs.Views.{cell_of, sure_of, seen};
-ghost use Rattle.mz_symbol.specs.Makes.{GoesOn, MeansBare};
+ghost use Rattle.mz_eval_cells.specs.Views.{seen};
+ghost use Rattle.mz_symbol.specs.Makes.{GoesOn, Means};
 ghost use Rattle.mz_eval.specs.Levels.{in_scope};
-ghost use Rattle.mz_eval.specs.PlainCalls.{IsPlain, ArePlain, IsPlainAt, called_on_all, call_goes_on};
+ghost use Rattle.mz_eval.specs.PlainCalls.{IsPlain, ArePlain, IsPlainAt, called_on_all, call_ends, call_goes_on};
 
 use crate::calls::{eval_called, function_at};
 use crate::forms::{eval_expression, eval_parts};
 use crate::types::{Call, CallScope, Level};
+use crate::weights::{lengths_of, more_length, weighed};
 use mz_base::{Span, Stop};
 use mz_core::{Core, CoreDecl, CoreFunction, Program};
-use mz_eval_cells::{Known, Sure, both_sure, surely, there};
+use mz_eval_cells::Known;
+use mz_eval_guards::surely;
+use mz_eval_names::{both_hold, plain_suits};
 use mz_eval_scopes::Scope;
 use mz_symbol::Run;
-
-// whether an argument suits its parameter, which has no declared set
-fn plain_suits(var: bool, of_var: bool, k: &Known) -> Sure
-    ensures { sure_of result ≡ argument_suits var of_var Anything (cell_of k.now) }
-{
-    match (var, of_var) {
-        (true, _) => there(k),
-        (false, false) => there(k),
-        (false, true) => surely(),
-    }
-}
 
 // whether a parameter has no declared set
 fn is_plain(d: &CoreDecl) -> bool
@@ -70,7 +60,7 @@ pub(crate) fn eval_plain_call(
     run: &mut Run,
 ) -> Result<Known, Stop>
     ensures goes { GoesOn run.old run.new }
-    ensures means { MeansBare seen result run.old run.new (λ r. in_scope r level.now scope.now (λ w go ctx env. called_on_all w go ctx (function f.now) at (map tree all.now) env)) }
+    ensures means { Means seen result run.old run.new (λ r. in_scope r level.now scope.now (λ w go ctx env. called_on_all w go ctx (function f.now) at (map tree all.now) env)) }
 {
     let call = Call {
         function: &*f,
@@ -80,6 +70,7 @@ pub(crate) fn eval_plain_call(
     let top = Scope::Top;
     let bound = CallScope {
         scope: &top,
+        elements: 0,
         holds: surely(),
     };
     eval_bound(level, &call, &f.params, all, &bound, run)
@@ -97,11 +88,11 @@ fn eval_bound(
     run: &mut Run,
 ) -> Result<Known, Stop>
     ensures goes { GoesOn run.old run.new }
-    ensures means { MeansBare seen result run.old run.new (λ r. call_goes_on r level.now call.now (map decl params.now) (map tree all.now) bound.now) }
+    ensures means { Means seen result run.old run.new (λ r. call_goes_on r level.now call.now (map decl params.now) (map tree all.now) bound.now) }
 {
     let count = all.len();
     if count == 0 {
-        return eval_called(level, call.function, call.at, bound, run);
+        return eval_weighed(level, call, bound, run);
     }
     let declared = params.len();
     if declared == 0 {
@@ -129,9 +120,21 @@ fn eval_unbound(
     run: &mut Run,
 ) -> Result<Known, Stop>
     ensures goes { GoesOn run.old run.new }
-    ensures means { MeansBare seen result run.old run.new (λ r. call_goes_on r level.now call.now [] (map tree all.now) bound.now) }
+    ensures means { Means seen result run.old run.new (λ r. call_goes_on r level.now call.now [] (map tree all.now) bound.now) }
 {
-    let _cells = eval_parts(level, all, call.scope, run)?;
+    let cells = eval_parts(level, all, call.scope, run)?;
+    let elements = lengths_of(bound.elements, cells)?;
+    weighed(run, elements)?;
+    eval_called(level, call.function, call.at, bound, run)
+}
+
+// All arguments are bound.
+#[cycle(forms)]
+fn eval_weighed(level: &Level, call: &Call, bound: &CallScope, run: &mut Run) -> Result<Known, Stop>
+    ensures goes { GoesOn run.old run.new }
+    ensures means { Means seen result run.old run.new (λ r. call_ends r level.now call.now bound.now) }
+{
+    weighed(run, bound.elements)?;
     eval_called(level, call.function, call.at, bound, run)
 }
 
@@ -149,14 +152,17 @@ fn eval_first(
     run: &mut Run,
 ) -> Result<Known, Stop>
     ensures goes { GoesOn run.old run.new }
-    ensures means { MeansBare seen result run.old run.new (λ r. call_goes_on r level.now call.now (decl d.now ∷ map decl params.now) (tree e.now ∷ map tree all.now) bound.now) }
+    ensures means { Means seen result run.old run.new (λ r. call_goes_on r level.now call.now (decl d.now ∷ map decl params.now) (tree e.now ∷ map tree all.now) bound.now) }
 {
     let cell = eval_expression(level, e, call.scope, run)?;
-    let suits = plain_suits(call.function.result.ty.var, d.ty.ty.var, &cell);
+    let elements = more_length(bound.elements, &cell)?;
+    let suits = plain_suits(run, call.function.result.ty.var, d.ty.ty.var, &cell)?;
+    let holds = both_hold(run, bound.holds, suits)?;
     let more = Scope::Bound(d.slot, &cell, bound.scope);
     let inner = CallScope {
         scope: &more,
-        holds: both_sure(bound.holds, suits),
+        elements,
+        holds,
     };
     eval_bound(level, call, params, all, &inner, run)
 }

@@ -8,14 +8,17 @@ ghost use Rattle.mz_core.specs.Program.{plain_program};
 ghost use Rattle.mz_core.specs.TreeViews.{tree};
 ghost use Rattle.mz_meaning.specs.Contexts.{Untested};
 ghost use Rattle.mz_meaning.specs.Evaluation.{eval};
-ghost use Rattle.mz_eval_cells.specs.Views.{cell_of};
+ghost use Rattle.mz_symbol.specs.Makes.{GoesOn, Means};
+ghost use Rattle.mz_eval_cells.specs.Views.{cell_of, seen};
 ghost use Rattle.mz_eval_scopes.specs.Runs.{Meets, at_work};
-ghost use Rattle.mz_eval_scopes.specs.Views.{env_cells, world_of};
+ghost use Rattle.mz_eval_scopes.specs.Seen.{ctx_of, world_seen};
+ghost use Rattle.mz_eval_scopes.specs.Views.{env_cells, env_cells_by, world_of};
 ghost use Rattle.mz_eval.specs.Values.{value_in};
 ghost use Rattle.mz_eval.specs.Answers.{StopsAtFewKinds};
 
 use crate::forms::eval_expression;
 use crate::types::Level;
+use crate::weights::sound;
 use mz_base::{Depth, Steps, Stop};
 use mz_core::{Core, Program};
 use mz_eval_cells::Known;
@@ -59,6 +62,35 @@ fn spent_of(budget: u64, work: u64) -> Steps
     steps
 }
 
+/// The cell of an expression, par or var, over the top-level names of `world`, in a place of this
+/// context, with the nodes that it makes: at most `left` levels of nesting are open at once.
+///
+/// Refused Bounds, Budget, Depth, AssertFailed, IndexMismatch, NegativeArgument, and FreeInContext
+/// where a free local stands in another place than a positive one, each at its place and where it
+/// comes first. Out of memory too where a node isn't made yet, or may not be made. After an error the
+/// run tells nothing.
+pub fn expanded(
+    alloc: Global,
+    world: &World,
+    ctx: Context,
+    e: &Core,
+    left: u64,
+    run: &mut Run,
+) -> Result<Known, Stop>
+    ensures goes { GoesOn run.old run.new }
+    ensures means { Means seen result run.old run.new
+        (λ r. eval (world_seen r world.now) left (ctx_of ctx) (tree e.now) (env_cells_by (seen r) world.now.env.now)) }
+{
+    let level = Level {
+        alloc,
+        world: &*world,
+        left,
+        ctx,
+    };
+    let top = Scope::Top;
+    eval_expression(&level, e, &top, run)
+}
+
 /// The cell of an expression, par or var, over the top-level names of `world`: at most `left` levels
 /// of nesting are open at once. `work` is what is spent so far, at most the budget and 1, and then
 /// with what the expression takes. A free local has no value here, nor has a part of a var type; no
@@ -78,15 +110,9 @@ pub fn evaluated(
     ensures kinds { StopsAtFewKinds result }
     ensures within { IfOk result (λ _. work.new ≤ world.now.budget + 1) }
 {
-    let level = Level {
-        alloc,
-        world: &*world,
-        left,
-        ctx: Context::Untested,
-    };
-    let top = Scope::Top;
     let mut run = Run::after(alloc, *work);
-    let cell = eval_expression(&level, e, &top, &mut run);
+    let cell = expanded(alloc, world, Context::Untested, e, left, &mut run);
+    sound(&run);
     *work = run.work();
     cell
 }

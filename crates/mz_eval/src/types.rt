@@ -2,9 +2,9 @@
 
 use mz_base::Span;
 use mz_core::{Core, CoreFunction, CoreGen};
-use mz_eval_arrays::Elements;
-use mz_eval_cells::Sure;
+use mz_eval_guards::Guard;
 use mz_eval_scopes::{Context, Scope, World};
+use mz_eval_turns::Elements;
 use std::alloc::Global;
 
 /// An evaluation at one level of nesting and in one place: its memory, its world, how many levels are
@@ -25,11 +25,13 @@ pub struct Call<'a> {
     pub scope: &'a Scope<'a>,
 }
 
-/// The scope of a call so far, and whether the arguments in it suit their parameters.
+/// The scope of a call so far, how many elements the arrays among the arguments in it have, and whether
+/// these arguments suit their parameters.
 #[derive(Clone, Copy)]
 pub struct CallScope<'a> {
     pub scope: &'a Scope<'a>,
-    pub holds: Sure,
+    pub elements: u64,
+    pub holds: Guard,
 }
 
 /// A comprehension's head and place.

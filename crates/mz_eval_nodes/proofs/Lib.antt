@@ -1,4 +1,3 @@
-pub mod Elements
 pub mod Lefts
 pub mod Work
 pub mod ContextLaws

@@ -1,20 +1,15 @@
 -- The steps of evaluations that definitions take within one line.
-use Rattle.std.specs.Prelude.{ℕ, Bool, List, [], ◌∷◌, map}
+use Rattle.std.specs.Prelude.{List, [], ◌∷◌, map}
 use Rattle.mz_base.specs.declared.fault.Span.{Span}
-use Rattle.mz_core.specs.Tree.{Tree, Decl, place_of}
-use Rattle.mz_eval_cells.specs.Views.{cell_of, seen}
+use Rattle.mz_eval_cells.specs.Views.{seen}
 use Rattle.mz_eval_cells.specs.declared.types.Known.{Known}
-use Rattle.mz_meaning.specs.Runs.{Run, ◌>>=◌, ◌>>◌, give, loop, spend}
-use Rattle.mz_meaning.specs.Cells.{Cell, Env, Sure, both_sure, bind}
-use Rattle.mz_meaning.specs.Arrays.{Want, fitted}
+use Rattle.mz_meaning.specs.Runs.{Run, ◌>>=◌, give, loop}
+use Rattle.mz_meaning.specs.Cells.{Cell, Env}
 use Rattle.mz_meaning.specs.Contexts.{Context}
 use Rattle.mz_meaning.specs.Chains as chains
 use Rattle.mz_meaning.specs.Chains.{operand_base}
 use Rattle.mz_meaning.specs.Forms as forms
 use Rattle.mz_meaning.specs.Forms.{World, Eval, coerced_by, operated, operand_place, append_node}
-use Rattle.mz_meaning.specs.Lets.{index_wants, want, all_have_sets}
-use Rattle.mz_meaning.specs.Calls.{argument_suits}
-use Rattle.mz_meaning.specs.Comprehensions.{Rest, Made, Element, Presence, names, both_occur}
 use Rattle.mz_eval_chains.specs.declared.types.Operator.{Operator}
 use Rattle.mz_eval_chains.specs.Innermosts.{operator_of}
 use Rattle.mz_symbol.specs.Readings.{Reading}
@@ -50,17 +45,14 @@ placed_seen r at k = (at, seen r k)
 abbrev pub left_by : (Known → Cell) → Operator × Known → chains.Operator × Cell
 left_by see p = (operator_of p.0, see p.1)
 
-abbrev pub left_of : Operator × Known → chains.Operator × Cell
-left_of p = left_by cell_of p
-
 abbrev pub left_seen : Reading → Operator × Known → chains.Operator × Cell
 left_seen r p = left_by (seen r) p
 
 abbrev pub lefts_by : (Known → Cell) → List (Operator × Known) → List (chains.Operator × Cell)
 lefts_by see ps = reversed_onto [] (map (left_by see) ps)
 
-abbrev pub lefts_of : List (Operator × Known) → List (chains.Operator × Cell)
-lefts_of ps = lefts_by cell_of ps
+abbrev pub lefts_seen : Reading → List (Operator × Known) → List (chains.Operator × Cell)
+lefts_seen r ps = lefts_by (seen r) ps
 
 -- the first operand alone
 abbrev pub nothing_appended : Span → Cell → forms.Appended
@@ -68,9 +60,6 @@ nothing_appended place first = record { lefts = []; place = place; last = first 
 
 abbrev pub appended_by : (Known → Cell) → Appended → forms.Appended
 appended_by see x = record { lefts = lefts_by see x.lefts.items; place = x.place; last = see x.last }
-
-abbrev pub appended_of : Appended → forms.Appended
-appended_of x = appended_by cell_of x
 
 abbrev pub appended_seen : Reading → Appended → forms.Appended
 appended_seen r x = appended_by (seen r) x
@@ -80,20 +69,3 @@ abbrev pub appended_nodes : World → forms.Appended → Run Cell
 appended_nodes w x = do
   r ← loop (append_node w) (x.place, x.last) x.lefts
   give r.1
-
--- ---- one value of a generator's name
-
-abbrev pub turn : World → Span → List Element → ℕ → List ℕ → Rest → Env → Presence → Made → Element → Run Made
-turn w at es s ss rest env occurs made x = spend w.budget at 1 >> names w at es ss rest (bind s x.0 env) (both_occur occurs x.1) made
-
--- ---- an argument under its parameter
-
-abbrev pub suited : Bool → Decl → List Want → Want → Cell → Cell × Sure
-suited var d ixs x c = (c, both_sure (all_have_sets ixs) (argument_suits var d.ty.ty.var x c))
-
-abbrev pub argument : Eval → Context → Bool → Env → Decl → Tree → Cell → Run (Cell × Sure)
-argument go ctx var env d e k = do
-  ixs ← index_wants go ctx d.ty.index env
-  x ← want go ctx d.ty.set env
-  c ← fitted (place_of e) ixs k
-  give (suited var d ixs x c)

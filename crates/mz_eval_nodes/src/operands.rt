@@ -1,23 +1,23 @@
 // The operands of a chain's operators, and the nodes of `++`.
 
-ghost use Rattle.std.specs.Prelude.{◌≡◌, ◌∷◌, false, IfOk};
-ghost use Rattle.mz_core.specs.Types.{plain_type};
-ghost use Rattle.mz_meaning.specs.Cells.{Bare, typed};
+ghost use Rattle.std.specs.Prelude.{◌≡◌, ◌∷◌, IfOk};
 ghost use Rattle.mz_meaning.specs.Forms.{coerced_by, append_node};
-ghost use Rattle.mz_eval_cells.specs.Views.{cell_of, seen};
-ghost use Rattle.mz_symbol.specs.Makes.{GoesOn, MeansBare};
+ghost use Rattle.mz_eval_cells.specs.Views.{seen};
+ghost use Rattle.mz_symbol.specs.Readings.{Reading};
+ghost use Rattle.mz_symbol.specs.Makes.{GoesOn, Means, MeansBare};
 ghost use Rattle.mz_eval_scopes.specs.Seen.{world_seen};
 ghost use Rattle.mz_eval_chains.specs.Innermosts.{operator_of};
-ghost use Rattle.mz_eval_nodes.specs.Operators.{operator_node, operated_on, placed_seen, nothing_appended, appended_of, appended_seen, appended_nodes, left_seen, lefts_of};
+ghost use Rattle.mz_eval_nodes.specs.Operators.{operator_node, operated_on, placed_seen, nothing_appended, appended_seen, appended_nodes, left_seen, lefts_seen};
 
-use crate::rows::operated_two;
+use crate::arguments::{element_argument, right_argument};
 use crate::types::Appended;
 use mz_base::{Span, Stop};
-use mz_core::TypeInst;
-use mz_eval_cells::{Known, stays, typed};
+use mz_eval_cells::Known;
 use mz_eval_chains::{Operator, coerce_both, is_uncoerced, operand_base, place_of};
+use mz_eval_row_nodes::node_of_two;
 use mz_eval_rows::row_at;
 use mz_eval_scopes::World;
+use mz_eval_terms::Argument;
 use mz_symbol::Run;
 use std::alloc::{AllocError, Global};
 
@@ -31,7 +31,8 @@ pub fn prepared(
     run: &mut Run,
 ) -> Result<Known, Stop>
     ensures goes { GoesOn run.old run.new }
-    ensures means { MeansBare seen result run.old run.new (λ r. coerced_by (world_seen r world.now) at (operator_of o.now).step.left (seen r left)) }
+    ensures means { Means seen result run.old run.new (λ r. coerced_by (world_seen r world.now) at (operator_of o.now).step.left (seen r left)) }
+    ensures bare { MeansBare seen result run.old run.new (λ r. coerced_by (world_seen r world.now) at (operator_of o.now).step.left (seen r left)) }
 {
     if is_uncoerced(o.before, &o.step.left) {
         return Ok(left);
@@ -39,30 +40,20 @@ pub fn prepared(
     coerce_both(alloc, world, at, o.before, &o.step.left, left, run)
 }
 
-fn typed_row(alloc: Global, t: &TypeInst, k: Known) -> Result<Known, AllocError>
-    ensures { IfOk result (λ x. cell_of x ≡ typed Bare false (plain_type t.now) (cell_of k)) }
-{
-    if stays(t, &k) {
-        return Ok(k);
-    }
-    typed(alloc, false, t, k)
-}
-
 // an operator's node over its operands
 fn node_of(
     alloc: Global,
     world: &World,
     o: &Operator,
-    a: Known,
-    b: Known,
+    args: (Argument, Argument),
     run: &mut Run,
 ) -> Result<Known, Stop>
     ensures goes { GoesOn run.old run.new }
-    ensures means { MeansBare seen result run.old run.new (λ r. operator_node (world_seen r world.now) (operator_of o.now) (seen r a) (seen r b)) }
+    ensures means { Means seen result run.old run.new (λ r. operator_node (world_seen r world.now) (operator_of o.now) (seen r args.0.cell) (seen r args.1.cell)) }
+    ensures bare { MeansBare seen result run.old run.new (λ r. operator_node (world_seen r world.now) (operator_of o.now) (seen r args.0.cell) (seen r args.1.cell)) }
 {
     let row = row_at(o.step.row, operand_base(o));
-    let c = operated_two(alloc, world, o.at, &o.step.ty, row, a, b, run)?;
-    Ok(typed_row(alloc, &o.step.ty, c)?)
+    node_of_two(alloc, world, o.at, &o.step.ty, row, args, run)
 }
 
 /// An operator's node: its right operand's coercions, and the row.
@@ -70,24 +61,27 @@ pub fn operated_on(
     alloc: Global,
     world: &World,
     o: &Operator,
-    a: Known,
+    a: Argument,
     c: Known,
     run: &mut Run,
 ) -> Result<Known, Stop>
     ensures goes { GoesOn run.old run.new }
-    ensures means { MeansBare seen result run.old run.new (λ r. operated_on (world_seen r world.now) (seen r a) (operator_of o.now) (seen r c)) }
+    ensures means { Means seen result run.old run.new (λ r. operated_on (world_seen r world.now) (seen r a.cell) (operator_of o.now) (seen r c)) }
+    ensures bare { MeansBare seen result run.old run.new (λ r. operated_on (world_seen r world.now) (seen r a.cell) (operator_of o.now) (seen r c)) }
 {
     if is_uncoerced(o.after, &o.step.right) {
-        return node_of(alloc, world, o, a, c, run);
+        let x = right_argument(o, c);
+        return node_of(alloc, world, o, (a, x), run);
     }
     let place = place_of(o.operand);
     let b = coerce_both(alloc, world, place, o.after, &o.step.right, c, run)?;
-    node_of(alloc, world, o, a, b, run)
+    let y = right_argument(o, b);
+    node_of(alloc, world, o, (a, y), run)
 }
 
 /// The first operand alone.
 pub fn nothing_appended<'a>(alloc: Global, place: Span, first: Known) -> Appended<'a>
-    ensures { appended_of result ≡ nothing_appended place (cell_of first) }
+    ensures { (r : Reading) → appended_seen r result ≡ nothing_appended place (seen r first) }
 {
     Appended {
         lefts: Vec::new(alloc),
@@ -105,7 +99,7 @@ pub fn append_operand<'a>(
     place: Span,
     last: Known,
 ) -> Result<Appended<'a>, AllocError>
-    ensures { IfOk result (λ x. appended_of x ≡ record { lefts = (operator_of o.entry, cell_of left) ∷ lefts_of lefts.entry.items; place = place; last = cell_of last }) }
+    ensures { IfOk result (λ x. (r : Reading) → appended_seen r x ≡ record { lefts = (operator_of o.entry, seen r left) ∷ lefts_seen r lefts.entry.items; place = place; last = seen r last }) }
 {
     let mut lefts = lefts;
     lefts.push((o, left))?;
@@ -123,10 +117,12 @@ fn node_before(
     run: &mut Run,
 ) -> Result<Known, Stop>
     ensures goes { GoesOn run.old run.new }
-    ensures means { MeansBare (λ r. placed_seen r o.now.at) result run.old run.new (λ r. append_node (world_seen r world.now) (place, seen r last) (operator_of o.now, seen r left)) }
+    ensures means { Means (λ r. placed_seen r o.now.at) result run.old run.new (λ r. append_node (world_seen r world.now) (place, seen r last) (operator_of o.now, seen r left)) }
 {
     let b = coerce_both(alloc, world, place, o.after, &o.step.right, last, run)?;
-    let next = node_of(alloc, world, o, left, b, run)?;
+    let x = element_argument(o, left);
+    let y = element_argument(o, b);
+    let next = node_of(alloc, world, o, (x, y), run)?;
     Ok(next)
 }
 
@@ -139,7 +135,7 @@ fn append_node(
     run: &mut Run,
 ) -> Result<Known, Stop>
     ensures goes { GoesOn run.old run.new }
-    ensures means { MeansBare (λ r. placed_seen r p.entry.0.at) result run.old run.new (λ r. append_node (world_seen r world.now) (place, seen r last) (left_seen r p.entry)) }
+    ensures means { Means (λ r. placed_seen r p.entry.0.at) result run.old run.new (λ r. append_node (world_seen r world.now) (place, seen r last) (left_seen r p.entry)) }
 {
     let (o, left) = p;
     node_before(alloc, world, place, &o, left, last, run)
@@ -154,7 +150,7 @@ pub fn appended_nodes(
     run: &mut Run,
 ) -> Result<Known, Stop>
     ensures goes { GoesOn run.old run.new }
-    ensures means { MeansBare seen result run.old run.new (λ r. appended_nodes (world_seen r world.now) (appended_seen r x.entry)) }
+    ensures means { Means seen result run.old run.new (λ r. appended_nodes (world_seen r world.now) (appended_seen r x.entry)) }
 {
     let Appended {
         mut lefts,

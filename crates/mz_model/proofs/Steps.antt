@@ -1,5 +1,5 @@
 -- The steps of the walk: the world of a step, the form of a declaration, and a constraint.
-use Rattle.std.proofs.Common.{◌≡◌, ◌∙◌, ℕ, ℤ, List, [], ◌∷◌, ◌++◌, length, map, Option, Result, Ok, Err, refl, sym, ap, subst, arith}
+use Rattle.std.proofs.Common.{◌≡◌, ◌∙◌, ℕ, ℤ, List, [], ◌∷◌, ◌++◌, length, map, Option, Result, Ok, Err, refl, sym, ap, subst}
 use Rattle.std.specs.Prelude.{IsErrAnd}
 use Rattle.mz_base.specs.declared.stop.Stop.{Stop}
 use Rattle.mz_base.specs.declared.stop.Stop.TheVariants.{Refused, Memory}
@@ -15,7 +15,7 @@ use Rattle.mz_meaning.specs.Runs.{Out}
 use Rattle.mz_meaning.specs.Walk.{levels}
 use Rattle.mz_symbol.specs.Runs.{Run}
 use Rattle.mz_symbol.specs.Readings.{Reading, Reads, state_of}
-use Rattle.mz_symbol.specs.Makes.{GoesOn, MeetsAt}
+use Rattle.mz_symbol.specs.Makes.{MeetsAt}
 use Rattle.mz_eval_cells.specs.declared.types.Known.{Known}
 use Rattle.mz_eval_cells.specs.Views.{seen}
 use Rattle.mz_eval_scopes.specs.Views.{text_entry, env_cells_by}
@@ -80,11 +80,6 @@ declared_stops faults halts t old new ns d Memory h = record { by = λ rest so. 
 pub declared_not : FormFaults → DeclarationHalts → (t : Task) (old new : Run) (ns : List hands.HeldName) (d : Decl) (x : Result (Unit {0}) Stop) (e : Stop) → FormEnds t old new ns d (Err e) → IsErrAnd x (λ z. z ≡ e) → DeclarationEnds t old new ns ns d x
 declared_not faults halts t old new ns d (Ok o) e h same = absurd same
 declared_not faults halts t old new ns d (Err z) e h same = subst (λ z. DeclarationEnds t old new ns ns d (Err z)) (sym same) (declared_stops faults halts t old new ns d e h)
-
--- ---- a run that stays
-
-pub none_goes : (s : Run) → GoesOn s s
-none_goes s = record { back = λ r h. h; paid = omega arith }
 
 -- ---- a constraint
 

@@ -14,12 +14,13 @@ ghost use Rattle.mz_eval_scopes.specs.Seen.{world_seen};
 ghost use Rattle.mz_model_hand.specs.Forms as forms;
 ghost use Rattle.mz_model_domains.specs.Formed.{form_seen};
 
-use crate::evaluation::{counted, expanded};
+use crate::evaluation::expanded;
 use mz_base::Stop;
 use mz_core::{Core, CoreDecl};
 use mz_eval_cells::undefined;
 use mz_eval_chains::place_of;
 use mz_eval_domains::{Want, fitted};
+use mz_eval_names::counted;
 use mz_eval_scopes::World;
 use mz_model_domains::{Form, defined_index, defined_set, free_form, valued_form};
 use mz_symbol::Run;

@@ -1,21 +1,8 @@
 -- The limits of a request's options.
-use Rattle.std.proofs.Common.{◌≡◌, ℕ, ◌<◌, ◌^◌, ℤ, pos, negsuc, FitsSigned, w64, List, Err, refl, ap, sym, subst, arith}
+use Rattle.std.proofs.Common.{◌≡◌, ℕ, ◌<◌, ◌^◌, ℤ, pos, negsuc, FitsSigned, w64, refl, ap, sym, subst, arith}
 use Rattle.std.specs.Prelude.{◌≤ℤ◌}
 use Rattle.std.proofs.lemmas.Int.{ints, fits_signed_from_abs}
-use Rattle.mz_base.specs.declared.stop.Stop.{Stop}
-use Rattle.mz_base.specs.declared.stop.Stop.TheVariants as stop
-use Rattle.mz_base.specs.Faults as stops
-use Rattle.mz_core.specs.Program.{PlainProgram}
-use Rattle.mz_meaning.specs.Runs.{Answer, Stopped, start}
-use Rattle.mz_meaning.specs.Cells.{Bare}
-use Rattle.mz_meaning.specs.Contexts.{Untested}
 use Rattle.mz_meaning.specs.Walk.{Limits}
-use Rattle.mz_eval_scopes.specs.Runs.{Meets}
-use Rattle.fz_program.specs.Names.{Name}
-use Rattle.fz_program.specs.declared.program.FzProgram.{FzProgram}
-use Rattle.fz_program.specs.Flat.{Program, program}
-use Rattle.mz_first_rows.specs.Emission.{writing_walk}
-use Rattle.mz_first_post.specs.Names.{no_values}
 use Rattle.mz_value.specs.Ranges.{greatest}
 use Rattle.mz_words.specs.declared.request.Options.{Options}
 use Rattle.mz_words.specs.Requests.{Settings, Asked, compile, check, settings, IsWithinLimits, AskedWithinLimits}
@@ -51,15 +38,9 @@ budget_is o a same = ap (λ (s : Settings). s.budget) same
 pub range_is : (o : Options) (a : Asked) → settings o ≡ settings_in a → o.int_range ≡ (settings_in a).int_range
 range_is o a same = ap (λ (s : Settings). s.int_range) same
 
--- the walk that writes goes by the limits of the settings
+-- the limits are those of the settings
 limits_are : (budget : ℕ) (int_range : ℤ) (a : Asked) → budget ≡ (settings_in a).budget → int_range ≡ (settings_in a).int_range → record { budget = budget; int_range = int_range } ≡ limits_of (settings_in a)
 limits_are budget int_range a same is = rw (same, is) refl
 
-pub in_limits : (table : List Name) (p : PlainProgram) (budget : ℕ) (int_range : ℤ) (a : Asked) (answer : Answer Program) → budget ≡ (settings_in a).budget → int_range ≡ (settings_in a).int_range
-    → writing_walk Untested (record { budget = budget; int_range = int_range }) Bare no_values table p start ≡ answer → writing_walk Untested (limits_of (settings_in a)) Bare no_values table p start ≡ answer
-in_limits table p budget int_range a answer same is runs = subst (λ (l : Limits). writing_walk Untested l Bare no_values table p start ≡ answer) (limits_are budget int_range a same is) runs
-
-pub stops_in_limits : (table : List Name) (p : PlainProgram) (budget : ℕ) (int_range : ℤ) (a : Asked) (s : Stop) (work : ℕ) → budget ≡ (settings_in a).budget → int_range ≡ (settings_in a).int_range
-    → Meets {A = FzProgram} program (Err s) work (writing_walk Untested (record { budget = budget; int_range = int_range }) Bare no_values table p start) → stops.IfRefused s (λ f. writing_walk Untested (limits_of (settings_in a)) Bare no_values table p start ≡ Stopped f)
-stops_in_limits table p budget int_range a (stop.Refused f) work same is runs = in_limits table p budget int_range a (Stopped f) same is runs
-stops_in_limits table p budget int_range a stop.Memory work same is runs = tt
+pub in_limits : (P : Limits → Type 0) (budget : ℕ) (int_range : ℤ) (a : Asked) → budget ≡ (settings_in a).budget → int_range ≡ (settings_in a).int_range → P (record { budget = budget; int_range = int_range }) → P (limits_of (settings_in a))
+in_limits P budget int_range a same is holds = subst P (limits_are budget int_range a same is) holds

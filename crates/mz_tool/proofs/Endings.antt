@@ -28,24 +28,18 @@ use Rattle.mz_data.proofs.OneData.{one_sources, sources_or_failure}
 use Rattle.mz_data.proofs.Later.{sources_later, failure_later}
 use Rattle.mz_words.specs.Requests.{Settings, Asked, compile, check}
 use Rattle.fz_program.specs.Names.{Name}
-use Rattle.fz_program.specs.Flat.{Program, WellFormed}
+use Rattle.fz_program.specs.Flat.{Program}
 use Rattle.fz_text_spell.specs.Spelling.{spelling}
 use Rattle.mz_value.specs.Contents.{absent}
 use Rattle.mz_core.specs.Program.{PlainProgram}
-use Rattle.mz_meaning.specs.Runs.{State, Answer, Out, Stopped, start}
-use Rattle.mz_meaning.specs.Cells.{Bare}
+use Rattle.mz_meaning.specs.Runs.{Answer, Out, Stopped, start}
 use Rattle.mz_meaning.specs.Cells as cells
-use Rattle.mz_meaning.specs.Contexts.{Untested, Positive}
+use Rattle.mz_meaning.specs.Contexts.{Positive}
 use Rattle.mz_meaning.specs.Walk.{Limits, walk}
-use Rattle.mz_headline.specs.Keeping.{KeepsSolutions}
-use Rattle.mz_first_unbuilt.specs.Unbuilt.{first_unbuilt}
-use Rattle.mz_first_unbuilt.proofs.Laws.{nothing_unbuilt}
-use Rattle.mz_first_meaning.specs.Ends.{is_walk_kind, EndAlike}
-use Rattle.mz_first_rows.specs.Emission.{writing_walk}
-use Rattle.mz_first_rows.specs.Headline.{AreNumberedAndNamed, IsEmitted}
-use Rattle.mz_first_rows.proofs.Laws.{headline, ends, kinds}
-use Rattle.mz_first_post.specs.Names.{no_values}
-use Rattle.mz_analysis.specs.Analysis.{FailsTest, IsOfTests, IsRefused, IsTypedModel, IsRead, evaluated, file_name, files_read, items_read}
+use Rattle.mz_model_meaning.specs.Refusals.{is_walk_kind}
+use Rattle.mz_unbuilt.specs.Unbuilt.{first_unbuilt}
+use Rattle.mz_compile.specs.Compiled.{IsCompiled, CompileEnds}
+use Rattle.mz_analysis.specs.Analysis.{FailsTest, IsOfTests, IsRefused, IsTypedModel, IsRead, file_name, files_read, items_read}
 use Rattle.mz_analysis.proofs.Single.{not_refused, one_typed}
 use Rattle.mz_analysis_places.specs.Promise.{LiesIn}
 use Rattle.mz_tool.specs.declared.compile.End.{End}
@@ -54,14 +48,14 @@ use Rattle.mz_tool.specs.declared.status.Status.{Status}
 use Rattle.mz_tool.specs.declared.status.Status.TheVariants as status
 use Rattle.mz_tool.specs.Words.{settings_in, IsUsage}
 use Rattle.mz_tool.specs.Headline.{limits_of, Compiled, Compiles, Writes, WritesPrefix}
-use Rattle.mz_tool.specs.Status.{not_built_at, GoesThrough, EvaluationStops, IsStopped, not_built, by_evaluation, AreAskedFiles, owner_of, IsRefusal, a_file_fails, a_test_fails, not_compiled, ByDistinctNames, IsOwner, OnDone, OnWriteFault, IfRefused, CountsFiles, CountsOut, IsToldModel, AreToldFiles, Completes, IsDoneOrMemory}
+use Rattle.mz_tool.specs.Status.{not_built_at, GoesThrough, IsStopped, not_built, by_evaluation, AreAskedFiles, owner_of, IsRefusal, a_file_fails, a_test_fails, not_compiled, ByDistinctNames, IsOwner, OnDone, OnWriteFault, IfRefused, CountsFiles, CountsOut, IsToldModel, AreToldFiles, Completes, IsDoneOrMemory}
 use Rattle.mz_tool.specs.StepsCompiling.{status_of, file_of, IsWritten, IsFinished, Stops, IsRefusedAs, by_a_test, as_stopped, IsLeft, unread, Ends, IsNamedEnd}
-use Rattle.mz_tool.proofs.Places.{in_its_own, unbuilt_placed, evaluation_placed}
+use Rattle.mz_tool.proofs.Places.{no_values, in_its_own, unbuilt_placed, evaluation_placed}
 
 -- what is left of a program that is written, or that could be
 module _ (table : List Name) (files : List File) (data_files : List Name) (items : List Given) where
-  compiled : (l : Limits) (p : PlainProgram) (flat : Program) → IsTypedModel table files items p → KeepsSolutions l table p flat → IsEmitted l table p flat → WellFormed flat → Compiled l table files items (spelling flat)
-  compiled l p flat typed keeps emitted formed = record { model = p; typed = typed; program = flat; keeps = keeps; emitted = emitted; spelled = record { well_formed = formed; spelled = refl } }
+  compiled : (l : Limits) (p : PlainProgram) (flat : Program) → IsTypedModel table files items p → IsCompiled l table p flat → Compiled l table files items (spelling flat)
+  compiled l p flat typed is = record { model = p; typed = typed; program = flat; keeps = is.keeps; front = is.front; spelled = record { well_formed = is.formed; spelled = refl } }
 
   written : (s : Settings) (flat : Program) (old new : Held) (e : End) → Compiled (limits_of s) table files items (spelling flat) → IsWritten flat old new e → IsLeft (compile s) table files data_files items old new e
   written s flat old new end.Done is put = (spelling flat, is, put)
@@ -74,13 +68,9 @@ module _ (table : List Name) (files : List File) (data_files : List Name) (items
   finished (compile s) flat old new e is left = written s flat old new e is left
   finished (check s) flat old new e is left = subst (IsLeft (check s) table files data_files items old new) (sym left.1) (spelling flat, is, left.0)
 
-  -- of a program of which all is built, where the walk that writes goes through
-  pub writes : (a : Asked) (p : PlainProgram) (flat : Program) (t : State) (old new : Held) (e : End) → IsTypedModel table files items p → first_unbuilt table p ≡ None → AreNumberedAndNamed table (evaluated p)
-      → writing_walk Untested (limits_of (settings_in a)) Bare no_values table p start ≡ Out flat t → WellFormed flat → IsFinished a flat old new e → IsLeft a table files data_files items old new e
-  writes a p flat t old new e typed none named runs formed left =
-      finished a flat old new e
-      (compiled (limits_of (settings_in a)) p flat typed (headline (limits_of (settings_in a)) table p (nothing_unbuilt table p none) named no_values flat t runs formed) (record { end = t; writes = runs }) formed)
-      left
+  -- of a program that is compiled
+  pub writes : (a : Asked) (p : PlainProgram) (flat : Program) (old new : Held) (e : End) → IsTypedModel table files items p → IsCompiled (limits_of (settings_in a)) table p flat → IsFinished a flat old new e → IsLeft a table files data_files items old new e
+  writes a p flat old new e typed is left = finished a flat old new e (compiled (limits_of (settings_in a)) p flat typed is) left
 
 written_named : (table : List Name) (flat : Program) (old new : Held) (e : End) → IsWritten flat old new e → IsNamedEnd table e
 written_named table flat old new end.Done put = tt
@@ -92,21 +82,6 @@ written_named table flat old new end.ReadFault put = absurd put
 pub finished_named : (table : List Name) (a : Asked) (flat : Program) (old new : Held) (e : End) → IsFinished a flat old new e → IsNamedEnd table e
 finished_named table (compile s) flat old new e left = written_named table flat old new e left
 finished_named table (check s) flat old new e left = subst (IsNamedEnd table) (sym left.1) tt
-
--- a run that ends as one that stops
-ends_stopped : {A B : Type 0} (x : Answer A) (y : Answer B) (f : Fault) → EndAlike x y → x ≡ Stopped f → y ≡ Stopped f
-ends_stopped (Out v s) y f alike is = absurd (cc)
-ends_stopped (Stopped g) (Out w t) f alike is = absurd alike
-ends_stopped (Stopped g) (Stopped h) f alike is = cc
-
--- evaluating a program stops where the walk that writes does
-evaluation_stops : (l : Limits) (table : List Name) (p : PlainProgram) (f : Fault) → first_unbuilt table p ≡ None → writing_walk Untested l Bare no_values table p start ≡ Stopped f → EvaluationStops l p f
-evaluation_stops l table p f none stops = record {
-  kind = kinds l table p (nothing_unbuilt table p none) Bare no_values start f stops;
-  stops = λ a choices.
-      ends_stopped (writing_walk Untested l Bare no_values table p start) (walk Positive l (cells.Given choices) a p start) f
-      (ends l table p (nothing_unbuilt table p none) a no_values choices) stops;
-}
 
 -- a kind of the tests raises no count of the files
 raises_none : (k : Kind) (counts : FileCounts) → IsOfTests k → CountsRefusal k counts counts
@@ -155,14 +130,13 @@ module _ (a : Asked) (table : List Name) (files : List File) (data_files : List 
   test_stopped h (stop.Refused f) e fails made = stopped h (stop.Refused f) e (by_a_test fails) made
   test_stopped h stop.Memory e fails made = stopped h stop.Memory e tt made
 
-  pub unbuilt_stopped : (h : Held) (p : PlainProgram) (place : Span) (e : End) → IsTypedModel table files items p → LiesIn (length files + length data_files) p → first_unbuilt table p ≡ Some place → Stops table files data_files (stop.Refused (not_built_at place)) e → IsLeft a table files data_files items h h e
-  unbuilt_stopped h p place e typed lies first made = stopped h (stop.Refused (not_built_at place)) e (as_stopped p typed (not_built first) (unbuilt_placed table p (length files + length data_files) place lies first)) made
+  pub unbuilt_stopped : (h : Held) (p : PlainProgram) (place : Span) (e : End) → IsTypedModel table files items p → LiesIn (length files + length data_files) p → first_unbuilt p ≡ Some place → Stops table files data_files (stop.Refused (not_built_at place)) e → IsLeft a table files data_files items h h e
+  unbuilt_stopped h p place e typed lies first made = stopped h (stop.Refused (not_built_at place)) e (as_stopped p typed (not_built first) (unbuilt_placed p (length files + length data_files) place lies first)) made
 
-  pub evaluation_stopped : (h : Held) (p : PlainProgram) (s : Stop) (e : End) → IsTypedModel table files items p → LiesIn (length files + length data_files) p → first_unbuilt table p ≡ None → stops.IfRefused s (λ f. writing_walk Untested TheLimits Bare no_values table p start ≡ Stopped f) → Stops table files data_files s e → IsLeft a table files data_files items h h e
-  evaluation_stopped h p (stop.Refused f) e typed lies none runs made =
-      let why = evaluation_stops TheLimits table p f none runs in
+  pub evaluation_stopped : (h : Held) (p : PlainProgram) (s : Stop) (e : End) → IsTypedModel table files items p → LiesIn (length files + length data_files) p → first_unbuilt p ≡ None → CompileEnds TheLimits table p (Err s) → Stops table files data_files s e → IsLeft a table files data_files items h h e
+  evaluation_stopped h p (stop.Refused f) e typed lies none why made =
       stopped h (stop.Refused f) e (as_stopped p typed (by_evaluation none why) (evaluation_placed TheLimits p (length files + length data_files) f lies why)) made
-  evaluation_stopped h p stop.Memory e typed lies none runs made = stopped h stop.Memory e tt made
+  evaluation_stopped h p stop.Memory e typed lies none why made = stopped h stop.Memory e tt made
 
   pub counts_out : (counts : SinkCounts) (s : Stop) (e : End) → Stops table files data_files s e → CountsOut counts counts (status_of e)
   counts_out counts (stop.Refused f) (end.Refused g n) made = refl
@@ -176,7 +150,7 @@ module _ (a : Asked) (table : List Name) (files : List File) (data_files : List 
   counts_out counts stop.Memory end.ReadFault made = absurd made
   counts_out counts stop.Memory end.WriteFault made = absurd made
 
-  stopped_counts : (counts : FileCounts) (p : PlainProgram) (f : Fault) → IsStopped TheLimits table p f → CountsRefusal f.kind counts counts
+  stopped_counts : (counts : FileCounts) (p : PlainProgram) (f : Fault) → IsStopped TheLimits p f → CountsRefusal f.kind counts counts
   stopped_counts counts p _ (not_built first) = refl
   stopped_counts counts p f (by_evaluation none stops) = walk_raises_none f.kind counts stops.kind
 
@@ -348,7 +322,7 @@ module _ (known : List Name) (distinct : AreDistinct known) (texts : Texts) (a :
   not_through (Stopped g) f through stops = through
 
   -- all of its program is built, and it goes through
-  not_stopped : (f : Fault) → IsStopped (limits_of (settings_in a)) known told.program f → ⊥
+  not_stopped : (f : Fault) → IsStopped (limits_of (settings_in a)) told.program f → ⊥
   not_stopped _ (not_built first) = let none = told.built in cc
   not_stopped f (by_evaluation none is) =
       not_through (walk Positive (limits_of (settings_in a)) (cells.Given (λ k. absent)) no_values told.program start) f (told.evaluates no_values (λ k. absent)) (is.stops no_values (λ k. absent))
@@ -362,7 +336,7 @@ module _ (known : List Name) (distinct : AreDistinct known) (texts : Texts) (a :
       sources_or_failure known distinct told.told (settings_in a).model (settings_in a).data_files told.files told.items f owner (of_told told.files told.items told.sources) (subst (λ t. FailsWithData known t (settings_in a).model (settings_in a).data_files f owner) told.is_told h)
   model_is_not_refused f _ (a_test_fails files items sources refused) = not_refused_here files items f (its_own files items sources) refused.refused
   model_is_not_refused f _ (not_compiled files items p sources typed is placed) =
-      not_stopped f (subst (λ q. IsStopped (limits_of (settings_in a)) known q f) (one_typed known told.files told.items p told.program (its_program files items p (its_own files items sources) typed) told.typed) is)
+      not_stopped f (subst (λ q. IsStopped (limits_of (settings_in a)) q f) (one_typed known told.files told.items p told.program (its_program files items p (its_own files items sources) typed) told.typed) is)
 
 -- where no count of faults rose, a run ends with Done, with Memory or refused
 module _ (known : List Name) (texts : Texts) (a : Asked) (P : Type 0) where

@@ -8,10 +8,8 @@ use Rattle.mz_base.specs.Names.{text_of}
 use Rattle.mz_core.specs.Tree.{Decl}
 use Rattle.mz_scope_names.specs.Sets.{holds}
 use Rattle.mz_scope_order.specs.Scoped as scoped
-use Rattle.mz_check_data.specs.WithData.{AreNumbered}
 use Rattle.fz_program.specs.Names.{Name}
 use Rattle.fz_program.specs.Flat as flat
-use Rattle.mz_first_rows.specs.Headline.{AreNumberedAndNamed}
 use Rattle.mz_analysis.specs.Analysis.{names_of}
 
 held_at : (n : ℕ) (ns : List ℕ) (k : ℕ) → k < length ns → get_or ns k 0 ≡ n → holds n ns ≡ true
@@ -28,7 +26,7 @@ text_at table [] k x below = absurd (omega (arith, below))
 text_at table (d ∷ ds) zero x below = (omega arith, refl)
 text_at table (d ∷ ds) (suc k) x below = let r = text_at table ds k x (omega (arith, below)) in (omega (arith, r.0), r.1)
 
-texts_differ : (table : List Name) → names.AreDistinct table → (ds : List Decl) → All (λ n. n < length table) (names_of ds) → scoped.AreDistinct (names_of ds) → flat.AreDistinct (map (λ d. text_of table d.name) ds)
+pub texts_differ : (table : List Name) → names.AreDistinct table → (ds : List Decl) → All (λ n. n < length table) (names_of ds) → scoped.AreDistinct (names_of ds) → flat.AreDistinct (map (λ d. text_of table d.name) ds)
 texts_differ table apart [] known once = tt
 texts_differ table apart (d ∷ ds) known once = (λ h. twice h, texts_differ table apart ds (λ k n low. known (suc k) n (omega (arith, low))) once.1)
   where
@@ -38,6 +36,3 @@ texts_differ table apart (d ∷ ds) known once = (λ h. twice h, texts_differ ta
         let same : get_or (names_of ds) k 0 ≡ d.name = apart (get_or (names_of ds) k 0) d.name (known (suc k) 0 (omega (arith, r.0))) (known 0 0 (omega arith)) (sym r.1 ∙ at) in
         let here = held_at d.name (names_of ds) k r.0 same in
         let away = once.0 in cc
-
-pub numbered_and_named : (table : List Name) → names.AreDistinct table → (ds : List Decl) → AreNumbered ds → scoped.AreDistinct (names_of ds) → All (λ n. n < length table) (names_of ds) → AreNumberedAndNamed table ds
-numbered_and_named table apart ds numbered once known = record { numbered = numbered; distinct = texts_differ table apart ds known once }

@@ -1,5 +1,5 @@
 -- The places of faults: what fails is in its own file, and what isn't built and what evaluating a program stops at are in the program's files.
-use Rattle.std.proofs.Common.{◌≡◌, ℕ, ◌<◌, ◌+◌, List, Some, length, subst, arith}
+use Rattle.std.proofs.Common.{◌≡◌, ℕ, ◌<◌, ◌+◌, List, Some, None, length, subst, arith}
 use Rattle.std.specs.List.{Contains}
 use Rattle.std.proofs.lemmas.List.{length-map}
 use Rattle.std.proofs.lemmas.List.Elements.{All-contains}
@@ -19,32 +19,36 @@ use Rattle.fz_program.specs.Names.{Name}
 use Rattle.mz_meaning.specs.Runs.{Answer, Out, Stopped, start}
 use Rattle.mz_meaning.specs.Cells.{Given}
 use Rattle.mz_meaning.specs.Contexts.{Positive}
-use Rattle.mz_meaning.specs.Walk.{Limits, walk}
+use Rattle.mz_meaning.specs.Walk.{Limits, Assignment, walk}
 use Rattle.mz_meaning_places.specs.Places.{places_of}
 use Rattle.mz_meaning_places.specs.Stopping.{StopsAmong}
 use Rattle.mz_meaning_places.proofs.Walks.{walks_stop}
-use Rattle.mz_first_unbuilt.specs.Unbuilt.{first_unbuilt}
-use Rattle.mz_first_places.proofs.Unbuilt.{unbuilt_in_program}
-use Rattle.mz_first_post.specs.Names.{no_values}
+use Rattle.mz_model_meaning.specs.Refusals.{Stops}
+use Rattle.mz_unbuilt.specs.Unbuilt.{first_unbuilt}
+use Rattle.mz_unbuilt.proofs.Placed.{unbuilt_in_program}
 use Rattle.mz_analysis.specs.Analysis.{IsTypedModel, IsRead, files_read, items_read, count_read}
 use Rattle.mz_analysis_places.specs.Promise.{LiesIn}
 use Rattle.mz_analysis_places.proofs.Programs.{programs_lie_in_their_files}
 use Rattle.mz_tool.specs.Words.{settings_in}
-use Rattle.mz_tool.specs.Status.{EvaluationStops, IsInItsOwn}
+use Rattle.mz_tool.specs.Status.{IsInItsOwn}
 use Rattle.mz_tool.specs.StepsCompiling.{data_names}
 
 pub in_its_own : (table : List Name) (texts : Texts) (a : Asked) (f : Fault) (owner : Name) (fails : FailsWithData table texts (settings_in a).model (settings_in a).data_files f owner) → IsInItsOwn table texts a f owner fails
 in_its_own table texts a f owner (in_the_model h) = failure_there table texts (settings_in a).model f owner h
 in_its_own table texts a f owner (in_the_data files sources h) = data_failure_there table texts (length files) (settings_in a).data_files f owner h
 
-pub unbuilt_placed : (table : List Name) (p : PlainProgram) (n : ℕ) (place : Span) → LiesIn n p → first_unbuilt table p ≡ Some place → place.file < n
-unbuilt_placed table p n place lies first = All-contains (λ at. at.file < n) (places_of p) place lies (unbuilt_in_program table p place first)
+pub unbuilt_placed : (p : PlainProgram) (n : ℕ) (place : Span) → LiesIn n p → first_unbuilt p ≡ Some place → place.file < n
+unbuilt_placed p n place lies first = All-contains (λ at. at.file < n) (places_of p) place lies (unbuilt_in_program p place first)
 
 stopped_among : {A : Type 0} (ps : List Span) (x : Answer A) (f : Fault) → x ≡ Stopped f → StopsAmong ps x → Contains ps f.span
 stopped_among ps (Out v s) f is h = absurd (cc)
 stopped_among ps (Stopped g) f is h = let same : g ≡ f = cc in subst (λ (k : Fault). Contains ps k.span) same h
 
-pub evaluation_placed : (l : Limits) (p : PlainProgram) (n : ℕ) (f : Fault) → LiesIn n p → EvaluationStops l p f → f.span.file < n
+-- no decision variable has a value
+abbrev pub no_values : Assignment
+no_values s = None
+
+pub evaluation_placed : (l : Limits) (p : PlainProgram) (n : ℕ) (f : Fault) → LiesIn n p → Stops l p f → f.span.file < n
 evaluation_placed l p n f lies stops =
     All-contains (λ at. at.file < n) (places_of p) f.span lies
     (stopped_among (places_of p) (walk Positive l (Given (λ k. absent)) no_values p start) f (stops.stops no_values (λ k. absent)) (walks_stop Positive l (Given (λ k. absent)) no_values p start))

@@ -13,8 +13,8 @@ use Rattle.fz_program.specs.Names.{Name}
 use Rattle.fz_program.specs.Flat.{Program}
 use Rattle.fz_text_spell.specs.Spelling.{Spells}
 use Rattle.mz_headline.specs.Keeping.{KeepsSolutions}
-use Rattle.mz_first_rows.specs.Headline.{IsEmitted}
 use Rattle.mz_analysis.specs.Analysis.{IsTypedModel}
+use Rattle.mz_compile.specs.Compiled.{HasFront}
 use Rattle.mz_tool.specs.Words.{settings_in}
 
 -- the limits of an evaluation
@@ -28,8 +28,8 @@ pub record Compiled (l : Limits) (table : List Name) (files : List File) (items 
   pub typed : IsTypedModel table files items model
   pub program : Program
   pub keeps : KeepsSolutions l table model program
-  -- until flattening stands: its variables and rows in their order, and no others
-  pub emitted : IsEmitted l table model program
+  -- the model's variables and arrays, in the order of evaluation, and variables that are introduced
+  pub front : HasFront l table model program
   pub spelled : Spells written program
 
 -- the model of these settings, with its included files and its data, is compiled to these bytes

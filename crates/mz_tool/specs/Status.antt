@@ -1,5 +1,5 @@
 -- What a run answers, and the line that it writes of it.
-use Rattle.std.specs.Prelude.{◌≡◌, ◌<◌, ◌≤◌, ◌+◌, ◌⊎◌, ℕ, ℤ, true, List, [], ◌++◌, length, Option, Some, None, codes, decimal, if◌then◌else◌}
+use Rattle.std.specs.Prelude.{◌≡◌, ◌<◌, ◌≤◌, ◌+◌, ◌⊎◌, ℕ, ℤ, List, [], ◌++◌, length, Option, Some, None, codes, decimal, if◌then◌else◌}
 use Rattle.std.specs.Fmt.{signed_decimal}
 use Rattle.std.specs.Borrow.{Bor}
 use Rattle.mz_base.specs.declared.fault.Fault.{Fault}
@@ -26,8 +26,8 @@ use Rattle.mz_meaning.specs.Runs.{Answer, Out, Stopped, start}
 use Rattle.mz_meaning.specs.Cells.{Given}
 use Rattle.mz_meaning.specs.Contexts.{Positive}
 use Rattle.mz_meaning.specs.Walk.{Limits, Assignment, walk}
-use Rattle.mz_first_unbuilt.specs.Unbuilt.{first_unbuilt}
-use Rattle.mz_first_meaning.specs.Ends.{is_walk_kind}
+use Rattle.mz_model_meaning.specs.Refusals.{Stops}
+use Rattle.mz_unbuilt.specs.Unbuilt.{first_unbuilt}
 use Rattle.mz_analysis.specs.Analysis.{FailsTest, IsTypedModel, file_name}
 use Rattle.mz_tool.specs.Words.{settings_in}
 use Rattle.mz_tool.specs.Headline.{limits_of}
@@ -69,16 +69,11 @@ IsLineNoted old new before after file status = Notes old new before after (line_
 abbrev pub not_built_at : Span → Fault
 not_built_at place = fault_at NotBuilt place
 
--- evaluating a program stops at this fault, whatever its variables' values are
-pub record EvaluationStops (l : Limits) (p : PlainProgram) (f : Fault) : Type 0 where
-  pub kind : is_walk_kind f.kind ≡ true
-  pub stops : (a : Assignment) (choices : ℕ → Content) → walk Positive l (Given choices) a p start ≡ Stopped f
-
--- Why a typed program isn't compiled: something in it isn't built, and this is the first place; or, where all is built, evaluating it
--- stops.
-pub data IsStopped (l : Limits) (table : List Name) (p : PlainProgram) : Fault → Type 0 where
-  not_built : {place : Span} → first_unbuilt table p ≡ Some place → IsStopped l table p (not_built_at place)
-  by_evaluation : {f : Fault} → first_unbuilt table p ≡ None → EvaluationStops l p f → IsStopped l table p f
+-- Why a typed program isn't compiled: something in it isn't built, and this is the first place; or, where all is built, each walk over
+-- it stops, whatever its variables' values are, and nothing solves it.
+pub data IsStopped (l : Limits) (p : PlainProgram) : Fault → Type 0 where
+  not_built : {place : Span} → first_unbuilt p ≡ Some place → IsStopped l p (not_built_at place)
+  by_evaluation : {f : Fault} → first_unbuilt p ≡ None → Stops l p f → IsStopped l p f
 
 -- the told texts are these files of the model that is asked for, and these items of its data
 abbrev pub AreAskedFiles : List Name → Texts → Asked → List File → List datum.Given → Type 0
@@ -103,7 +98,7 @@ IsInTheFiles a files f = f.span.file < length files + length (settings_in a).dat
 pub data IsRefusal (table : List Name) (texts : Texts) (a : Asked) : Fault → Name → Type 0 where
   a_file_fails : {f : Fault} {file : Name} (fails : FailsWithData table texts (settings_in a).model (settings_in a).data_files f file) → IsInItsOwn table texts a f file fails → IsRefusal table texts a f file
   a_test_fails : {f : Fault} (files : List File) (items : List datum.Given) → AreAskedFiles table texts a files items → FailsTest table files (length (settings_in a).data_files) items f → IsRefusal table texts a f (owner_of a files f.span.file)
-  not_compiled : {f : Fault} (files : List File) (items : List datum.Given) (p : PlainProgram) → AreAskedFiles table texts a files items → IsTypedModel table files items p → IsStopped (limits_of (settings_in a)) table p f → IsInTheFiles a files f
+  not_compiled : {f : Fault} (files : List File) (items : List datum.Given) (p : PlainProgram) → AreAskedFiles table texts a files items → IsTypedModel table files items p → IsStopped (limits_of (settings_in a)) p f → IsInTheFiles a files f
       → IsRefusal table texts a f (owner_of a files f.span.file)
 
 -- by some table of names, whose texts are distinct, this holds
@@ -183,7 +178,7 @@ pub record IsToldModel (table : List Name) (texts : Texts) (a : Asked) : Type 0 
   pub sources : AreAskedFiles table texts a files items
   pub program : PlainProgram
   pub typed : IsTypedModel table files items program
-  pub built : first_unbuilt table program ≡ None
+  pub built : first_unbuilt program ≡ None
   pub evaluates : (values : Assignment) (choices : ℕ → Content) → GoesThrough (walk Positive (limits_of (settings_in a)) (Given choices) values program start)
 
 -- the told texts are files of a model and items of its data, by this table

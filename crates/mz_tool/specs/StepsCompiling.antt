@@ -64,7 +64,7 @@ Stops table files data_files s e = ⊥
 -- why the files are refused: a test fails, or they are typed to a program that isn't compiled
 pub data IsRefusedAs (l : Limits) (table : List Name) (files : List File) (data_files : List Name) (items : List Given) : Fault → Type 0 where
   by_a_test : {f : Fault} → FailsTest table files (length data_files) items f → IsRefusedAs l table files data_files items f
-  as_stopped : {f : Fault} (p : PlainProgram) → IsTypedModel table files items p → IsStopped l table p f → f.span.file < length files + length data_files → IsRefusedAs l table files data_files items f
+  as_stopped : {f : Fault} (p : PlainProgram) → IsTypedModel table files items p → IsStopped l p f → f.span.file < length files + length data_files → IsRefusedAs l table files data_files items f
 
 -- what compiling a model's files leaves
 abbrev pub IsLeft : Asked → List Name → List File → List Name → List Given → Held → Held → End → Type 0

@@ -5,7 +5,7 @@ ghost use Rattle.mz_value.specs.Ranges.{greatest};
 ghost use Rattle.mz_base.specs.Names.{AreDistinct};
 ghost use Rattle.mz_words.specs.Requests.{AskedWithinLimits, request_of, settings};
 ghost use Rattle.mz_core.specs.Program.{plain_program};
-ghost use Rattle.mz_first_unbuilt.specs.Unbuilt.{first_unbuilt};
+ghost use Rattle.mz_unbuilt.specs.Unbuilt.{first_unbuilt};
 ghost use Rattle.fz_program.specs.Flat.{program, WellFormed};
 ghost use Rattle.mz_analysis.specs.Analysis.{IsRead, IsTypedModel, evaluated, files_read, items_read, names_of};
 ghost use Rattle.mz_tool.specs.Words.{settings_in, OnCheck};
@@ -19,12 +19,12 @@ use fz_program::FzProgram;
 use fz_text::{Wrote, write};
 use mz_analysis::{file_name, typed_model};
 use mz_base::{Fault, Kind, Name, Names, Span, Stop};
+use mz_compile::compiled;
 use mz_core::Program;
 use mz_data::SourcesWithData;
-use mz_first_post::post_model;
-use mz_first_unbuilt::first_unbuilt;
 use mz_include::GatherEnd;
 use mz_io::{Files, Sink};
+use mz_unbuilt::first_unbuilt;
 use mz_words::{Options, Request};
 use std::alloc::Global;
 
@@ -115,7 +115,7 @@ fn int_range_of(request: &Request<'_>) -> i64
     options_of(request).int_range
 }
 
-/// What is asked for, of a typed program of which all is built, by the table of its names: it is evaluated and written.
+/// What is asked for, of a typed program of which all is built, by the table of its names: it is compiled and written.
 fn compile_built<S: Sink>(
     alloc: Global,
     request: &Request<'_>,
@@ -128,8 +128,9 @@ fn compile_built<S: Sink>(
     requires distinct { AreDistinct names.now }
     requires read { IsRead names.now read.now }
     requires typed { IsTypedModel names.now (files_read names.now read.now) (items_read read.now) (plain_program program.now) }
+    requires named { All (λ n. n < length names.now) (names_of (plain_program program.now).decls) }
     requires named_in_order { All (λ n. n < length names.now) (names_of (evaluated (plain_program program.now))) }
-    requires built { first_unbuilt names.now (plain_program program.now) ≡ None }
+    requires built { first_unbuilt (plain_program program.now) ≡ None }
     ensures left { IsLeft (request_of request.now) names.now (files_read names.now read.now) (data_names names.now read.now) (items_read read.now) (S.held out.old) (S.held out.new) result }
     ensures named { IsNamedEnd names.now result }
     ensures counted { CountsOut (S.counts out.old) (S.counts out.new) (status_of result) }
@@ -137,7 +138,7 @@ fn compile_built<S: Sink>(
 {
     let budget = budget_of(request);
     let int_range = int_range_of(request);
-    match post_model(alloc, program, names, budget, int_range) {
+    match compiled(alloc, program, names, budget, int_range) {
         Ok(flat) => finish(alloc, request, &flat, out),
         Err(stop) => stopped(read, stop),
     }
@@ -173,15 +174,14 @@ fn compile_typed<S: Sink>(
     ensures counted { CountsOut (S.counts out.old) (S.counts out.new) (status_of result) }
     ensures silent { OnCheck (Some (request_of request.now)) (out.new ≡ out.old) }
 {
-    match first_unbuilt(alloc, program, names) {
-        Ok(None) => compile_built(alloc, request, read, names, program, out),
-        Ok(Some(place)) => not_built(read, place),
-        Err(_) => End::Memory,
+    match first_unbuilt(program) {
+        None => compile_built(alloc, request, read, names, program, out),
+        Some(place) => not_built(read, place),
     }
 }
 
 /// What is asked for, of the files of a model, by the table of their names: the names are tested, then the types and the data, then
-/// whether all of the program is built; then it is evaluated and written.
+/// whether all of the program is built; then it is compiled and written.
 fn compile_files<S: Sink>(
     alloc: Global,
     request: &Request<'_>,

@@ -75,11 +75,22 @@ fn answer<F: Files, S: Sink, E: Sink>(
 /// file itself. After all files come the tests of names, in this order, each over the whole: `ReservedName`, `DuplicateName`,
 /// `SolveItems`, `UnknownName`, `DataForm` of an enum's data, `MissingData`, `Cyclic`; then the types: `UnknownName` and `DuplicateName`
 /// of local names, `DuplicateName` of functions with parameters, `DataForm` of all other data, `TypeMismatch`, `NoOverload`,
-/// `Ambiguous`, `LeftOut`. `NotBuilt` comes after all of these, at the first place in the text of what isn't built
-/// (`mz_first_unbuilt::first_unbuilt`). Where all is built, the model is evaluated: the declarations in their order, each with its sets and its
-/// value, then the constraints in the order of the text. The first of these stops it: `ParUndefined` (a parameter's value is undefined or
-/// outside its set, or a declared set is undefined), `IndexMismatch`, `AssertFailed`, `NegativeArgument` with the exponent, `Bounds` with
-/// the end that leaves the limit, `Budget` with the budget and 1, `Depth` with 601. A place in a data file is that of a value there.
+/// `Ambiguous`, `LeftOut`. `NotBuilt` comes after all of these, at the first call in the text of a global (a function that is no operator
+/// and no built-in) with a var argument (`mz_unbuilt::first_unbuilt`).
+///
+/// All else is compiled (`mz_compile::compiled`). The model is walked over once, without values of its variables: the declarations in
+/// their order, each with its sets and its value, then the constraints in the order of the text, then the objective. The first of these
+/// stops it, and no values of the variables solve such a model. `UnboundedSet` at a declaration's name, before all others: it has no
+/// value and no bound, as `var set of int`. `ParUndefined` at the value or the set: a parameter's value is undefined or outside its set,
+/// or a declared set is undefined. `IndexMismatch` at the value, the set, the call or the table: lengths or index sets don't fit.
+/// `AssertFailed` at the call. `FreeInContext` at a local variable's declaration: it has no value, and is evaluated where there may be no
+/// such choice, as under a negation. `NegativeArgument` at the power or the call, with the exponent or the argument's lower bound.
+/// `Bounds` at the expression, with the end that leaves the limit. `Budget`, with the budget and 1, at the part that passes it. `Depth`,
+/// with 601, at the expression. A place in a data file is that of a value there.
+///
+/// What is written has first the model's variables and arrays, in the order of evaluation and under their names, then variables that are
+/// introduced, and rows that hold of their values exactly where the model is solved; it minimizes where the model does, and maximizes
+/// where it does.
 ///
 /// After `Done` `notes` holds what it held, after any other answer besides that one line that says why; the line of a refusal names the
 /// file of its place as it was fetched. A put on `notes` that goes wrong cuts the line short and changes no answer. After `WriteFault`
@@ -109,7 +120,7 @@ pub fn run<F: Files, I: Source, S: Sink, E: Sink>(
     ensures counted { CountsFiles (F.counts files.old) (F.counts files.new) result }
     ensures counted_out { CountsOut (S.counts out.old) (S.counts out.new) result }
 
-    // A model that is there and is typed with its data, of which all is built, and whose evaluation goes through is compiled.
+    // A model that is there and is typed with its data, of which all is built, and that each walk goes through is compiled.
     ensures complete { IsComplete (F.texts files.old) (asked (text_of words.now.items))
         (F.counts files.old) (F.counts files.new) (S.counts out.old) (S.counts out.new) result }
 

@@ -1,27 +1,32 @@
 use Rattle.std.proofs.Common.{◌^◌, length, ◌≡◌, [], ◌+◌, ◌-◌, ◌*◌, drop, map, false}
 use Rattle.std.specs.Option.{option_map}
 use Rattle.mz_core.specs.Types.{plain_type}
+use Rattle.mz_core.specs.Tree.{place_of}
 use Rattle.mz_core.specs.TreeViews.{tree, branch, step, item}
 use Rattle.mz_meaning.specs.Runs.{loop}
 use Rattle.mz_meaning.specs.Chains.{operators_at}
 use Rattle.mz_meaning.specs.Forms.{part, parts, row_of_parts, chain_by, operators, append_operands, branches}
 use Rattle.mz_meaning.specs.Lets.{let_item, nothing_bound, index_wants, one_index}
 use Rattle.mz_meaning.specs.Calls.{parameter}
-use Rattle.mz_eval_arrays.specs.Gathered.{occurs_if, elements_of}
+use Rattle.mz_eval_presences.specs.Presences.{presence_seen}
+use Rattle.mz_eval_turns.specs.Views.{elements_of, made_in, turns_left}
+use Rattle.mz_eval_names.specs.Names.{names_seen}
 use Rattle.mz_eval_domains.specs.Wants.{wants_of}
-use Rattle.mz_symbol.specs.Makes.{ContinuesBare}
+use Rattle.mz_symbol.specs.Makes.{Continues}
 use Rattle.mz_eval_cells.specs.Views.{seen, all_seen}
 use Rattle.mz_eval_scopes.specs.Seen.{ctx_of}
-use Rattle.mz_eval_nodes.specs.Views.{names_seen, made_seen, gathered_seen, pairs_seen, turns_left}
+use Rattle.mz_eval_nodes.specs.Views.{gathered_seen, pairs_seen}
 use Rattle.mz_eval_chains.specs.Innermosts.{operator_of}
 use Rattle.mz_eval_nodes.specs.Contexts.{later}
-use Rattle.mz_eval_nodes.specs.Operators.{appended_seen, turn}
-use Rattle.mz_eval.specs.Rows.{row_trees, row_cells_seen}
+use Rattle.mz_eval_nodes.specs.Operators.{appended_seen}
+use Rattle.mz_eval_tables.specs.TableCells.{rows_seen}
+use Rattle.mz_symbol.specs.Readings.{blank}
+use Rattle.mz_eval.specs.Rows.{row_trees}
 use Rattle.mz_eval.specs.Chains.{own_operators, operands}
 use Rattle.mz_eval.specs.Choices.{else_tree}
-use Rattle.mz_eval.specs.Calls.{arguments_of}
+use Rattle.mz_eval.specs.Calls.{arguments_seen}
 use Rattle.mz_eval.specs.Levels.{world_in, go_of, scope_of}
-use Rattle.mz_eval.specs.Comprehensions.{from_own_condition}
+use Rattle.mz_eval.specs.Comprehensions.{from_own_condition, turn}
 use Rattle.mz_eval.proofs.+forms.Given as goal
 
 abbrev pub decreases-forms::eval_expression : goal.decreases-forms::eval_expression
@@ -183,6 +188,9 @@ decreases-calls::eval_declared_call l = 2 ^ 140 * l.level.now.left + 9
 abbrev pub decreases-plain_calls::eval_unbound : goal.decreases-plain_calls::eval_unbound
 decreases-plain_calls::eval_unbound l = 2 ^ 140 * l.level.now.left + 4
 
+abbrev pub decreases-plain_calls::eval_weighed : goal.decreases-plain_calls::eval_weighed
+decreases-plain_calls::eval_weighed l = 2 ^ 140 * l.level.now.left + 4
+
 abbrev pub decreases-plain_calls::eval_bound : goal.decreases-plain_calls::eval_bound
 decreases-plain_calls::eval_bound l = 2 ^ 140 * l.level.now.left + (2 * length l.all.now + 5)
 
@@ -198,8 +206,11 @@ decreases-calls::eval_call l = 2 ^ 140 * l.level.now.left + (2 * length l.all.no
 abbrev pub decreases-forms::eval_form : goal.decreases-forms::eval_form
 decreases-forms::eval_form l = 2 ^ 140 * l.level.now.left + (2 ^ 140 - 1)
 
+abbrev pub decreases-forms::eval_whole : goal.decreases-forms::eval_whole
+decreases-forms::eval_whole l = 2 ^ 140 * l.level.now.left + (2 ^ 140 - 2)
+
 abbrev pub decreases-comprehensions::eval_comprehension : goal.decreases-comprehensions::eval_comprehension
-decreases-comprehensions::eval_comprehension l = 2 ^ 140 * l.level.now.left + (2 ^ 140 - 2)
+decreases-comprehensions::eval_comprehension l = 2 ^ 140 * l.level.now.left + (2 ^ 140 - 3)
 
 abbrev pub decreases-comprehensions::eval_generators : goal.decreases-comprehensions::eval_generators
 decreases-comprehensions::eval_generators l = 2 ^ 140 * l.level.now.left + (2 ^ 70 * length l.all.now + 2)
@@ -223,60 +234,60 @@ abbrev pub decreases-comprehensions::eval_filtered : goal.decreases-comprehensio
 decreases-comprehensions::eval_filtered l = 2 ^ 140 * l.level.now.left + (2 ^ 70 * length l.g.now.others.now + 3)
 
 abbrev pub invariant-forms::eval_parts-loop-e : goal.invariant-forms::eval_parts-loop-e
-invariant-forms::eval_parts-loop-e l = ContinuesBare l.fn.run l.run
+invariant-forms::eval_parts-loop-e l = Continues l.fn.run l.run
     (λ r. parts (go_of r l.level) (ctx_of l.level.ctx) (map tree l.all) (scope_of r l.level l.scope))
     (λ r. loop (part (go_of r l.level) (ctx_of l.level.ctx) (scope_of r l.level l.scope)) (all_seen r l.cells.items) (map tree (drop l.e-index l.all)))
 
 abbrev pub invariant-forms::eval_gathered-loop-e : goal.invariant-forms::eval_gathered-loop-e
-invariant-forms::eval_gathered-loop-e l = ContinuesBare l.fn.run l.run
+invariant-forms::eval_gathered-loop-e l = Continues l.fn.run l.run
     (λ r. parts (go_of r l.level) (ctx_of l.level.ctx) (map tree l.all) (scope_of r l.level l.scope))
     (λ r. loop (part (go_of r l.level) (ctx_of l.level.ctx) (scope_of r l.level l.scope)) (gathered_seen r l.cells) (map tree (drop l.e-index l.all)))
 
 abbrev pub invariant-forms::eval_rows-loop-row : goal.invariant-forms::eval_rows-loop-row
-invariant-forms::eval_rows-loop-row l = ContinuesBare l.fn.run l.run
+invariant-forms::eval_rows-loop-row l = Continues l.fn.run l.run
     (λ r. loop (row_of_parts (go_of r l.level) (ctx_of l.level.ctx) (scope_of r l.level l.scope)) [] (row_trees l.rows))
-    (λ r. loop (row_of_parts (go_of r l.level) (ctx_of l.level.ctx) (scope_of r l.level l.scope)) (row_cells_seen r l.all.items) (row_trees (drop l.row-index l.rows)))
+    (λ r. loop (row_of_parts (go_of r l.level) (ctx_of l.level.ctx) (scope_of r l.level l.scope)) (rows_seen r l.all.items) (row_trees (drop l.row-index l.rows)))
 
 abbrev pub invariant-operators::eval_plain-loop-s : goal.invariant-operators::eval_plain-loop-s
-invariant-operators::eval_plain-loop-s l = ContinuesBare l.fn.run l.run
+invariant-operators::eval_plain-loop-s l = Continues l.fn.run l.run
     (λ r. chain_by (world_in r l.level) (go_of r l.level) (ctx_of l.level.ctx) (scope_of r l.level l.scope) false (own_operators l.at l.first l.all))
     (λ r. operators (world_in r l.level) (go_of r l.level) (ctx_of l.level.ctx) (scope_of r l.level l.scope) l.place (seen r l.cell) (operators_at l.at (map step (drop l.s-index l.all))))
 
 abbrev pub invariant-operators::eval_operators-loop-i : goal.invariant-operators::eval_operators-loop-i
-invariant-operators::eval_operators-loop-i l = (ContinuesBare l.fn.run l.run
-    (λ r. operators (world_in r l.level) (go_of r l.level) (ctx_of l.level.ctx) (scope_of r l.level l.scope) l.fn.first (seen r l.fn.left_cell) (map operator_of l.all))
+invariant-operators::eval_operators-loop-i l = (Continues l.fn.run l.run
+    (λ r. operators (world_in r l.level) (go_of r l.level) (ctx_of l.level.ctx) (scope_of r l.level l.scope) (place_of (tree l.first)) (seen r l.fn.left_cell) (map operator_of l.all))
     (λ r. operators (world_in r l.level) (go_of r l.level) (ctx_of l.level.ctx) (scope_of r l.level l.scope) l.place (seen r l.cell) (map operator_of (drop l.i l.all))))
     × (map ctx_of l.stack.items ≡ later (ctx_of l.level.ctx) (map operator_of (drop l.i l.all)))
 
 abbrev pub invariant-operators::eval_operands-loop-i : goal.invariant-operators::eval_operands-loop-i
-invariant-operators::eval_operands-loop-i l = ContinuesBare l.fn.run l.run
+invariant-operators::eval_operands-loop-i l = Continues l.fn.run l.run
     (λ r. operands (world_in r l.level) (go_of r l.level) (ctx_of l.level.ctx) (scope_of r l.level l.scope) l.fn.first (seen r l.fn.cell) (map operator_of l.all))
     (λ r. append_operands (world_in r l.level) (go_of r l.level) (ctx_of l.ctx) (scope_of r l.level l.scope) (appended_seen r l.x) (map operator_of (drop l.i l.all)))
 
 abbrev pub invariant-choices::eval_if-loop-b : goal.invariant-choices::eval_if-loop-b
-invariant-choices::eval_if-loop-b l = ContinuesBare l.fn.run l.run
+invariant-choices::eval_if-loop-b l = Continues l.fn.run l.run
     (λ r. branches (world_in r l.level) (go_of r l.level) (ctx_of l.level.ctx) (map branch l.all) (else_tree l.last) l.node.span (plain_type l.node.ty) (scope_of r l.level l.scope) [])
     (λ r. branches (world_in r l.level) (go_of r l.level) (ctx_of l.level.ctx) (map branch (drop l.b-index l.all)) (else_tree l.last) l.node.span (plain_type l.node.ty) (scope_of r l.level l.scope) (pairs_seen r l.others.items))
 
-abbrev pub invariant-comprehensions::eval_name-loop-made : goal.invariant-comprehensions::eval_name-loop-made
-invariant-comprehensions::eval_name-loop-made l = ContinuesBare l.fn.run l.run
-    (λ r. loop (turn (world_in r l.level) l.g.whole.now.at (elements_of l.g.elements.now) l.slots.first l.slots.others.now (from_own_condition r l.level l.g) (scope_of r l.level l.scope) (occurs_if l.surely)) (made_seen r l.fn.made) (elements_of l.g.elements.now))
-    (λ r. loop (turn (world_in r l.level) l.g.whole.now.at (elements_of l.g.elements.now) l.slots.first l.slots.others.now (from_own_condition r l.level l.g) (scope_of r l.level l.scope) (occurs_if l.surely)) (made_seen r l.made) (turns_left l.left_turns))
+abbrev pub invariant-comprehensions::eval_name-turns : goal.invariant-comprehensions::eval_name-turns
+invariant-comprehensions::eval_name-turns l = Continues l.fn.run l.run
+    (λ r. loop (turn (world_in r l.level) l.g.whole.now.at (elements_of r l.g.elements.now) l.slots.first l.slots.others.now (from_own_condition r l.level l.g) (scope_of r l.level l.scope) (presence_seen r l.occurs)) (made_in r l.fn.made) (elements_of r l.g.elements.now))
+    (λ r. loop (turn (world_in r l.level) l.g.whole.now.at (elements_of r l.g.elements.now) l.slots.first l.slots.others.now (from_own_condition r l.level l.g) (scope_of r l.level l.scope) (presence_seen r l.occurs)) (made_in r l.made) (turns_left r l.left_turns))
 
-abbrev pub decreases-comprehensions::eval_name-loop-made : goal.decreases-comprehensions::eval_name-loop-made
-decreases-comprehensions::eval_name-loop-made l = length (turns_left l.left_turns)
+abbrev pub decreases-comprehensions::eval_name-turns : goal.decreases-comprehensions::eval_name-turns
+decreases-comprehensions::eval_name-turns l = length (turns_left blank l.left_turns)
 
 abbrev pub invariant-locals::eval_items-loop-i : goal.invariant-locals::eval_items-loop-i
-invariant-locals::eval_items-loop-i l = ContinuesBare l.fn.run l.run
+invariant-locals::eval_items-loop-i l = Continues l.fn.run l.run
     (λ r. loop (let_item (world_in r l.level) (go_of r l.level) (ctx_of l.level.ctx) (scope_of r l.level l.scope)) nothing_bound (map item l.items))
     (λ r. loop (let_item (world_in r l.level) (go_of r l.level) (ctx_of l.level.ctx) (scope_of r l.level l.scope)) (names_seen r l.b) (map item (drop l.i-index l.items)))
 
 abbrev pub invariant-locals::eval_indices-loop-e : goal.invariant-locals::eval_indices-loop-e
-invariant-locals::eval_indices-loop-e l = ContinuesBare l.fn.run l.run
+invariant-locals::eval_indices-loop-e l = Continues l.fn.run l.run
     (λ r. index_wants (go_of r l.level) (ctx_of l.level.ctx) (map (option_map tree) l.all) (scope_of r l.level l.scope))
     (λ r. loop (one_index (go_of r l.level) (ctx_of l.level.ctx) (scope_of r l.level l.scope)) (wants_of l.wants.items) (map (option_map tree) (drop l.e-index l.all)))
 
 abbrev pub invariant-calls::eval_parameters-loop-i : goal.invariant-calls::eval_parameters-loop-i
-invariant-calls::eval_parameters-loop-i l = ContinuesBare l.fn.run l.run
-    (λ r. loop (parameter (go_of r l.level) (ctx_of l.level.ctx) l.var (world_in r l.level).top) nothing_bound (arguments_of l.params l.all l.cells))
-    (λ r. loop (parameter (go_of r l.level) (ctx_of l.level.ctx) l.var (world_in r l.level).top) (names_seen r l.b) (arguments_of (drop l.i l.params) (drop l.i l.all) (drop l.i l.cells)))
+invariant-calls::eval_parameters-loop-i l = Continues l.fn.run l.run
+    (λ r. loop (parameter (go_of r l.level) (ctx_of l.level.ctx) l.var (world_in r l.level).top) nothing_bound (arguments_seen r l.params l.all l.cells))
+    (λ r. loop (parameter (go_of r l.level) (ctx_of l.level.ctx) l.var (world_in r l.level).top) (names_seen r l.b) (arguments_seen r (drop l.i l.params) (drop l.i l.all) (drop l.i l.cells)))

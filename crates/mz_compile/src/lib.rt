@@ -1,0 +1,7 @@
+// A typed program → its FlatZinc program, through the instance between them.
+#![tactic(auto)]
+
+mod spelled;
+mod top_call;
+
+pub use top_call::compiled;

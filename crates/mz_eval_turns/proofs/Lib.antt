@@ -1,0 +1,5 @@
+pub mod Numbers
+pub mod GatherLaws
+pub mod RunningLaws
+pub mod TurnLaws
+pub mod MadeLaws

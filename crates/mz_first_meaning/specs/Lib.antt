@@ -1,5 +1,0 @@
-pub mod Roots
-pub mod Posted
-pub mod Ends
-pub mod Built
-pub mod Examples

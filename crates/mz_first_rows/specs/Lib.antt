@@ -1,3 +1,0 @@
-pub mod Emission
-pub mod Headline
-mod Examples

@@ -1,9 +1,0 @@
-pub mod Compared
-pub mod Firsts
-pub mod Items
-pub mod Laws
-pub mod Layers
-pub mod Levels
-pub mod Lines
-pub mod Tables
-pub mod Walking

@@ -1,0 +1,5 @@
+pub mod Places
+pub mod Unbuilt
+pub mod Promise
+pub mod Examples
+pub mod StepsLayers
