@@ -1,4 +1,4 @@
--- Comparisons of which an argument is undefined.
+-- Comparisons of which an argument is undefined, and powers of an exponent that is.
 use Rattle.std.proofs.Common.{◌≡◌, ◌∙◌, ℕ, true, false, [], ◌∷◌, Option, Some, None, refl, sym, ap}
 use Rattle.std.specs.Option.{option_and_then}
 use Rattle.mz_value.specs.Contents.{Content, bool}
@@ -15,9 +15,9 @@ use Rattle.mz_value.specs.Shown.{Names}
 use Rattle.mz_operations.specs.declared.row.ScalarRow.{ScalarRow}
 use Rattle.mz_operations.specs.declared.row.ScalarRow.TheVariants as scalar
 use Rattle.mz_operations.specs.declared.row.Row.TheVariants.{Scalar}
-use Rattle.mz_operations.specs.Arguments.{at, option_at, set_at, element_at, pair}
+use Rattle.mz_operations.specs.Arguments.{at, int_at, option_at, set_at, element_at, pair}
 use Rattle.mz_operations.specs.Values.{scalar_value}
-use Rattle.mz_operations.specs.Views.{as_option, as_set, as_element}
+use Rattle.mz_operations.specs.Views.{as_int, as_option, as_set, as_element}
 use Rattle.mz_meaning.specs.Exact.{exact_value}
 use Rattle.mz_symbol.specs.Readings.{Reading}
 use Rattle.mz_eval_cells.specs.declared.types.Known.{Known}
@@ -94,3 +94,9 @@ second_missing w a b h n = record {
 -- false is what such a row tells
 pub never_told : (r : Reading) (names : Names) (w : ScalarRow) (a b : Known) → IsNever w a b → Some (bool false) ≡ told_by (gives_truth w) (exact_value names (Scalar w) (cell_value r a ∷ cell_value r b ∷ []))
 never_told r names w a b n = ap (λ g. told_by g None) (sym n.truth) ∙ ap (told_by (gives_truth w)) (sym (n.value r names))
+
+-- a power without an exponent is undefined
+pub no_power : (names : Names) (x : Option Content) → exact_value names (Scalar scalar.Power) (x ∷ None ∷ []) ≡ None
+unfolding int_at at
+no_power names None = refl
+no_power names (Some v) = stays _ (as_int v) (λ a. refl)

@@ -76,8 +76,8 @@ fn powered(run: &mut Run, x: Symbol, k: u64) -> Result<Symbol, Stop>
     power(run, x, k)
 }
 
-/// `^` and `pow`. Out of memory too where the exponent isn't par, or 2^14 or more: a row's node
-/// doesn't pay for so many products.
+/// `^` and `pow` of a par exponent. Out of memory too where it isn't par, or 2^14 or more: a row's
+/// node doesn't pay for so many products.
 #[tactic(auto, using(mz_symbol_rows::proofs::GoingOn::goes_both, mz_symbol_rows::proofs::GoingOn::goes_most))]
 pub(crate) fn power_of(
     alloc: Global,

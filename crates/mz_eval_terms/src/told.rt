@@ -4,6 +4,7 @@ ghost use Rattle.std.specs.Prelude.{◌≡◌, ◌+◌, ◌*◌, ◌∷◌, [], 
 ghost use Rattle.mz_value.specs.Shown.{Names};
 ghost use Rattle.mz_core.specs.Types.{plain_type};
 ghost use Rattle.mz_operations.specs.declared.row.MadeRow.TheVariants as made;
+ghost use Rattle.mz_operations.specs.declared.row.ScalarRow.TheVariants as row;
 ghost use Rattle.mz_operations.specs.declared.row.Row.TheVariants.{Made, Scalar};
 ghost use Rattle.mz_meaning.specs.Cells.{is_bool};
 ghost use Rattle.mz_meaning.specs.Operations.{row_cost};
@@ -21,7 +22,7 @@ use crate::lines::{symbol_of_array, takes_array};
 use crate::pairs::{clause_of, power_of};
 use crate::sets::{symbol_of_sets, takes_sets};
 use crate::singles::{made_over_two, over_one, over_two, unbuilt_row};
-use crate::stated::{gives_truth, made_truth, stated, taken};
+use crate::stated::{gives_truth, made_truth, stated, symbol_at, taken};
 use crate::types::Argument;
 use mz_base::Stop;
 use mz_core::{Base, TypeInst};
@@ -140,6 +141,44 @@ fn never(
     let s = run.truth(false)?;
     let told = stated(t, true, s)?;
     Ok(told)
+}
+
+/// A power of which the exponent is undefined wherever it is read: it is as undefined, and no node
+/// multiplies.
+#[tactic(auto, using(mz_symbol_rows::proofs::GoingOn::goes_most))]
+fn never_power(
+    alloc: Global,
+    t: &TypeInst,
+    a: &Argument,
+    b: &Argument,
+    run: &mut Run,
+) -> Result<Symbol, Stop>
+    requires { (r : Reading) → cell_value r b.now.cell ≡ None }
+    ensures goes { GoesOnBy 128 run.old run.new }
+    ensures means { (names : Names) → Means argument result run.old run.new
+        (λ r. give (row_told r names (Scalar row.Power) (plain_type t.now) (cell_value r a.now.cell ∷ cell_value r b.now.cell ∷ []))) }
+{
+    let _first = a.base;
+    let told = symbol_at(alloc, t, &b.cell, run)?;
+    Ok(told)
+}
+
+/// `^` and `pow`.
+fn power_with_two(
+    alloc: Global,
+    t: &TypeInst,
+    a: &Argument,
+    b: &Argument,
+    run: &mut Run,
+) -> Result<Symbol, Stop>
+    ensures goes { GoesOnBy 128 run.old run.new }
+    ensures means { (names : Names) → Means argument result run.old run.new
+        (λ r. give (row_told r names (Scalar row.Power) (plain_type t.now) (cell_value r a.now.cell ∷ cell_value r b.now.cell ∷ []))) }
+{
+    if is_missing(&b.cell) {
+        return never_power(alloc, t, a, b, run);
+    }
+    power_of(alloc, t, a, b, run)
 }
 
 /// A row of two arguments that are no arrays, which gives a truth value, an integer or a case.
@@ -273,7 +312,7 @@ fn scalar_with_two(
         (λ r. give (row_told r names (Scalar w) (plain_type t.now) (cell_value r a.now.cell ∷ cell_value r b.now.cell ∷ []))) }
 {
     match w {
-        ScalarRow::Power => power_of(alloc, t, a, b, run),
+        ScalarRow::Power => power_with_two(alloc, t, a, b, run),
         ScalarRow::Clause => clause_of(alloc, t, a, b, run),
         _ => plain_of_two(alloc, w, t, a, b, run),
     }

@@ -5,7 +5,7 @@ use Rattle.mz_eval_terms.proofs.ToldLaws.{goes_paid}
 use Rattle.mz_eval_terms.proofs.told.scalar_with_two.Goals as goal
 
 pub returns-in-Power-clause-means : goal.returns-in-Power-clause-means
-returns-in-Power-clause-means c = rw c.in-Power.is c.power_of.ensures.means
+returns-in-Power-clause-means c = rw c.in-Power.is c.power_with_two.ensures.means
 
 pub returns-in-Clause-clause-means : goal.returns-in-Clause-clause-means
 returns-in-Clause-clause-means c = rw c.in-Clause.is c.clause_of.ensures.means
@@ -14,7 +14,7 @@ pub returns-in-Clause-clause-goes : goal.returns-in-Clause-clause-goes
 returns-in-Clause-clause-goes c = rw c.in-Clause.is c.clause_of.ensures.goes
 
 pub returns-in-Power-clause-goes : goal.returns-in-Power-clause-goes
-returns-in-Power-clause-goes c = goes_paid 128 (Scalar c.args.w) (cell_of c.args.a.now.cell ∷ cell_of c.args.b.now.cell ∷ []) c.args.run.now c.power_of.new.run (omega arith) c.power_of.ensures.goes
+returns-in-Power-clause-goes c = goes_paid 128 (Scalar c.args.w) (cell_of c.args.a.now.cell ∷ cell_of c.args.b.now.cell ∷ []) c.args.run.now c.power_with_two.new.run (omega arith) c.power_with_two.ensures.goes
 
 pub returns-in_default : goal.returns-in_default
 returns-in_default c = record {
