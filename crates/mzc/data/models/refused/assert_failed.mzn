@@ -1,0 +1,1 @@
+constraint assert(1 > 2, "too small"); solve satisfy;

@@ -1,0 +1,1 @@
+int: n = 10 ^ 19; solve satisfy;

@@ -1,0 +1,1 @@
+int: n = sum(i in 1..9999999)(i); solve satisfy;

@@ -1,0 +1,1 @@
+int: n = n + 1; solve satisfy;

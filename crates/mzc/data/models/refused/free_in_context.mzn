@@ -1,0 +1,1 @@
+constraint not let { var bool: b } in b; solve satisfy;

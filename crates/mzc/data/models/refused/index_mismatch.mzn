@@ -1,0 +1,1 @@
+array[1..2] of int: a = [1]; solve satisfy;

@@ -1,0 +1,1 @@
+var float: x; solve satisfy;

@@ -1,0 +1,1 @@
+int: n = 2 ^ -1; solve satisfy;

@@ -1,0 +1,1 @@
+constraint not 1; solve satisfy;

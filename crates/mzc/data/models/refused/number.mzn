@@ -1,0 +1,1 @@
+int: n = 3000000000000000000; solve satisfy;

@@ -1,0 +1,1 @@
+int: n = 1 div 0; solve satisfy;

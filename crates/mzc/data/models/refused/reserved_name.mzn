@@ -1,0 +1,1 @@
+var bool: X_a; solve satisfy;

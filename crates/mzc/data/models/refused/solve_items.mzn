@@ -1,0 +1,1 @@
+var bool: b;

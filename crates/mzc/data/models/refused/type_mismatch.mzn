@@ -1,0 +1,1 @@
+bool: b = 1; solve satisfy;

@@ -1,0 +1,1 @@
+var set of int: s; solve satisfy;

@@ -1,0 +1,3 @@
+include "names.mzn";
+constraint a[i] = 3;
+solve satisfy;

@@ -1,0 +1,3 @@
+include "names.mzn";
+constraint if p then x else y endif = 3;
+solve satisfy;

@@ -1,0 +1,3 @@
+include "names.mzn";
+constraint x < y;
+solve satisfy;

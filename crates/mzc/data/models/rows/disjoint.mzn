@@ -1,0 +1,3 @@
+include "names.mzn";
+constraint s intersect t = {};
+solve satisfy;

@@ -1,0 +1,3 @@
+include "names.mzn";
+constraint max(a) = 7;
+solve satisfy;

@@ -1,0 +1,3 @@
+include "names.mzn";
+constraint p -> x < y;
+solve satisfy;

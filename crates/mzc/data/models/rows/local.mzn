@@ -1,0 +1,3 @@
+include "names.mzn";
+constraint let { var 1..9: d } in d * x = y;
+solve satisfy;

@@ -1,0 +1,3 @@
+include "names.mzn";
+constraint forall(j in s)(j < x);
+solve satisfy;

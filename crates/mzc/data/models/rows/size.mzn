@@ -1,0 +1,3 @@
+include "names.mzn";
+constraint card(s) = 2;
+solve satisfy;

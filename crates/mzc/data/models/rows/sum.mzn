@@ -1,0 +1,3 @@
+include "names.mzn";
+constraint x + y = 7;
+solve satisfy;

@@ -1,0 +1,3 @@
+include "names.mzn";
+constraint sum(a) = 7;
+solve satisfy;

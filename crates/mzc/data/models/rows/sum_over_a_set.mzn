@@ -1,0 +1,3 @@
+include "names.mzn";
+constraint sum(j in s)(c[j]) = 7;
+solve satisfy;
