@@ -26,30 +26,25 @@ use Rattle.mz_symbol_access.specs.StepsPlace.{place_term, placed}
 use Rattle.mz_symbol_access.proofs.AloneLaws.{only_reaches}
 use Rattle.glob_nodes.specs.declared.arguments.Numbers.{Numbers}
 use Rattle.glob_nodes.specs.declared.nodes.Compare.TheVariants.{Equal, Differ}
-use Rattle.glob_nodes.specs.Arguments.{all_numbers, array_of, array_value, elements, numbers_in, IsWhole}
+use Rattle.glob_nodes.specs.Arguments.{all_numbers, array_of, array_value, elements, int_symbol, numbers_in, IsWhole}
 use Rattle.glob_nodes.specs.Rows.{IsRow, row_cost}
 use Rattle.glob_nodes.specs.Says.{Gives, Says, Tells, compares, num, pair_count}
-use Rattle.glob_nodes.specs.StepsArguments.{int_symbol}
 use Rattle.glob_nodes.specs.StepsNodes.{meaning_over}
 use Rattle.glob_nodes.proofs.Rows.{found, array_found, at_first, pairs_map, row_by}
 use Rattle.glob_lists.specs.Numbers.{IsNumber}
 use Rattle.glob_lists.proofs.Seen.{head_there, tail_there}
 use Rattle.glob_lists.proofs.Several.{placed_are, placed_of}
 use Rattle.glob_lists.proofs.Squares.{pairs_below}
-use Rattle.glob_graph.specs.Walks.{range_of, with_items, from, onto, IsWalkOf, IsElement, IsNext, IsWalked, IsRound}
+use Rattle.glob_graph.specs.Walks.{range_of, with_items, values_list, from, onto, IsWalkOf, IsElement, IsNext, IsWalked, IsRound}
 
 -- ---- the list of the elements
 
-term_number : (t : Term) (n : ℤ) → as_number t ≡ Some n → t ≡ Some (terms.number n)
+pub term_number : (t : Term) (n : ℤ) → as_number t ≡ Some n → t ≡ Some (terms.number n)
 term_number None n h = absurd (cc)
 term_number (Some (terms.number m)) n h = let e : m ≡ n = cc in ap (λ k. Some (terms.number k)) e
 term_number (Some v) n h = absurd (cc)
 
-abbrev values_list : List ℤ → Term
-values_list [] = Some terms.empty
-values_list (n ∷ ns) = Some (terms.numbers (n ∷ ns))
-
-onto_list : (n : ℤ) (ns : List ℤ) → cons_term (Some (terms.number n)) (values_list ns) ≡ values_list (n ∷ ns)
+pub onto_list : (n : ℤ) (ns : List ℤ) → cons_term (Some (terms.number n)) (values_list ns) ≡ values_list (n ∷ ns)
 unfolding cons_term
 onto_list n [] = refl
 onto_list n (m ∷ ms) = refl
@@ -66,7 +61,7 @@ listed r (i ∷ is) (n ∷ ns) h =
 
 -- ---- the element at an index
 
-number_back : (o : Option ℤ) → as_number (option_map terms.number o) ≡ o
+pub number_back : (o : Option ℤ) → as_number (option_map terms.number o) ≡ o
 number_back None = refl
 number_back (Some n) = refl
 
@@ -225,7 +220,7 @@ pub length_more : {A : Type 0} (xs : List A) (x : A) → length (xs ++ x ∷ [])
 length_more [] x = refl
 length_more (y ∷ xs) x = ap suc (length_more xs x)
 
-same_length : (r : Reading) (ids : List ℕ) (ns : List ℤ) → map (num r) ids ≡ map (λ n. Some n) ns → length ns ≡ length ids
+pub same_length : (r : Reading) (ids : List ℕ) (ns : List ℤ) → map (num r) ids ≡ map (λ n. Some n) ns → length ns ≡ length ids
 same_length r [] [] h = refl
 same_length r [] (n ∷ ns) h = absurd (cc)
 same_length r (i ∷ is) [] h = absurd (cc)

@@ -72,7 +72,7 @@ grid_found : (t : Rows) → grid_from (index_in (table_value t)) (items_of (tabl
 unfolding as_index as_items
 grid_found t = ap (λ q. q >>= λ ns. Some (grid (length_of t.index) ns)) (cells_read t.cells.items)
 
-grid_is : (args : Arguments) (k : ℕ) (t : Rows) → at args k ≡ table_value t → grid_at args k ≡ Some (grid (length_of t.index) t.cells.items)
+pub grid_is : (args : Arguments) (k : ℕ) (t : Rows) → at args k ≡ table_value t → grid_at args k ≡ Some (grid (length_of t.index) t.cells.items)
 unfolding index_at items_at
 grid_is args k t h =
     same_two grid_from (index_in (at args k)) (index_in (table_value t)) (items_of (at args k)) (items_of (table_value t)) (ap index_in h) (ap items_of h)

@@ -1,3 +1,4 @@
 pub mod Senses
 pub mod Tables
 pub mod Walks
+pub mod Automata

@@ -2,6 +2,7 @@
 use Rattle.std.specs.Prelude.{◌≡◌, ℕ, ◌+◌, ℤ, List, [], ◌∷◌, length, map, Option, Some, None, IsSome}
 use Rattle.mz_value.specs.Ranges.{Range}
 use Rattle.mz_arena.specs.Values.{Term, access_term, is_true}
+use Rattle.mz_arena.specs.Values as terms
 use Rattle.mz_operations.specs.Views.{◌>>=◌}
 use Rattle.mz_globals.specs.Reading.{Placed}
 use Rattle.mz_globals.specs.Graphs.{walk, is_circuit}
@@ -18,6 +19,11 @@ range_of x = (x.first, x.last)
 
 abbrev pub with_items : Range → List ℤ → Placed ℤ
 with_items range ns = record { indices = range; items = ns }
+
+-- the list of these numbers as a term
+abbrev pub values_list : List ℤ → Term
+values_list [] = Some terms.empty
+values_list (n ∷ ns) = Some (terms.numbers (n ∷ ns))
 
 -- the walk from an index that may be undefined
 abbrev pub from : Placed ℤ → ℕ → Option ℤ → Option (List ℤ × ℤ)

@@ -1,5 +1,5 @@
 -- The values of arguments.
-use Rattle.std.proofs.Common.{◌≡◌, ◌∙◌, ℕ, ℤ, Bool, true, false, List, [], ◌∷◌, ◌++◌, length, map, Option, Some, None, IsSome, slice_get, refl, sym, ap, subst, if◌then◌else◌}
+use Rattle.std.proofs.Common.{◌≡◌, ◌∙◌, ℕ, ℤ, Bool, true, false, List, [], ◌∷◌, ◌++◌, map, Option, Some, None, IsSome, slice_get, refl, sym, ap, subst, if◌then◌else◌}
 use Rattle.std.specs.Option.{option_map, option_and_then}
 use Rattle.mz_value.specs.Ranges.{Range}
 use Rattle.mz_value.specs.Contents.{Content, contents}
@@ -7,16 +7,14 @@ use Rattle.mz_value.specs.Contents as values
 use Rattle.mz_core.specs.declared.types.Base.TheVariants as base
 use Rattle.mz_instance.specs.Contents.{content_by}
 use Rattle.mz_arena.specs.Values.{Term, as_number, is_true}
-use Rattle.mz_symbol.specs.declared.types.Symbol.{Symbol}
 use Rattle.mz_symbol.specs.declared.types.Line.{Line}
 use Rattle.mz_symbol.specs.Lines.{only_if}
-use Rattle.mz_symbol.specs.Symbols.{value_by, symbol_value, all_there, elements_value, line_value, AreItems, AreWhole}
+use Rattle.mz_symbol.specs.Symbols.{symbol_value, all_there, elements_value, AreItems}
 use Rattle.mz_symbol.specs.Runs.{Run, IsRun}
 use Rattle.mz_symbol.specs.Readings.{Reading, Reads}
 use Rattle.glob_nodes.specs.declared.arguments.Numbers.{Numbers}
-use Rattle.glob_nodes.specs.Says.{num}
-use Rattle.glob_nodes.specs.Arguments.{all_numbers, elements, numbers_in, array_of, array_value, IsWhole}
-use Rattle.glob_nodes.specs.StepsArguments.{int_symbol}
+use Rattle.glob_nodes.specs.Arguments.{all_numbers, numbers_in, array_of, array_value, IsWhole}
+use Rattle.glob_nodes.specs.Arguments.{int_symbol}
 
 -- ---- the elements of a line of integers
 

@@ -1,10 +1,12 @@
 -- The arguments of globals as nodes, and their values.
-use Rattle.std.specs.Prelude.{◌≡◌, ℕ, ℤ, List, [], ◌∷◌, map, Bool, true, Option, Some, None, IsSome}
+use Rattle.std.specs.Prelude.{◌≡◌, ℕ, ℤ, List, [], ◌∷◌, map, true, Option, Some, None, IsSome}
 use Rattle.std.specs.Option.{option_map}
 use Rattle.mz_value.specs.Ranges.{Range}
 use Rattle.mz_value.specs.Contents.{Content, contents}
 use Rattle.mz_value.specs.Contents as values
+use Rattle.mz_core.specs.declared.types.Base.TheVariants as base
 use Rattle.mz_arena.specs.Values.{is_true}
+use Rattle.mz_symbol.specs.declared.types.Symbol.{Symbol}
 use Rattle.mz_symbol.specs.Lines.{only_if}
 use Rattle.mz_symbol.specs.Runs.{Run}
 use Rattle.mz_symbol.specs.Readings.{Reading, Reads}
@@ -38,3 +40,7 @@ number_value r id = option_map values.int (num r id)
 -- WHERE AN ARRAY IS DEFINED, EACH ELEMENT IS THERE
 abbrev pub IsWhole : Run → Numbers → Type 0
 IsWhole s a = (r : Reading) → Reads r s → is_true (r.term a.defined) ≡ true → IsSome (all_numbers (elements r a))
+
+-- the symbol of an integer that is no option
+abbrev pub int_symbol : ℕ → Symbol
+int_symbol id = record { base = base.Int; occurs = None; term = id }

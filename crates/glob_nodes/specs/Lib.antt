@@ -2,5 +2,4 @@ pub mod Says
 pub mod StepsNodes
 pub mod StepsEach
 pub mod Arguments
-pub mod StepsArguments
 pub mod Rows

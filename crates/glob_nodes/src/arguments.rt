@@ -6,8 +6,7 @@ ghost use Rattle.mz_core.specs.declared.types.Base.TheVariants as base;
 ghost use Rattle.mz_value.specs.Contents.{contents};
 ghost use Rattle.mz_value.specs.Contents as values;
 ghost use Rattle.mz_symbol.specs.Readings.{Reading, Reads};
-ghost use Rattle.glob_nodes.specs.Arguments.{IsWhole, array_value};
-ghost use Rattle.glob_nodes.specs.StepsArguments.{int_symbol};
+ghost use Rattle.glob_nodes.specs.Arguments.{IsWhole, array_value, int_symbol};
 
 use mz_arena::Id;
 use mz_base::Memory;
@@ -75,7 +74,8 @@ fn integers(alloc: Global, items: &[Symbol]) -> Result<Vec<Id>, Memory>
     Ok(ids)
 }
 
-fn integer(s: Symbol) -> Result<Id, Memory>
+/// The node of an integer that is no option. Out of memory of other symbols.
+pub fn integer(s: Symbol) -> Result<Id, Memory>
     ensures { IfOk result (λ id. int_symbol id ≡ s) }
 {
     match s.base {

@@ -9,7 +9,7 @@ mod nodes;
 mod relation;
 mod sums;
 
-pub use arguments::{Numbers, numbers_of};
+pub use arguments::{Numbers, integer, numbers_of};
 pub use each::{each_next, each_two, to_each};
 pub use guards::{where_arrays, where_number_array, where_numbers_array};
 pub use listing::{extreme, list_of};

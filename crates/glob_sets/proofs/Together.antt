@@ -9,6 +9,7 @@ use Rattle.mz_operations.specs.declared.row.SetOp.TheVariants as rows
 use Rattle.mz_operations.specs.Arguments as arguments
 use Rattle.mz_operations.specs.Sets.{combined, same_set, union}
 use Rattle.mz_operations.specs.Views.{◌>>=◌}
+use Rattle.mz_operations.specs.Views.{as_set as set_in}
 use Rattle.mz_arena.specs.declared.node.NodeKind.TheVariants as kind
 use Rattle.mz_arena.specs.Values.{Term, as_set, holds, is_true, set_term}
 use Rattle.mz_arena.specs.Values as terms
@@ -32,9 +33,11 @@ use Rattle.glob_lists.proofs.Seen.{both_same, head_there, tail_there}
 use Rattle.glob_lists.proofs.SetNodes.{set_is, set_found}
 use Rattle.glob_lists.proofs.Several.{same_two}
 use Rattle.glob_lists.proofs.Squares.{below_square, pairs_within}
-use Rattle.glob_sets.specs.Arrays.{set_at, set_elements, sets_in, sets_of, sets_value, AreSets, IsSet}
+use Rattle.glob_sets.specs.Arrays.{array_by, elements_by, elements_in, sets_value, AreSets, IsSet}
 use Rattle.glob_sets.specs.Senses.{all_apart, make_up, united_from, UnitedSoFar}
-use Rattle.glob_sets.proofs.Apart.{apart_told, both_sets, same_square, sets_are, sets_found}
+use Rattle.glob_sets.proofs.Apart.{apart_told, both_sets, same_square}
+use Rattle.glob_sets.proofs.AtPlaces.{elements_are, sets_read}
+use Rattle.glob_sets.proofs.Elements.{items_found}
 
 -- ---- the union, a set at a time
 
@@ -66,16 +69,16 @@ union_is : (v w : List Range) → combined rows.Union v w ≡ union v w
 unfolding combined
 union_is v w = refl
 
-united_told : (r : Reading) (t : Term) (v : List Range) (ids : List ℕ) (ss : List (List Range)) → as_set t ≡ Some v → map (set_at r) ids ≡ map (λ n. Some n) ss → as_set (united_from r t ids) ≡ Some (counting.united_from v ss)
+united_told : (r : Reading) (t : Term) (v : List Range) (ids : List ℕ) (ss : List (List Range)) → as_set t ≡ Some v → map (λ id. as_set (r.term id)) ids ≡ map (λ n. Some n) ss → as_set (united_from r t ids) ≡ Some (counting.united_from v ss)
 united_told r t v [] [] e h = e
 united_told r t v [] (s ∷ ss) e h = absurd (cc)
 united_told r t v (x ∷ xs) [] e h = absurd (cc)
 united_told r t v (x ∷ xs) (s ∷ ss) e h =
     united_told r (set_term rows.Union t (r.term x)) (union v s) xs ss
-    (both_sets rows.Union t (r.term x) v s e (head_there (set_at r x) (map (set_at r) xs) s ss h) ∙ ap (λ u. Some u) (union_is v s))
-    (tail_there (set_at r x) (map (set_at r) xs) s ss h)
+    (both_sets rows.Union t (r.term x) v s e (head_there (as_set (r.term x)) (map (λ id. as_set (r.term id)) xs) s ss h) ∙ ap (λ u. Some u) (union_is v s))
+    (tail_there (as_set (r.term x)) (map (λ id. as_set (r.term id)) xs) s ss h)
 
-partition_told : (r : Reading) (none u : ℕ) (a : Numbers) (ss : List (List Range)) (w : List Range) → r.term none ≡ Some (terms.set []) → set_elements r a ≡ map (λ n. Some n) ss → as_set (r.term u) ≡ Some w → make_up r none a u ≡ counting.partitions ss w
+partition_told : (r : Reading) (none u : ℕ) (a : Numbers) (ss : List (List Range)) (w : List Range) → r.term none ≡ Some (terms.set []) → elements_by as_set r a ≡ map (λ n. Some n) ss → as_set (r.term u) ≡ Some w → make_up r none a u ≡ counting.partitions ss w
 partition_told r none u a ss w e h k =
     both_same (all_apart r none a) (holds (as_set (united_from r (r.term none) a.items.items)) (as_set (r.term u)) same_set) (counting.all_disjoint ss) (same_set (counting.united_from [] ss) w)
     (apart_told r none a.items.items ss e h)
@@ -86,12 +89,12 @@ partition_told r none u a ss w e h k =
 abbrev partition_of : Option (List (List Range)) → Option (List Range) → Option Content
 partition_of o p = truth (o >>= λ ss. p >>= λ u. Some (counting.partitions ss u))
 
-partition_line : (x : Range) (o : Option (List (List Range))) (p : Option (List Range)) → (line_of global.Partition).value (sets_of x o ∷ option_map (values.set None) p ∷ []) ≡ Some (values.bool (found (λ ss. found (counting.partitions ss) p) o))
+partition_line : (x : Range) (o : Option (List (List Range))) (p : Option (List Range)) → (line_of global.Partition).value (array_by (values.set None) x o ∷ option_map (values.set None) p ∷ []) ≡ Some (values.bool (found (λ ss. found (counting.partitions ss) p) o))
 unfolding line_of
 partition_line x o p =
-    same_two partition_of (sets_at (sets_of x o ∷ option_map (values.set None) p ∷ []) 0) o (arguments.set_at (sets_of x o ∷ option_map (values.set None) p ∷ []) 1) p
-    (sets_are (sets_of x o ∷ option_map (values.set None) p ∷ []) 0 x o (at_first (sets_of x o) (option_map (values.set None) p ∷ [])))
-    (set_is (sets_of x o ∷ option_map (values.set None) p ∷ []) 1 p (at_second (sets_of x o) (option_map (values.set None) p) []))
+    same_two partition_of (sets_at (array_by (values.set None) x o ∷ option_map (values.set None) p ∷ []) 0) o (arguments.set_at (array_by (values.set None) x o ∷ option_map (values.set None) p ∷ []) 1) p
+    (elements_are set_in (values.set None) (array_by (values.set None) x o ∷ option_map (values.set None) p ∷ []) 0 x o sets_read (at_first (array_by (values.set None) x o) (option_map (values.set None) p ∷ [])))
+    (set_is (array_by (values.set None) x o ∷ option_map (values.set None) p ∷ []) 1 p (at_second (array_by (values.set None) x o) (option_map (values.set None) p) []))
     ∙ two_found counting.partitions o p
 
 pub partition_row : (old mid new : Run) (a : Numbers) (u none body id n m : ℕ)
@@ -104,10 +107,10 @@ pub partition_row : (old mid new : Run) (a : Numbers) (u none body id n m : ℕ)
     → IsRow base.Bool old new global.Partition (λ r. sets_value r a ∷ set_value r u ∷ []) id
 partition_row old mid new a u none body id n m whole empty before t goes s =
     row_by old new global.Partition (λ r. sets_value r a ∷ set_value r u ∷ []) (λ r. is_true (r.term a.defined) && (is_some (as_set (r.term u)) && is_true (r.term body))) id
-    (λ r q. ap (λ p. Some (values.bool p)) (sets_found (is_true (r.term a.defined)) (set_elements r a) (is_some (as_set (r.term u)) && is_true (r.term body)) (λ ss. found (counting.partitions ss) (as_set (r.term u))) (whole r (before.back r (goes.back r q)))
+    (λ r q. ap (λ p. Some (values.bool p)) (items_found (is_true (r.term a.defined)) (elements_by as_set r a) (is_some (as_set (r.term u)) && is_true (r.term body)) (λ ss. found (counting.partitions ss) (as_set (r.term u))) (whole r (before.back r (goes.back r q)))
     (λ ss h. set_found (as_set (r.term u)) (is_true (r.term body)) (counting.partitions ss)
     (λ w k. t.tells r (goes.back r q) ∙ partition_told r none u a ss w (empty r (before.back r (goes.back r q))) h k)))
-    ∙ sym (partition_line (a.first, a.last) (sets_in r a) (as_set (r.term u))))
+    ∙ sym (partition_line (a.first, a.last) (elements_in as_set r a) (as_set (r.term u))))
     (record { same = λ r q. t.same r (goes.back r q) ∙ s.same r q; is = s.is; tells = s.tells })
 
 -- ---- the cost

@@ -9,7 +9,8 @@ ghost use Rattle.mz_meaning.specs.Globals as globals;
 ghost use Rattle.mz_meaning.specs.Runs.{give};
 ghost use Rattle.mz_operations.specs.Bounds as bounds;
 ghost use Rattle.mz_eval_cells.specs.Meets.{Tells};
-ghost use Rattle.mz_eval_cells.specs.Views.{cell_of, cells_of};
+ghost use Rattle.mz_eval_cells.specs.Views.{cell_of, cells_of, known_bound};
+ghost use Rattle.mz_eval_globals.specs.Bounds.{bound_by};
 ghost use Rattle.mz_eval_globals.specs.Steps.{is_count, global_result_by, call_by};
 
 use crate::givens::givens_in;
@@ -122,6 +123,22 @@ fn call_by(alloc: Heap, g: Global, at: Span, gs: &[Given], cells: Vec<Known>) ->
 {
     tested(g, at, gs)?;
     result_by(alloc, g, gs, cells)
+}
+
+fn bound_by(g: Global, at: Span, gs: &[Given]) -> Result<Bound, Stop>
+    ensures { Tells known_bound result (bound_by g (map plain_given gs.now) at) }
+{
+    tested(g, at, gs)?;
+    let ends = global_ends(g, gs);
+    Ok(Bound::Number(ends.0, ends.1))
+}
+
+/// The bounds of what a call of a global with a var argument gives. Refused for what `global_cell` is.
+pub fn call_bound(alloc: Heap, g: Global, at: Span, cells: &[Known]) -> Result<Bound, Stop>
+    ensures { Tells known_bound result (bound_by g (map globals.given_in (cells_of cells.now)) at) }
+{
+    let givens = givens_in(alloc, cells)?;
+    bound_by(g, at, &givens)
 }
 
 /// What a call of a global gives of these arguments: a par value where all are par, and else what

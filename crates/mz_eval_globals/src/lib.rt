@@ -6,6 +6,6 @@ mod costs;
 mod givens;
 mod numbers;
 
-pub use calls::global_cell;
+pub use calls::{call_bound, global_cell};
 pub use costs::cost_of_call;
 pub use numbers::global_numbered;

@@ -29,7 +29,7 @@ size_seen r (known.Var x) = refl
 size_seen r (known.Row ix xs) = refl
 size_seen r (known.Unshaped d) = refl
 
-sizes_seen : (r : Reading) (ks : List Known) → map size_of (cells_of ks) ≡ map size_of (all_seen r ks)
+pub sizes_seen : (r : Reading) (ks : List Known) → map size_of (cells_of ks) ≡ map size_of (all_seen r ks)
 sizes_seen r [] = refl
 sizes_seen r (k ∷ ks) = ap (λ n. n ∷ map size_of (cells_of ks)) (size_seen r k) ∙ ap (λ ns. size_of (seen r k) ∷ ns) (sizes_seen r ks)
 

@@ -45,7 +45,8 @@ fn own_size(k: &Known) -> u64
 }
 
 /// How many elements an argument has.
-fn size_of(k: &Known) -> u64
+/// An array's elements, a set's numbers, and a par integer that isn't negative; else 0.
+pub fn size_of(k: &Known) -> u64
     ensures { result ≡ operations.size_of (cell_of k.now) }
 {
     match length_of(k) {

@@ -12,6 +12,6 @@ mod row_of;
 mod sets;
 mod showing;
 
-pub use costs::{cost_of_all, cost_of_one, cost_of_two, sizes_of};
+pub use costs::{cost_of_all, cost_of_one, cost_of_two, size_of, sizes_of};
 pub use numbers::row_at;
 pub use row_of::{all_given, row_of_all, row_of_one, row_of_two};

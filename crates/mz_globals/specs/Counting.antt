@@ -2,9 +2,9 @@
 use Rattle.std.specs.Prelude.{ℕ, suc, ℤ, pos, nat_abs, int_le, List, [], ◌∷◌, count_by, zip, Bool, ◌&&◌, if◌then◌else◌}
 use Rattle.std.specs.List.{list_all}
 use Rattle.std.specs.Ordering.{int_eq}
-use Rattle.mz_value.specs.Ranges.{Range}
+use Rattle.mz_value.specs.Ranges.{Range, range_of}
 use Rattle.mz_operations.specs.Numbers.{same}
-use Rattle.mz_operations.specs.Sets.{contains, intersection, union, is_empty_set, same_set}
+use Rattle.mz_operations.specs.Sets.{contains, intersection, union, is_empty_set, is_subset, same_set}
 use Rattle.mz_globals.specs.declared.global.Relation.{Relation}
 use Rattle.mz_globals.specs.declared.global.Relation.TheVariants.{AtLeast, AtMost, Exactly}
 use Rattle.mz_globals.specs.Lists.{pairwise, total, numbered, windows}
@@ -45,7 +45,7 @@ slides low up seq xs = list_all (sum_fits low up) (windows (nat_abs seq) xs)
 
 -- a set holds numbers of a range alone
 abbrev pub holds_only : Range → List Range → Bool
-holds_only within s = list_all (λ r. int_le within.0 r.0 && int_le r.1 within.1) s
+holds_only within s = is_subset s (range_of within.0 within.1)
 
 -- an element of the one array and a set of the other, each with its index: the element is the set's index exactly where the set has the element's
 abbrev pub is_channel : ℤ × ℤ → ℤ × List Range → Bool

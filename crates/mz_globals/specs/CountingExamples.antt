@@ -4,7 +4,7 @@ use Rattle.mz_operations.specs.declared.row.Comparison.TheVariants.{AtMost, AtLe
 use Rattle.mz_operations.specs.Views.{as_bool, as_int, as_set, as_items, as_index, as_row}
 use Rattle.mz_operations.specs.Arguments.{at, int_at, set_at, items_at, row_at, index_at}
 use Rattle.mz_operations.specs.Numbers.{ordered, toward}
-use Rattle.mz_operations.specs.Sets.{contains, intersection, union, complement, missing_from, same_set}
+use Rattle.mz_operations.specs.Sets.{contains, intersection, union, difference, complement, missing_from, same_set}
 use Rattle.mz_operations.specs.Bounds.{bound_of, bounds_of, folded_ends, fold_ends}
 use Rattle.mz_globals.specs.declared.global.Global.TheVariants.{CountOf, Count, Times, Among, DifferentValues, Cardinality, SlidingSum, Channel, Link, Disjoint, Partition}
 use Rattle.mz_globals.specs.declared.global.Relation.TheVariants as relation
@@ -123,7 +123,7 @@ record Channelled : Type 0 where
   a_set_doesnt_count : global_cost Link (9 ∷ 2 ∷ []) ≡ 3
 
 channelled : Channelled
-unfolding line_of at int_at set_at items_at row_at index_at as_bool as_int as_set as_items as_index as_row ordered toward contains intersection union complement missing_from same_set bound_of bounds_of folded_ends fold_ends
+unfolding line_of at int_at set_at items_at row_at index_at as_bool as_int as_set as_items as_index as_row ordered toward contains intersection union difference complement missing_from same_set bound_of bounds_of folded_ends fold_ends
 channelled = record { three_in_two = refl; three_is_missing = refl; in_two_sets = refl; no_such_set = refl; no_such_element = refl; from_elsewhere = refl; an_empty_set = refl; elements_of_none = refl; none = refl; undefined = refl; lengths_arent_paired = refl; pairs_of_both = refl; first_and_third = refl; third_is_missing = refl; second_is_false = refl; beyond_the_last = refl; from_zero = refl; before_the_first = refl; no_boolean = refl; some_of_no_boolean = refl; link_undefined = refl; a_set_doesnt_count = refl }
 
 record SetsOfAnArray : Type 0 where

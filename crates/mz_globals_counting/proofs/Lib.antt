@@ -1,3 +1,4 @@
+pub mod Alone
 pub mod Counted
 pub mod Members
 pub mod Windows

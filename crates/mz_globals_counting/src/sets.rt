@@ -1,6 +1,6 @@
 // Tests of sets, and of numbers with sets.
 
-ghost use Rattle.std.specs.Prelude.{◌≡◌, IfOk, [], map};
+ghost use Rattle.std.specs.Prelude.{◌≡◌, ◌&&◌, IfOk, [], int_le, map};
 ghost use Rattle.std.specs.List.{list_all};
 ghost use Rattle.mz_operations.specs.Sets as sets;
 ghost use Rattle.mz_globals.specs.Lists.{numbered};
@@ -17,6 +17,13 @@ fn holds_only(within: (i64, i64), s: &RangeSet) -> bool
     ensures { result ≡ words.holds_only within s.now }
 {
     let ranges = s.ranges();
+    lie_within(within, ranges)
+}
+
+/// Whether the ends of ranges lie in a range.
+fn lie_within(within: (i64, i64), ranges: &[(i64, i64)]) -> bool
+    ensures { result ≡ list_all (λ r. int_le within.0 r.0 && int_le r.1 within.1) ranges.now }
+{
     ranges.iter().all(|r| within.0 <= r.0 && r.1 <= within.1)
 }
 

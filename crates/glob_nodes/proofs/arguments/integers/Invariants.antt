@@ -1,5 +1,5 @@
 use Rattle.std.proofs.Common.{◌≡◌, ◌++◌, map, drop}
-use Rattle.glob_nodes.specs.StepsArguments.{int_symbol}
+use Rattle.glob_nodes.specs.Arguments.{int_symbol}
 use Rattle.glob_nodes.proofs.arguments.integers.Given as goal
 
 abbrev pub invariant-loop-s : goal.invariant-loop-s

@@ -1,7 +1,7 @@
-use Rattle.std.proofs.Common.{◌≡◌, ◌∙◌, map, option_map, Some, sym, ap, slice_get, rules}
+use Rattle.std.proofs.Common.{◌≡◌, ◌∙◌, map, option_map, sym, ap, rules}
 use Rattle.std.proofs.lemmas.Int.{to_z-of_z}
 use mir.Syntax.{w64}
-use Rattle.glob_nodes.specs.StepsArguments.{int_symbol}
+use Rattle.glob_nodes.specs.Arguments.{int_symbol}
 use Rattle.glob_nodes.proofs.Values.{line_value_is, line_is_whole}
 use Rattle.glob_nodes.proofs.arguments.numbers_of.Goals as goal
 

@@ -1,0 +1,9 @@
+use Rattle.std.proofs.Common.{pos, Some}
+use Rattle.glob_nodes.specs.declared.nodes.Compare.TheVariants.{AtMost}
+use Rattle.glob_nodes.specs.Says.{num, compares}
+use Rattle.glob_nodes.proofs.Saying.{ok_so}
+use Rattle.glob_lists.proofs.Nodes.{says_over_number}
+use Rattle.glob_graph.proofs.automata.is_positive.Goals as goal
+
+pub returns-clause-says : goal.returns-clause-says
+returns-clause-says c = ok_so c.compared.result c.compared.ensures.says (λ id s. says_over_number c.args.run.now c.constant.new.run c.compared.new.run (λ r. Some (pos 1)) (λ r t. compares AtMost t (num r c.args.x)) c.in_ok-one.one id _ c.in_ok-one.ensures.is c.compared.ensures.goes s)

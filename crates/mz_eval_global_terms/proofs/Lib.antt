@@ -1,0 +1,4 @@
+pub mod ArgumentLaws
+pub mod CallLaws
+pub mod CostLaws
+pub mod ParLaws

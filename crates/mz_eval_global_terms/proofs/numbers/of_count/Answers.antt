@@ -1,0 +1,35 @@
+use Rattle.std.proofs.Common.{◌∙◌, ◌∷◌, [], length, ap, arith}
+use Rattle.mz_core.specs.declared.types.Base.TheVariants as base
+use Rattle.mz_globals.specs.declared.global.Global.TheVariants as global
+use Rattle.mz_globals.specs.Table.{line_of}
+use Rattle.mz_meaning.specs.Operations.{size_of}
+use Rattle.mz_symbol_rows.proofs.GoingOn.{goes_both}
+use Rattle.mz_eval_cells.specs.Views.{cell_of}
+use Rattle.glob_nodes.specs.Arguments.{array_value, number_value}
+use Rattle.glob_nodes.specs.Rows.{row_cost}
+use Rattle.mz_eval_global_terms.proofs.CallLaws.{call_of_two}
+use Rattle.mz_eval_global_terms.proofs.CostLaws.{room_for}
+use Rattle.mz_eval_global_terms.proofs.numbers.of_count.Goals as goal
+
+pub returns-clause-goes : goal.returns-clause-goes
+unfolding line_of
+returns-clause-goes c =
+    room_for global.CountOf (c.args.a.now ∷ c.args.b.now ∷ []) (length c.in_ok-xs.xs.items.items ∷ size_of (cell_of c.args.b.now) ∷ []) 8 _ _ _ (omega arith)
+    (ap (λ m. row_cost global.CountOf (m ∷ size_of (cell_of c.args.b.now) ∷ [])) c.in_ok-xs.ensures.array.size)
+    (goes_both 8 0 _ _ _ c.number_in.ensures.goes c.numbers_in.ensures.goes) c.count_of.ensures.goes
+
+pub returns-in_err-id-clause-goes : goal.returns-in_err-id-clause-goes
+unfolding line_of
+returns-in_err-id-clause-goes c =
+    room_for global.CountOf (c.args.a.now ∷ c.args.b.now ∷ []) (length c.in_ok-xs.xs.items.items ∷ size_of (cell_of c.args.b.now) ∷ []) 8 _ _ _ (omega arith)
+    (ap (λ m. row_cost global.CountOf (m ∷ size_of (cell_of c.args.b.now) ∷ [])) c.in_ok-xs.ensures.array.size)
+    (goes_both 8 0 _ _ _ c.number_in.ensures.goes c.numbers_in.ensures.goes) c.count_of.ensures.goes
+
+pub returns-clause-call : goal.returns-clause-call
+returns-clause-call c =
+    call_of_two base.Int global.CountOf c.args.a.now c.args.b.now _ _ _
+    (λ r. array_value r c.in_ok-xs.xs) (λ r. number_value r c.in_ok-y.y) c.in_ok-id.id
+    c.count_of.ensures.goes.back
+    (λ r h. c.in_ok-y.ensures.number.same r (c.numbers_in.ensures.goes.back r h) ∙ c.in_ok-xs.ensures.array.same r h)
+    c.in_ok-xs.ensures.array.given (λ r h. c.in_ok-y.ensures.number.given r (c.numbers_in.ensures.goes.back r h))
+    c.in_ok-id.ensures.row

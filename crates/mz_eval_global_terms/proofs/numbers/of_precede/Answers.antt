@@ -1,0 +1,35 @@
+use Rattle.std.proofs.Common.{◌∙◌, ◌∷◌, [], length, ap, arith}
+use Rattle.mz_core.specs.declared.types.Base.TheVariants as base
+use Rattle.mz_globals.specs.declared.global.Global.TheVariants as global
+use Rattle.mz_globals.specs.Table.{line_of}
+use Rattle.mz_meaning.specs.Operations.{size_of}
+use Rattle.mz_symbol_rows.proofs.GoingOn.{goes_both}
+use Rattle.mz_eval_cells.specs.Views.{cell_of}
+use Rattle.glob_nodes.specs.Arguments.{array_value, number_value}
+use Rattle.glob_nodes.specs.Rows.{row_cost}
+use Rattle.mz_eval_global_terms.proofs.CallLaws.{call_of_three}
+use Rattle.mz_eval_global_terms.proofs.CostLaws.{room_for}
+use Rattle.mz_eval_global_terms.proofs.numbers.of_precede.Goals as goal
+
+pub returns-clause-goes : goal.returns-clause-goes
+unfolding line_of
+returns-clause-goes c =
+    room_for global.Precede (c.args.a.now ∷ c.args.b.now ∷ c.args.c.now ∷ []) (size_of (cell_of c.args.a.now) ∷ size_of (cell_of c.args.b.now) ∷ length c.in_ok-xs.xs.items.items ∷ []) 16 _ _ _ (omega arith)
+    (ap (λ m. row_cost global.Precede (size_of (cell_of c.args.a.now) ∷ size_of (cell_of c.args.b.now) ∷ m ∷ [])) c.in_ok-xs.ensures.array.size)
+    (goes_both 16 0 _ _ _ (goes_both 8 8 _ _ _ c.number_in.ensures.goes c.number_in-2.ensures.goes) c.numbers_in.ensures.goes) c.precede.ensures.goes
+
+pub returns-in_err-id-clause-goes : goal.returns-in_err-id-clause-goes
+unfolding line_of
+returns-in_err-id-clause-goes c =
+    room_for global.Precede (c.args.a.now ∷ c.args.b.now ∷ c.args.c.now ∷ []) (size_of (cell_of c.args.a.now) ∷ size_of (cell_of c.args.b.now) ∷ length c.in_ok-xs.xs.items.items ∷ []) 16 _ _ _ (omega arith)
+    (ap (λ m. row_cost global.Precede (size_of (cell_of c.args.a.now) ∷ size_of (cell_of c.args.b.now) ∷ m ∷ [])) c.in_ok-xs.ensures.array.size)
+    (goes_both 16 0 _ _ _ (goes_both 8 8 _ _ _ c.number_in.ensures.goes c.number_in-2.ensures.goes) c.numbers_in.ensures.goes) c.precede.ensures.goes
+
+pub returns-clause-call : goal.returns-clause-call
+returns-clause-call c =
+    call_of_three base.Bool global.Precede c.args.a.now c.args.b.now c.args.c.now _ _ _
+    (λ r. number_value r c.in_ok-s.s) (λ r. number_value r c.in_ok-t.t) (λ r. array_value r c.in_ok-xs.xs) c.in_ok-id.id
+    c.precede.ensures.goes.back
+    (λ r h. c.in_ok-s.ensures.number.same r (c.number_in-2.ensures.goes.back r (c.numbers_in.ensures.goes.back r h)) ∙ c.in_ok-t.ensures.number.same r (c.numbers_in.ensures.goes.back r h) ∙ c.in_ok-xs.ensures.array.same r h)
+    (λ r h. c.in_ok-s.ensures.number.given r (c.number_in-2.ensures.goes.back r (c.numbers_in.ensures.goes.back r h))) (λ r h. c.in_ok-t.ensures.number.given r (c.numbers_in.ensures.goes.back r h)) c.in_ok-xs.ensures.array.given
+    c.in_ok-id.ensures.row
