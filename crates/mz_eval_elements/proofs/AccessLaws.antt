@@ -19,6 +19,7 @@ use Rattle.mz_symbol_access.specs.AccessValues.{access_value, at_node}
 use Rattle.mz_eval_cells.specs.declared.types.Known.{Known}
 use Rattle.mz_eval_cells.specs.Views.{all_seen, cell_of, cells_of, seen}
 use Rattle.mz_eval_cells.proofs.Seeing.{par_seen}
+use Rattle.mz_eval_symbols.specs.Bases.{symbol_base}
 use Rattle.mz_eval_symbols.specs.Taken.{cell_value, ranges_in}
 use Rattle.mz_eval_access.specs.Places.{reached_bound}
 use Rattle.mz_eval_lines.specs.ArrayCells.{counted, is_counted}
@@ -33,6 +34,13 @@ node_counted : (b : Base) (o : Bool) (v : Option Content) → at_node b o v ≡ 
 node_counted base.Bool false v = refl
 node_counted base.Bool true v = refl
 node_counted b o v = refl
+
+-- what has no base of its own is no truth value
+pub symbol_node : (b : Base) (o : Bool) (v : Option Content) → at_node (symbol_base b) o v ≡ at_node b o v
+symbol_node base.Bool o v = refl
+symbol_node base.Bottom o v = refl
+symbol_node base.SetBottom o v = refl
+symbol_node b o v = refl
 
 told : (m : Mode) (b : Base) (o : Bool) (x y z : Option Content) (vs ws : List (Option Content)) → held m x ≡ y → map (held m) vs ≡ ws → held m (at_node b o (accessed y ws)) ≡ held m z → held m (counted (is_counted b o) (accessed x vs)) ≡ held m (counted (is_counted b o) z)
 told (Blank n) b o x y z vs ws h i j = refl

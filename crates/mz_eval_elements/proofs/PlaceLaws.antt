@@ -117,6 +117,10 @@ symbol_told r b o v s k e h =
     kind_twice r.mode (is_counted b o) v (argued r.term s) e
     ∙ ap (at_kind r b o) (sym (h ∙ ap (held r.mode) (sym (same_value (argued r.term s)))))
 
+-- a symbol that is undefined, as a cell without a value
+pub gone_told : (r : Reading) (s : Symbol) (k : Known) → value_of (seen r k) ≡ None → argued r.term s ≡ None → value_of (seen r k) ≡ held r.mode (option_map (item_cast None) (argued r.term s))
+gone_told r s k e g = e ∙ sym (held_none r.mode) ∙ ap (λ v. held r.mode (option_map (item_cast None) v)) (sym g)
+
 pub open_told : (r : Reading) (b : Base) (o : Bool) (q : Option Base) (k n d : ℕ) (own x : Known) (s : Symbol) → held r.mode (option_map (item_cast q) (in_place n (r.line k))) ≡ (if is_true (r.term d) then value_of (seen r own) else None) → guarded_seen r b o d own ≡ argument r s → value_of (seen r x) ≡ held r.mode (option_map (item_cast None) (argued r.term s))
     → item_at r b o q k n ≡ counted_seen b o r x
 open_told r b o q k n d own x s f e h =

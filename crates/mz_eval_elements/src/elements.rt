@@ -2,18 +2,21 @@
 
 ghost use Rattle.std.specs.Prelude.{◌≡◌, ◌&&◌, ◌*◌, ◌+◌, IfOk, None, false, length, true};
 ghost use Rattle.std.specs.List.{list_all};
+ghost use Rattle.std.specs.Option.{option_map};
 ghost use Rattle.mz_core.specs.Types.{plain_type};
 ghost use Rattle.mz_core.specs.Order.{no_dims};
 ghost use Rattle.mz_operations.specs.Bounds as bounds;
 ghost use Rattle.mz_meaning.specs.Arrays as arrays;
 ghost use Rattle.mz_meaning.specs.Cells as cells;
-ghost use Rattle.mz_meaning.specs.Cells.{Bare, Var};
+ghost use Rattle.mz_meaning.specs.Cells.{Bare, Var, held, value_of};
 ghost use Rattle.mz_meaning.specs.Runs.{give};
+ghost use Rattle.mz_symbol.specs.Runs.{ReadsNodes};
 ghost use Rattle.mz_symbol.specs.Readings.{Reading, Reads, symbol_seen};
 ghost use Rattle.mz_symbol.specs.Makes.{GoesOn, GoesOnBy, Means};
 ghost use Rattle.mz_symbol_rows.specs.RowValues.{argument};
 ghost use Rattle.mz_symbol_access.specs.AccessValues.{access_charge, access_value, at_node, place_charge};
 ghost use Rattle.mz_eval_cells.specs.Views.{all_seen, cell_of, cells_of, known_bound, seen};
+ghost use Rattle.mz_eval_symbols.specs.Steps.{argued, item_cast};
 ghost use Rattle.mz_eval_symbols.specs.Taken.{cell_value, line_seen, ranges_in};
 ghost use Rattle.mz_eval_elements.specs.ElementCells.{element_value, typed_seen};
 ghost use Rattle.mz_eval_lines.specs.Told.{is_told};
@@ -23,14 +26,16 @@ use crate::cells::{no_value, symbol_cell};
 use crate::indices::indices_of;
 use crate::listing::listed_line;
 use crate::places::row_element;
+use mz_arena::Arena;
 use mz_base::{Memory, Stop};
 use mz_core::{Base, TypeInst};
 use mz_eval_access::access_cell;
 use mz_eval_cells::{Bound, Known, all_par, is_par, scalar_bound};
 use mz_eval_lines::{are_told, is_told, of_kind};
+use mz_eval_symbols::{is_gone, symbol_base};
 use mz_symbol::{Run, Symbol};
 use mz_symbol_access::access;
-use std::alloc::Global;
+use std::alloc::{AllocError, Global};
 
 // ---- what an access may cost
 
@@ -74,7 +79,7 @@ fn ranges_in(k: &Known) -> &[(i64, i64)]
     }
 }
 
-fn found(
+fn found_as(
     alloc: Global,
     run: &mut Run,
     line: u64,
@@ -87,6 +92,25 @@ fn found(
     ensures means { Means symbol_seen result run.old run.new (λ r. give (cells.held r.mode (at_node base opt (access_value r ranges.now line indices.items)))) }
 {
     access(alloc, run, line, ranges, &indices, base, opt)
+}
+
+/// The element of an array by its line; of one whose type has no base of its own as an integer, or as
+/// a set of them.
+fn found(
+    alloc: Global,
+    run: &mut Run,
+    line: u64,
+    ranges: &[(i64, i64)],
+    indices: Vec<Symbol>,
+    base: Base,
+    opt: bool,
+) -> Result<Symbol, Stop>
+    ensures goes { GoesOnBy (access_charge (length indices.items) opt) run.old run.new }
+    ensures means { Means symbol_seen result run.old run.new (λ r. give (cells.held r.mode (at_node base opt (access_value r ranges.now line indices.items)))) }
+{
+    let own = symbol_base(base);
+    let s = found_as(alloc, run, line, ranges, indices, own, opt)?;
+    Ok(s)
 }
 
 /// The element of an array at indices, by the lists of its line.
@@ -132,6 +156,21 @@ fn drawn(
     Ok(s)
 }
 
+/// The cell of an element's symbol: without a value where that is surely undefined, as where the
+/// array has no elements.
+fn found_cell(alloc: Global, nodes: &Arena, s: Symbol, bound: &Bound) -> Result<Known, AllocError>
+    ensures of { IfOk result (λ k. cell_of k ≡ Var (bounds.one (known_bound bound.now)) None) }
+    ensures seen { IfOk result (λ k. (r : Reading) → ReadsNodes r.term nodes.now → value_of (seen r k) ≡ held r.mode (option_map (item_cast None) (argued r.term s))) }
+{
+    let gone = is_gone(alloc, nodes, s)?;
+    if gone {
+        let none = no_value(alloc, bound)?;
+        return Ok(none);
+    }
+    let k = symbol_cell(alloc, None, s, bound)?;
+    Ok(k)
+}
+
 fn indexed(
     alloc: Global,
     run: &mut Run,
@@ -147,7 +186,7 @@ fn indexed(
 {
     let line = listed_line(alloc, run, base, a)?;
     let s = drawn(alloc, run, base, opt, line, a, at)?;
-    let k = symbol_cell(alloc, None, s, bound)?;
+    let k = found_cell(alloc, run.arena(), s, bound)?;
     Ok(k)
 }
 

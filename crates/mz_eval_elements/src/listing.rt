@@ -17,7 +17,7 @@ use crate::values::has_values;
 use mz_base::{Memory, Stop};
 use mz_core::Base;
 use mz_eval_cells::{Known, Origins, VarItems, length_of};
-use mz_eval_symbols::line_in;
+use mz_eval_symbols::{is_line_of_base, line_in};
 use mz_symbol::Run;
 use mz_value::Value;
 use std::alloc::Global;
@@ -53,12 +53,26 @@ fn line_of_row(index: &[(i64, i64)], xs: &VarItems) -> Option<u64>
 }
 
 /// The line that a cell is, where it isn't recast.
-fn own_line(k: &Known) -> Option<u64>
+fn plain_line(k: &Known) -> Option<u64>
     ensures { MatchOption result (Unit {0}) (λ n. (r : Reading) → cell_value r k.now ≡ line_seen k.now r n) }
 {
     match k {
         Known::Row(index, xs) => line_of_row(index.as_slice(), xs),
         _ => None,
+    }
+}
+
+/// The same, where its elements are of this base.
+fn own_line(run: &Run, base: Base, k: &Known) -> Option<u64>
+    ensures { MatchOption result (Unit {0}) (λ n. (r : Reading) → cell_value r k.now ≡ line_seen k.now r n) }
+{
+    let Some(line) = plain_line(k) else {
+        return None;
+    };
+    if is_line_of_base(run, base, line) {
+        Some(line)
+    } else {
+        None
     }
 }
 
@@ -159,15 +173,15 @@ fn listed_by(alloc: Global, run: &mut Run, base: Base, key: u64, k: &Known) -> R
 
 /// The number of the line that a cell's elements are: of an array whose elements have this base.
 ///
-/// A var array that is a line already, and isn't recast, is that line. The line of a par array, and of
-/// one that was par, is made at the first call, for which 20 an element is drawn; later calls find it
-/// by its elements, in time that grows with their number. Another line is made at each call. Out of
-/// memory too where less was saved, and where `line_in` is.
+/// A var array that is a line of such elements already, and isn't recast, is that line. The line of a
+/// par array, and of one that was par, is made at the first call, for which 20 an element is drawn;
+/// later calls find it by its elements, in time that grows with their number. Another line is made at
+/// each call. Out of memory too where less was saved, and where `line_in` is.
 pub fn listed_line(alloc: Global, run: &mut Run, base: Base, k: &Known) -> Result<u64, Stop>
     ensures goes { GoesOn run.old run.new }
     ensures means { Means (line_seen k.now) result run.old run.new (λ r. give (cell_value r k.now)) }
 {
-    match own_line(k) {
+    match own_line(run, base, k) {
         Some(line) => Ok(line),
         None => listed_by(alloc, run, base, key_of(base, k), k),
     }

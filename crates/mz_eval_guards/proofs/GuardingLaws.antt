@@ -1,7 +1,6 @@
 -- Cells that have their values where a guard holds.
-use Rattle.std.proofs.Common.{◌≡◌, ◌∙◌, ℕ, ◌+◌, ◌*◌, ◌≤◌, Bool, true, false, ◌&&◌, List, [], length, map, Option, Some, None, refl, sym, ap, subst, arith, if◌then◌else◌}
+use Rattle.std.proofs.Common.{◌≡◌, ◌∙◌, ℕ, ◌+◌, ◌*◌, ◌≤◌, Bool, true, false, ◌&&◌, [], length, map, Option, Some, None, refl, sym, ap, subst, if◌then◌else◌}
 use Rattle.std.proofs.lemmas.List.{length-map}
-use Rattle.std.specs.Option.{option_map, option_and_then}
 use Rattle.mz_value.specs.Contents.{Content}
 use Rattle.mz_value.specs.Contents as values
 use Rattle.mz_core.specs.declared.types.Base.{Base}
@@ -14,9 +13,9 @@ use Rattle.mz_operations.specs.Bounds.{bounds_of, bound_of}
 use Rattle.mz_operations.specs.Views.{as_items, items_in}
 use Rattle.mz_meaning.specs.Cells as cells
 use Rattle.mz_meaning.specs.Cells.{Cell, Par, Var, Unshaped, Mode, Blank, Given, Bare, held, kept_if, length_of, only_if, or_zero, to_var, value_of}
-use Rattle.mz_meaning.specs.Runs.{State, Out}
+use Rattle.mz_meaning.specs.Runs.{Out}
 use Rattle.mz_symbol.specs.declared.types.Symbol.{Symbol}
-use Rattle.mz_symbol.specs.Symbols.{symbol_value, value_at, value_by}
+use Rattle.mz_symbol.specs.Symbols.{symbol_value, value_at}
 use Rattle.mz_symbol.specs.Runs.{Run}
 use Rattle.mz_symbol.specs.Readings.{Reading, IsGiven, Reads, blank, state_of, symbol_seen}
 use Rattle.mz_symbol.specs.Makes.{GoesOnBy}
@@ -28,7 +27,8 @@ use Rattle.glob_nodes.specs.Says.{Says}
 use Rattle.mz_eval_cells.specs.declared.types.Known.{Known}
 use Rattle.mz_eval_cells.specs.declared.types.Known.TheVariants as known
 use Rattle.mz_eval_cells.specs.declared.types.VarValue.{VarValue}
-use Rattle.mz_eval_cells.specs.Views.{cell_of, known_bound, row_content, seen, truth_by, var_content}
+use Rattle.mz_eval_cells.specs.declared.types.Origin.TheVariants as origin
+use Rattle.mz_eval_cells.specs.Views.{cast_by, cell_of, known_bound, origin_value, row_content, seen, truth_by, var_content}
 use Rattle.mz_eval_symbols.specs.Taken.{cell_value, count_in}
 use Rattle.mz_eval_guards.specs.Guards.{IsCell, held_truth}
 use Rattle.mz_eval_guards.specs.StepsGuarding.{IsTruth}
@@ -135,6 +135,28 @@ kept_open old new e d f k h = cell_like old new _ _ k (λ r. ap (Var e) (held_ke
 
 pub kept_unshaped : (s : Run) (d n : ℕ) → IsCell s s (λ r. kept_if r.mode (held_truth r.mode (is_true (r.term d))) (Unshaped n)) (known.Unshaped n)
 kept_unshaped s d n = record { same = λ r h. refl; is = λ r h. refl; bare = refl }
+
+-- ---- what is undefined wherever it is read
+
+none_cast : (b : Option Base) → cast_by b None ≡ None
+none_cast None = refl
+none_cast (Some b) = refl
+
+pub nothing_told : (v : VarValue) → v.origin ≡ origin.Nothing → (t : ℕ → Term) → var_content t v ≡ None
+nothing_told v e t = ap (λ o. cast_by v.cast (origin_value t o)) e ∙ none_cast v.cast
+
+none_kept : (m : Mode) (p : Bool) → None ≡ held m (only_if p (held m None))
+none_kept (Blank n) p = refl
+none_kept (Given f) true = refl
+none_kept (Given f) false = refl
+
+pub untold_cell : (s : Run) (b : bounds.Bound) (d : ℕ) (v : VarValue) (k : Known) → ((t : ℕ → Term) → var_content t v ≡ None) → cell_of k ≡ Var (bounds.one b) None → ((r : Reading) → seen r k ≡ Var (bounds.one b) None)
+    → IsCell s s (λ r. Var (bounds.one b) (held r.mode (only_if (is_true (r.term d)) (held r.mode (var_content r.term v))))) k
+untold_cell s b d v k f of e = record {
+  same = λ r h. refl;
+  is = λ r h. e r ∙ ap (Var (bounds.one b)) (none_kept r.mode (is_true (r.term d)) ∙ ap (λ x. held r.mode (only_if (is_true (r.term d)) (held r.mode x))) (sym (f r.term)));
+  bare = of;
+}
 
 -- ---- what becomes var
 

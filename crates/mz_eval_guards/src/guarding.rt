@@ -1,11 +1,11 @@
 // The cells that guards guard: they have their values where the guard holds, and none elsewhere.
 
-ghost use Rattle.std.specs.Prelude.{◌≡◌, ◌*◌, ◌+◌, IfOk, None, Option, Some, false, length, map, true};
+ghost use Rattle.std.specs.Prelude.{◌≡◌, ◌*◌, ◌+◌, IfOk, None, Option, Some, false, length, map, true, ℕ};
 ghost use Rattle.mz_value.specs.Contents as values;
 ghost use Rattle.mz_value.specs.Contents.{Content};
 ghost use Rattle.mz_core.specs.declared.types.Base.TheVariants as base;
 ghost use Rattle.mz_core.specs.Types.{plain_type};
-ghost use Rattle.mz_arena.specs.Values.{is_true};
+ghost use Rattle.mz_arena.specs.Values.{Term, is_true};
 ghost use Rattle.mz_operations.specs.Bounds as bounds;
 ghost use Rattle.mz_meaning.specs.Cells as cells;
 ghost use Rattle.mz_meaning.specs.Cells.{Bare, Var, held, kept_if, only_if, value_of};
@@ -28,7 +28,8 @@ use mz_arena::Id;
 use mz_base::Memory;
 use mz_core::{Base, TypeInst};
 use mz_eval_cells::{
-    Bound, Known, Origins, VarItems, VarValue, row_of, share_bound, to_var, undefined, var_value,
+    Bound, Known, Origin, Origins, VarItems, VarValue, row_of, share_bound, to_var, undefined,
+    var_value,
 };
 use mz_eval_symbols::{cell_of_line, cell_of_symbol, cell_of_truth, line_in, symbol_in};
 use mz_symbol::{Run, Symbol};
@@ -167,6 +168,57 @@ fn plain_kept(
     Ok(x)
 }
 
+/// Whether nothing tells the value of a var cell.
+#[tactic(auto, using(crate::proofs::GuardingLaws::nothing_told))]
+fn is_untold(v: &VarValue) -> bool
+    ensures { result ≡ true → (t : ℕ → Term) → var_content t v.now ≡ None }
+{
+    match &v.origin {
+        Origin::Nothing => true,
+        Origin::Item(_) => false,
+        Origin::Symbol(_) => false,
+        Origin::Truth(_, _) => false,
+    }
+}
+
+/// A var cell that is undefined wherever it is read.
+fn untold_kept(
+    alloc: Global,
+    run: &mut Run,
+    bound: Bound,
+    d: Id,
+    v: &Rc<VarValue>,
+) -> Result<Known, Memory>
+    requires { (t : ℕ → Term) → var_content t v.now.value ≡ None }
+    ensures goes { GoesOnBy 28 run.old run.new }
+    ensures cell { IfOk result (IsCell run.old run.new (λ r.
+        Var (bounds.one (known_bound bound)) (held r.mode (only_if (is_true (r.term d)) (held r.mode (var_content r.term v.now.value)))))) }
+{
+    let _work = run.work();
+    let k = var_value(alloc, bound)?;
+    Ok(k)
+}
+
+/// A var cell that is no array, but no truth value that may be undefined.
+fn whole_kept(
+    alloc: Global,
+    run: &mut Run,
+    base: Base,
+    bound: Bound,
+    d: Id,
+    v: &Rc<VarValue>,
+) -> Result<Known, Memory>
+    ensures goes { GoesOnBy 28 run.old run.new }
+    ensures cell { IfOk result (IsCell run.old run.new (λ r.
+        Var (bounds.one (known_bound bound)) (held r.mode (only_if (is_true (r.term d)) (held r.mode (var_content r.term v.now.value)))))) }
+{
+    if is_untold(v) {
+        untold_kept(alloc, run, bound, d, v)
+    } else {
+        plain_kept(alloc, run, base, bound, d, v)
+    }
+}
+
 /// A var cell that is no array.
 #[tactic(auto, using(crate::proofs::GuardingLaws::partial_var, crate::proofs::GuardingLaws::bound_cell, mz_symbol_rows::proofs::GoingOn::goes_most))]
 fn var_kept(
@@ -183,7 +235,7 @@ fn var_kept(
     let bound = share_bound(&v.bound)?;
     match truth_nodes(v) {
         Some(p) => partial_kept(alloc, run, bound, d, p.0, p.1),
-        None => plain_kept(alloc, run, base, bound, d, v),
+        None => whole_kept(alloc, run, base, bound, d, v),
     }
 }
 

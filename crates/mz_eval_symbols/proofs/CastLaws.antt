@@ -1,5 +1,5 @@
 -- Symbols as ones of another base.
-use Rattle.std.proofs.Common.{◌≡◌, ◌∙◌, ℕ, ℤ, pos, Bool, true, false, ◌&&◌, List, [], Option, Some, None, IsSome, refl, sym, ap, subst, if◌then◌else◌}
+use Rattle.std.proofs.Common.{◌≡◌, ◌∙◌, ◌⊎◌, inl, inr, ℕ, ℤ, Bool, true, false, ◌&&◌, List, [], Option, Some, None, IsSome, refl, sym, ap, subst, if◌then◌else◌}
 use Rattle.std.specs.Option.{option_map}
 use Rattle.mz_value.specs.Ranges.{Range}
 use Rattle.mz_value.specs.Contents.{Content}
@@ -7,18 +7,19 @@ use Rattle.mz_value.specs.Contents as values
 use Rattle.mz_core.specs.declared.types.Base.{Base}
 use Rattle.mz_core.specs.declared.types.Base.TheVariants as base
 use Rattle.mz_operations.specs.Views.{number_of_bool}
+use Rattle.mz_arena.specs.Entries.{Entry}
 use Rattle.mz_arena.specs.Values.{Term, as_number, as_set, bit, is_one, is_true, to_int_term}
 use Rattle.mz_instance.specs.Contents.{content_by}
 use Rattle.mz_meaning.specs.Coerced.{recast, recast_all}
-use Rattle.mz_meaning.specs.Cells as cells
-use Rattle.mz_meaning.specs.Cells.{held}
 use Rattle.mz_symbol.specs.declared.types.Symbol.{Symbol}
-use Rattle.mz_symbol.specs.Symbols.{value_by, value_at, symbol_value, IsItem, IsOccurrence}
+use Rattle.mz_symbol.specs.Symbols.{value_by, value_at}
 use Rattle.mz_symbol.specs.Runs.{Run}
-use Rattle.mz_symbol.specs.Readings.{Reading, state_of, symbol_seen}
+use Rattle.mz_symbol.specs.Readings.{Reading, state_of}
 use Rattle.mz_symbol_rows.specs.RowValues.{as_argument, argument}
-use Rattle.mz_symbol_rows.proofs.RowLaws.{argument_kept, truth_is}
-use Rattle.mz_eval_symbols.specs.Steps.{argued, relabels, is_case, is_int, is_set_sort, IsCast, IsCounted, IsRecast}
+use Rattle.mz_symbol_rows.proofs.RowLaws.{truth_is}
+use Rattle.mz_symbol.specs.Runs.{ReadsNodes}
+use Rattle.mz_eval_symbols.specs.StepsNodes.{Counts}
+use Rattle.mz_eval_symbols.specs.Steps.{relabels, is_case, is_int, is_set_sort, IsCounted, IsCountedOption, IsRecast}
 
 -- ---- the same node
 
@@ -144,3 +145,46 @@ counted_is r old new b s term c q e =
     (subst (λ (a : Base). IsRecast r old new base.Int (record { base = a; occurs = s.occurs; term = s.term }) (record { base = base.Int; occurs = None; term = term })) (sym c.truth)
     (subst (λ (o : Option ℕ). IsRecast r old new base.Int (record { base = base.Bool; occurs = o; term = s.term }) (record { base = base.Int; occurs = None; term = term })) (sym c.occurs)
     (counted_by r old new s.term term q e)))
+
+-- ---- options of truth values that are counted
+
+bit_cast : (p : Bool) → value_by base.Int (bit p) ≡ option_map (recast base.Int) (value_by base.Bool (bit p))
+bit_cast true = refl
+bit_cast false = refl
+
+bit_whole : (p : Bool) → value_by base.Int (bit p) ≡ option_map (recast_all base.Int) (value_by base.Bool (bit p))
+bit_whole true = refl
+bit_whole false = refl
+
+counted_cast : (x : Term) → Counts x → value_by base.Int x ≡ option_map (recast base.Int) (value_by base.Bool x)
+counted_cast x (inl n) = subst (λ y. value_by base.Int y ≡ option_map (recast base.Int) (value_by base.Bool y)) (sym n) refl
+counted_cast x (inr b) = subst (λ y. value_by base.Int y ≡ option_map (recast base.Int) (value_by base.Bool y)) (sym b.1) (bit_cast b.0)
+
+counted_whole : (x : Term) → Counts x → value_by base.Int x ≡ option_map (recast_all base.Int) (value_by base.Bool x)
+counted_whole x (inl n) = subst (λ y. value_by base.Int y ≡ option_map (recast_all base.Int) (value_by base.Bool y)) (sym n) refl
+counted_whole x (inr b) = subst (λ y. value_by base.Int y ≡ option_map (recast_all base.Int) (value_by base.Bool y)) (sym b.1) (bit_whole b.0)
+
+option_counted : (r : Reading) (s : Run) (o id : ℕ) → Counts (r.term id)
+    → IsRecast r s s base.Int (record { base = base.Bool; occurs = Some o; term = id }) (record { base = base.Int; occurs = Some o; term = id })
+option_counted r s o id c =
+    let cast = counted_cast (r.term id) c in
+    record {
+      same = refl;
+      argument = at_cast r.term base.Bool base.Int (recast_all base.Int) (Some o) id (counted_whole (r.term id) c) refl;
+      cast = record {
+        item = λ i. record { value = subst (λ v. IsSome v) (sym cast) (map_there (recast base.Int) (value_by base.Bool (r.term id)) i.value); occurs = i.occurs };
+        value = λ i. at_cast r.term base.Bool base.Int (recast base.Int) (Some o) id cast refl;
+      };
+    }
+
+occurring : (r : Reading) (s : Run) (o : Option ℕ) (id : ℕ) → IsSome o → Counts (r.term id)
+    → IsRecast r s s base.Int (record { base = base.Bool; occurs = o; term = id }) (record { base = base.Int; occurs = o; term = id })
+occurring r s None id h c = absurd (cc)
+occurring r s (Some o) id h c = option_counted r s o id c
+
+pub counts_itself : (r : Reading) (run : Run) (es : List Entry) (b : Base) (s : Symbol) → IsCountedOption es s b → ReadsNodes r.term es
+    → IsRecast r run run b s (record { base = base.Int; occurs = s.occurs; term = s.term })
+counts_itself r run es b s c h =
+    subst (λ b. IsRecast r run run b s (record { base = base.Int; occurs = s.occurs; term = s.term })) (sym c.to)
+    (subst (λ (a : Base). IsRecast r run run base.Int (record { base = a; occurs = s.occurs; term = s.term }) (record { base = base.Int; occurs = s.occurs; term = s.term })) (sym c.truth)
+    (occurring r run s.occurs s.term c.occurs (c.count r.term h)))

@@ -1,6 +1,5 @@
 -- Symbols of constants.
 use Rattle.std.proofs.Common.{◌≡◌, ◌∙◌, ℕ, zero, suc, ℤ, Bool, true, false, List, [], ◌∷◌, ◌++◌, map, Option, Some, None, IsSome, slice_get, refl, sym, ap, subst, if◌then◌else◌}
-use Rattle.std.specs.Option.{option_map}
 use Rattle.mz_value.specs.declared.value.Value.{Value}
 use Rattle.mz_value.specs.Contents.{Content, content}
 use Rattle.mz_value.specs.Contents as values
@@ -8,7 +7,6 @@ use Rattle.mz_value.specs.Ranges.{Range}
 use Rattle.mz_core.specs.declared.types.Base.{Base}
 use Rattle.mz_core.specs.declared.types.Base.TheVariants as base
 use Rattle.mz_arena.specs.Values.{Term, as_number, bit, is_true, number, set}
-use Rattle.mz_instance.specs.Contents.{content_by}
 use Rattle.mz_meaning.specs.Runs.{Out}
 use Rattle.mz_meaning.specs.Cells.{Mode, Blank, Given, held}
 use Rattle.mz_eval_cells.specs.declared.types.Item.{Item}
@@ -78,6 +76,19 @@ some_single base.Bool n h = refl
 some_single base.Int n h = refl
 some_single (base.Enum e) n h = refl
 some_single b n h = absurd (cc)
+
+pub there_told : (r : Reading) (old mid new : Run) (b : Bool) (id o : ℕ) → Out (bit b) (state_of r old) ≡ Out (r.term id) (state_of r mid) → Out (bit true) (state_of r mid) ≡ Out (r.term o) (state_of r new)
+    → IsConstant r old new (values.bool b) (record { base = base.Bool; occurs = Some o; term = id })
+there_told r old mid new b id o h g = record {
+  same = out_state h ∙ out_state g;
+  stands = record {
+    value =
+        ap (λ u. if is_true u then value_by base.Bool (r.term id) else Some values.absent) (sym (out_value g))
+        ∙ ap (value_by base.Bool) (sym (out_value h))
+        ∙ truth_by b;
+    item = record { value = subst (λ t. IsSome (value_by base.Bool t)) (out_value h) (some_bit b); occurs = subst (λ t. IsSome (as_number t)) (out_value g) refl };
+  };
+}
 
 pub absent_told : (r : Reading) (old mid new : Run) (b : Base) (n : ℤ) (id o : ℕ) → is_single b ≡ true → Out (Some (number n)) (state_of r old) ≡ Out (r.term id) (state_of r mid) → Out (bit false) (state_of r mid) ≡ Out (r.term o) (state_of r new)
     → IsConstant r old new values.absent (record { base = b; occurs = Some o; term = id })

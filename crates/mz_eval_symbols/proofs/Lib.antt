@@ -4,3 +4,5 @@ pub mod CastLaws
 pub mod ConstantLaws
 pub mod Lists
 pub mod LineLaws
+pub mod NodeLaws
+pub mod LackingLaws

@@ -1,5 +1,5 @@
 -- Lists of symbols that are made one by one.
-use Rattle.std.proofs.Common.{◌≡◌, ◌∙◌, ℕ, zero, suc, ◌+◌, ◌*◌, ◌≤◌, ◌<◌, List, [], ◌∷◌, ◌++◌, length, Some, slice_get, refl, sym, ap, subst, arith}
+use Rattle.std.proofs.Common.{◌≡◌, ◌∙◌, ℕ, suc, ◌+◌, ◌*◌, ◌≤◌, ◌<◌, List, [], ◌∷◌, ◌++◌, length, Some, slice_get, refl, sym, ap, subst, arith}
 use Rattle.mz_value.specs.Contents.{Content}
 use Rattle.mz_core.specs.declared.types.Base.{Base}
 use Rattle.mz_symbol.specs.declared.types.Symbol.{Symbol}
@@ -19,13 +19,13 @@ length_more : (ss : List Symbol) (s : Symbol) → length (ss ++ s ∷ []) ≡ su
 length_more [] s = refl
 length_more (z ∷ ss) s = ap suc (length_more ss s)
 
-made_more : {A : Type 0} (R : A → Symbol → Type 0) (xs : List A) (i j : ℕ) (ss ts : List Symbol) → j ≡ suc i → AreMade R xs i ss → OneMore R xs i ss ts → AreMade R xs j ts
+pub made_more : {A : Type 0} (R : A → Symbol → Type 0) (xs : List A) (i j : ℕ) (ss ts : List Symbol) → j ≡ suc i → AreMade R xs i ss → OneMore R xs i ss ts → AreMade R xs j ts
 made_more R xs i j ss ts e h m = record {
   prefix = subst (ArePrefix R xs) (sym m.list) (prefix_more R xs ss m.source m.symbol h.prefix (ap (slice_get xs) h.count ∙ m.at) m.stands);
   count = ap length m.list ∙ length_more ss m.symbol ∙ ap suc h.count ∙ sym e;
 }
 
-made_none : {A : Type 0} (R : A → Symbol → Type 0) (xs : List A) (ss : List Symbol) → ss ≡ [] → AreMade R xs 0 ss
+pub made_none : {A : Type 0} (R : A → Symbol → Type 0) (xs : List A) (ss : List Symbol) → ss ≡ [] → AreMade R xs 0 ss
 made_none R xs ss e = subst (AreMade R xs 0) (sym e) (record { prefix = tt; count = refl })
 
 pub constants_none : (r : Reading) (s : Run) (xs : List Content) (ss : List Symbol) → ss ≡ [] → AreConstants r s s xs 0 ss

@@ -1,2 +1,5 @@
 pub mod Taken
+pub mod Bases
 pub mod Steps
+pub mod StepsNodes
+pub mod StepsLacking

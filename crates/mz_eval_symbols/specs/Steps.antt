@@ -1,9 +1,10 @@
 -- Mirror of src/; private clauses only.
-use Rattle.std.specs.Prelude.{◌≡◌, ℕ, Bool, true, false, List, [], ◌∷◌, ◌++◌, length, map, Option, Some, None, slice_get}
+use Rattle.std.specs.Prelude.{◌≡◌, ℕ, Bool, true, false, List, [], ◌∷◌, ◌++◌, length, map, Option, Some, None, IsSome, slice_get}
 use Rattle.std.specs.Option.{option_map}
 use Rattle.mz_value.specs.Contents.{Content}
 use Rattle.mz_core.specs.declared.types.Base.{Base}
 use Rattle.mz_core.specs.declared.types.Base.TheVariants as base
+use Rattle.mz_arena.specs.Entries.{Entry}
 use Rattle.mz_arena.specs.Values.{Term}
 use Rattle.mz_meaning.specs.Coerced.{recast, recast_all}
 use Rattle.mz_symbol.specs.declared.types.Symbol.{Symbol}
@@ -12,6 +13,7 @@ use Rattle.mz_symbol.specs.Symbols.{symbol_value, IsItem, AreWhole}
 use Rattle.mz_symbol.specs.Runs.{Run, ReadsNodes}
 use Rattle.mz_symbol.specs.Readings.{Reading, state_of}
 use Rattle.mz_symbol_rows.specs.RowValues.{as_argument}
+use Rattle.mz_eval_symbols.specs.StepsNodes.{IsCount}
 
 -- ---- casts
 
@@ -46,6 +48,13 @@ pub record IsCounted (s : Symbol) (b : Base) : Type 0 where
   pub truth : s.base ≡ base.Bool
   pub occurs : s.occurs ≡ None
   pub to : b ≡ base.Int
+
+-- an option of a truth value, whose node is 0 or 1 where it has a value, is counted by the same node
+pub record IsCountedOption (es : List Entry) (s : Symbol) (b : Base) : Type 0 where
+  pub truth : s.base ≡ base.Bool
+  pub occurs : IsSome s.occurs
+  pub to : b ≡ base.Int
+  pub count : IsCount es s.term
 
 -- an element recast
 pub record IsCast (t : ℕ → Term) (b : Base) (s x : Symbol) : Type 0 where

@@ -10,6 +10,7 @@ ghost use Rattle.mz_meaning.specs.Runs.{give};
 ghost use Rattle.mz_symbol.specs.Readings.{Reading, Reads, state_of, symbol_seen};
 ghost use Rattle.mz_symbol.specs.Makes.{GoesOn, GoesOnBy, Means};
 ghost use Rattle.mz_symbol_rows.specs.RowValues.{argument, is_single};
+ghost use Rattle.mz_eval_symbols.specs.Bases.{symbol_base};
 ghost use Rattle.mz_eval_symbols.specs.Steps.{AreConstants, IsConstant, OneConstant, argued, item_cast, set_base};
 
 use crate::casts::cast_value;
@@ -22,6 +23,20 @@ use mz_symbol::{Run, Symbol};
 use mz_symbol_options::nothing;
 use mz_value::{RangeSet, SetValue, Value};
 use std::alloc::Global;
+
+// ---- the bases of symbols
+
+/// The base of the symbols of a node's values: what has no base of its own is of integers, or of sets
+/// of them.
+pub fn symbol_base(base: Base) -> Base
+    ensures { result ≡ symbol_base base }
+{
+    match base {
+        Base::Bottom => Base::Int,
+        Base::SetBottom => Base::SetInt,
+        _ => base,
+    }
+}
 
 // ---- one value
 
@@ -77,6 +92,41 @@ fn truth_item(run: &mut Run, b: bool) -> Result<Symbol, Stop>
     })
 }
 
+fn bit_node(run: &mut Run, b: bool) -> Result<Id, Stop>
+    ensures goes { GoesOn run.old run.new }
+    ensures means { Means (λ r. r.term) result run.old run.new (λ _. give (terms.bit b)) }
+{
+    if b {
+        return number_node(run, 1);
+    }
+    number_node(run, 0)
+}
+
+/// A truth value as an option that is there: its value is an integer node.
+fn truth_there(run: &mut Run, b: bool) -> Result<Symbol, Stop>
+    ensures goes { GoesOn run.old run.new }
+    ensures constant { IfOk result (λ s. (r : Reading) → Reads r run.new → IsConstant r run.old run.new (values.bool b) s) }
+{
+    let term = bit_node(run, b)?;
+    let yes = run.truth_node(true)?;
+    Ok(Symbol {
+        base: Base::Bool,
+        occurs: Some(yes),
+        term,
+    })
+}
+
+fn truth_of(run: &mut Run, opt: bool, b: bool) -> Result<Symbol, Stop>
+    ensures goes { GoesOn run.old run.new }
+    ensures constant { IfOk result (λ s. (r : Reading) → Reads r run.new → IsConstant r run.old run.new (values.bool b) s) }
+{
+    if opt {
+        truth_there(run, b)
+    } else {
+        truth_item(run, b)
+    }
+}
+
 fn integer_item(run: &mut Run, n: i64) -> Result<Symbol, Stop>
     ensures goes { GoesOn run.old run.new }
     ensures constant { IfOk result (λ s. (r : Reading) → Reads r run.new → IsConstant r run.old run.new (values.int n) s) }
@@ -102,7 +152,7 @@ fn case_item(run: &mut Run, e: u64, n: i64) -> Result<Symbol, Stop>
 }
 
 /// Whether a value of this base is a truth value, an integer or a case.
-fn is_single(base: Base) -> bool
+pub(crate) fn is_single(base: Base) -> bool
     ensures { result ≡ is_single base }
 {
     match base {
@@ -151,14 +201,14 @@ fn set_item(run: &mut Run, s: SetValue) -> Result<Symbol, Stop>
     })
 }
 
-/// The symbol of an element, or the absent option of a base. Out of memory too of a text and of an
-/// array.
-fn item(run: &mut Run, base: Base, v: Value) -> Result<Symbol, Stop>
+/// The symbol of an element, or the absent option of a base. A truth value is an option where one is
+/// asked for. Out of memory too of a text and of an array.
+fn item(run: &mut Run, base: Base, opt: bool, v: Value) -> Result<Symbol, Stop>
     ensures goes { GoesOn run.old run.new }
     ensures constant { IfOk result (λ s. (r : Reading) → Reads r run.new → IsConstant r run.old run.new (content v) s) }
 {
     match v {
-        Value::Bool(b) => truth_item(run, b),
+        Value::Bool(b) => truth_of(run, opt, b),
         Value::Int(n) => integer_item(run, n),
         Value::Enum(e, k) => case_item(run, e, k),
         Value::Set(s) => set_item(run, s),
@@ -180,6 +230,7 @@ fn with_constant(
     run: &mut Run,
     base: Base,
     cast: Option<Base>,
+    opt: bool,
     items: &[Value],
     i: u64,
     all: Vec<Symbol>,
@@ -194,13 +245,19 @@ fn with_constant(
     };
     let copy = copied(alloc, x)?;
     let v = cast_value(cast, copy);
-    let s = item(run, base, v)?;
+    let s = item(run, base, opt, v)?;
     let mut more = all;
     more.push(s)?;
     Ok(more)
 }
 
-/// The symbols of the first elements, each recast where a base is told.
+// Whether one is absent.
+fn have_absent(items: &[Value]) -> bool {
+    items.iter().any(|v| matches!(v, Value::Absent))
+}
+
+/// The symbols of the first elements, each recast where a base is told. Where one is absent all truth
+/// values are options.
 pub(crate) fn constants(
     alloc: Global,
     run: &mut Run,
@@ -214,9 +271,10 @@ pub(crate) fn constants(
         → AreConstants r run.old run.new (map (item_cast cast) (map content items.now)) count v.items) }
     ensures count { IfOk result (λ v. length v.items ≡ count) }
 {
+    let opt = have_absent(items);
     let mut all = Vec::new(alloc);
     for i in 0..count {
-        all = with_constant(alloc, run, base, cast, items, i, all)?;
+        all = with_constant(alloc, run, base, cast, opt, items, i, all)?;
     }
     Ok(all)
 }

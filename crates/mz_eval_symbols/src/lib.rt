@@ -3,10 +3,15 @@
 
 mod casts;
 mod constants;
+mod lacking;
 mod lines;
 mod making;
+mod nodes;
 mod symbols;
 
-pub use lines::line_in;
+pub use constants::symbol_base;
+pub use lacking::is_gone;
+pub use lines::{is_line_of_base, line_in};
 pub use making::{cell_of_line, cell_of_symbol, cell_of_truth};
-pub use symbols::symbol_in;
+pub use nodes::{Pair, is_false, pair_at};
+pub use symbols::{as_asked, symbol_in};

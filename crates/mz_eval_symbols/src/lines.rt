@@ -1,22 +1,25 @@
 // Cells as lines.
 
-ghost use Rattle.std.specs.Prelude.{◌≡◌, ◌*◌, [], IfOk, None, Some, length, map, true};
+ghost use Rattle.std.specs.Prelude.{◌≡◌, ◌*◌, [], IfOk, None, Some, length, map, true, ℕ};
 ghost use Rattle.std.specs.Option.{option_map};
 ghost use Rattle.mz_value.specs.Contents as values;
 ghost use Rattle.mz_value.specs.Contents.{content, contents};
+ghost use Rattle.mz_arena.specs.Values.{Term};
 ghost use Rattle.mz_operations.specs.Views.{items_in};
 ghost use Rattle.mz_meaning.specs.Cells.{held};
 ghost use Rattle.mz_meaning.specs.Coerced.{recast};
 ghost use Rattle.mz_meaning.specs.Runs.{give};
+ghost use Rattle.mz_symbol.specs.Runs.{ReadsNodes};
 ghost use Rattle.mz_symbol.specs.Readings.{Reading, Reads};
 ghost use Rattle.mz_symbol.specs.Makes.{GoesOnBy, Means};
 ghost use Rattle.mz_symbol_lines.specs.LineValues.{array_argument};
 ghost use Rattle.mz_eval_cells.specs.Views.{known_bound, origins_value, row_content};
-ghost use Rattle.mz_eval_symbols.specs.Steps.{AreCasts, IsLineWith, elements_cast, item_cast};
+ghost use Rattle.mz_eval_symbols.specs.Steps.{AreCasts, AreMade, IsLineWith, elements_cast, item_cast};
+ghost use Rattle.mz_eval_symbols.specs.StepsLacking.{IsSameItem};
 ghost use Rattle.mz_eval_symbols.specs.Taken.{cell_value, count_in, line_seen};
 
-use crate::casts::casts;
-use crate::constants::{any_node, constants};
+use crate::casts::{all_fitted, casts, is_fit};
+use crate::constants::{any_node, constants, symbol_base};
 use mz_arena::Id;
 use mz_base::{Memory, Stop};
 use mz_core::Base;
@@ -193,9 +196,56 @@ fn values_as(
     Ok(line)
 }
 
+fn fits_of(
+    alloc: Global,
+    run: &Run,
+    base: Base,
+    items: Vec<Symbol>,
+    count: u64,
+) -> Result<Vec<Symbol>, Memory>
+    ensures made { IfOk result (λ v. (t : ℕ → Term) → ReadsNodes t run.now.arena → AreMade (IsSameItem t) items.items count v.items) }
+    ensures count { IfOk result (λ v. length v.items ≡ count) }
+{
+    let all = all_fitted(alloc, run.arena(), base, &items, count)?;
+    Ok(all)
+}
+
+/// A line whose elements are ones of this base, where they are options that surely have no value where
+/// they occur.
+fn fitted_line(alloc: Global, run: &mut Run, base: Base, line: u64, count: u64) -> Result<u64, Stop>
+    ensures goes { GoesOnBy (20 * count) run.old run.new }
+    ensures means { Means (λ r. r.line) result run.old run.new (λ r. give (r.line line)) }
+{
+    let p = line_items(alloc, run, line, count)?;
+    let all = fits_of(alloc, run, base, p.1, count)?;
+    let made = run.push_line(p.0, all)?;
+    Ok(made)
+}
+
+/// Whether a line's first element, if it has one, is of a node's base, or no option. Nothing is promised
+/// of it: it only tells whether a line is made anew, which has the same value.
+pub fn is_line_of_base(run: &Run, base: Base, line: u64) -> bool {
+    match run.line(line) {
+        None => true,
+        Some(l) => is_fit(&l.items, symbol_base(base)),
+    }
+}
+
+/// The line itself; where its elements are of another base, one whose elements are of this base.
+fn own_line(alloc: Global, run: &mut Run, base: Base, line: u64, count: u64) -> Result<u64, Stop>
+    ensures goes { GoesOnBy (20 * count) run.old run.new }
+    ensures means { Means (λ r. r.line) result run.old run.new (λ r. give (r.line line)) }
+{
+    if is_line_of_base(run, base, line) {
+        return Ok(line);
+    }
+    fitted_line(alloc, run, base, line, count)
+}
+
 fn line_as(
     alloc: Global,
     run: &mut Run,
+    base: Base,
     cast: Option<Base>,
     line: u64,
     count: u64,
@@ -204,7 +254,7 @@ fn line_as(
     ensures means { Means (λ r. r.line) result run.old run.new (λ r. give (elements_cast cast (r.line line))) }
 {
     match cast {
-        None => Ok(line),
+        None => own_line(alloc, run, base, line, count),
         Some(b) => cast_line(alloc, run, b, line, count),
     }
 }
@@ -224,7 +274,7 @@ fn origins_line(
     match o {
         Origins::Nothing => undefined_as(alloc, run, base, cast, count),
         Origins::Values(items) => values_as(alloc, run, base, cast, items.as_slice(), count),
-        Origins::Line(line) => line_as(alloc, run, cast, *line, count),
+        Origins::Line(line) => line_as(alloc, run, base, cast, *line, count),
     }
 }
 
@@ -254,24 +304,27 @@ fn no_line(alloc: Global, run: &mut Run, base: Base) -> Result<u64, Stop>
 
 /// The number of the line that a cell's elements are: of an array whose elements have this base.
 ///
-/// A var array that is a line already, and isn't recast, is that line. Of another one a line is made
-/// at each call: its elements are constants, or elements of a line, recast. An undefined array is a
-/// line that isn't defined. What the line and its lists may cost the caller's work has to pay for.
+/// A var array that is a line already, isn't recast and has elements of this base is that line. Of
+/// another one a line is made at each call: its elements are constants, or elements of a line, recast
+/// or as ones of this base where they surely have no value when they occur. Where there is no base,
+/// they are of integers, or of sets of them. An undefined array is a line that isn't defined. What the
+/// line and its lists may cost the caller's work has to pay for.
 /// Out of memory too of what is no array; of an array of texts that is par or was; and where
-/// an option of a truth value is recast to an integer.
+/// an option of a truth value that may have a value is recast to an integer.
 #[tactic(auto, unfolding(mz_operations::specs::Views::as_items))]
 pub fn line_in(alloc: Global, run: &mut Run, base: Base, k: &Known) -> Result<u64, Stop>
     ensures goes { GoesOnBy (20 * count_in k.now) run.old run.new }
     ensures means { Means (line_seen k.now) result run.old run.new (λ r. give (cell_value r k.now)) }
 {
+    let own = symbol_base(base);
     match k {
-        Known::Undefined => no_line(alloc, run, base),
+        Known::Undefined => no_line(alloc, run, own),
         Known::One(_) => Err(Stop::Memory),
         Known::Array(index, items) => {
-            array_line(alloc, run, base, index.as_slice(), items.as_slice())
+            array_line(alloc, run, own, index.as_slice(), items.as_slice())
         }
         Known::Var(_) => Err(Stop::Memory),
-        Known::Row(index, xs) => row_line(alloc, run, base, index.as_slice(), xs),
-        Known::Unshaped(_) => no_line(alloc, run, base),
+        Known::Row(index, xs) => row_line(alloc, run, own, index.as_slice(), xs),
+        Known::Unshaped(_) => no_line(alloc, run, own),
     }
 }

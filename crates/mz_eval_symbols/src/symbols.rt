@@ -11,7 +11,7 @@ ghost use Rattle.mz_eval_symbols.specs.Steps.{argued};
 ghost use Rattle.mz_eval_symbols.specs.Taken.{cell_value};
 
 use crate::casts::{cast_symbol, cast_value};
-use crate::constants::{constant, undefined};
+use crate::constants::{constant, symbol_base, undefined};
 use mz_arena::Id;
 use mz_base::{Memory, Stop};
 use mz_core::Base;
@@ -45,8 +45,8 @@ fn made_option(run: &mut Run, s: Symbol) -> Result<Symbol, Stop>
     })
 }
 
-/// The same argument, as an option where one is asked for.
-fn as_asked(run: &mut Run, opt: bool, s: Symbol) -> Result<Symbol, Stop>
+/// The same argument, as an option where one is asked for. Out of memory too of an option of a set.
+pub fn as_asked(run: &mut Run, opt: bool, s: Symbol) -> Result<Symbol, Stop>
     ensures goes { GoesOnBy 4 run.old run.new }
     ensures means { Means argument result run.old run.new (λ r. give (argument r s)) }
 {
@@ -114,11 +114,18 @@ fn undefined_cast(
 }
 
 #[tactic(auto, using(mz_symbol_rows::proofs::GoingOn::goes_both))]
-fn symbol_cast(run: &mut Run, opt: bool, cast: Option<Base>, s: Symbol) -> Result<Symbol, Stop>
+fn symbol_cast(
+    alloc: Global,
+    run: &mut Run,
+    base: Base,
+    opt: bool,
+    cast: Option<Base>,
+    s: Symbol,
+) -> Result<Symbol, Stop>
     ensures goes { GoesOnBy 8 run.old run.new }
     ensures means { Means argument result run.old run.new (λ r. give (held r.mode (cast_by cast (argued r.term s)))) }
 {
-    let x = cast_symbol(run, cast, s)?;
+    let x = cast_symbol(alloc, run, base, cast, s)?;
     as_asked(run, opt, x)
 }
 
@@ -137,7 +144,7 @@ fn origin_symbol(
     match o {
         Origin::Nothing => undefined_cast(alloc, run, base, opt, cast),
         Origin::Item(i) => item_symbol(alloc, run, base, opt, cast, i),
-        Origin::Symbol(s) => symbol_cast(run, opt, cast, *s),
+        Origin::Symbol(s) => symbol_cast(alloc, run, base, opt, cast, *s),
         Origin::Truth(_, _) => Err(Stop::Memory),
     }
 }
@@ -158,12 +165,14 @@ fn var_symbol(
 
 /// The symbol of a cell that is no array, as an argument of a row: of a node whose type has this base
 /// and is an option where `opt` says so. Of an option it is one, also where the cell holds a value
-/// that is there.
+/// that is there. Of a node without a base of its own it is one of integers, or of sets of them, and
+/// becomes one of another base where it surely has no value when it occurs.
 ///
 /// A par value is a constant, and a var value is what its symbol is, or that one recast. What its
 /// nodes may cost the caller's work has to pay for. Out of memory too of an array and of a text; of a
 /// Boolean that may be undefined; of an option of a set; of an option of a truth value that is recast
-/// to an integer; and where a value isn't of the kind that its type says.
+/// to an integer, may have a value, and whose node isn't a truth value that is counted or a choice of
+/// such; and where a value isn't of the kind that its type says.
 #[tactic(auto, using(mz_symbol_rows::proofs::GoingOn::goes_most))]
 pub fn symbol_in(
     alloc: Global,
@@ -175,11 +184,12 @@ pub fn symbol_in(
     ensures goes { GoesOnBy 8 run.old run.new }
     ensures means { Means argument result run.old run.new (λ r. give (cell_value r k.now)) }
 {
+    let own = symbol_base(base);
     match k {
-        Known::Undefined => undefined(alloc, run, base, opt),
-        Known::One(i) => one_symbol(alloc, run, base, opt, i),
+        Known::Undefined => undefined(alloc, run, own, opt),
+        Known::One(i) => one_symbol(alloc, run, own, opt, i),
         Known::Array(_, _) => Err(Stop::Memory),
-        Known::Var(v) => var_symbol(alloc, run, base, opt, v),
+        Known::Var(v) => var_symbol(alloc, run, own, opt, v),
         Known::Row(_, _) => Err(Stop::Memory),
         Known::Unshaped(_) => Err(Stop::Memory),
     }

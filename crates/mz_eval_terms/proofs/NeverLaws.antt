@@ -1,4 +1,4 @@
--- Comparisons of which an argument is undefined, and powers of an exponent that is.
+-- Connectives and comparisons of which an argument is undefined, and powers of an exponent that is.
 use Rattle.std.proofs.Common.{◌≡◌, ◌∙◌, ℕ, true, false, [], ◌∷◌, Option, Some, None, refl, sym, ap}
 use Rattle.std.specs.Option.{option_and_then}
 use Rattle.mz_value.specs.Contents.{Content, bool}
@@ -15,16 +15,16 @@ use Rattle.mz_value.specs.Shown.{Names}
 use Rattle.mz_operations.specs.declared.row.ScalarRow.{ScalarRow}
 use Rattle.mz_operations.specs.declared.row.ScalarRow.TheVariants as scalar
 use Rattle.mz_operations.specs.declared.row.Row.TheVariants.{Scalar}
-use Rattle.mz_operations.specs.Arguments.{at, int_at, option_at, set_at, element_at, pair}
+use Rattle.mz_operations.specs.Arguments.{at, bool_at, int_at, option_at, set_at, element_at, pair}
 use Rattle.mz_operations.specs.Values.{scalar_value}
-use Rattle.mz_operations.specs.Views.{as_int, as_option, as_set, as_element}
+use Rattle.mz_operations.specs.Views.{as_bool, as_int, as_option, as_set, as_element}
 use Rattle.mz_meaning.specs.Exact.{exact_value}
 use Rattle.mz_symbol.specs.Readings.{Reading}
 use Rattle.mz_eval_cells.specs.declared.types.Known.{Known}
 use Rattle.mz_eval_symbols.specs.Taken.{cell_value}
 use Rattle.mz_eval_terms.specs.NodeRows.{told_by}
 use Rattle.mz_eval_terms.specs.StepsRows.{gives_truth}
-use Rattle.mz_eval_terms.specs.StepsNever.{IsNever, is_comparison}
+use Rattle.mz_eval_terms.specs.StepsNever.{IsNever, is_strict}
 
 none_cast : (b : Option Base) → cast_by b None ≡ None
 none_cast None = refl
@@ -40,17 +40,19 @@ held_none (Given f) = refl
 pub nothing_value : (r : Reading) (k : Known) (x : Rc VarValue Global) → k ≡ known.Var x → ((t : ℕ → Term) → var_content t x.value ≡ None) → cell_value r k ≡ None
 nothing_value r k x e n = ap (cell_value r) e ∙ ap (λ v. held r.mode (held r.mode v)) (n r.term) ∙ ap (held r.mode) (held_none r.mode) ∙ held_none r.mode
 
-comparison_truth : (w : ScalarRow) → is_comparison w ≡ true → gives_truth w ≡ true
-comparison_truth (scalar.Order op) h = refl
-comparison_truth scalar.Equal h = refl
-comparison_truth scalar.Unequal h = refl
-comparison_truth scalar.SetEqual h = refl
-comparison_truth scalar.SetUnequal h = refl
-comparison_truth scalar.In h = refl
-comparison_truth w h = absurd (cc)
+strict_truth : (w : ScalarRow) → is_strict w ≡ true → gives_truth w ≡ true
+strict_truth (scalar.Logic op) h = refl
+strict_truth (scalar.Order op) h = refl
+strict_truth scalar.Equal h = refl
+strict_truth scalar.Unequal h = refl
+strict_truth scalar.SetEqual h = refl
+strict_truth scalar.SetUnequal h = refl
+strict_truth scalar.In h = refl
+strict_truth w h = absurd (cc)
 
-none_first : (names : Names) (w : ScalarRow) (y : Option Content) → is_comparison w ≡ true → exact_value names (Scalar w) (None ∷ y ∷ []) ≡ None
-unfolding scalar_value pair option_at set_at element_at at
+none_first : (names : Names) (w : ScalarRow) (y : Option Content) → is_strict w ≡ true → exact_value names (Scalar w) (None ∷ y ∷ []) ≡ None
+unfolding scalar_value pair bool_at option_at set_at element_at at
+none_first names (scalar.Logic op) y h = refl
 none_first names (scalar.Order op) y h = refl
 none_first names scalar.Equal y h = refl
 none_first names scalar.Unequal y h = refl
@@ -63,8 +65,10 @@ stays : {A B : Type 0} (f : A → Option B) (o : Option A) → ((a : A) → f a 
 stays f None h = refl
 stays f (Some a) h = h a
 
-none_second : (names : Names) (w : ScalarRow) (x : Option Content) → is_comparison w ≡ true → exact_value names (Scalar w) (x ∷ None ∷ []) ≡ None
-unfolding scalar_value pair option_at set_at element_at at
+none_second : (names : Names) (w : ScalarRow) (x : Option Content) → is_strict w ≡ true → exact_value names (Scalar w) (x ∷ None ∷ []) ≡ None
+unfolding scalar_value pair bool_at option_at set_at element_at at
+none_second names (scalar.Logic op) None h = refl
+none_second names (scalar.Logic op) (Some v) h = stays _ (as_bool v) (λ a. refl)
 none_second names (scalar.Order op) None h = refl
 none_second names (scalar.Order op) (Some v) h = refl
 none_second names scalar.Equal None h = refl
@@ -79,15 +83,15 @@ none_second names scalar.In None h = refl
 none_second names scalar.In (Some v) h = stays _ (as_element v) (λ a. refl)
 none_second names w x h = absurd (cc)
 
-pub first_missing : (w : ScalarRow) (a b : Known) → is_comparison w ≡ true → ((r : Reading) → cell_value r a ≡ None) → IsNever w a b
+pub first_missing : (w : ScalarRow) (a b : Known) → is_strict w ≡ true → ((r : Reading) → cell_value r a ≡ None) → IsNever w a b
 first_missing w a b h n = record {
-  truth = comparison_truth w h;
+  truth = strict_truth w h;
   value = λ r names. ap (λ v. exact_value names (Scalar w) (v ∷ cell_value r b ∷ [])) (n r) ∙ none_first names w (cell_value r b) h;
 }
 
-pub second_missing : (w : ScalarRow) (a b : Known) → is_comparison w ≡ true → ((r : Reading) → cell_value r b ≡ None) → IsNever w a b
+pub second_missing : (w : ScalarRow) (a b : Known) → is_strict w ≡ true → ((r : Reading) → cell_value r b ≡ None) → IsNever w a b
 second_missing w a b h n = record {
-  truth = comparison_truth w h;
+  truth = strict_truth w h;
   value = λ r names. ap (λ v. exact_value names (Scalar w) (cell_value r a ∷ v ∷ [])) (n r) ∙ none_second names w (cell_value r a) h;
 }
 

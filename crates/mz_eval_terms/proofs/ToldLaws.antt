@@ -1,6 +1,5 @@
 -- What rows tell of cells, under each reading, and what a node's type leaves of them.
-use Rattle.std.proofs.Common.{◌≡◌, ◌∙◌, ◌≤◌, ◌*◌, ◌+◌, ℕ, Bool, true, false, not, ◌&&◌, List, [], ◌∷◌, map, Option, Some, None, Result, Ok, Err, refl, sym, ap, subst, arith, if◌then◌else◌}
-use Rattle.std.specs.Option.{option_map}
+use Rattle.std.proofs.Common.{◌≡◌, ◌∙◌, ◌≤◌, ◌*◌, ◌+◌, ℕ, Bool, true, false, ◌&&◌, List, [], ◌∷◌, map, Option, Some, None, Result, Ok, Err, refl, sym, ap, subst, arith, if◌then◌else◌}
 use Rattle.mz_base.specs.declared.fault.Span.{Span}
 use Rattle.mz_base.specs.declared.stop.Stop.{Stop}
 use Rattle.mz_base.specs.declared.stop.Stop.TheVariants.{Refused, Memory}
@@ -11,23 +10,23 @@ use Rattle.mz_core.specs.Types.{PlainType}
 use Rattle.mz_operations.specs.declared.row.Row.{Row}
 use Rattle.mz_operations.specs.Bounds.{Bounds}
 use Rattle.mz_operations.specs.Bounds as bounds
-use Rattle.mz_meaning.specs.Runs.{Run, State, Answer, Out, Stopped, then_do, give}
+use Rattle.mz_meaning.specs.Runs.{Run, State, Answer, Out, then_do}
 use Rattle.mz_meaning.specs.Cells as cells
-use Rattle.mz_meaning.specs.Cells.{Cell, Par, Var, Unshaped, Mode, Blank, Given, Bare, held, is_true, is_truth, value_of, typed}
+use Rattle.mz_meaning.specs.Cells.{Cell, Var, Unshaped, Mode, Blank, Given, Bare, held, is_true, is_truth, typed}
 use Rattle.mz_operations.specs.Costs.{cost}
 use Rattle.mz_meaning.specs.Operations.{row_cell, row_cost}
 use Rattle.mz_symbol.specs.Readings.{Reading}
-use Rattle.mz_symbol_rows.specs.RowValues.{truth_of}
+use Rattle.mz_symbol.specs.declared.types.Symbol.{Symbol}
+use Rattle.mz_symbol_rows.specs.RowValues.{argument, truth_of}
 use Rattle.mz_eval_cells.specs.declared.types.Known.{Known}
 use Rattle.mz_eval_cells.specs.declared.types.Known.TheVariants as known
 use Rattle.mz_eval_cells.specs.Views.{cell_of, cells_of, seen, all_seen}
 use Rattle.mz_eval_cells.specs.Meets.{MeetsAt, Tells}
 use Rattle.mz_symbol.specs.Runs as symbol_runs
-use Rattle.mz_symbol.specs.Makes as makes
 use Rattle.mz_symbol.specs.Makes.{GoesOnBy}
 use Rattle.mz_symbol_rows.proofs.GoingOn.{goes_most}
-use Rattle.mz_eval_symbols.specs.Taken.{cell_value}
-use Rattle.mz_eval_terms.specs.NodeRows.{with_value, is_open, told, told_by, exact_row, row_node, row_told, var_value}
+use Rattle.mz_eval_symbols.specs.Steps.{argued}
+use Rattle.mz_eval_terms.specs.NodeRows.{with_value, is_open, told, told_by, exact_row, row_told, var_value}
 use Rattle.mz_eval_terms.proofs.RowLaws.{bare, row_is}
 
 -- without values a cell is what it is under a reading, without its var value
@@ -115,3 +114,12 @@ row_pays row cs = omega arith
 
 pub goes_paid : (n : ℕ) (row : Row) (cs : List Cell) (old new : symbol_runs.Run) → n ≤ 128 → GoesOnBy n old new → GoesOnBy (64 * (1 + row_cost row cs)) old new
 goes_paid n row cs old new h f = goes_most n (64 * (1 + row_cost row cs)) old new (omega (arith, h, row_pays row cs)) f
+
+-- ---- a symbol that is undefined, as a cell without a value
+
+none_held : (m : Mode) → None ≡ held m None
+none_held (Blank n) = refl
+none_held (Given f) = refl
+
+pub gone_cell : (r : Reading) (b : Bounds) (s : Symbol) (k : Known) → seen r k ≡ Var b None → argued r.term s ≡ None → seen r k ≡ Var b (argument r s)
+gone_cell r b s k e g = e ∙ ap (Var b) (none_held r.mode ∙ ap (held r.mode) (sym g))

@@ -32,8 +32,8 @@ use Rattle.mz_symbol.specs.Symbols.{value_by, value_at, symbol_value}
 use Rattle.mz_symbol.specs.Readings.{Reading, symbol_seen}
 use Rattle.mz_symbol_rows.specs.RowValues.{truth_of, as_argument, argument}
 use Rattle.mz_eval_cells.proofs.Held.{held_map}
-use Rattle.mz_eval_terms.specs.NodeRows.{told, told_by, exact_row, row_told}
-use Rattle.mz_eval_terms.specs.StepsRows.{gives_truth, made_truth, is_own_base, is_set_sort, IsAt, IsOwn, IsSetTold, IsTold}
+use Rattle.mz_eval_terms.specs.NodeRows.{told, told_by, row_told}
+use Rattle.mz_eval_terms.specs.StepsRows.{gives_truth, made_truth, is_own_base, is_set_sort, IsAt, IsFree, IsOwn, IsSetTold, IsTold}
 
 -- ---- truth values
 
@@ -118,6 +118,27 @@ tells_truth t truth s e p r v k h = stated_truth r t s v p (k e) (h ∙ ap (λ b
 
 pub tells_own : (t : PlainType) (truth : Bool) (s : Symbol) → truth ≡ false → IsOwn t.base s.base → IsTold truth t s
 tells_own t truth s e p r v k h = stated_own r t s v p (h ∙ ap (λ b. held r.mode (told_by b v)) e)
+
+-- ---- at a type without a base of its own
+
+recast_free : (v : Option Content) → option_map (recast base.Bottom) v ≡ v
+recast_free None = refl
+recast_free (Some x) = refl
+
+never_both : (p : Bool) → (p && false) ≡ false
+never_both true = refl
+never_both false = refl
+
+stated_free : (r : Reading) (t : PlainType) (s : Symbol) (v : Option Content) → IsFree t.base s.base → symbol_seen r s ≡ held r.mode v → argument r s ≡ held r.mode (told t (option_map (recast t.base) v))
+stated_free r t s v p h =
+    ap (held r.mode) (own_argument s.base s.occurs (symbol_value r.term s) p.own)
+    ∙ h
+    ∙ ap (held r.mode) (sym (recast_free v))
+    ∙ ap (λ b. held r.mode (option_map (recast b) v)) (sym p.free)
+    ∙ ap (λ b. held r.mode (told_by b (option_map (recast t.base) v))) (sym (ap (λ b. not t.opt && (is_bool b && no_dims t.dims)) p.free ∙ never_both (not t.opt)))
+
+pub tells_free : (t : PlainType) (truth : Bool) (s : Symbol) → truth ≡ false → IsFree t.base s.base → IsTold truth t s
+tells_free t truth s e p r v k h = stated_free r t s v p (h ∙ ap (λ b. held r.mode (told_by b v)) e)
 
 pub told_same : (t : PlainType) {p q : Bool} {x s : Symbol} → p ≡ q → x ≡ s → IsTold p t x → IsTold q t s
 told_same t {p = p} {s = s} e h f = subst (λ b. IsTold b t s) e (subst (IsTold p t) h f)
@@ -260,6 +281,12 @@ at_type t v = told t (option_map (recast t.base) v)
 pub at_own : (t : PlainType) (s : Symbol) → IsOwn t.base s.base → IsAt t s
 at_own t s p r =
     stated_own r t s (symbol_value r.term s) p refl
+    ∙ sym (inner_held r.mode (at_type t) (symbol_value r.term s))
+    ∙ ap (λ x. held r.mode (at_type t (held r.mode x))) (sym (own_argument s.base s.occurs (symbol_value r.term s) p.own))
+
+pub at_free : (t : PlainType) (s : Symbol) → IsFree t.base s.base → IsAt t s
+at_free t s p r =
+    stated_free r t s (symbol_value r.term s) p refl
     ∙ sym (inner_held r.mode (at_type t) (symbol_value r.term s))
     ∙ ap (λ x. held r.mode (at_type t (held r.mode x))) (sym (own_argument s.base s.occurs (symbol_value r.term s) p.own))
 

@@ -1,4 +1,4 @@
--- Mirror of src/told.rt: comparisons of which an argument is undefined wherever it is read.
+-- Mirror of src/told.rt: rows of truth values of which an argument is undefined wherever it is read.
 use Rattle.std.specs.Prelude.{◌≡◌, Bool, true, false, [], ◌∷◌, None}
 use Rattle.mz_value.specs.Shown.{Names}
 use Rattle.mz_operations.specs.declared.row.ScalarRow.{ScalarRow}
@@ -10,14 +10,16 @@ use Rattle.mz_eval_cells.specs.declared.types.Known.{Known}
 use Rattle.mz_eval_symbols.specs.Taken.{cell_value}
 use Rattle.mz_eval_terms.specs.StepsRows.{gives_truth}
 
-abbrev pub is_comparison : ScalarRow → Bool
-is_comparison (scalar.Order op) = true
-is_comparison scalar.Equal = true
-is_comparison scalar.Unequal = true
-is_comparison scalar.SetEqual = true
-is_comparison scalar.SetUnequal = true
-is_comparison scalar.In = true
-is_comparison w = false
+-- rows of two truth values, and comparisons
+abbrev pub is_strict : ScalarRow → Bool
+is_strict (scalar.Logic op) = true
+is_strict (scalar.Order op) = true
+is_strict scalar.Equal = true
+is_strict scalar.Unequal = true
+is_strict scalar.SetEqual = true
+is_strict scalar.SetUnequal = true
+is_strict scalar.In = true
+is_strict w = false
 
 -- a row of truth values that has none of these cells
 pub record IsNever (w : ScalarRow) (a b : Known) : Type 0 where

@@ -1,5 +1,5 @@
 -- Mirror of src/singles.rt, src/lines.rt, src/sets.rt and src/stated.rt; private clauses only.
-use Rattle.std.specs.Prelude.{◌≡◌, Bool, true, false, Option, None}
+use Rattle.std.specs.Prelude.{◌≡◌, Bool, true, false, Option}
 use Rattle.std.specs.Option.{option_map}
 use Rattle.mz_value.specs.Contents.{Content}
 use Rattle.mz_core.specs.declared.types.Base.{Base}
@@ -62,6 +62,11 @@ is_own_base b = false
 -- a symbol's base is that of a type, and no truth value's
 pub record IsOwn (b c : Base) : Type 0 where
   pub same : b ≡ c
+  pub own : is_own_base c ≡ true
+
+-- a type has no base of its own, and a symbol's base is no truth value's
+pub record IsFree (b c : Base) : Type 0 where
+  pub free : b ≡ base.Bottom
   pub own : is_own_base c ≡ true
 
 -- WHAT A ROW TELLS OF ITS SYMBOL, a truth value or not, is its argument's value at a node of this type

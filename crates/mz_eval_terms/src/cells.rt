@@ -8,6 +8,7 @@ ghost use Rattle.mz_operations.specs.Bounds as bounds;
 ghost use Rattle.mz_meaning.specs.Cells.{Var, typed};
 ghost use Rattle.mz_meaning.specs.Operations.{row_cost};
 ghost use Rattle.mz_meaning.specs.Runs.{give};
+ghost use Rattle.mz_symbol.specs.Runs.{ReadsNodes};
 ghost use Rattle.mz_symbol.specs.Readings.{Reading};
 ghost use Rattle.mz_symbol.specs.Makes.{GoesOnBy, Means};
 ghost use Rattle.mz_symbol_rows.specs.RowValues.{argument};
@@ -16,10 +17,11 @@ ghost use Rattle.mz_eval_terms.specs.NodeRows.{is_open, shape_stamped, stamped, 
 
 use crate::told::{symbol_of_one, symbol_of_two};
 use crate::types::Argument;
+use mz_arena::Arena;
 use mz_base::{Memory, Stop};
-use mz_core::TypeInst;
-use mz_eval_cells::{Bound, Known, share, share_bound};
-use mz_eval_symbols::cell_of_symbol;
+use mz_core::{Base, TypeInst};
+use mz_eval_cells::{Bound, Known, share, share_bound, var_value};
+use mz_eval_symbols::{cell_of_symbol, is_gone};
 use mz_operations::Row;
 use mz_symbol::{Run, Symbol};
 use std::alloc::{AllocError, Global};
@@ -30,6 +32,39 @@ pub fn bounded(alloc: Global, bound: &Bound, s: Symbol) -> Result<Known, AllocEr
 {
     let same = share_bound(bound)?;
     cell_of_symbol(alloc, same, s)
+}
+
+/// The same at a node of a type; where that has no base of its own, and the symbol is surely undefined,
+/// the cell has no value.
+fn told_cell(
+    alloc: Global,
+    nodes: &Arena,
+    t: &TypeInst,
+    bound: &Bound,
+    s: Symbol,
+) -> Result<Known, AllocError>
+    ensures { IfOk result (λ k. (r : Reading) → ReadsNodes r.term nodes.now → seen r k ≡ Var (bounds.one (known_bound bound.now)) (argument r s)) }
+{
+    match t.base {
+        Base::Bottom => free_cell(alloc, nodes, bound, s),
+        _ => {
+            let k = bounded(alloc, bound, s)?;
+            Ok(k)
+        }
+    }
+}
+
+fn free_cell(alloc: Global, nodes: &Arena, bound: &Bound, s: Symbol) -> Result<Known, AllocError>
+    ensures { IfOk result (λ k. (r : Reading) → ReadsNodes r.term nodes.now → seen r k ≡ Var (bounds.one (known_bound bound.now)) (argument r s)) }
+{
+    let gone = is_gone(alloc, nodes, s)?;
+    if gone {
+        let same = share_bound(bound)?;
+        let none = var_value(alloc, same)?;
+        return Ok(none);
+    }
+    let k = bounded(alloc, bound, s)?;
+    Ok(k)
 }
 
 /// The cell of a row of one argument that is no array.
@@ -46,7 +81,7 @@ fn single_of_one(
         (λ r. give (typed r.mode false (plain_type t.now) (Var (bounds.one (known_bound bound.now)) (var_value r.mode names row (plain_type t.now) (seen r a.now.cell ∷ []))))) }
 {
     let s = symbol_of_one(alloc, row, t, a, run)?;
-    let k = bounded(alloc, bound, s)?;
+    let k = told_cell(alloc, run.arena(), t, bound, s)?;
     Ok(k)
 }
 

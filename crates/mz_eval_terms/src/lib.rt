@@ -12,6 +12,7 @@ mod told;
 mod types;
 
 pub use cells::{bounded, cell_of_one, cell_of_two, whole};
+pub use lines::drawn_line;
 pub use shapes::{shape_of_all, shape_of_one, shape_of_two};
 pub use stated::symbol_at;
 pub use types::Argument;

@@ -24,9 +24,9 @@ use crate::singles::unbuilt_row;
 use crate::stated::{gives_truth, stated};
 use crate::types::Argument;
 use mz_base::{Memory, Stop};
-use mz_core::TypeInst;
+use mz_core::{Base, TypeInst};
 use mz_eval_cells::{Known, Origins, VarItems, length_of};
-use mz_eval_symbols::line_in;
+use mz_eval_symbols::{is_line_of_base, line_in};
 use mz_operations::{Fold, Quantifier, ScalarRow, Side};
 use mz_symbol::{Run, Symbol};
 use mz_symbol_extremes::extreme;
@@ -77,30 +77,44 @@ fn line_number(k: &Known) -> Option<u64>
     }
 }
 
-/// A new line of an argument's elements; what it may cost is drawn.
-#[tactic(auto, using(mz_symbol_rows::proofs::GoingOn::goes_drawn))]
-fn made_line(alloc: Global, run: &mut Run, a: &Argument) -> Result<u64, Stop>
-    ensures goes { GoesOn run.old run.new }
-    ensures means { Means (line_seen a.now.cell) result run.old run.new (λ r. give (cell_value r a.now.cell)) }
+/// The same, where the line's elements are of this base.
+fn own_line(run: &Run, base: Base, k: &Known) -> Option<u64>
+    ensures { IfSome result (λ n. (r : Reading) → line_seen k.now r n ≡ cell_value r k.now) }
 {
-    let count = count_in(&a.cell);
+    let Some(n) = line_number(k) else {
+        return None;
+    };
+    if is_line_of_base(run, base, n) {
+        Some(n)
+    } else {
+        None
+    }
+}
+
+/// A new line of a cell's elements; what it may cost is drawn.
+#[tactic(auto, using(mz_symbol_rows::proofs::GoingOn::goes_drawn))]
+fn made_line(alloc: Global, run: &mut Run, base: Base, k: &Known) -> Result<u64, Stop>
+    ensures goes { GoesOn run.old run.new }
+    ensures means { Means (line_seen k.now) result run.old run.new (λ r. give (cell_value r k.now)) }
+{
+    let count = count_in(k);
     if count > u64::MAX / 20 {
         return Err(Stop::Memory);
     }
     run.draw(20 * count)?;
-    let n = line_in(alloc, run, a.base, &a.cell)?;
+    let n = line_in(alloc, run, base, k)?;
     Ok(n)
 }
 
-/// The number of the line that an argument's elements are: one that stands, or a new one, for which
-/// what it may cost is drawn.
-pub(crate) fn drawn_line(alloc: Global, run: &mut Run, a: &Argument) -> Result<u64, Stop>
+/// The number of the line that a cell's elements are, which are of this base: one that stands, or a
+/// new one, for which what it may cost is drawn. Out of memory too of what `line_in` is so.
+pub fn drawn_line(alloc: Global, run: &mut Run, base: Base, k: &Known) -> Result<u64, Stop>
     ensures goes { GoesOn run.old run.new }
-    ensures means { Means (line_seen a.now.cell) result run.old run.new (λ r. give (cell_value r a.now.cell)) }
+    ensures means { Means (line_seen k.now) result run.old run.new (λ r. give (cell_value r k.now)) }
 {
-    match line_number(&a.cell) {
+    match own_line(run, base, k) {
         Some(n) => Ok(n),
-        None => made_line(alloc, run, a),
+        None => made_line(alloc, run, base, k),
     }
 }
 
@@ -241,7 +255,7 @@ fn symbol_of_truths(
     ensures means { (names : Names) → Means argument result run.old run.new
         (λ r. give (row_told r names (Scalar w) (plain_type t.now) (cell_value r a.now.cell ∷ []))) }
 {
-    let n = drawn_line(alloc, run, a)?;
+    let n = drawn_line(alloc, run, a.base, &a.cell)?;
     has_size(run, n, a)?;
     let Ok(s) = over_truths(run, w, n, a) else {
         return Err(Stop::Memory);

@@ -124,8 +124,8 @@ fn clause_row(
     ensures means { (names : Names) → Means argument result run.old run.new
         (λ r. give (row_told r names (Scalar row.Clause) (plain_type t.now) (cell_value r a.now.cell ∷ cell_value r b.now.cell ∷ []))) }
 {
-    let n = drawn_line(alloc, run, a)?;
-    let m = drawn_line(alloc, run, b)?;
+    let n = drawn_line(alloc, run, a.base, &a.cell)?;
+    let m = drawn_line(alloc, run, b.base, &b.cell)?;
     has_size(run, n, a)?;
     has_size(run, m, b)?;
     let Ok(s) = clause_over(run, n, m, a, b) else {

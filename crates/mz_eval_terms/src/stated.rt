@@ -11,7 +11,7 @@ ghost use Rattle.mz_symbol.specs.Makes.{GoesOnBy, Means};
 ghost use Rattle.mz_symbol_rows.specs.RowValues.{argument};
 ghost use Rattle.mz_eval_symbols.specs.Taken.{cell_value};
 ghost use Rattle.mz_eval_terms.specs.NodeRows.{told};
-ghost use Rattle.mz_eval_terms.specs.StepsRows.{IsAt, IsOwn, IsSetTold, IsTold, gives_truth, is_set_sort, made_truth};
+ghost use Rattle.mz_eval_terms.specs.StepsRows.{IsAt, IsFree, IsOwn, IsSetTold, IsTold, gives_truth, is_own_base, is_set_sort, made_truth};
 
 use crate::types::Argument;
 use mz_base::{Memory, Stop};
@@ -88,9 +88,32 @@ fn is_own(t: &TypeInst, b: Base) -> bool
     }
 }
 
+/// Whether a type has no base of its own, and a base is no truth value's.
+#[tactic(auto, unfolding(mz_core::specs::Types::plain_type))]
+fn is_free(t: &TypeInst, b: Base) -> bool
+    ensures { result ≡ true → IsFree (plain_type t.now).base b }
+{
+    match t.base {
+        Base::Bottom => is_own_base(b),
+        _ => false,
+    }
+}
+
+fn is_own_base(b: Base) -> bool
+    ensures { result ≡ is_own_base b }
+{
+    match b {
+        Base::Int => true,
+        Base::Enum(_) => true,
+        Base::SetInt => true,
+        Base::SetEnum(_) => true,
+        _ => false,
+    }
+}
+
 /// A symbol of a row's node, which is a truth value or isn't. Out of memory where its type says
 /// something else.
-#[tactic(auto, using(crate::proofs::ValueLaws::tells_truth, crate::proofs::ValueLaws::tells_own))]
+#[tactic(auto, using(crate::proofs::ValueLaws::tells_truth, crate::proofs::ValueLaws::tells_own, crate::proofs::ValueLaws::tells_free))]
 pub(crate) fn stated(t: &TypeInst, truth: bool, s: Symbol) -> Result<Symbol, Memory>
     ensures told { IfOk result (IsTold truth (plain_type t.now)) }
     ensures same { IfOk result (λ x. x ≡ s) }
@@ -98,6 +121,8 @@ pub(crate) fn stated(t: &TypeInst, truth: bool, s: Symbol) -> Result<Symbol, Mem
     if truth {
         if is_truth(t) { Ok(s) } else { Err(Memory) }
     } else if is_own(t, s.base) {
+        Ok(s)
+    } else if is_free(t, s.base) {
         Ok(s)
     } else {
         Err(Memory)
@@ -167,12 +192,15 @@ fn truth_as_it_is(t: &TypeInst, s: Symbol) -> Result<Symbol, Memory>
 }
 
 /// A symbol that is what a type says.
-#[tactic(auto, using(crate::proofs::ValueLaws::at_own))]
+#[tactic(auto, using(crate::proofs::ValueLaws::at_own, crate::proofs::ValueLaws::at_free))]
 fn as_it_is(t: &TypeInst, s: Symbol) -> Result<Symbol, Memory>
     ensures same { IfOk result (λ x. x ≡ s) }
     ensures at { IfOk result (IsAt (plain_type t.now)) }
 {
     if is_own(t, s.base) {
+        return Ok(s);
+    }
+    if is_free(t, s.base) {
         return Ok(s);
     }
     if is_bool(s.base) {

@@ -16,7 +16,7 @@ ghost use Rattle.mz_arena.specs.Values.{Term};
 ghost use Rattle.mz_eval_cells.specs.Views.{cell_of, var_content};
 ghost use Rattle.mz_eval_symbols.specs.Taken.{cell_value};
 ghost use Rattle.mz_eval_terms.specs.NodeRows.{row_told};
-ghost use Rattle.mz_eval_terms.specs.StepsNever.{IsNever, is_comparison};
+ghost use Rattle.mz_eval_terms.specs.StepsNever.{IsNever, is_strict};
 
 use crate::lines::{symbol_of_array, takes_array};
 use crate::pairs::{clause_of, power_of};
@@ -70,11 +70,12 @@ fn scalar_of_two(
     Ok(told)
 }
 
-/// Whether a row is a comparison, which is false where an argument is undefined.
-fn is_comparison(w: ScalarRow) -> bool
-    ensures { result ≡ is_comparison w }
+/// Whether a row is a connective or a comparison, which is false where an argument is undefined.
+fn is_strict(w: ScalarRow) -> bool
+    ensures { result ≡ is_strict w }
 {
     match w {
+        ScalarRow::Logic(_) => true,
         ScalarRow::Order(_) => true,
         ScalarRow::Equal => true,
         ScalarRow::Unequal => true,
@@ -109,11 +110,11 @@ fn is_nothing(v: &VarValue) -> bool
     }
 }
 
-/// Whether a row is a comparison of which an argument is undefined wherever it is read.
+/// Whether a row is strict, and an argument is undefined wherever it is read.
 fn is_never(w: ScalarRow, a: &Argument, b: &Argument) -> bool
     ensures { result ≡ true → IsNever w a.now.cell b.now.cell }
 {
-    if !is_comparison(w) {
+    if !is_strict(w) {
         return false;
     }
     if is_missing(&a.cell) {
@@ -122,7 +123,7 @@ fn is_never(w: ScalarRow, a: &Argument, b: &Argument) -> bool
     is_missing(&b.cell)
 }
 
-/// Such a comparison: it is false, and no node tests it.
+/// Such a row: it is false, and no node tests it.
 fn never(
     w: ScalarRow,
     t: &TypeInst,

@@ -29,7 +29,6 @@ use Rattle.mz_model_end.specs.Tested.{IsTested}
 use Rattle.mz_model_hand.specs.Progress.{Begins, HaltedStops, ObjectiveHalts, ClosedModels}
 use Rattle.mz_model_names.specs.declared.types.HeldName.{HeldName}
 use Rattle.mz_model_names.specs.Named.{held_name, view_if}
-use Rattle.mz_model_roots.specs.Rooted.{if_one}
 use Rattle.mz_model_close.specs.Closed.{IsClosing}
 use Rattle.mz_model.specs.declared.types.HeldConstraint.{HeldConstraint}
 use Rattle.mz_model.specs.declared.types.Names.{Names}
@@ -121,11 +120,11 @@ aim_halts law t old new names cs Memory from h = tt
 pub roots_start : (cs : List HeldConstraint) (all : List ℕ) → all ≡ [] → constraint_roots (map held_constraint cs) ≡ all ++ constraint_roots (map held_constraint cs)
 roots_start cs all none = ap (λ rs. rs ++ constraint_roots (map held_constraint cs)) (sym none)
 
-pub roots_step : (cs : List HeldConstraint) (all more : List ℕ) (i : ℕ) (d : HeldConstraint) → i < length cs → constraint_roots (map held_constraint cs) ≡ all ++ constraint_roots (map held_constraint (drop i cs)) → more ≡ all ++ if_one (get_or cs i d).root → constraint_roots (map held_constraint cs) ≡ more ++ constraint_roots (map held_constraint (drop (i + 1) cs))
+pub roots_step : (cs : List HeldConstraint) (all more : List ℕ) (i : ℕ) (d : HeldConstraint) → i < length cs → constraint_roots (map held_constraint cs) ≡ all ++ constraint_roots (map held_constraint (drop i cs)) → more ≡ all ++ (get_or cs i d).roots.items → constraint_roots (map held_constraint cs) ≡ more ++ constraint_roots (map held_constraint (drop (i + 1) cs))
 roots_step cs all more i d low so is =
     so
     ∙ ap (λ ks. all ++ constraint_roots (map held_constraint ks)) (drop_more cs i d low)
-    ∙ sym (append_assoc all (if_one (get_or cs i d).root) (constraint_roots (map held_constraint (drop (i + 1) cs))))
+    ∙ sym (append_assoc all ((get_or cs i d).roots.items) (constraint_roots (map held_constraint (drop (i + 1) cs))))
     ∙ ap (λ rs. rs ++ constraint_roots (map held_constraint (drop (i + 1) cs))) (sym is)
 
 pub roots_end : (cs rest : List HeldConstraint) (all : List ℕ) → rest ≡ [] → constraint_roots (map held_constraint cs) ≡ all ++ constraint_roots (map held_constraint rest) → all ≡ constraint_roots (map held_constraint cs)

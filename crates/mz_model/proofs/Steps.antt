@@ -1,6 +1,7 @@
 -- The steps of the walk: the world of a step, the form of a declaration, and a constraint.
-use Rattle.std.proofs.Common.{◌≡◌, ◌∙◌, ℕ, ℤ, List, [], ◌∷◌, ◌++◌, length, map, Option, Result, Ok, Err, refl, sym, ap, subst}
-use Rattle.std.specs.Prelude.{IsErrAnd}
+use Rattle.std.proofs.Common.{◌≡◌, ◌∙◌, ℕ, ℤ, List, [], ◌∷◌, ◌++◌, length, map, Result, Ok, Err, refl, sym, ap, subst}
+use Rattle.std.specs.Prelude.{IsErrAnd, Vec}
+use Rattle.std.specs.Global.{Global}
 use Rattle.mz_base.specs.declared.stop.Stop.{Stop}
 use Rattle.mz_base.specs.declared.stop.Stop.TheVariants.{Refused, Memory}
 use Rattle.mz_value.specs.Contents.{case_names}
@@ -21,7 +22,7 @@ use Rattle.mz_eval_cells.specs.Views.{seen}
 use Rattle.mz_eval_scopes.specs.Views.{text_entry, env_cells_by}
 use Rattle.mz_model_laws.specs.Hands as hands
 use Rattle.mz_model_laws.specs.Loops.{ReadBack, world_after}
-use Rattle.mz_model_roots.specs.Rooted.{view, if_one, AreRootsOfConstraint}
+use Rattle.mz_model_roots.specs.Rooted.{view, AreRootsOfConstraint}
 use Rattle.mz_model_hand.specs.Forms.{NameForm, form_in}
 use Rattle.mz_model_hand.specs.Names.{HasForm, FormFaults}
 use Rattle.mz_model_hand.specs.Progress.{IsBetween, OneMoreName, OneMoreConstraint, DeclarationHalts, ConstraintHalts}
@@ -92,10 +93,10 @@ nothing = tt
 pub out_state : {A : Type 0} (x y : A) (s t : runs.State) → Out x s ≡ Out y t → s ≡ t
 out_state x y s t h = cc
 
-pub constraint_done : OneMoreConstraint → (t : Task) (ns : Names) (e : Tree) (old mid new : Run) (w : Reading → World) (k : Known) (o : Option ℕ) → ((r : Reading) → w r ≡ world_after (limits_of t) (program_of t) r (names_of ns)) → ReadBack old mid → ((r : Reading) → Reads r mid → cell_at (w r) e (state_of r old) ≡ Out (seen r k) (state_of r mid)) → ReadBack mid new → ((r : Reading) → Reads r new → Out nothing (state_of r mid) ≡ Out nothing (state_of r new)) → AreRootsOfConstraint new (view k) (if_one o) → ConstraintEnds t old new (names_of ns) e (Ok (record { cell = k; root = o }))
+pub constraint_done : OneMoreConstraint → (t : Task) (ns : Names) (e : Tree) (old mid new : Run) (w : Reading → World) (k : Known) (o : Vec ℕ Global) → ((r : Reading) → w r ≡ world_after (limits_of t) (program_of t) r (names_of ns)) → ReadBack old mid → ((r : Reading) → Reads r mid → cell_at (w r) e (state_of r old) ≡ Out (seen r k) (state_of r mid)) → ReadBack mid new → ((r : Reading) → Reads r new → Out nothing (state_of r mid) ≡ Out nothing (state_of r new)) → AreRootsOfConstraint new (view k) o.items → ConstraintEnds t old new (names_of ns) e (Ok (record { cell = k; roots = o }))
 constraint_done more t ns e old mid new w k o world back means on stays roots = record {
   by = λ cs rest among.
-      more (limits_of t) (program_of t) old new (names_of ns) cs e rest (held_constraint (record { cell = k; root = o })) among
+      more (limits_of t) (program_of t) old new (names_of ns) cs e rest (held_constraint (record { cell = k; roots = o })) among
       (record {
         back = λ r h. back r (on r h);
         means = λ r h.
@@ -103,7 +104,7 @@ constraint_done more t ns e old mid new w k o world back means on stays roots = 
             ∙ means r (on r h)
             ∙ ap (λ s. Out (seen r k) s) (out_state nothing nothing (state_of r mid) (state_of r new) (stays r h));
       })
-      (roots.by (held_constraint (record { cell = k; root = o })) refl refl);
+      (roots.by (held_constraint (record { cell = k; roots = o })) refl refl);
 }
 
 pub constraint_fault : ConstraintHalts → (t : Task) (ns : Names) (e : Tree) (old new : Run) (w : Reading → World) (x : Stop) → ((r : Reading) → w r ≡ world_after (limits_of t) (program_of t) r (names_of ns)) → ReadBack old new → ((r : Reading) → Reads r new → MeetsAt {A = Known} (seen r) (Err x) (state_of r new) (cell_at (w r) e (state_of r old))) → ConstraintEnds t old new (names_of ns) e (Err x)

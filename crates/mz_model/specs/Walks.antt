@@ -13,7 +13,6 @@ use Rattle.mz_eval_cells.specs.Views.{seen}
 use Rattle.mz_eval_scopes.specs.Views.{env_cells_by}
 use Rattle.mz_model_laws.specs.Hands as hands
 use Rattle.mz_model_laws.specs.Hands.{names_at, SlotsFrom, WalkStops}
-use Rattle.mz_model_roots.specs.Rooted.{if_one}
 use Rattle.mz_model_hand.specs.Names.{HasForm, FormStops}
 use Rattle.mz_model_hand.specs.Progress.{IsBetween, IsAmong}
 use Rattle.mz_model_domains.specs.Formed.{form_seen}
@@ -40,7 +39,7 @@ pub record AreReadable (ns : Names) : Type 0 where
   pub slots : SlotsFrom 0 (names_of ns)
 
 abbrev pub held_constraint : HeldConstraint → hands.HeldConstraint
-held_constraint c = record { cell = λ r. seen r c.cell; roots = if_one c.root }
+held_constraint c = record { cell = λ r. seen r c.cell; roots = c.roots.items }
 
 -- ---- how a step ends: it goes on, it stops at a fault, or memory ran out
 

@@ -1,21 +1,23 @@
-// The constraints, in source order: each has a cell, and a root unless it is par and true.
+// The constraints, in source order: each has a cell, and roots, unless it is par and true; a written
+// conjunction has a root for each operand.
 
 ghost use Rattle.std.specs.Prelude.{map};
 ghost use Rattle.mz_core.specs.TreeViews.{tree};
 ghost use Rattle.mz_model.specs.Walks.{AreReadable, ConstraintEnds, names_of};
 ghost use Rattle.mz_model.specs.Loops.{ConstraintsEnd};
 
+use crate::conjuncts::operand_count;
 use crate::declarations::world_in;
 use crate::evaluation::expanded;
 use crate::types::{HeldConstraint, Names, Task};
 use mz_base::Stop;
 use mz_core::Core;
 use mz_model_hand::{walks_are_closed, walks_go_on};
-use mz_model_roots::constraint_root;
+use mz_model_roots::constraint_roots;
 use mz_symbol::Run;
 use std::alloc::Global;
 
-/// One more constraint: its cell, and its root.
+/// One more constraint: its cell, and its roots.
 fn constrain_next(
     alloc: Global,
     task: &Task,
@@ -30,10 +32,11 @@ fn constrain_next(
     walks_are_closed();
     let world = world_in(&*task, &*names);
     let cell = expanded(alloc, &world, e, run)?;
-    let Ok(root) = constraint_root(alloc, run, &cell) else {
+    let count = operand_count(alloc, &world, e, &cell);
+    let Ok(roots) = constraint_roots(alloc, run, &cell, count) else {
         return Err(Stop::Memory);
     };
-    Ok(HeldConstraint { cell, root })
+    Ok(HeldConstraint { cell, roots })
 }
 
 /// The constraints, in source order.

@@ -9,7 +9,6 @@ ghost use Rattle.mz_symbol.specs.Readings.{Reading, Reads, state_of};
 ghost use Rattle.mz_model_laws.specs.Hands.{AreVars, IsAimed, SlotsFrom, constraint_roots};
 ghost use Rattle.mz_model_laws.specs.Loops.{ReadBack};
 ghost use Rattle.mz_model_names.specs.Named.{held_name, view_if};
-ghost use Rattle.mz_model_roots.specs.Rooted.{if_one};
 ghost use Rattle.mz_model.specs.Walks.{AreReadable, held_constraint, limits_of, names_of, program_of};
 ghost use Rattle.mz_model.specs.Ending.{AimEnds, IsAimOf, IsInHand, StopHalts, WalkHalts};
 
@@ -138,17 +137,19 @@ pub(crate) fn aim_of(
 
 // ---- the instance
 
-fn with_root(all: Vec<Id>, root: Option<Id>) -> Result<Vec<Id>, Memory>
-    ensures { IfOk result (λ v. v.items ≡ all.items ++ if_one root) }
+fn with_roots(all: Vec<Id>, more: &[Id]) -> Result<Vec<Id>, Memory>
+    ensures { IfOk result (λ v. v.items ≡ all.items ++ more.now) }
 {
-    match root {
-        None => Ok(all),
-        Some(id) => {
-            let mut more = all;
-            more.push(id)?;
-            Ok(more)
-        }
-    }
+    let mut ids = all;
+    ids.extend_from_slice(more)?;
+    Ok(ids)
+}
+
+fn with_constraint(all: Vec<Id>, c: &HeldConstraint) -> Result<Vec<Id>, Memory>
+    ensures { IfOk result (λ v. v.items ≡ all.items ++ c.now.roots.items) }
+{
+    let ids = with_roots(all, c.roots.as_slice())?;
+    Ok(ids)
 }
 
 #[tactic(auto, using(crate::proofs::Endings::roots_start, crate::proofs::Endings::roots_step, crate::proofs::Endings::roots_end))]
@@ -157,7 +158,7 @@ fn roots_of(alloc: Global, cs: &[HeldConstraint]) -> Result<Vec<Id>, Memory>
 {
     let mut all = Vec::new(alloc);
     for c in cs {
-        all = with_root(all, c.root)?;
+        all = with_constraint(all, c)?;
     }
     Ok(all)
 }

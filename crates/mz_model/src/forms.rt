@@ -20,7 +20,7 @@ use mz_core::{Core, CoreDecl};
 use mz_eval_cells::undefined;
 use mz_eval_chains::place_of;
 use mz_eval_domains::{Want, fitted};
-use mz_eval_names::counted;
+use mz_eval_names::{counted, declared_weight};
 use mz_eval_scopes::World;
 use mz_model_domains::{Form, defined_index, defined_set, free_form, valued_form};
 use mz_symbol::Run;
@@ -130,7 +130,8 @@ fn by_value(
     }
 }
 
-/// The form of a declaration: its weight, its index sets, its set and its value, in order.
+/// The form of a declaration: its weight, its index sets, its set and its value, in order. What the
+/// weight pays for is saved, for the nodes of the name.
 pub(crate) fn form_of(
     alloc: Global,
     world: &World,
@@ -141,7 +142,7 @@ pub(crate) fn form_of(
     ensures means { Means (form_seen (decl d.now).ty.ty) result run.old run.new
         (λ r. forms.form_in (world_seen r world.now) (eval (world_seen r world.now) levels) Positive (decl d.now) (world_seen r world.now).top) }
 {
-    run.weigh(1)?;
+    declared_weight(run)?;
     let ws = index_wants(alloc, world, &d.ty.index, run)?;
     let w = set_want(alloc, world, &d.ty.set, run)?;
     by_value(alloc, world, d, &ws, &w, run)

@@ -1,6 +1,7 @@
 // The walk over a model, term by term: a typed program → its instance.
 #![tactic(auto)]
 
+mod conjuncts;
 mod constraints;
 mod declarations;
 mod ending;

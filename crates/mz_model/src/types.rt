@@ -29,9 +29,9 @@ pub(crate) struct Names {
     pub(crate) parts: u64,
 }
 
-/// A constraint in hand: its cell, and its root; none where it is par and true.
+/// A constraint in hand: its cell, and its roots; none where it is par and true.
 #[derive(Drop)]
 pub(crate) struct HeldConstraint {
     pub(crate) cell: Known,
-    pub(crate) root: Option<Id>,
+    pub(crate) roots: Vec<Id>,
 }

@@ -12,7 +12,6 @@ use Rattle.mz_arena.specs.Arenas.{Grew}
 use Rattle.mz_arena.specs.Entries.{Entry}
 use Rattle.mz_arena.specs.Instances.{ModelVar}
 use Rattle.mz_arena.specs.Numbering.{local_ids, Numbered}
-use Rattle.mz_arena.specs.Values.{Term}
 use Rattle.mz_meaning.specs.Cells.{Cell, Var, Mode, Blank, Given, held}
 use Rattle.mz_meaning.specs.Domains.{Domain, Domains, domains_bounds}
 use Rattle.mz_meaning.specs.Walk.{Assignment, variable}
@@ -47,7 +46,7 @@ if_defined false v is = absurd (cc)
 
 kind_seen : (s : Run) (n : HeldName) (k : NameKind) (r : Reading) (a : Assignment) → HasCell s n k → Reads r s → (IsGiven r.mode → IsAssigned r.term a n.slot k) → Var (domains_bounds (kind_domains k)) (held r.mode (a n.slot)) ≡ n.cell r
 kind_seen s n ParName r a has reads assigned = absurd has
-kind_seen s n (OnePlace f) r a has reads assigned = ap (Var (domains_bounds (kind_domains (OnePlace f)))) (same_held r.mode (a n.slot) (symbol_value r.term f.symbol) (λ g. one_value (a n.slot) (symbol_value r.term f.symbol) (assigned g))) ∙ sym (has r (λ g. ap is_some (assigned g).second))
+kind_seen s n (OnePlace f) r a has reads assigned = ap (Var (domains_bounds (kind_domains (OnePlace f)))) (same_held r.mode (a n.slot) (symbol_value r.term f.symbol) (λ g. one_value (a n.slot) (symbol_value r.term f.symbol) (assigned g))) ∙ sym (has r reads (λ g. ap is_some (assigned g).second))
 kind_seen s n (ManyPlaces ix fs) r a has reads assigned =
     let own = places_value r.term fs in
     let line : IsGiven r.mode → array_value ix own ≡ array_value ix (r.line has.line) = λ g. ap (array_value ix) (sym (has.places.value r reads)) in

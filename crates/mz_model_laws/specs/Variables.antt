@@ -30,12 +30,12 @@ pub record IsArrayCell (s : Run) (v : View) (ix : List Range) (fs : List Free) :
   pub cell : (r : Reading) → v r ≡ Var (domains_bounds (kind_domains (ManyPlaces ix fs))) (held r.mode (array_value ix (r.line line)))
 
 -- the symbol of a place, where this has a value
-abbrev pub IsPlaceCell : View → Free → Type 0
-IsPlaceCell v f = (r : Reading) → (IsGiven r.mode → IsSome (symbol_value r.term f.symbol)) → v r ≡ Var (domains_bounds (kind_domains (OnePlace f))) (held r.mode (symbol_value r.term f.symbol))
+abbrev pub IsPlaceCell : Run → View → Free → Type 0
+IsPlaceCell s v f = (r : Reading) → Reads r s → (IsGiven r.mode → IsSome (symbol_value r.term f.symbol)) → v r ≡ Var (domains_bounds (kind_domains (OnePlace f))) (held r.mode (symbol_value r.term f.symbol))
 
 abbrev pub HasCell : Run → HeldName → NameKind → Type 0
 HasCell s n ParName = ⊥
-HasCell s n (OnePlace f) = IsPlaceCell n.cell f
+HasCell s n (OnePlace f) = IsPlaceCell s n.cell f
 HasCell s n (ManyPlaces ix fs) = IsArrayCell s n.cell ix fs
 
 abbrev pub VariablesSeen : Type 0

@@ -1,12 +1,12 @@
 -- A variable, with its places, its cell and its roots.
-use Rattle.std.proofs.Common.{◌≡◌, ◌∙◌, ℕ, ◌*◌, List, [], ◌∷◌, length, map, Option, refl, sym, ap, subst}
+use Rattle.std.proofs.Common.{◌≡◌, ◌∙◌, ℕ, ◌*◌, List, [], ◌∷◌, map, Option, refl, sym, ap, subst}
 use Rattle.mz_value.specs.Ranges.{Range}
 use Rattle.mz_meaning.specs.Domains.{Domain, Scalar, Places}
 use Rattle.mz_model_meaning.specs.Decoded.{AreShaped}
 use Rattle.mz_symbol.specs.declared.types.Free.{Free}
 use Rattle.mz_symbol.specs.Symbols.{domain_of}
 use Rattle.mz_symbol.specs.Runs.{Run}
-use Rattle.mz_symbol.specs.Makes.{GoesOnBy}
+use Rattle.mz_symbol.specs.Makes.{GoesOn, GoesOnBy}
 use Rattle.mz_eval_cells.specs.declared.types.Known.{Known}
 use Rattle.mz_eval_cells.specs.Views.{seen}
 use Rattle.mz_model_laws.specs.Hands as hands
@@ -24,16 +24,20 @@ var_name l c k v ids = record { slot = l.slot; kind = c; cell = λ r. seen r k; 
 first_of : (d e : Domain) → d ∷ [] ≡ e ∷ [] → d ≡ e
 first_of d e h = cc
 
-pub one_var : (old mid new : Run) (number : ℕ) (l : Label) (u : List Range) (f : Free) (k : Known) (v : Option Known) (ids : List ℕ) → MakesPlaces 8 old mid → ArePlaces mid number (place_over l.base l.opt u ∷ []) (f ∷ []) → IsPlaceCell (λ r. seen r k) f → Stands mid new → AreRootsIf new (OnePlace f) (view_if v) ids → IsVarOver (Scalar (place_over l.base l.opt u)) v old new (var_name l (OnePlace f) k v ids)
-one_var old mid new number l u f k v ids makes places cell stands roots = record {
+-- the cell of a variable stays what it is as the run goes on
+place_later : (s t : Run) (k : Known) (f : Free) → ReadBack s t → IsPlaceCell s (λ r. seen r k) f → IsPlaceCell t (λ r. seen r k) f
+place_later s t k f back is = λ r reads some. is r (back r reads) some
+
+pub one_var : (old mid held new : Run) (number : ℕ) (l : Label) (u : List Range) (f : Free) (k : Known) (v : Option Known) (ids : List ℕ) → MakesPlaces 8 old mid → ArePlaces mid number (place_over l.base l.opt u ∷ []) (f ∷ []) → GoesOn mid held → Keeps mid held → IsPlaceCell held (λ r. seen r k) f → Stands held new → AreRootsIf new (OnePlace f) (view_if v) ids → IsVarOver (Scalar (place_over l.base l.opt u)) v old new (var_name l (OnePlace f) k v ids)
+one_var old mid held new number l u f k v ids makes places goes keeps cell stands roots = record {
   domains = ap Scalar (first_of (domain_of f) (place_over l.base l.opt u) places.domains);
   var = refl;
   value = refl;
   shaped = subst AreShaped (sym places.domains) places.shaped;
   made = record {
-    back = λ r h. makes.goes.back r (stands.back r h);
-    same = λ r h. makes.same r ∙ stands.same r h;
-    cell = cell;
+    back = λ r h. makes.goes.back r (goes.back r (stands.back r h));
+    same = λ r h. makes.same r ∙ keeps.same r (stands.back r h) ∙ stands.same r h;
+    cell = place_later held new k f stands.back cell;
   };
   rooted = λ ns. roots.by ns (var_name l (OnePlace f) k v ids) refl refl refl;
 }

@@ -28,7 +28,7 @@ pub(crate) fn one_name(
     ensures var { IfOk result (λ h. IsVarOver (Scalar (place_over label.base label.opt set)) value run.old run.new (held_name h)) }
 {
     let place = one_place(run, number, label.base, label.opt, set)?;
-    let cell = place_cell(alloc, &place)?;
+    let cell = place_cell(alloc, run, &place)?;
     let roots = one_roots(alloc, run, &place, &value)?;
     Ok(HeldName {
         label,

@@ -1,11 +1,10 @@
 -- Roots of cells.
-use Rattle.std.proofs.Common.{◌≡◌, ◌≢◌, ◌∙◌, ℕ, Bool, true, false, ◌&&◌, List, [], ◌∷◌, ◌++◌, Option, Some, None, refl, sym, ap, subst}
-use Rattle.mz_value.specs.Contents.{Content}
+use Rattle.std.proofs.Common.{◌≡◌, ◌≢◌, ◌∙◌, ℕ, Bool, true, false, ◌&&◌, List, [], ◌∷◌, ◌++◌, None, sym, ap, subst}
 use Rattle.mz_core.specs.declared.types.Base.{Base}
 use Rattle.mz_core.specs.declared.types.Base.TheVariants as base
 use Rattle.mz_arena.specs.Values.{bit}
 use Rattle.mz_arena.specs.Values as terms
-use Rattle.mz_meaning.specs.Cells.{Mode, held, value_of, is_true}
+use Rattle.mz_meaning.specs.Cells.{value_of, is_true}
 use Rattle.mz_symbol.specs.declared.types.Free.{Free}
 use Rattle.mz_symbol.specs.declared.types.Symbol.{Symbol}
 use Rattle.mz_symbol.specs.Symbols.{value_by, value_at, symbol_value}
@@ -20,7 +19,7 @@ use Rattle.mz_eval_symbols.specs.Taken.{cell_value}
 use Rattle.mz_model_laws.specs.Hands.{View, NameKind, ParName, OnePlace, IsAim}
 use Rattle.mz_model_laws.specs.Roots.{TestsOne, are_all_true}
 use Rattle.mz_model_laws.proofs.Roots.{place_roots, false_roots, constraint_roots}
-use Rattle.mz_model_roots.specs.Rooted.{view, AreRootsOf, AreRootsOfConstraint, if_one, own_argument, IsEqualNode}
+use Rattle.mz_model_roots.specs.Rooted.{view, AreRootsOf, AreRootsOfConstraint, own_argument, IsEqualNode}
 use Rattle.mz_model_roots.proofs.EqualNodes.{given_held}
 
 -- a symbol that stands for a cell
@@ -53,12 +52,8 @@ undefined_rooted s kind k id variable none never = record {
 
 -- ---- constraints
 
-and_nothing : (q : Bool) → q ≡ q && true
-and_nothing true = refl
-and_nothing false = refl
-
-pub constraint_rooted : (s : Run) (k : Known) (y : Symbol) (id : ℕ) → StandsFor s k y → IsOf base.Bool id y → AreRootsOfConstraint s (view k) (if_one (Some id))
-constraint_rooted s k y id told is = record {
+pub constraint_rooted : (s : Run) (k : Known) (y : Symbol) (id : ℕ) (ids : List ℕ) → StandsFor s k y → IsOf base.Bool id y → ((r : Reading) → Reads r s → are_all_true r ids ≡ terms.is_true (r.term id)) → AreRootsOfConstraint s (view k) ids
+constraint_rooted s k y id ids told is same = record {
   by = λ c cell roots. constraint_roots s c (λ r given reads.
       ap (λ (v : View). is_true (value_of (v r))) cell
       ∙ ap is_true (same_value s k y r told given reads)
@@ -66,12 +61,21 @@ constraint_rooted s k y id told is = record {
       ∙ ap (λ o. is_true (as_argument base.Bool o (value_at r.term base.Bool o y.term))) is.occurs
       ∙ ap (λ i. is_true (truth_of (value_by base.Bool (r.term i)))) is.term
       ∙ truth_is (r.term id)
-      ∙ and_nothing (terms.is_true (r.term id))
+      ∙ sym (same r reads)
       ∙ ap (are_all_true r) (sym roots));
 }
 
-pub met_rooted : (s : Run) (k : Known) → ((r : Reading) → is_true (value_of (seen r k)) ≡ true) → AreRootsOfConstraint s (view k) (if_one None)
-met_rooted s k met = record { by = λ c cell roots. constraint_roots s c (λ r given reads. ap (λ (v : View). is_true (value_of (v r))) cell ∙ met r ∙ ap (are_all_true r) (sym roots)) }
+pub met_rooted : (s : Run) (k : Known) (ids : List ℕ) → ((r : Reading) → is_true (value_of (seen r k)) ≡ true) → ids ≡ [] → AreRootsOfConstraint s (view k) ids
+met_rooted s k ids met none = record { by = λ c cell roots. constraint_roots s c (λ r given reads. ap (λ (v : View). is_true (value_of (v r))) cell ∙ met r ∙ ap (are_all_true r) (sym (roots ∙ none))) }
+
+pub unmet_rooted : (s : Run) (k : Known) (ids : List ℕ) (id : ℕ) → ((r : Reading) → value_of (seen r k) ≡ None) → ((r : Reading) → Reads r s → r.term id ≡ bit false) → ids ≡ id ∷ [] → AreRootsOfConstraint s (view k) ids
+unmet_rooted s k ids id none never one = record {
+  by = λ c cell roots. constraint_roots s c (λ r given reads.
+      ap (λ (v : View). is_true (value_of (v r))) cell
+      ∙ ap is_true (none r)
+      ∙ ap (λ u. terms.is_true u && true) (sym (never r reads))
+      ∙ ap (are_all_true r) (sym (roots ∙ one)));
+}
 
 -- ---- the objective
 

@@ -1,5 +1,5 @@
 -- The node that tests two symbols.
-use Rattle.std.proofs.Common.{◌≡◌, ◌∙◌, ℕ, ◌+◌, ◌≤◌, ℤ, Bool, true, false, List, [], ◌∷◌, Option, Some, None, is_some, IsSome, refl, sym, ap, subst, arith, if◌then◌else◌}
+use Rattle.std.proofs.Common.{◌≡◌, ◌∙◌, ℕ, ◌+◌, ◌≤◌, ℤ, Bool, true, false, List, [], ◌∷◌, Option, Some, None, IsSome, refl, sym, ap, subst, arith, if◌then◌else◌}
 use Rattle.std.specs.Option.{option_map}
 use Rattle.mz_value.specs.Ranges.{Range}
 use Rattle.mz_value.specs.Contents.{Content}
@@ -22,7 +22,10 @@ use Rattle.mz_symbol.specs.Makes.{GoesOnBy}
 use Rattle.mz_symbol_rows.specs.RowValues.{as_argument, argument, truth_of, row_value}
 use Rattle.mz_symbol_rows.specs.StepsNodes.{IsOf}
 use Rattle.mz_symbol_rows.proofs.RowLaws.{truth_is, argument_kept}
+use Rattle.mz_symbol_options.specs.OptionValues.{IsWholeOf}
+use Rattle.mz_symbol_options.proofs.WholeLaws.{whole_value}
 use Rattle.mz_model_laws.specs.Hands.{AreOne, Iff}
+use Rattle.mz_model_laws.specs.Roots.{TestsOne}
 use Rattle.mz_model_roots.specs.Rooted.{own_argument, IsEqualNode}
 use Rattle.mz_model_roots.specs.StepsEqual.{equal_row, AreOfOneBase}
 use Rattle.mz_model_roots.proofs.EqualContents.{equal_by, sets_equal_by, IsOptional, singles_tested, sets_tested_by, options_of_sets}
@@ -108,4 +111,12 @@ node_tests s x y q id one is seen = record {
       ∙ ap (λ w. is_true (scalar_value row (symbol_value t x ∷ w ∷ []))) second in
       let tests : RowTests t x.base x.occurs x.term (own_argument r y) = subst (λ (b : Base). RowTests t x.base x.occurs x.term (as_argument b y.occurs (value_at t b y.occurs y.term))) (sym one.same) (row_tests t x.base x.occurs y.occurs x.term y.term one.shape one.allowed some) in
       record { to = λ h. tests.to (sym truth ∙ h); from = λ h. truth ∙ tests.from h };
+}
+
+-- what tests a symbol that stands for another tests that one
+pub whole_tests : (mid new : Run) (x w y : Symbol) (id : ℕ) → ((r : Reading) → Reads r new → Reads r mid) → IsWholeOf mid x w → IsEqualNode new w y id → IsEqualNode new x y id
+whole_tests mid new x w y id back h node = record {
+  tests = λ r given reads some.
+      let same = whole_value mid x w r h (back r reads) some in
+      subst (λ (v : Option Content). TestsOne (r.term id) v (own_argument r y)) same (node.tests r given reads (subst (λ (v : Option Content). IsSome v) (sym same) some));
 }

@@ -3,3 +3,4 @@ mod EqualNodes
 mod CellRoots
 mod ArrayRoots
 mod ShapedRoots
+mod OperandLaws

@@ -1,2 +1,3 @@
 pub mod Rooted
 pub mod StepsEqual
+pub mod StepsOperands

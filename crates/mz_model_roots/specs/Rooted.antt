@@ -1,5 +1,5 @@
 -- WHAT ROOTS SAY: that a name has its declared value, that a constraint is met, and what is minimized or maximized.
-use Rattle.std.specs.Prelude.{◌≡◌, ℕ, List, [], ◌∷◌, ◌++◌, Option, Some, None, IsSome, Result}
+use Rattle.std.specs.Prelude.{◌≡◌, ℕ, List, [], ◌∷◌, ◌++◌, Option, Some, IsSome, Result}
 use Rattle.mz_base.specs.declared.stop.Stop.{Stop}
 use Rattle.mz_value.specs.Ranges.{Range}
 use Rattle.mz_value.specs.Contents.{Content}
@@ -32,10 +32,6 @@ pub record AreRootsOf (s : Run) (kind : NameKind) (v : View) (ids : List ℕ) : 
 -- THE ROOTS OF A CONSTRAINT with this cell
 pub record AreRootsOfConstraint (s : Run) (v : View) (ids : List ℕ) : Type 0 where
   pub by : (c : HeldConstraint) → c.cell ≡ v → c.roots ≡ ids → IsRooted s c
-
-abbrev pub if_one : Option ℕ → List ℕ
-if_one None = []
-if_one (Some id) = id ∷ []
 
 -- an array's value has these index ranges; nothing is asked of one without a shape
 abbrev pub HasRanges : List Range → Known → Type 0

@@ -1,5 +1,5 @@
 -- Mirror of src/equality.rt and src/arrays.rt; private clauses only.
-use Rattle.std.specs.Prelude.{◌≡◌, ◌*◌, ℕ, List, [], ◌∷◌, true, take, Option, Some, None, IsSome, slice_get}
+use Rattle.std.specs.Prelude.{◌≡◌, ◌*◌, ℕ, true, List, [], ◌∷◌, take, Some, None, IsSome, slice_get}
 use Rattle.mz_core.specs.declared.types.Base.{Base}
 use Rattle.mz_core.specs.declared.types.Base.TheVariants as base
 use Rattle.mz_operations.specs.declared.row.ScalarRow.{ScalarRow}

@@ -112,9 +112,10 @@ fn line_roots(
 /// value is defined, and one for each place, in order. They are one that is false where the value is
 /// undefined whatever values there are.
 ///
-/// What the nodes may cost the caller's work has to pay for. Out of memory too where `line_in` is, and
-/// where the value hasn't as many elements as the array has places, or one is of another base or alone
-/// an option.
+/// What the nodes may cost the caller's work has to pay for; what places and elements may cost as
+/// options is drawn from the charges that are saved. Out of memory too where `line_in` is, and where
+/// the value hasn't as many elements as the array has places, or one is of another base, or an option
+/// where the places are none.
 #[tactic(auto, using(mz_symbol_rows::proofs::GoingOn::goes_most, crate::proofs::CellRoots::undefined_rooted, crate::proofs::ShapedRoots::shaped_roots))]
 pub fn array_roots(
     alloc: Global,

@@ -6,8 +6,8 @@ ghost use Rattle.mz_operations.specs.declared.row.ScalarRow.TheVariants as row;
 ghost use Rattle.mz_meaning.specs.Cells.{held};
 ghost use Rattle.mz_meaning.specs.Runs.{give};
 ghost use Rattle.mz_symbol.specs.Readings.{symbol_seen};
-ghost use Rattle.mz_symbol.specs.Makes.{GoesOnBy, Means};
-ghost use Rattle.mz_symbol_rows.specs.RowValues.{row_value, truth_of};
+ghost use Rattle.mz_symbol.specs.Makes.{GoesOn, GoesOnBy, Means};
+ghost use Rattle.mz_symbol_rows.specs.RowValues.{argument, row_value, truth_of};
 ghost use Rattle.mz_symbol_rows.specs.StepsNodes.{IsOf};
 ghost use Rattle.mz_model_roots.specs.Rooted.{Stays, IsEqualNode};
 ghost use Rattle.mz_model_roots.specs.StepsEqual.{equal_row, AreOfOneBase};
@@ -15,7 +15,9 @@ ghost use Rattle.mz_model_roots.specs.StepsEqual.{equal_row, AreOfOneBase};
 use mz_arena::Id;
 use mz_base::{Memory, Stop};
 use mz_core::Base;
+use mz_eval_symbols::as_asked;
 use mz_symbol::{Run, Symbol};
+use mz_symbol_options::with_whole_value;
 
 /// The node of a truth value that is no option.
 pub(crate) fn truth(s: Symbol) -> Result<Id, Memory>
@@ -75,6 +77,38 @@ fn are_of_one_base(x: Symbol, y: Symbol) -> bool
     }
 }
 
+/// What is no option as one that is there. What its node may cost is drawn.
+#[tactic(auto, using(mz_symbol_rows::proofs::GoingOn::goes_drawn))]
+fn made_option(run: &mut Run, y: Symbol) -> Result<Symbol, Stop>
+    ensures goes { GoesOn run.old run.new }
+    ensures means { Means argument result run.old run.new (λ r. give (argument r y)) }
+{
+    run.draw(4)?;
+    let z = as_asked(run, true, y)?;
+    Ok(z)
+}
+
+fn as_option(run: &mut Run, y: Symbol) -> Result<Symbol, Stop>
+    ensures goes { GoesOn run.old run.new }
+    ensures means { Means argument result run.old run.new (λ r. give (argument r y)) }
+{
+    match y.occurs {
+        Some(_) => Ok(y),
+        None => made_option(run, y),
+    }
+}
+
+/// The row that tests an option and another symbol.
+#[tactic(auto, using(mz_symbol_rows::proofs::GoingOn::goes_both))]
+fn option_row(run: &mut Run, x: Symbol, y: Symbol) -> Result<Symbol, Stop>
+    ensures goes { GoesOnBy 70 run.old run.new }
+    ensures means { Means symbol_seen result run.old run.new (λ r. give (held r.mode (truth_of (row_value r row.Equal (x ∷ y ∷ []))))) }
+{
+    let z = as_option(run, y)?;
+    let s = mz_symbol_options::equal(run, x, z)?;
+    Ok(s)
+}
+
 /// The row that tests two symbols that are no sets.
 #[tactic(auto, using(mz_symbol_rows::proofs::GoingOn::goes_most))]
 fn single_row(run: &mut Run, x: Symbol, y: Symbol) -> Result<Symbol, Stop>
@@ -83,7 +117,7 @@ fn single_row(run: &mut Run, x: Symbol, y: Symbol) -> Result<Symbol, Stop>
 {
     match x.occurs {
         None => mz_symbol_rows::equal(run, x, y),
-        Some(_) => mz_symbol_options::equal(run, x, y),
+        Some(_) => option_row(run, x, y),
     }
 }
 
@@ -100,13 +134,9 @@ fn equality(run: &mut Run, x: Symbol, y: Symbol) -> Result<Symbol, Stop>
     }
 }
 
-/// The node that is 1 where a symbol, which has a value, has that of another one. A Boolean that is no
-/// option is false in place of undefined.
-///
-/// Out of memory too where they aren't of one base, where one alone is an option, and where they are
-/// options of sets.
+/// The same as `equal_node`, of options of truth values whose values are integer nodes.
 #[tactic(auto, using(mz_symbol_rows::proofs::GoingOn::goes_most, crate::proofs::EqualNodes::none_goes))]
-pub(crate) fn equal_node(run: &mut Run, x: Symbol, y: Symbol) -> Result<Id, Stop>
+fn own_node(run: &mut Run, x: Symbol, y: Symbol) -> Result<Id, Stop>
     ensures goes { GoesOnBy 70 run.old run.new }
     ensures stays { Stays result run.old run.new }
     ensures equal { IfOk result (IsEqualNode run.new x y) }
@@ -116,5 +146,22 @@ pub(crate) fn equal_node(run: &mut Run, x: Symbol, y: Symbol) -> Result<Id, Stop
     }
     let symbol = equality(run, x, y)?;
     let id = truth(symbol)?;
+    Ok(id)
+}
+
+/// The node that is 1 where a symbol, which has a value, has that of another one. A Boolean that is no
+/// option is false in place of undefined. Where the first alone is an option, the second counts as one
+/// that is there. What either may cost as an option is drawn from the charges that are saved.
+///
+/// Out of memory too where they aren't of one base, where the second alone is an option, and where
+/// they are options of sets.
+#[tactic(auto, using(mz_symbol_rows::proofs::GoingOn::goes_both, mz_symbol_rows::proofs::GoingOn::goes_most))]
+pub(crate) fn equal_node(run: &mut Run, x: Symbol, y: Symbol) -> Result<Id, Stop>
+    ensures goes { GoesOnBy 70 run.old run.new }
+    ensures stays { Stays result run.old run.new }
+    ensures equal { IfOk result (IsEqualNode run.new x y) }
+{
+    let whole = with_whole_value(run, x)?;
+    let id = own_node(run, whole, y)?;
     Ok(id)
 }

@@ -4,6 +4,7 @@
 mod arrays;
 mod equality;
 mod names;
+mod operands;
 
 pub use arrays::array_roots;
-pub use names::{aim, constraint_root, place_root};
+pub use names::{aim, constraint_roots, place_root};

@@ -13,11 +13,12 @@ ghost use Rattle.mz_eval_cells.specs.declared.types.Origins.TheVariants as origi
 ghost use Rattle.mz_eval_cells.specs.Views.{item_content, seen};
 ghost use Rattle.mz_model_laws.specs.Hands.{OnePlace, IsAim};
 ghost use Rattle.mz_eval_symbols.specs.Taken.{ranges_in};
-ghost use Rattle.mz_model_roots.specs.Rooted.{Stays, view, if_one, AreRootsOf, AreRootsOfConstraint, HasRanges};
+ghost use Rattle.mz_model_roots.specs.Rooted.{Stays, view, AreRootsOf, AreRootsOfConstraint, HasRanges};
 
 use crate::equality::{equal_node, integer, truth};
+use crate::operands::operands_of;
 use mz_arena::Id;
-use mz_base::Stop;
+use mz_base::{Memory, Stop};
 use mz_core::Base;
 use mz_eval_cells::{Item, Known, Origin, Origins, VarItems, VarValue};
 use mz_eval_symbols::symbol_in;
@@ -82,8 +83,9 @@ fn tested(alloc: Global, run: &mut Run, place: &Free, value: &Known) -> Result<I
 /// The root that says that a variable that is no array has its declared value: the two are there and
 /// the same. It is false where the value is undefined whatever values there are.
 ///
-/// What the nodes may cost the caller's work has to pay for. Out of memory too where `symbol_in` is,
-/// and where the value isn't of the variable's base, or one alone is an option.
+/// What the nodes may cost the caller's work has to pay for; what an option of a truth value may cost
+/// as an integer is drawn from the charges that are saved. Out of memory too where `symbol_in` is, and
+/// where the value isn't of the variable's base, or alone is an option.
 #[tactic(auto, using(mz_symbol_rows::proofs::GoingOn::goes_most, crate::proofs::CellRoots::undefined_rooted))]
 pub fn place_root(alloc: Global, run: &mut Run, place: &Free, value: &Known) -> Result<Id, Stop>
     ensures goes { GoesOnBy 78 run.old run.new }
@@ -116,23 +118,63 @@ fn is_true(i: &Item) -> bool
     }
 }
 
-/// The root of a constraint: it is true where the constraint is. None of a constraint that is par and
-/// true.
+fn one_root(alloc: Global, id: Id) -> Result<Vec<Id>, Memory>
+    ensures { IfOk result (λ ids. ids.items ≡ id ∷ []) }
+{
+    let mut ids = Vec::new(alloc);
+    ids.push(id)?;
+    Ok(ids)
+}
+
+/// The root of a constraint that is undefined whatever values there are: it is false.
+fn unmet_roots(alloc: Global, run: &mut Run, k: &Known) -> Result<Vec<Id>, Stop>
+    requires { (r : Reading) → value_of (seen r k.now) ≡ None }
+    ensures goes { GoesOnBy 8 run.old run.new }
+    ensures stays { Stays result run.old run.new }
+    ensures roots { IfOk result (λ ids. AreRootsOfConstraint run.new (view k.now) ids.items) }
+{
+    let id = false_root(run)?;
+    let ids = one_root(alloc, id)?;
+    Ok(ids)
+}
+
+/// The roots of a constraint that is told by a node.
+fn told_roots(alloc: Global, run: &mut Run, k: &Known, count: u64) -> Result<Vec<Id>, Stop>
+    ensures goes { GoesOnBy 8 run.old run.new }
+    ensures stays { Stays result run.old run.new }
+    ensures roots { IfOk result (λ ids. AreRootsOfConstraint run.new (view k.now) ids.items) }
+{
+    let s = symbol_in(alloc, run, Base::Bool, false, k)?;
+    let id = truth(s)?;
+    let ids = operands_of(alloc, run.arena(), id, count)?;
+    Ok(ids)
+}
+
+/// The roots of a constraint: all are true where it is. None of a constraint that is par and true; that
+/// of one that is undefined whatever values there are is false. Of a conjunction of so many operands
+/// there is one for each, as far as its node is one, and the constant false so many times.
 ///
 /// What the nodes may cost the caller's work has to pay for. Out of memory too where `symbol_in` is,
 /// and where the cell is no truth value.
-#[tactic(auto, using(crate::proofs::EqualNodes::none_goes, crate::proofs::CellRoots::met_rooted))]
-pub fn constraint_root(alloc: Global, run: &mut Run, k: &Known) -> Result<Option<Id>, Stop>
+#[tactic(auto, using(crate::proofs::EqualNodes::none_goes))]
+pub fn constraint_roots(
+    alloc: Global,
+    run: &mut Run,
+    k: &Known,
+    count: u64,
+) -> Result<Vec<Id>, Stop>
     ensures goes { GoesOnBy 8 run.old run.new }
     ensures stays { Stays result run.old run.new }
-    ensures roots { IfOk result (λ o. AreRootsOfConstraint run.new (view k.now) (if_one o)) }
+    ensures roots { IfOk result (λ ids. AreRootsOfConstraint run.new (view k.now) ids.items) }
 {
     if is_met(k) {
-        return Ok(None);
+        let none = Vec::new(alloc);
+        return Ok(none);
     }
-    let s = symbol_in(alloc, run, Base::Bool, false, k)?;
-    let id = truth(s)?;
-    Ok(Some(id))
+    if is_undefined(k) {
+        return unmet_roots(alloc, run, k);
+    }
+    told_roots(alloc, run, k, count)
 }
 
 /// The integer node that is minimized or maximized, of the objective's cell.

@@ -1,3 +1,4 @@
 pub mod ArrayCells
 pub mod NextPlaces
 mod PlaceCells
+mod WholeItems

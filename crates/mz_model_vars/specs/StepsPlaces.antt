@@ -1,5 +1,5 @@
 -- Mirror of src/places.rt and src/arrays.rt; private clauses only.
-use Rattle.std.specs.Prelude.{◌≡◌, ◌+◌, ◌*◌, ℕ, List, ◌++◌, Bool, true, false, length, map}
+use Rattle.std.specs.Prelude.{◌≡◌, ◌+◌, ◌*◌, ℕ, List, [], ◌∷◌, ◌++◌, Bool, true, false, length, map, take}
 use Rattle.mz_value.specs.Ranges.{Range}
 use Rattle.mz_core.specs.declared.types.Base.{Base}
 use Rattle.mz_meaning.specs.Cells.{Var, held}
@@ -12,8 +12,10 @@ use Rattle.mz_symbol.specs.declared.types.Symbol.{Symbol}
 use Rattle.mz_symbol.specs.Symbols.{domain_of, free_ids}
 use Rattle.mz_symbol.specs.Runs.{Run}
 use Rattle.mz_symbol.specs.Readings.{Reading}
+use Rattle.mz_symbol.specs.Makes.{GoesOn}
+use Rattle.mz_symbol_options.specs.OptionValues.{IsWholeOf}
 use Rattle.mz_model_laws.specs.Hands.{View, ManyPlaces, kind_domains, array_value}
-use Rattle.mz_model_vars.specs.Placed.{place_over, HaveNodes, MakesPlaces}
+use Rattle.mz_model_vars.specs.Placed.{place_over, HaveNodes, Keeps, MakesPlaces}
 
 -- what is asked of a domain besides its set's being canonical
 pub record IsSuited (d : Domain) : Type 0 where
@@ -32,6 +34,18 @@ pub record AreSoFar (old new : Run) (k next : ℕ) (b : Base) (o : Bool) (all re
 
 abbrev pub symbols_of : List Free → List Symbol
 symbols_of fs = map (λ f. f.symbol) fs
+
+-- each symbol stands for that of a place
+abbrev pub AreWholeOf : Run → List Free → List Symbol → Type 0
+AreWholeOf s [] [] = Unit {0}
+AreWholeOf s (f ∷ fs) (x ∷ xs) = IsWholeOf s f.symbol x × AreWholeOf s fs xs
+AreWholeOf s fs xs = ⊥
+
+-- so do those of the first n places
+pub record AreWholeSoFar (old new : Run) (fs : List Free) (n : ℕ) (xs : List Symbol) : Type 0 where
+  pub goes : GoesOn old new
+  pub keeps : Keeps old new
+  pub whole : AreWholeOf new (take n fs) xs
 
 -- the cell of an array whose elements are this line
 pub record IsArrayOver (line : ℕ) (v : View) (ix : List Range) (fs : List Free) : Type 0 where

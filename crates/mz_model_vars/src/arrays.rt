@@ -5,12 +5,12 @@ ghost use Rattle.mz_arena.specs.Values.{Term};
 ghost use Rattle.mz_meaning.specs.Domains.{domain_bound};
 ghost use Rattle.mz_meaning.specs.Runs.{give};
 ghost use Rattle.mz_symbol.specs.Runs.{ReadsNodes};
-ghost use Rattle.mz_symbol.specs.Makes.{GoesOnBy, Means};
+ghost use Rattle.mz_symbol.specs.Makes.{GoesOn, GoesOnBy, Means};
 ghost use Rattle.mz_symbol.specs.Symbols.{AreItems, domain_of, elements_value};
 ghost use Rattle.mz_eval_cells.specs.Views.{known_bound, seen};
 ghost use Rattle.mz_model_laws.specs.Variables.{IsArrayCell, IsPlacesLine};
 ghost use Rattle.mz_model_vars.specs.Placed.{Keeps, ArePlacesOver};
-ghost use Rattle.mz_model_vars.specs.StepsPlaces.{IsArrayOver, symbols_of};
+ghost use Rattle.mz_model_vars.specs.StepsPlaces.{AreWholeOf, IsArrayOver, symbols_of};
 
 use crate::bounds::place_bound;
 use crate::places::many_places;
@@ -20,17 +20,23 @@ use mz_core::Base;
 use mz_eval_cells::{Bound, Known};
 use mz_eval_symbols::cell_of_line;
 use mz_symbol::{Free, Run, Symbol};
+use mz_symbol_options::with_whole_value;
 use mz_value::RangeSet;
 use std::alloc::{AllocError, Global};
 use std::rc::Rc;
 
-/// The symbols of places, in order.
-fn symbols(alloc: Global, places: &[Free]) -> Result<Vec<Symbol>, AllocError>
-    ensures { IfOk result (λ v. v.items ≡ symbols_of places.now) }
+/// The symbols of places, in order, of which options of truth values have integer nodes. What these
+/// may cost is drawn from the charges that are saved.
+#[tactic(auto, using(mz_symbol::proofs::RunLaws::goes_on, crate::proofs::WholeItems::wholes_none))]
+fn symbols(alloc: Global, run: &mut Run, places: &[Free]) -> Result<Vec<Symbol>, Memory>
+    ensures goes { GoesOn run.old run.new }
+    ensures keeps { IfOk result (λ _. Keeps run.old run.new) }
+    ensures whole { IfOk result (λ v. AreWholeOf run.new places.now v.items) }
 {
     let mut all = Vec::new(alloc);
     for f in places {
-        all.push(f.symbol)?;
+        let s = with_whole_value(run, f.symbol)?;
+        all.push(s)?;
     }
     Ok(all)
 }
@@ -48,13 +54,16 @@ fn bounds(alloc: Global, places: &[Free]) -> Result<Vec<Bound>, AllocError>
 }
 
 /// Keeps the symbols of places as a var array.
+#[tactic(auto, using(mz_symbol_rows::proofs::GoingOn::goes_most, crate::proofs::WholeItems::line_goes))]
 fn kept(alloc: Global, run: &mut Run, defined: Id, places: &[Free]) -> Result<u64, Stop>
     requires { (t : ℕ → Term) → ReadsNodes t run.old.arena → AreItems t (symbols_of places.now) }
     ensures goes { GoesOnBy (16 * length places.now) run.old run.new }
     ensures means { Means (λ r. r.line) result run.old run.new (λ r. give (elements_value r.term defined (symbols_of places.now))) }
 {
-    let items = symbols(alloc, places)?;
-    let line = run.push_line(defined, items)?;
+    let items = symbols(alloc, run, places)?;
+    let Ok(line) = run.push_line(defined, items) else {
+        return Err(Stop::Memory);
+    };
     Ok(line)
 }
 

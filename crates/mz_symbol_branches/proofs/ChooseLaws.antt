@@ -6,33 +6,24 @@ use Rattle.mz_arena.specs.Values.{Term, as_number, if_term, is_true}
 use Rattle.mz_meaning.specs.Cells.{held}
 use Rattle.mz_meaning.specs.Runs.{Out}
 use Rattle.mz_symbol.specs.declared.types.Symbol.{Symbol}
-use Rattle.mz_symbol.specs.Symbols.{value_by, value_at, symbol_value, IsItem, IsOccurrence}
+use Rattle.mz_symbol.specs.Symbols.{value_by, value_at, symbol_value, occurs_term, IsItem, IsOccurrence}
 use Rattle.mz_symbol.specs.Runs.{Run}
 use Rattle.mz_symbol.specs.Readings.{Reading, symbol_seen, state_of}
 use Rattle.mz_symbol.proofs.ConstantLaws.{out_value, out_state}
 use Rattle.mz_symbol_options.specs.StepsNodes.{symbol_of}
 use Rattle.mz_symbol_branches.specs.ChosenValues.{chosen_value}
-use Rattle.mz_symbol_branches.specs.StepsChoose.{IsOccurring, Occurs, IsPicked, Picks}
+use Rattle.mz_symbol_branches.specs.StepsChoose.{AreNone, IsOccurring, Occurs, IsPicked, Picks}
 
 -- ---- what the calls say
 
-pub none_occurs : (r : Reading) (s : Run) (c : ℕ) (p q o : Option ℕ) → p ≡ None → (q ≡ None) × (o ≡ None) → Occurs r s s c p q o
-none_occurs r s c None None None e f = record { same = refl; is = tt }
-none_occurs r s c (Some x) q o e f = absurd (cc)
-none_occurs r s c None (Some u) o e f = absurd (by f.0)
-  where
-    by : Some u ≡ None → ⊥
-    by h = cc
-none_occurs r s c None None (Some w) e f = absurd (by f.1)
-  where
-    by : Some w ≡ None → ⊥
-    by h = cc
+pub none_occurs : (r : Reading) (s : Run) (c : ℕ) (p q : Option ℕ) → AreNone p q → Occurs r s s c p q None
+none_occurs r s c p q n = record { same = refl; is = n }
 
-pub occurs_by : (r : Reading) (old new : Run) (c o : ℕ) (p q u : Option ℕ) → p ≡ Some o → Occurs r old new c (Some o) q u → Occurs r old new c p q u
-occurs_by r old new c o p q u e w = subst (λ p. Occurs r old new c p q u) (sym e) w
-
-pub some_occurs : (r : Reading) (old new : Run) (c o u id : ℕ) (q : Option ℕ) → q ≡ Some u → Out (if_term (r.term c) (r.term o) (r.term u)) (state_of r old) ≡ Out (r.term id) (state_of r new) → Occurs r old new c (Some o) q (Some id)
-some_occurs r old new c o u id q e h = subst (λ q. Occurs r old new c (Some o) q (Some id)) (sym e) (record { same = out_state h; is = out_value h })
+pub some_occurs : (r : Reading) (old one two new : Run) (c x y id : ℕ) (p q : Option ℕ) → Out (occurs_term r.term p) (state_of r old) ≡ Out (r.term x) (state_of r one) → Out (occurs_term r.term q) (state_of r one) ≡ Out (r.term y) (state_of r two) → Out (if_term (r.term c) (r.term x) (r.term y)) (state_of r two) ≡ Out (r.term id) (state_of r new) → Occurs r old new c p q (Some id)
+some_occurs r old one two new c x y id p q f g h = record {
+  same = out_state f ∙ out_state g ∙ out_state h;
+  is = ap (λ u. if_term (r.term c) u (occurs_term r.term q)) (out_value f) ∙ ap (λ u. if_term (r.term c) (r.term x) u) (out_value g) ∙ out_value h;
+}
 
 pub picks_of : (r : Reading) (old mid new : Run) (c : ℕ) (p q : Symbol) (o : Option ℕ) (id : ℕ) (s : Symbol) → p.base ≡ q.base → Occurs r old mid c p.occurs q.occurs o → Out (if_term (r.term c) (r.term p.term) (r.term q.term)) (state_of r mid) ≡ Out (r.term id) (state_of r new) → s ≡ symbol_of p.base o id → Picks r old new c p q s
 picks_of r old mid new c p q o id s b w h e = subst (Picks r old new c p q) (sym e) (record {
@@ -44,8 +35,8 @@ picks_of r old mid new c p q o id s b w h e = subst (Picks r old new c p q) (sym
 
 abbrev AreLike : (ℕ → Term) → Option ℕ → Option ℕ → Type 0
 AreLike t None None = Unit {0}
-AreLike t (Some o) (Some u) = t o ≡ t u
-AreLike t o u = ⊥
+AreLike t None (Some u) = ⊥
+AreLike t (Some o) u = t o ≡ occurs_term t u
 
 pub record IsLike (t : ℕ → Term) (s p : Symbol) : Type 0 where
   pub base : s.base ≡ p.base
@@ -62,19 +53,15 @@ if_second x y z h = ap (λ b. if b then y else z) h
 
 first_occurs : (t : ℕ → Term) (c : ℕ) (p q s : Option ℕ) → is_true (t c) ≡ true → IsOccurring t c p q s → AreLike t s p
 first_occurs t c None None None h w = tt
-first_occurs t c (Some o) (Some u) (Some i) h w = sym w ∙ if_first (t c) (t o) (t u) h
-first_occurs t c None None (Some i) h w = absurd w
-first_occurs t c None (Some u) s h w = absurd w
-first_occurs t c (Some o) None s h w = absurd w
-first_occurs t c (Some o) (Some u) None h w = absurd w
+first_occurs t c None (Some u) None h w = absurd w
+first_occurs t c (Some o) q None h w = absurd w
+first_occurs t c p q (Some i) h w = sym w ∙ if_first (t c) (occurs_term t p) (occurs_term t q) h
 
 second_occurs : (t : ℕ → Term) (c : ℕ) (p q s : Option ℕ) → is_true (t c) ≡ false → IsOccurring t c p q s → AreLike t s q
 second_occurs t c None None None h w = tt
-second_occurs t c (Some o) (Some u) (Some i) h w = sym w ∙ if_second (t c) (t o) (t u) h
-second_occurs t c None None (Some i) h w = absurd w
-second_occurs t c None (Some u) s h w = absurd w
-second_occurs t c (Some o) None s h w = absurd w
-second_occurs t c (Some o) (Some u) None h w = absurd w
+second_occurs t c None (Some u) None h w = absurd w
+second_occurs t c (Some o) q None h w = absurd w
+second_occurs t c p q (Some i) h w = sym w ∙ if_second (t c) (occurs_term t p) (occurs_term t q) h
 
 pub picked_first : (t : ℕ → Term) (c : ℕ) (p q s : Symbol) → is_true (t c) ≡ true → IsPicked t c p q s → IsLike t s p
 picked_first t c p q s h w = record {
@@ -94,7 +81,7 @@ like_value : (t : ℕ → Term) (b : Base) (o u : Option ℕ) (x y : ℕ) → Ar
 like_value t b None None x y w e = ap (value_by b) e
 like_value t b (Some o) (Some u) x y w e = ap (λ z. if is_true z then value_by b (t x) else Some values.absent) w ∙ ap (λ z. if is_true (t u) then value_by b z else Some values.absent) e
 like_value t b None (Some u) x y w e = absurd w
-like_value t b (Some o) None x y w e = absurd w
+like_value t b (Some o) None x y w e = ap (λ z. if is_true z then value_by b (t x) else Some values.absent) w ∙ ap (value_by b) e
 
 pub same_value : (t : ℕ → Term) (s p : Symbol) → IsLike t s p → symbol_value t s ≡ symbol_value t p
 same_value t s p w = ap (λ b. value_at t b s.occurs s.term) w.base ∙ like_value t p.base s.occurs p.occurs s.term p.term w.occurs w.term
@@ -103,7 +90,7 @@ like_occurrence : (t : ℕ → Term) (o u : Option ℕ) → AreLike t o u → Is
 like_occurrence t None None w h = tt
 like_occurrence t (Some o) (Some u) w h = subst (λ x. IsSome (as_number x)) (sym w) h
 like_occurrence t None (Some u) w h = absurd w
-like_occurrence t (Some o) None w h = absurd w
+like_occurrence t (Some o) None w h = subst (λ x. IsSome (as_number x)) (sym w) refl
 
 pub same_item : (t : ℕ → Term) (s p : Symbol) → IsLike t s p → IsItem t p → IsItem t s
 same_item t s p w h = record {

@@ -2,15 +2,19 @@
 use Rattle.std.specs.Prelude.{◌≡◌, ℕ, List, [], ◌∷◌, ◌++◌, Option, Some, None, length, take, ◌*◌, slice_get}
 use Rattle.mz_arena.specs.Values.{Term, if_term}
 use Rattle.mz_symbol.specs.declared.types.Symbol.{Symbol}
+use Rattle.mz_symbol.specs.Symbols.{occurs_term}
 use Rattle.mz_symbol.specs.Runs.{Run}
 use Rattle.mz_symbol.specs.Readings.{Reading, Reads, state_of}
 use Rattle.mz_symbol.specs.Makes.{GoesOnBy}
 
--- the occurrences of two options, by a condition, or none of what is no option
+abbrev pub AreNone : Option ℕ → Option ℕ → Type 0
+AreNone None None = Unit {0}
+AreNone p q = ⊥
+
+-- the occurrences of two options, by a condition, or none of what is no option; what is no option occurs
 abbrev pub IsOccurring : (ℕ → Term) → ℕ → Option ℕ → Option ℕ → Option ℕ → Type 0
-IsOccurring t c None None None = Unit {0}
-IsOccurring t c (Some o) (Some u) (Some w) = if_term (t c) (t o) (t u) ≡ t w
-IsOccurring t c p q o = ⊥
+IsOccurring t c p q None = AreNone p q
+IsOccurring t c p q (Some w) = if_term (t c) (occurs_term t p) (occurs_term t q) ≡ t w
 
 pub record Occurs (r : Reading) (old new : Run) (c : ℕ) (p q o : Option ℕ) : Type 0 where
   pub same : state_of r old ≡ state_of r new

@@ -26,7 +26,7 @@ struct Held {
 /// caller refuses.
 ///
 /// Out of memory too where there is no such array, where there are more elements in one than in the
-/// other, where they are of two bases, or those of one alone are options.
+/// other, where they are of two bases, and of truth values of which one alone is an option.
 #[tactic(auto, using(mz_symbol_rows::proofs::GoingOn::goes_both, mz_symbol_rows::proofs::GoingOn::goes_most))]
 pub fn choose_lines(alloc: Global, run: &mut Run, cond: Id, p: u64, q: u64) -> Result<u64, Stop>
     ensures goes { GoesOnBy (48 * count_of (slice_get run.old.lines p) + 16) run.old run.new }

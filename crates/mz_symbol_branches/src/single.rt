@@ -1,14 +1,15 @@
 // One of two single values, by the truth of a Boolean node.
 
-ghost use Rattle.std.specs.Prelude.{◌≡◌, IfOk, None, Some, true};
+ghost use Rattle.std.specs.Prelude.{◌≡◌, IfOk, true};
 ghost use Rattle.mz_arena.specs.Values.{if_term};
 ghost use Rattle.mz_meaning.specs.Cells.{held};
 ghost use Rattle.mz_meaning.specs.Runs.{give};
+ghost use Rattle.mz_symbol.specs.Symbols.{occurs_term};
 ghost use Rattle.mz_symbol.specs.Readings.{Reading, Reads, symbol_seen};
 ghost use Rattle.mz_symbol.specs.Makes.{GoesOnBy, Means};
 ghost use Rattle.mz_symbol_options.specs.StepsNodes.{symbol_of};
 ghost use Rattle.mz_symbol_branches.specs.ChosenValues.{chosen_value};
-ghost use Rattle.mz_symbol_branches.specs.StepsChoose.{Occurs, Picks};
+ghost use Rattle.mz_symbol_branches.specs.StepsChoose.{AreNone, Occurs, Picks};
 
 use mz_arena::{Id, Node, NodeKind};
 use mz_base::{Memory, Stop};
@@ -20,7 +21,8 @@ use mz_symbol::{Run, Symbol};
 /// chosen from first. A condition that is undefined isn't true, and what isn't chosen may be
 /// undefined.
 ///
-/// Out of memory too where the symbols are of two bases, or one alone is an option.
+/// Out of memory too where the symbols are of two bases, and of truth values of which one alone is an
+/// option.
 pub fn choose(run: &mut Run, cond: Id, p: Symbol, q: Symbol) -> Result<Symbol, Stop>
     ensures goes { GoesOnBy 32 run.old run.new }
     ensures means { Means symbol_seen result run.old run.new (λ r. give (held r.mode (chosen_value r cond p q))) }
@@ -74,25 +76,36 @@ fn is_base(a: Base, b: Base) -> bool
     }
 }
 
-/// No occurrence, where the second has none.
-fn none_occurs(q: Option<Id>) -> Result<Option<Id>, Memory>
-    ensures { IfOk result (λ o. (q ≡ None) × (o ≡ None)) }
+fn are_none(p: Option<Id>, q: Option<Id>) -> bool
+    ensures { result ≡ true → AreNone p q }
 {
-    match q {
-        None => Ok(None),
-        Some(_) => Err(Memory),
+    p.is_none() && q.is_none()
+}
+
+/// The node of an option's occurrence; what is no option occurs.
+fn occurrence(run: &mut Run, p: Option<Id>) -> Result<Id, Stop>
+    ensures goes { GoesOnBy 0 run.old run.new }
+    ensures means { Means (λ r. r.term) result run.old run.new (λ r. give (occurs_term r.term p)) }
+{
+    match p {
+        None => run.truth_node(true),
+        Some(o) => Ok(o),
     }
 }
 
-/// The occurrence of two options, by a condition.
-fn both_occur(run: &mut Run, c: Id, o: Id, q: Option<Id>) -> Result<Option<Id>, Memory>
+/// The occurrence of two options, or of an option and what is none, by a condition.
+#[tactic(auto, using(mz_symbol_rows::proofs::GoingOn::goes_both, mz_symbol_rows::proofs::GoingOn::goes_most))]
+fn some_occurs(run: &mut Run, c: Id, p: Option<Id>, q: Option<Id>) -> Result<Option<Id>, Memory>
     ensures goes { GoesOnBy 16 run.old run.new }
-    ensures occurs { IfOk result (λ u. (r : Reading) → Reads r run.new → Occurs r run.old run.new c (Some o) q u) }
+    ensures occurs { IfOk result (λ u. (r : Reading) → Reads r run.new → Occurs r run.old run.new c p q u) }
 {
-    let Some(u) = q else {
+    let Ok(x) = occurrence(run, p) else {
         return Err(Memory);
     };
-    let Ok(id) = if_node(run, c, o, u) else {
+    let Ok(y) = occurrence(run, q) else {
+        return Err(Memory);
+    };
+    let Ok(id) = if_node(run, c, x, y) else {
         return Err(Memory);
     };
     Ok(Some(id))
@@ -104,12 +117,10 @@ fn occurs_node(run: &mut Run, c: Id, p: Option<Id>, q: Option<Id>) -> Result<Opt
     ensures goes { GoesOnBy 16 run.old run.new }
     ensures occurs { IfOk result (λ o. (r : Reading) → Reads r run.new → Occurs r run.old run.new c p q o) }
 {
-    let Some(o) = p else {
-        let none = none_occurs(q)?;
-        return Ok(none);
-    };
-    let occurs = both_occur(run, c, o, q)?;
-    Ok(occurs)
+    if are_none(p, q) {
+        return Ok(None);
+    }
+    some_occurs(run, c, p, q)
 }
 
 fn symbol(base: Base, occurs: Option<Id>, term: Id) -> Symbol

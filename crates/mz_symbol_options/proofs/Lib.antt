@@ -2,3 +2,4 @@ pub mod OptionLaws
 pub mod AskingLaws
 pub mod EqualityLaws
 pub mod MakingLaws
+pub mod WholeLaws

@@ -88,7 +88,7 @@ guarded_option r d o term there a p e f =
 
 -- ---- choices
 
-whole_kept : (b : Base) (x : Term) (c : Content) → value_by b x ≡ Some c → value_by b x ≡ value_by b (whole_term b x)
+pub whole_kept : (b : Base) (x : Term) (c : Content) → value_by b x ≡ Some c → value_by b x ≡ value_by b (whole_term b x)
 unfolding to_int_term
 whole_kept base.Bool x c h = by (as_number x) h ∙ truth_whole x
   where

@@ -9,4 +9,4 @@ mod sorts;
 
 pub use asking::{absent, deopt, occurs, summand};
 pub use equality::{equal, unequal};
-pub use making::{choice, guarded, nothing, optional};
+pub use making::{choice, guarded, nothing, optional, with_whole_value};

@@ -1,21 +1,21 @@
 // Symbols that become options, and symbols under a condition.
 
-ghost use Rattle.std.specs.Prelude.{[], ◌∷◌, Some, length};
+ghost use Rattle.std.specs.Prelude.{◌≡◌, [], ◌∷◌, Some, IfOk, length};
 ghost use Rattle.mz_value.specs.Contents as values;
 ghost use Rattle.mz_meaning.specs.Cells.{held};
 ghost use Rattle.mz_meaning.specs.Lets.{choice_at};
 ghost use Rattle.mz_meaning.specs.Runs as runs;
 ghost use Rattle.mz_meaning.specs.Runs.{give, noted};
-ghost use Rattle.mz_symbol.specs.Readings.{symbol_seen};
+ghost use Rattle.mz_symbol.specs.Readings.{Reading, Reads, state_of, symbol_seen};
 ghost use Rattle.mz_symbol.specs.StepsChoices.{choice_domain};
-ghost use Rattle.mz_symbol.specs.Makes.{GoesOnBy, Means};
+ghost use Rattle.mz_symbol.specs.Makes.{GoesOn, GoesOnBy, Means};
 ghost use Rattle.mz_symbol_rows.specs.RowValues.{argument, as_argument};
-ghost use Rattle.mz_symbol_options.specs.OptionValues.{guarded_value};
+ghost use Rattle.mz_symbol_options.specs.OptionValues.{IsWholeOf, guarded_value};
 
 use crate::nodes::{guard_node, integer, kept_node, occurs_unless, whole_node};
 use crate::sorts::{is_plain, symbol};
 use mz_arena::Id;
-use mz_base::Stop;
+use mz_base::{Memory, Stop};
 use mz_core::Base;
 use mz_symbol::{Run, Symbol};
 use mz_value::RangeSet;
@@ -82,5 +82,47 @@ pub fn choice(run: &mut Run, base: Base, opt: bool, set: &RangeSet) -> Result<Sy
             let term = whole_node(run, taken.base, taken.term)?;
             Ok(symbol(taken.base, Some(o), term))
         }
+    }
+}
+
+// ---- variables
+
+/// Whether this is an option of a truth value.
+fn is_truth_option(a: Symbol) -> bool {
+    match a.base {
+        Base::Bool => a.occurs.is_some(),
+        _ => false,
+    }
+}
+
+/// The same option, with the integer node of its value. What this may cost is drawn.
+#[tactic(auto, using(mz_symbol_rows::proofs::GoingOn::goes_drawn))]
+fn whole_option(run: &mut Run, a: Symbol) -> Result<Symbol, Memory>
+    ensures goes { GoesOn run.old run.new }
+    ensures same { IfOk result (λ _. (r : Reading) → Reads r run.new → state_of r run.old ≡ state_of r run.new) }
+    ensures whole { IfOk result (IsWholeOf run.new a) }
+{
+    run.draw(4)?;
+    let Ok(term) = whole_node(run, a.base, a.term) else {
+        return Err(Memory);
+    };
+    Ok(symbol(a.base, a.occurs, term))
+}
+
+/// The same symbol, where its value's node has a value, as a variable's has; the value of an option
+/// of a truth value is an integer node, and a variable's own node is Boolean.
+///
+/// What the node may cost is drawn from the charges that are saved. Out of memory too where fewer
+/// than 4 are.
+#[tactic(auto, using(crate::proofs::WholeLaws::same_whole))]
+pub fn with_whole_value(run: &mut Run, a: Symbol) -> Result<Symbol, Memory>
+    ensures goes { GoesOn run.old run.new }
+    ensures same { IfOk result (λ _. (r : Reading) → Reads r run.new → state_of r run.old ≡ state_of r run.new) }
+    ensures whole { IfOk result (IsWholeOf run.new a) }
+{
+    if is_truth_option(a) {
+        whole_option(run, a)
+    } else {
+        Ok(a)
     }
 }

@@ -1,4 +1,4 @@
-use Rattle.std.proofs.Common.{◌∙◌, option_map, sym, ap}
+use Rattle.std.proofs.Common.{◌∙◌, option_map, ap}
 use Rattle.mz_value.specs.Contents as values
 use Rattle.mz_value.specs.Contents.{contents}
 use Rattle.mz_meaning.specs.Cells.{held}

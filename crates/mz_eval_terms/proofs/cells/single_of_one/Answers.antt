@@ -1,7 +1,8 @@
-use Rattle.std.proofs.Common.{◌∙◌, [], ◌∷◌, false, sym, ap}
+use Rattle.std.proofs.Common.{◌∙◌, [], ◌∷◌, false, sym, ap, subst}
 use Rattle.mz_core.specs.Types.{plain_type}
 use Rattle.mz_operations.specs.Bounds as bounds
 use Rattle.mz_meaning.specs.Cells.{Var, typed, value_of}
+use Rattle.mz_symbol.specs.Runs.{ReadsNodes}
 use Rattle.mz_symbol.proofs.ConstantLaws.{out_value, out_state}
 use Rattle.mz_symbol_rows.specs.RowValues.{argument}
 use Rattle.mz_symbol_rows.proofs.RowLaws.{out_both}
@@ -17,4 +18,4 @@ returns-clause-means c names r h =
     let t = plain_type c.args.t.now in
     let b = bounds.one (known_bound c.args.bound.now) in
     out_both (ap (λ v. typed r.mode false t (Var b v)) (sym (one_value r.mode (exact_row names c.args.row t) (value_of (seen r c.args.a.now.cell))))
-    ∙ symbol_cell r names c.args.row t b (cell_value r c.args.a.now.cell ∷ []) (argument r c.in_ok-s.s) (seen r c.in_ok-k.k) (c.in_ok-k.ensures r) (out_value e)) (out_state e)
+    ∙ symbol_cell r names c.args.row t b (cell_value r c.args.a.now.cell ∷ []) (argument r c.in_ok-s.s) (seen r c.in_ok-k.k) (c.in_ok-k.ensures r (subst (ReadsNodes r.term) (sym c.arena.ensures.nodes) h.nodes)) (out_value e)) (out_state e)

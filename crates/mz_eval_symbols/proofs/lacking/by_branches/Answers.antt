@@ -1,0 +1,5 @@
+use Rattle.mz_eval_symbols.proofs.LackingLaws.{branches_lack}
+use Rattle.mz_eval_symbols.proofs.lacking.by_branches.Goals as goal
+
+pub returns : goal.returns
+returns c = branches_lack c.args.nodes.now c.args.o c.args.x c.in-Some.p c.in-Some-if_at.q c.in-Some.ensures c.in-Some-if_at.ensures (c.is_same.ensures c.if-not-is_same.false)
