@@ -4,7 +4,7 @@ use crate::outcome::put_fetched;
 use crate::running::{print_run, run_line};
 use cases::Page;
 use mz_base::Memory;
-use mz_io::{DiskFiles, Files, MemSink};
+use mz_io::{DiskFiles, Files, MemSink, MemSource};
 use std::rt;
 
 /// Fetches from the folder that the program runs in, where `m.mzn` has 15 bytes.
@@ -28,8 +28,9 @@ pub fn print_circle<R: rt::Files + AllocGlobal>(rt: &R, page: &mut Page) -> Resu
     page.line(line);
     let alloc = rt.alloc();
     let mut files = DiskFiles::new(rt);
+    let mut input = MemSource::new(Vec::new(alloc), 1, Vec::new(alloc));
     let mut out = MemSink::new(alloc, Vec::new(alloc));
     let mut notes = MemSink::new(alloc, Vec::new(alloc));
-    let status = run_line(alloc, line, &mut files, &mut out, &mut notes)?;
+    let status = run_line(alloc, line, &mut files, &mut input, &mut out, &mut notes)?;
     print_run(page, status, out.bytes(), notes.bytes())
 }

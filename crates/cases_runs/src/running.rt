@@ -5,15 +5,16 @@ use cases::Page;
 use cases_solver::print_solutions;
 use fz_text::read;
 use mz_base::Memory;
-use mz_io::{Files, MemSource, Sink};
+use mz_io::{Files, Sink, Source};
 use mz_tool::{Status, run};
 use std::alloc::Global;
 
-/// Runs the words of a line, with an empty input.
-pub fn run_line<F: Files, S: Sink, E: Sink>(
+/// Runs the words of a line.
+pub fn run_line<F: Files, I: Source, S: Sink, E: Sink>(
     alloc: Global,
     line: &str,
     files: &mut F,
+    input: &mut I,
     out: &mut S,
     notes: &mut E,
 ) -> Result<Status, Memory> {
@@ -21,8 +22,7 @@ pub fn run_line<F: Files, S: Sink, E: Sink>(
     for word in line.split_whitespace() {
         words.push(String::from_str(alloc, word)?)?;
     }
-    let mut input = MemSource::new(Vec::new(alloc), 1, Vec::new(alloc));
-    Ok(run(alloc, &words, files, &mut input, out, notes))
+    Ok(run(alloc, &words, files, input, out, notes))
 }
 
 /// A run's status, each line that it wrote after `> `, and each line that it noted after `! `.

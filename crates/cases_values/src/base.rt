@@ -6,7 +6,7 @@ use std::alloc::Global;
 
 pub fn kinds(page: &mut Page) {
     page.line("# kinds of refusal, and why a stage stops");
-    for kind in [Kind::Lexical, Kind::NotBuilt, Kind::Budget, Kind::Syntax] {
+    for kind in [Kind::Lexical, Kind::Cyclic, Kind::Budget, Kind::Syntax] {
         page.put(kind.name());
         page.case(" shows its number", kind.shows_number());
     }

@@ -29,6 +29,8 @@ fn print_answer(alloc: Global, words: &[String], page: &mut Page) {
     match read_words(alloc, words) {
         Ok(Request::Compile(options)) => print_options("compile", &options, page),
         Ok(Request::Check(options)) => print_options("check", &options, page),
+        Ok(Request::Print(options)) => print_options("print", &options, page),
+        Ok(Request::Make(number)) => page.line(format_args!("  make {number}")),
         Err(WordsError::Usage) => page.line("  usage"),
         Err(WordsError::Memory) => page.line("  out of memory"),
     }

@@ -1,7 +1,7 @@
 -- How a refusal line shows a kind.
 use Rattle.std.specs.Prelude.{ℕ, List, Bool, true, false, codes}
 use Rattle.mz_base.specs.declared.kind.Kind.{Kind}
-use Rattle.mz_base.specs.declared.kind.Kind.TheVariants.{Lexical, Syntax, TooDeep, TooLong, MissingFile, UnknownName, DuplicateName, TypeMismatch, NoOverload, Ambiguous, LeftOut, Cyclic, MissingData, DataForm, Bounds, Budget, Depth, ParUndefined, AssertFailed, FreeInContext, UnboundedSet, IndexMismatch, ReservedName, SolveItems, BadSolution, OutputUndefined, NegativeArgument, NotBuilt}
+use Rattle.mz_base.specs.declared.kind.Kind.TheVariants.{Lexical, Syntax, TooDeep, TooLong, MissingFile, UnknownName, DuplicateName, TypeMismatch, NoOverload, Ambiguous, LeftOut, Cyclic, MissingData, DataForm, Bounds, Budget, Depth, ParUndefined, AssertFailed, FreeInContext, UnboundedSet, IndexMismatch, ReservedName, SolveItems, BadSolution, OutputUndefined, NegativeArgument}
 
 -- the variant's own name
 abbrev pub name_of : Kind → List ℕ
@@ -32,7 +32,6 @@ name_of SolveItems = codes "SolveItems"
 name_of BadSolution = codes "BadSolution"
 name_of OutputUndefined = codes "OutputUndefined"
 name_of NegativeArgument = codes "NegativeArgument"
-name_of NotBuilt = codes "NotBuilt"
 
 -- the kinds whose line ends with the fault's number
 abbrev pub shows_number : Kind → Bool

@@ -60,8 +60,6 @@ pub enum Kind {
     OutputUndefined,
     /// An exponent, or an argument that may not be negative, is below 0.
     NegativeArgument,
-    /// The model has a part that is read and typed, and that this compiler doesn't build yet.
-    NotBuilt,
 }
 
 impl Kind {
@@ -97,7 +95,6 @@ impl Kind {
             Kind::BadSolution => "BadSolution",
             Kind::OutputUndefined => "OutputUndefined",
             Kind::NegativeArgument => "NegativeArgument",
-            Kind::NotBuilt => "NotBuilt",
         }
     }
 

@@ -43,8 +43,7 @@ fn flattened(alloc: Global, inst: Instance, names: &Names) -> Result<FzProgram, 
 ///
 /// Refused, at its place, where each walk over the program stops, whatever values its variables
 /// have; nothing solves it then. Out of memory too where the name of a variable is no identifier or
-/// begins with `X_`, which the tests of names refuse before, and where a call of a global has a var
-/// argument (`mz_unbuilt::first_unbuilt` finds these).
+/// begins with `X_`, which the tests of names refuse before.
 pub fn compiled(
     alloc: Global,
     program: &Program,

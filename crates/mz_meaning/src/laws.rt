@@ -9,7 +9,7 @@ ghost use Rattle.mz_meaning.specs.Evaluation.{eval};
 ghost use Rattle.mz_meaning.specs.Kinds.{IsEvaluation};
 ghost use Rattle.mz_meaning.specs.Promises.{BooleansAreDefined, CellsHaveTheirMark};
 
-/// An evaluation that tests no context stops at Bounds, Budget, Depth, AssertFailed, IndexMismatch and NegativeArgument alone: never at ParUndefined, FreeInContext or NotBuilt.
+/// An evaluation that tests no context stops at Bounds, Budget, Depth, AssertFailed, IndexMismatch and NegativeArgument alone: never at ParUndefined or FreeInContext.
 pub fn evaluation_stops_at_few_kinds()
     ensures kinds { (w : World) (levels : ℕ) (e : Tree) (env : Env) → IsEvaluation (eval w levels Untested e env) }
 {}

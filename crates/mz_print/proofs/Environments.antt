@@ -1,8 +1,8 @@
 -- The cells of top-level names for a solution, the last name first.
-use Rattle.std.proofs.Common.{◌≡◌, ◌∙◌, ℕ, zero, suc, ◌+◌, ◌-◌, ◌<◌, ◌≤◌, List, [], ◌∷◌, map, drop, length, get_or, Option, nat_eq, if◌then◌else◌, refl, sym, ap, arith, subst}
+use Rattle.std.proofs.Common.{◌≡◌, ◌∙◌, ℕ, zero, suc, ◌+◌, ◌-◌, ◌<◌, ◌≤◌, List, [], ◌∷◌, map, drop, length, get_or, Option, nat_eq, if◌then◌else◌, refl, sym, ap, arith}
 use Rattle.std.proofs.lemmas.List.{length-map}
 use Rattle.mz_value.specs.Contents.{Content}
-use Rattle.mz_meaning.specs.Cells.{Cell, Env, undefined, bind}
+use Rattle.mz_meaning.specs.Cells.{Env, undefined, bind}
 use Rattle.mz_output.specs.Output.{OutputName, assigned, output_cell, output_env}
 use Rattle.mz_print_values.specs.Lines.{place_of, value_at}
 use Rattle.mz_print_values.proofs.DefaultLines.{assigned_at}

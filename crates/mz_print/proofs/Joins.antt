@@ -1,5 +1,5 @@
 -- Items that are evaluated one by one, and joined.
-use Rattle.std.proofs.Common.{◌≡◌, ◌∙◌, ℕ, zero, suc, ◌+◌, ◌-◌, ◌<◌, ◌≤◌, ℤ, List, [], ◌∷◌, ◌++◌, map, drop, length, get_or, Option, Some, None, Result, Ok, Err, refl, sym, ap, arith, subst}
+use Rattle.std.proofs.Common.{◌≡◌, ◌∙◌, ℕ, zero, suc, ◌+◌, ◌-◌, ◌<◌, ◌≤◌, ℤ, List, [], ◌∷◌, ◌++◌, map, drop, length, get_or, Option, Some, None, Result, Err, refl, sym, ap, arith, subst}
 use Rattle.std.proofs.lemmas.List.{append-nil, append_assoc}
 use Rattle.mz_base.specs.declared.fault.Span.{Span}
 use Rattle.std.specs.Prelude.{Vec}
@@ -21,7 +21,7 @@ use Rattle.mz_eval_scopes.specs.Views.{world_for}
 use Rattle.mz_eval.specs.Values.{value_in}
 use Rattle.mz_output.specs.Output.{OutputItem, output_item, output_items, joined_elements, joined_items}
 use Rattle.mz_print_stream.specs.Printing.{Text, says, refuses, Says}
-use Rattle.mz_print.specs.Items.{JoinedText, nothing_joined, next_joined, finished, text_of, items_text}
+use Rattle.mz_print.specs.Items.{JoinedText, nothing_joined, next_joined, finished, text_of}
 
 -- ---- what is joined of some items
 

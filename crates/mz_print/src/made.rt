@@ -30,6 +30,7 @@ pub fn solution_printer<'a>(
     requires from_zero { pos 0 ≤ℤ int_range }
     requires in_limit { int_range ≤ℤ greatest }
     ensures made { IfOk result IsMade }
+    ensures program { IfOk result (λ p. p.program.now ≡ program.now) }
     ensures texts { IfOk result (λ p. solution_texts p ≡ texts_of names.now budget int_range (plain_program program.now) (top_names top.items)) }
 {
     let slots = variable_slots(alloc, &top)?;

@@ -1,5 +1,12 @@
 pub mod Asked
+pub mod Completion
+pub mod Ended
 pub mod Endings
+pub mod Made
 pub mod Named
 pub mod Places
+pub mod Printings
+pub mod Refusals
 pub mod Sinks
+pub mod Summaries
+pub mod TextPlaces

@@ -1,5 +1,5 @@
--- The places of faults: what fails is in its own file, and what isn't built and what evaluating a program stops at are in the program's files.
-use Rattle.std.proofs.Common.{◌≡◌, ℕ, ◌<◌, ◌+◌, List, Some, None, length, subst, arith}
+-- The places of faults: what fails is in its own file, and what evaluating a program stops at is in the program's files.
+use Rattle.std.proofs.Common.{◌≡◌, ℕ, ◌<◌, ◌+◌, List, None, length, subst, arith}
 use Rattle.std.specs.List.{Contains}
 use Rattle.std.proofs.lemmas.List.{length-map}
 use Rattle.std.proofs.lemmas.List.Elements.{All-contains}
@@ -12,7 +12,7 @@ use Rattle.mz_data.proofs.Numbers.{failure_there as data_failure_there}
 use Rattle.mz_include.specs.Views.{file}
 use Rattle.mz_include.proofs.Owners.{failure_there}
 use Rattle.mz_io.specs.Files.{Texts}
-use Rattle.mz_words.specs.Requests.{Asked}
+use Rattle.mz_words.specs.Requests.{Settings}
 use Rattle.mz_value.specs.Contents.{absent}
 use Rattle.mz_core.specs.Program.{PlainProgram}
 use Rattle.fz_program.specs.Names.{Name}
@@ -24,21 +24,15 @@ use Rattle.mz_meaning_places.specs.Places.{places_of}
 use Rattle.mz_meaning_places.specs.Stopping.{StopsAmong}
 use Rattle.mz_meaning_places.proofs.Walks.{walks_stop}
 use Rattle.mz_model_meaning.specs.Refusals.{Stops}
-use Rattle.mz_unbuilt.specs.Unbuilt.{first_unbuilt}
-use Rattle.mz_unbuilt.proofs.Placed.{unbuilt_in_program}
 use Rattle.mz_analysis.specs.Analysis.{IsTypedModel, IsRead, files_read, items_read, count_read}
 use Rattle.mz_analysis_places.specs.Promise.{LiesIn}
 use Rattle.mz_analysis_places.proofs.Programs.{programs_lie_in_their_files}
-use Rattle.mz_tool.specs.Words.{settings_in}
 use Rattle.mz_tool.specs.Status.{IsInItsOwn}
-use Rattle.mz_tool.specs.StepsCompiling.{data_names}
+use Rattle.mz_tool.specs.StepsChecking.{data_names}
 
-pub in_its_own : (table : List Name) (texts : Texts) (a : Asked) (f : Fault) (owner : Name) (fails : FailsWithData table texts (settings_in a).model (settings_in a).data_files f owner) → IsInItsOwn table texts a f owner fails
-in_its_own table texts a f owner (in_the_model h) = failure_there table texts (settings_in a).model f owner h
-in_its_own table texts a f owner (in_the_data files sources h) = data_failure_there table texts (length files) (settings_in a).data_files f owner h
-
-pub unbuilt_placed : (p : PlainProgram) (n : ℕ) (place : Span) → LiesIn n p → first_unbuilt p ≡ Some place → place.file < n
-unbuilt_placed p n place lies first = All-contains (λ at. at.file < n) (places_of p) place lies (unbuilt_in_program p place first)
+pub in_its_own : (table : List Name) (texts : Texts) (s : Settings) (f : Fault) (owner : Name) (fails : FailsWithData table texts s.model s.data_files f owner) → IsInItsOwn table texts s f owner fails
+in_its_own table texts s f owner (in_the_model h) = failure_there table texts s.model f owner h
+in_its_own table texts s f owner (in_the_data files sources h) = data_failure_there table texts (length files) s.data_files f owner h
 
 stopped_among : {A : Type 0} (ps : List Span) (x : Answer A) (f : Fault) → x ≡ Stopped f → StopsAmong ps x → Contains ps f.span
 stopped_among ps (Out v s) f is h = absurd (cc)

@@ -6,7 +6,7 @@ use Rattle.mz_io.specs.Sink.{Held, Adds, AddsPrefix}
 use Rattle.mz_tree.specs.Data.{Given}
 use Rattle.mz_include.specs.Naming.{File}
 use Rattle.mz_data.specs.WithData.{IsSourcesWithData}
-use Rattle.mz_words.specs.Requests.{Settings, Asked, compile, check}
+use Rattle.mz_words.specs.Requests.{Settings, Asked, compile, check, print, make}
 use Rattle.mz_core.specs.Program.{PlainProgram}
 use Rattle.mz_meaning.specs.Walk.{Limits}
 use Rattle.fz_program.specs.Names.{Name}
@@ -15,7 +15,8 @@ use Rattle.fz_text_spell.specs.Spelling.{Spells}
 use Rattle.mz_headline.specs.Keeping.{KeepsSolutions}
 use Rattle.mz_analysis.specs.Analysis.{IsTypedModel}
 use Rattle.mz_compile.specs.Compiled.{HasFront}
-use Rattle.mz_tool.specs.Words.{settings_in}
+use Rattle.mz_tool.specs.Making.{summary}
+use Rattle.mz_tool.specs.Words.{settings_in, texts_in}
 
 -- the limits of an evaluation
 abbrev pub limits_of : Settings → Limits
@@ -39,23 +40,28 @@ pub record Compiles (table : List Name) (texts : Texts) (s : Settings) (written 
   pub sources : IsSourcesWithData table texts s.model s.data_files files items
   pub compiled : Compiled (limits_of s) table files items written
 
--- `compile` puts the bytes after those held, and `check` leaves those held
-abbrev pub Leaves : Asked → Held → Held → List ℕ → Type 0
-Leaves (compile s) old new written = Adds old new written
-Leaves (check s) old new written = new ≡ old
+-- `compile` puts the bytes after those held, `check` leaves those held, and `make` puts a summary after them; what `print` puts there isn't
+-- told here
+abbrev pub Leaves : Asked → Held → Held → List ℕ → Program → Type 0
+Leaves (compile s) old new written flat = Adds old new written
+Leaves (check s) old new written flat = new ≡ old
+Leaves (print s) old new written flat = ⊥
+Leaves (make n) old new written flat = Adds old new (summary n written flat)
 
--- a prefix of the bytes goes after those held; `check` writes nothing
-abbrev pub LeavesPrefix : Asked → Held → Held → List ℕ → Type 0
-LeavesPrefix (compile s) old new written = AddsPrefix old new written
-LeavesPrefix (check s) old new written = ⊥
+-- a prefix of that goes after those held; `check` writes nothing
+abbrev pub LeavesPrefix : Asked → Held → Held → List ℕ → Program → Type 0
+LeavesPrefix (compile s) old new written flat = AddsPrefix old new written
+LeavesPrefix (check s) old new written flat = ⊥
+LeavesPrefix (print s) old new written flat = ⊥
+LeavesPrefix (make n) old new written flat = AddsPrefix old new (summary n written flat)
 
--- the model that is asked for is typed and compiled, and the bytes are left so
+-- the model that is asked for is typed and compiled, and this is left of the bytes and the program
 pub record Writes (table : List Name) (texts : Texts) (a : Asked) (old new : Held) : Type 0 where
   pub written : List ℕ
-  pub compiles : Compiles table texts (settings_in a) written
-  pub leaves : Leaves a old new written
+  pub compiles : Compiles table (texts_in texts a) (settings_in a) written
+  pub leaves : Leaves a old new written compiles.compiled.program
 
 pub record WritesPrefix (table : List Name) (texts : Texts) (a : Asked) (old new : Held) : Type 0 where
   pub written : List ℕ
-  pub compiles : Compiles table texts (settings_in a) written
-  pub leaves : LeavesPrefix a old new written
+  pub compiles : Compiles table (texts_in texts a) (settings_in a) written
+  pub leaves : LeavesPrefix a old new written compiles.compiled.program

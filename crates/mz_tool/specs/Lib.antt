@@ -1,5 +1,12 @@
+pub mod Making
 pub mod Words
 pub mod Headline
+pub mod Printable
 pub mod Status
+pub mod Printed
+pub mod StepsChecking
+pub mod StepsEnding
 pub mod StepsCompiling
+pub mod StepsPrinting
+pub mod StepsMaking
 pub mod Promises

@@ -1,8 +1,12 @@
-// From words and files to FlatZinc bytes and a status.
+// From words, files and a solver's stream to FlatZinc bytes or printed solutions, and a status.
 #![tactic(auto)]
 
+mod checking;
 mod compile;
+mod end;
+mod make;
 mod note;
+mod print;
 mod reading;
 mod status;
 mod top_call;

@@ -6,7 +6,7 @@ ghost use Rattle.mz_words.specs.Requests.{settings};
 ghost use Rattle.mz_include.specs.Ends.{IfRefused, CountsFiles};
 ghost use Rattle.mz_data.specs.WithData.{IsSourcesWithData, FailsWithData};
 ghost use Rattle.mz_analysis.specs.Analysis.{IsRead, files_read, items_read};
-ghost use Rattle.mz_tool.specs.StepsCompiling.{data_names};
+ghost use Rattle.mz_tool.specs.StepsChecking.{data_names};
 
 use mz_base::Names;
 use mz_data::{SourcesWithData, gather_with_data};

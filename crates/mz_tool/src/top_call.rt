@@ -1,61 +1,90 @@
 // The top call.
 
-ghost use Rattle.std.specs.Prelude.{◌≡◌, ◌<◌, List, ℕ, Some, IsSomeAnd};
+ghost use Rattle.std.specs.Prelude.{◌≡◌, ◌<◌, ◌⊎◌, List, ℕ, Some, IsSomeAnd};
 ghost use Rattle.mz_io.specs.Counts.{Rose};
 ghost use Rattle.mz_words_command.specs.Found.{text_of};
 ghost use Rattle.mz_words.specs.Requests.{AskedWithinLimits, asked, request_of};
-ghost use Rattle.mz_tool.specs.Words.{IsUsage, OnCheck};
+ghost use Rattle.mz_tool.specs.Words.{IsUsage, OnCheck, OnMake, OnPrint, UnlessPrint};
 ghost use Rattle.mz_tool.specs.Headline.{Writes, WritesPrefix};
-ghost use Rattle.mz_tool.specs.StepsCompiling.{file_of, IsNamedEnd};
-ghost use Rattle.mz_tool.specs.Status.{OnDone, IfRefused, OnReadFault, OnWriteFault, OnNothingWritten, IsRefusal, ByDistinctNames, CountsFiles, CountsOut, IsComplete, IsNoted};
+ghost use Rattle.mz_tool.specs.Printed.{PrintEnds};
+ghost use Rattle.mz_tool.specs.StepsEnding.{Ends, IsNamedEnd, status_of};
+ghost use Rattle.mz_tool.specs.StepsPrinting.{PrintedEnd, RefusedEnd};
+ghost use Rattle.mz_tool.specs.Status.{OnDone, IfRefused, OnReadFault, OnWriteFault, OnNothingWritten, IsRefusedBy, ByDistinctNames, CountsRead, CountsReadIf, CountsOut, IsComplete, IsNoted};
 
-use crate::compile::{End, compile};
+use crate::compile::{check, compile};
+use crate::end::{End, file_of};
+use crate::make::make;
 use crate::note::note;
+use crate::print::print;
 use crate::status::Status;
 use mz_base::Names;
 use mz_io::{Files, Sink, Source};
 use mz_words::{Request, WordsError, read_words};
 use std::alloc::Global;
 
-/// The name of the file that the line of a refusal names.
-fn file_of<'a>(end: &End, names: &'a Names) -> &'a str
-    requires { IsNamedEnd names.now end.now }
-    ensures { result.now ≡ file_of names.now end.now }
+/// Does what is asked for.
+fn done<F: Files, I: Source, S: Sink>(
+    alloc: Global,
+    request: &Request<'_>,
+    files: &mut F,
+    names: &mut Names,
+    input: &mut I,
+    out: &mut S,
+) -> End
+    requires { AskedWithinLimits (request_of request.now) }
+    ensures ended { UnlessPrint (Some (request_of request.now)) (Ends names.new (F.texts files.old) (request_of request.now) (S.held out.old) (S.held out.new) result) }
+    ensures printed { OnPrint (Some (request_of request.now)) (λ s.
+        PrintedEnd names.new (F.texts files.old) s (I.left input.old) (I.left input.new) (S.held out.old) (S.held out.new) result) }
+    ensures refused { OnPrint (Some (request_of request.now)) (λ s. RefusedEnd names.new (F.texts files.old) s result) }
+    ensures named { IsNamedEnd names.new result }
+    ensures counted { CountsRead (request_of request.now) (F.counts files.old) (F.counts files.new) (I.faults input.old) (I.faults input.new) (status_of result) }
+    ensures output { CountsOut (S.counts out.old) (S.counts out.new) (status_of result) }
+    ensures silent { OnCheck (Some (request_of request.now)) (out.new ≡ out.old) }
+    ensures input { UnlessPrint (Some (request_of request.now)) (input.new ≡ input.old) }
+    ensures quiet { OnMake (Some (request_of request.now)) (files.new ≡ files.old) }
+    ensures texts { F.texts files.new ≡ F.texts files.old }
 {
-    match end {
-        End::Refused(_, file) => names.text(*file),
-        _ => "",
+    match request {
+        Request::Compile(options) => compile(alloc, options, files, names, out),
+        Request::Check(options) => check(alloc, options, files, names),
+        Request::Print(options) => print(alloc, options, files, names, input, out),
+        Request::Make(number) => make(alloc, *number, names, out),
     }
 }
 
 /// Does what is asked for, and notes how it went.
-fn answer<F: Files, S: Sink, E: Sink>(
+fn answer<F: Files, I: Source, S: Sink, E: Sink>(
     alloc: Global,
     request: &Request<'_>,
     files: &mut F,
+    input: &mut I,
     out: &mut S,
     notes: &mut E,
 ) -> Status
     requires { AskedWithinLimits (request_of request.now) }
-    ensures headline { OnDone result (ByDistinctNames (λ table.
-        Writes table (F.texts files.old) (request_of request.now) (S.held out.old) (S.held out.new))) }
+    ensures headline { UnlessPrint (Some (request_of request.now)) (OnDone result (ByDistinctNames (λ table.
+        Writes table (F.texts files.old) (request_of request.now) (S.held out.old) (S.held out.new)))) }
+    ensures printed { OnPrint (Some (request_of request.now)) (λ s.
+        PrintEnds (F.texts files.old) s (I.left input.old) (I.left input.new) (S.held out.old) (S.held out.new) result) }
     ensures usage { IsUsage (Some (request_of request.now)) result }
     ensures refused { IfRefused result (λ fault. ByDistinctNames (λ table.
-        (file : List ℕ) × IsRefusal table (F.texts files.old) (request_of request.now) fault file)) }
-    ensures counted { CountsFiles (F.counts files.old) (F.counts files.new) result }
+        (file : List ℕ) × IsRefusedBy table (F.texts files.old) (request_of request.now) fault file)) }
+    ensures counted { CountsRead (request_of request.now) (F.counts files.old) (F.counts files.new) (I.faults input.old) (I.faults input.new) result }
     ensures counted_out { CountsOut (S.counts out.old) (S.counts out.new) result }
-    ensures complete { IsComplete (F.texts files.old) (Some (request_of request.now))
-        (F.counts files.old) (F.counts files.new) (S.counts out.old) (S.counts out.new) result }
-    ensures cut_short { OnWriteFault result (ByDistinctNames (λ table.
-        WritesPrefix table (F.texts files.old) (request_of request.now) (S.held out.old) (S.held out.new))) }
-    ensures untouched { OnNothingWritten result (S.held out.new ≡ S.held out.old) }
+    ensures complete { IsComplete (F.texts files.old) (Some (request_of request.now)) (I.left input.old)
+        (F.counts files.old) (F.counts files.new) (I.faults input.old) (I.faults input.new) (S.counts out.old) (S.counts out.new) result }
+    ensures cut_short { UnlessPrint (Some (request_of request.now)) (OnWriteFault result (ByDistinctNames (λ table.
+        WritesPrefix table (F.texts files.old) (request_of request.now) (S.held out.old) (S.held out.new)))) }
+    ensures untouched { UnlessPrint (Some (request_of request.now)) (OnNothingWritten result (S.held out.new ≡ S.held out.old)) }
     ensures silent { OnCheck (Some (request_of request.now)) (out.new ≡ out.old) }
+    ensures input { UnlessPrint (Some (request_of request.now)) (input.new ≡ input.old) }
+    ensures quiet { OnMake (Some (request_of request.now)) (files.new ≡ files.old) }
     ensures texts { F.texts files.new ≡ F.texts files.old }
     ensures notes { IsNoted (F.texts files.old) (Some (request_of request.now)) result
         (E.held notes.old) (E.held notes.new) (E.counts notes.old) (E.counts notes.new) }
 {
     let mut names = Names::new(alloc);
-    let end = compile(alloc, request, files, &mut names, out);
+    let end = done(alloc, request, files, &mut names, input, out);
     let status = end.status();
     note(notes, file_of(&end, &names), status);
     status
@@ -63,11 +92,17 @@ fn answer<F: Files, S: Sink, E: Sink>(
 
 /// Runs the words after the program's name, and says how it went.
 ///
-/// The commands are `compile` and `check`, each with a model's file, its data files in order, and the options `--budget N` and
-/// `--int-range N` anywhere (`mz_words::read_words` has the words). The model and the files that it includes are read, each once, and
-/// then the data files, each as often as it is named. `compile` writes the model's FlatZinc to `out` with one put; `check` answers what
-/// `compile` does, and writes nothing there. Nothing is taken from `input`. N of `--budget` is how many units of work an evaluation may
-/// take, 10,000,000 where it isn't given; N of `--int-range` is how far a `var int` reaches from 0 on either side, else 1,000,000,000.
+/// The commands are `compile`, `check` and `print`, each with a model's file, its data files in order, and the options `--budget N` and
+/// `--int-range N` anywhere, and `make` with a number (`mz_words::read_words` has the words). The model and the files that it includes are
+/// read, each once, and then the data files, each as often as it is named. `compile` writes the model's FlatZinc to `out` with one put;
+/// `check` answers what `compile` does, and writes nothing there. `print` walks over the model as they do, and then takes a solver's
+/// stream from `input`, at most 65,536 bytes at once: for each solution it writes the text that the model's output items describe, a
+/// newline where that text isn't empty and lacks one, and the line `----------`, and each mark as it is, all before it takes more bytes;
+/// what it holds doesn't grow with the stream. Each text is evaluated with a budget of its own. `make` makes the model of its number in
+/// memory, compiles it there with the defaults, and writes four lines: how many bytes the model and its FlatZinc have, and how many
+/// variable items and constraint items. Only `print` takes from `input`; `make` fetches no file. N of `--budget` is how many units of work
+/// an evaluation may take, 10,000,000 where it isn't given; N of `--int-range` is how far a `var int` reaches from 0 on either side, else
+/// 1,000,000,000.
 ///
 /// What is refused has the place of the first fault, in the order of the files, where each is fetched, lexed whole and parsed before the
 /// next one: all files of the model, and then the data files. `MissingFile` and `TooLong` (more than `FILE_LIMIT` bytes) stand where the
@@ -75,8 +110,7 @@ fn answer<F: Files, S: Sink, E: Sink>(
 /// file itself. After all files come the tests of names, in this order, each over the whole: `ReservedName`, `DuplicateName`,
 /// `SolveItems`, `UnknownName`, `DataForm` of an enum's data, `MissingData`, `Cyclic`; then the types: `UnknownName` and `DuplicateName`
 /// of local names, `DuplicateName` of functions with parameters, `DataForm` of all other data, `TypeMismatch`, `NoOverload`,
-/// `Ambiguous`, `LeftOut`. `NotBuilt` comes after all of these, at the first call in the text of a global (a function that is no operator
-/// and no built-in) with a var argument (`mz_unbuilt::first_unbuilt`).
+/// `Ambiguous`, `LeftOut`.
 ///
 /// All else is compiled (`mz_compile::compiled`). The model is walked over once, without values of its variables: the declarations in
 /// their order, each with its sets and its value, then the constraints in the order of the text, then the objective. The first of these
@@ -92,9 +126,16 @@ fn answer<F: Files, S: Sink, E: Sink>(
 /// introduced, and rows that hold of their values exactly where the model is solved; it minimizes where the model does, and maximizes
 /// where it does.
 ///
+/// `print` refuses too: at a line of the stream that is no item, no end of a block and no mark, has a name or a value that the model's
+/// variables don't have, or ends a block too soon (`BadSolution`, with the line); a stream of more than 1,073,741,824 bytes (`TooLong`);
+/// an output item that is undefined for a solution (`OutputUndefined`, with the solution's number), and what evaluating an item stops at.
+///
 /// After `Done` `notes` holds what it held, after any other answer besides that one line that says why; the line of a refusal names the
-/// file of its place as it was fetched. A put on `notes` that goes wrong cuts the line short and changes no answer. After `WriteFault`
-/// `out` holds besides what it held a prefix of the FlatZinc, after `Usage`, `Refused`, `ReadFault` and `Memory` what it held.
+/// file of its place as it was fetched, `-` for the stream, and `make` for that command. A put on `notes` that goes wrong cuts the line
+/// short and changes no answer. After `WriteFault` `out` holds besides what it held a prefix of the FlatZinc or of the summary, after
+/// `Usage`, `Refused`, `ReadFault` and `Memory` what it held. After `Refused` and `ReadFault` of `print` it holds besides what it held the
+/// texts and marks that stand before the fault; after `WriteFault` and `Memory` a prefix of the texts so far, whole those of all blocks
+/// and marks that end before the last 65,536 bytes taken.
 pub fn run<F: Files, I: Source, S: Sink, E: Sink>(
     alloc: Global,
     words: &Vec<String>,
@@ -103,39 +144,48 @@ pub fn run<F: Files, I: Source, S: Sink, E: Sink>(
     out: &mut S,
     notes: &mut E,
 ) -> Status
-    // Done: the bytes written spell a program with the model's solutions and no others. After `check` they could be written.
-    ensures headline { OnDone result (IsSomeAnd (asked (text_of words.now.items)) (λ a. ByDistinctNames (λ table.
-        Writes table (F.texts files.old) a (S.held out.old) (S.held out.new)))) }
+    // Done: the bytes written spell a program with the model's solutions and no others. After `check` they could be written, and after
+    // `make` they are counted.
+    ensures headline { UnlessPrint (asked (text_of words.now.items)) (OnDone result (IsSomeAnd (asked (text_of words.now.items)) (λ a.
+        ByDistinctNames (λ table. Writes table (F.texts files.old) a (S.held out.old) (S.held out.new))))) }
+
+    // What `print` takes and writes, by each answer: nothing; or the stream is printed by the texts of the model's solutions.
+    ensures printed { OnPrint (asked (text_of words.now.items)) (λ s.
+        PrintEnds (F.texts files.old) s (I.left input.old) (I.left input.new) (S.held out.old) (S.held out.new) result) }
 
     // Each other answer has its cause; out of memory alone is free.
     ensures usage { IsUsage (asked (text_of words.now.items)) result }
     ensures refused { IfRefused result (λ fault. IsSomeAnd (asked (text_of words.now.items)) (λ a. ByDistinctNames (λ table.
-        (file : List ℕ) × IsRefusal table (F.texts files.old) a fault file))) }
-    ensures read_fault { OnReadFault result (Rose (F.counts files.old).faults (F.counts files.new).faults) }
+        (file : List ℕ) × IsRefusedBy table (F.texts files.old) a fault file))) }
+    ensures read_fault { OnReadFault result (Rose (F.counts files.old).faults (F.counts files.new).faults ⊎ Rose (I.faults input.old) (I.faults input.new)) }
     ensures write_fault { OnWriteFault result (Rose (S.counts out.old).faults (S.counts out.new).faults) }
 
-    // A fetch or a put on `out` that fails is answered as such; each count tells it up to the last u64.
+    // A fetch, a take or a put on `out` that fails is answered as such; each count tells it up to the last u64.
     ensures failed_fetch { (F.counts files.old).faults < (F.counts files.new).faults → result ≡ Status.ReadFault }
+    ensures failed_take { I.faults input.old < I.faults input.new → result ≡ Status.ReadFault }
     ensures failed_put { (S.counts out.old).faults < (S.counts out.new).faults → result ≡ Status.WriteFault }
-    ensures counted { CountsFiles (F.counts files.old) (F.counts files.new) result }
+    ensures counted { CountsReadIf (asked (text_of words.now.items)) (F.counts files.old) (F.counts files.new) (I.faults input.old) (I.faults input.new) result }
     ensures counted_out { CountsOut (S.counts out.old) (S.counts out.new) result }
 
-    // A model that is there and is typed with its data, of which all is built, and that each walk goes through is compiled.
-    ensures complete { IsComplete (F.texts files.old) (asked (text_of words.now.items))
-        (F.counts files.old) (F.counts files.new) (S.counts out.old) (S.counts out.new) result }
+    // A model that is there and is typed with its data, and that each walk goes through is compiled; and a stream that is printed whole by
+    // the texts of its solutions is printed.
+    ensures complete { IsComplete (F.texts files.old) (asked (text_of words.now.items)) (I.left input.old)
+        (F.counts files.old) (F.counts files.new) (I.faults input.old) (I.faults input.new) (S.counts out.old) (S.counts out.new) result }
 
-    // What an answer other than Done leaves, and what is noted. After `check` the output is as it was, whatever the answer.
-    ensures cut_short { OnWriteFault result (IsSomeAnd (asked (text_of words.now.items)) (λ a. ByDistinctNames (λ table.
-        WritesPrefix table (F.texts files.old) a (S.held out.old) (S.held out.new)))) }
-    ensures untouched { OnNothingWritten result (S.held out.new ≡ S.held out.old) }
+    // What an answer other than Done leaves, and what is noted. After `check` the output is as it was, whatever the answer; `print` alone
+    // takes from the input, and `make` leaves the files alone.
+    ensures cut_short { UnlessPrint (asked (text_of words.now.items)) (OnWriteFault result (IsSomeAnd (asked (text_of words.now.items)) (λ a.
+        ByDistinctNames (λ table. WritesPrefix table (F.texts files.old) a (S.held out.old) (S.held out.new))))) }
+    ensures untouched { UnlessPrint (asked (text_of words.now.items)) (OnNothingWritten result (S.held out.new ≡ S.held out.old)) }
     ensures silent { OnCheck (asked (text_of words.now.items)) (out.new ≡ out.old) }
+    ensures input { UnlessPrint (asked (text_of words.now.items)) (input.new ≡ input.old) }
+    ensures quiet { OnMake (asked (text_of words.now.items)) (files.new ≡ files.old) }
     ensures texts { F.texts files.new ≡ F.texts files.old }
-    ensures input { input.new ≡ input.old }
     ensures notes { IsNoted (F.texts files.old) (asked (text_of words.now.items)) result
         (E.held notes.old) (E.held notes.new) (E.counts notes.old) (E.counts notes.new) }
 {
     match read_words(alloc, words.as_slice()) {
-        Ok(request) => answer(alloc, &request, files, out, notes),
+        Ok(request) => answer(alloc, &request, files, input, out, notes),
         Err(WordsError::Usage) => {
             note(notes, "", Status::Usage);
             Status::Usage

@@ -1,7 +1,7 @@
 -- Words that are written out, and what they ask for.
 use Rattle.std.specs.Prelude.{◌≡◌, ◌==◌, ℕ, pos, List, [], ◌∷◌, Some, None, if◌then◌else◌, codes}
 use Rattle.clap.specs.Walk.{Text}
-use Rattle.mz_words.specs.Requests.{asked, check, compile}
+use Rattle.mz_words.specs.Requests.{asked, check, compile, make, print}
 
 abbrev pub with_byte : ℕ → List Text → List Text
 with_byte byte [] = (byte ∷ []) ∷ []
@@ -20,6 +20,14 @@ Compiles line model data_files budget int_range =
 abbrev pub Checks : Text → Text → List Text → ℕ → ℕ → Type 0
 Checks line model data_files budget int_range =
     asked (words line) ≡ Some (check (record { model = model; data_files = data_files; budget = budget; int_range = pos int_range }))
+
+abbrev pub Prints : Text → Text → List Text → ℕ → ℕ → Type 0
+Prints line model data_files budget int_range =
+    asked (words line) ≡ Some (print (record { model = model; data_files = data_files; budget = budget; int_range = pos int_range }))
+
+-- the line asks to make the model of this number
+abbrev pub Makes : Text → ℕ → Type 0
+Makes line number = asked (words line) ≡ Some (make number)
 
 -- the words of the line are used wrongly
 abbrev pub IsMisuse : Text → Type 0
@@ -53,4 +61,19 @@ pub record Examples : Type 0 where
   pub abbreviation : IsMisuse (codes "compile m.mzn --bud 5")
   pub short_option : IsMisuse (codes "compile m.mzn -b")
   pub help_option : IsMisuse (codes "compile --help m.mzn")
-  pub no_command_yet : IsMisuse (codes "print m.mzn")
+  pub print_alone : Prints (codes "print m.mzn") (codes "m.mzn") [] 10000000 1000000000
+  pub print_with_data : Prints (codes "print --int-range=7 m.mzn d.dzn --budget 5") (codes "m.mzn") (codes "d.dzn" ∷ []) 5 7
+  pub print_nothing : IsMisuse (codes "print")
+  pub print_zero_budget : IsMisuse (codes "print m.mzn --budget 0")
+  pub make_least : Makes (codes "make 1") 1
+  pub make_greatest : Makes (codes "make 10000") 10000
+  pub make_plus : Makes (codes "make +3") 3
+  pub make_zeros : Makes (codes "make 0003") 3
+  pub make_after_dashes : Makes (codes "make -- 3") 3
+  pub make_nothing : IsMisuse (codes "make")
+  pub make_zero : IsMisuse (codes "make 0")
+  pub make_past : IsMisuse (codes "make 10001")
+  pub make_twice : IsMisuse (codes "make 3 4")
+  pub make_option : IsMisuse (codes "make 3 --budget 5")
+  pub make_minus : IsMisuse (codes "make -3")
+  pub make_word : IsMisuse (codes "make three")

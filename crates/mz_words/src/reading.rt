@@ -6,7 +6,7 @@ ghost use Rattle.mz_words_command.specs.Found.{Answers, HasLimits, text_of, word
 ghost use Rattle.mz_words.specs.Requests.{AskedWithinLimits, IsWithinLimits, asked, asked_of, request_of, settings, settings_found, settings_of};
 
 use crate::request::{DEFAULT_BUDGET, DEFAULT_INT_RANGE, Options, Request};
-use mz_words_command::{FileWords, WordsError, read_files};
+use mz_words_command::{FileWords, WordsError, read_files, read_number};
 use std::alloc::Global;
 
 /// What is asked for, with the defaults for the options that aren't given.
@@ -57,12 +57,20 @@ fn read_command<'a>(
             Ok(options) => Ok(Request::Check(options)),
             Err(error) => Err(error),
         },
+        "print" => match read_options(alloc, "print", words) {
+            Ok(options) => Ok(Request::Print(options)),
+            Err(error) => Err(error),
+        },
+        "make" => match read_number(alloc, "make", words) {
+            Ok(number) => Ok(Request::Make(number)),
+            Err(error) => Err(error),
+        },
         _ => Err(WordsError::Usage),
     }
 }
 
-/// Reads the words after the program's name: `compile` or `check`, and after it a model, data files, `--budget N` and
-/// `--int-range N` in any order. After `--` every word is a file.
+/// Reads the words after the program's name: `compile`, `check` or `print`, and after it a model, data files, `--budget N`
+/// and `--int-range N` in any order, where after `--` every word is a file; or `make`, and after it a number.
 ///
 /// `Usage` comes exactly where there is no first word, where it is no command, or where `clap` refuses the words for
 /// that command. `Memory` may come at any words; nothing was opened or written then.

@@ -13,6 +13,10 @@ pub enum Request<'a> {
     Compile(Options<'a>),
     /// Check the model with its data, and write nothing.
     Check(Options<'a>),
+    /// Check the model with its data, and print a solver's stream of its solutions.
+    Print(Options<'a>),
+    /// Make the model of this number, from 1 to 10,000, and compile it in memory.
+    Make(u64),
 }
 
 /// The files of a command and its options. The files are named as the words spell them.

@@ -6,7 +6,7 @@ use Rattle.clap.specs.Simple.{App, matches_of, new_app, new_rule, on_top, with_r
 use Rattle.clap.specs.Walk.{Row, Rule, Text}
 use Rattle.clap.specs.declared.builder.action.ArgAction.TheVariants.{Append, Set}
 use Rattle.clap.specs.declared.builder.value_parser.ValueParser.TheVariants.{Unsigned}
-use Rattle.mz_words_command.specs.declared.limits.TheConstants.{BUDGET_LIMIT, INT_RANGE_LIMIT}
+use Rattle.mz_words_command.specs.declared.limits.TheConstants.{BUDGET_LIMIT, INT_RANGE_LIMIT, MAKE_LIMIT}
 
 -- the file of the model, which is required
 abbrev pub model_rule : Rule
@@ -24,6 +24,14 @@ number_rule name limit = record (new_rule name) {
   parser = Some (Unsigned 1 limit);
 }
 
+-- a number from 1 to `limit`, which is required
+abbrev pub count_rule : ℕ → Rule
+count_rule limit = record (new_rule (codes "N")) {
+  required = true;
+  action = Some Set;
+  parser = Some (Unsigned 1 limit);
+}
+
 -- a command with no arguments, and with no word for help
 abbrev pub bare_command : Text → App
 bare_command name = on_top (λ s. record s { disable_help_flag = true }) (new_app name)
@@ -33,6 +41,10 @@ abbrev pub files_command : Text → App
 files_command name =
     with_rule (with_rule (with_rule (with_rule (bare_command name) model_rule) data_rule)
     (number_rule (codes "budget") BUDGET_LIMIT)) (number_rule (codes "int-range") INT_RANGE_LIMIT)
+
+-- `NAME N`
+abbrev pub number_command : Text → App
+number_command name = with_rule (bare_command name) (count_rule MAKE_LIMIT)
 
 abbrev pub has_any : Kinds → Bool
 has_any [] = false

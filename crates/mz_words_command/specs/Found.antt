@@ -1,4 +1,4 @@
--- What `clap` finds in the words of a command with files.
+-- What `clap` finds in the words of a command.
 use Rattle.std.specs.Prelude.{◌≡◌, ◌≤◌, ℕ, List, [], Option, Some, None, Result, Ok, Err, IfSome, codes, map, unwrap_or, option_map, String, string_bytes}
 use Rattle.std.specs.Str.Parse.{digits_value, without_leading_plus}
 use Rattle.clap.specs.Simple.{App}
@@ -37,6 +37,14 @@ words_of rows = record {
 abbrev pub words_found : App → List Text → Option Words
 words_found command words = option_map words_of (rows_found command words)
 
+-- the number that `clap` found for a command with one, which it requires
+abbrev pub count_of : List Row → ℕ
+count_of rows = unwrap_or (number_found (codes "N") rows) 1
+
+-- what stands in the words of a command with a number; None where `clap` refuses them
+abbrev pub count_found : App → List Text → Option ℕ
+count_found command words = option_map count_of (rows_found command words)
+
 -- A value is what was found. Usage comes only where nothing was found. Memory may run out at any words.
 abbrev pub Answers : {A B : Type 0} → (A → B) → Option B → Result A WordsError → Type 0
 Answers view wanted (Ok value) = wanted ≡ Some (view value)
@@ -45,6 +53,9 @@ Answers view wanted (Err Memory) = Unit {0}
 
 abbrev pub text_of : {Z : Type 0} → List (String Z) → List Text
 text_of words = map string_bytes words
+
+abbrev pub same_number : ℕ → ℕ
+same_number n = n
 
 abbrev pub words_in : FileWords → Words
 words_in w = record { model = w.model.now; data_files = texts w.data_files.items; budget = w.budget; int_range = w.int_range }

@@ -10,7 +10,7 @@ use Rattle.clap.specs.declared.builder.value_parser.ValueParser.TheVariants.{Uns
 use Rattle.clap.specs.declared.error.kind.ErrorKind.{ErrorKind}
 use Rattle.clap.specs.declared.error.kind.ErrorKind.TheVariants.{OutOfMemory}
 use Rattle.clap.specs.declared.parser.matches.ArgMatches.{ArgMatches}
-use Rattle.mz_words_command.specs.declared.limits.TheConstants.{BUDGET_LIMIT, INT_RANGE_LIMIT}
+use Rattle.mz_words_command.specs.declared.limits.TheConstants.{BUDGET_LIMIT, INT_RANGE_LIMIT, MAKE_LIMIT}
 use Rattle.mz_words_command.specs.declared.error.WordsError.{WordsError}
 use Rattle.mz_words_command.specs.declared.error.WordsError.TheVariants.{Usage, Memory}
 
@@ -47,6 +47,10 @@ AreNumbers command rows = (name : Text) (limit : ℕ) → TakesNumbers name limi
 pub record HasNumbers (rows : List Row) : Type 0 where
   pub budget : IsNumber (codes "budget") BUDGET_LIMIT rows
   pub int_range : IsNumber (codes "int-range") INT_RANGE_LIMIT rows
+
+-- the value of a command with a number
+abbrev pub HasCount : List Row → Type 0
+HasCount rows = IsNumber (codes "N") MAKE_LIMIT rows
 
 -- what `clap` found
 abbrev pub rows_in : ArgMatches → List Row

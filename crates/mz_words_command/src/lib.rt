@@ -1,4 +1,4 @@
-// A command with files: its words as `clap` finds them.
+// A command with files, or with a number: its words as `clap` finds them.
 #![tactic(auto)]
 
 mod commands;
@@ -7,5 +7,5 @@ mod limits;
 mod reading;
 
 pub use error::WordsError;
-pub use limits::{BUDGET_LIMIT, INT_RANGE_LIMIT};
-pub use reading::{FileWords, read_files};
+pub use limits::{BUDGET_LIMIT, INT_RANGE_LIMIT, MAKE_LIMIT};
+pub use reading::{FileWords, read_files, read_number};

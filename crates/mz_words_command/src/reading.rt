@@ -1,14 +1,15 @@
-// The words of a command with files, read.
+// The words of a command, read.
 
 ghost use Rattle.std.specs.Prelude.{◌≡◌, ℕ, [], IfOk, IfSome, unwrap_or};
 ghost use Rattle.clap.specs.Values.{IsUnsignedIn};
 ghost use Rattle.clap.specs.Walk.{all_of, first_of, texts};
 ghost use Rattle.clap.specs.Words.{app_of, kind_of};
-ghost use Rattle.mz_words_command.specs.Commands.{files_command, rows_found};
-ghost use Rattle.mz_words_command.specs.Found.{Answers, HasLimits, IsWithin, number_in, number_found, text_of, words_found, words_in, words_of};
-ghost use Rattle.mz_words_command.specs.Parsed.{AreNumbers, HasNumbers, IsExact, IsNumber, refusal_of, rows_in};
+ghost use Rattle.mz_words_command.specs.Commands.{files_command, number_command, rows_found};
+ghost use Rattle.mz_words_command.specs.Found.{Answers, HasLimits, IsWithin, count_found, count_of, number_in, number_found, same_number, text_of, words_found, words_in, words_of};
+ghost use Rattle.mz_words_command.specs.Parsed.{AreNumbers, HasCount, HasNumbers, IsExact, IsNumber, refusal_of, rows_in};
+ghost use Rattle.mz_words_command.specs.declared.limits.TheConstants.{MAKE_LIMIT};
 
-use crate::commands::files_command;
+use crate::commands::{files_command, number_command};
 use crate::error::WordsError;
 use clap::error::ErrorKind;
 use clap::{ArgMatches, Command, Error};
@@ -59,6 +60,21 @@ fn parsed_files<'a>(
     ensures numbers { IfOk result (λ m. HasNumbers (rows_in m)) }
 {
     match files_command(alloc, name) {
+        Ok(command) => parsed(command, words),
+        Err(AllocError) => Err(WordsError::Memory),
+    }
+}
+
+/// Parses the words of a command with a number.
+fn parsed_number<'a>(
+    alloc: Global,
+    name: &'a str,
+    words: &'a [String],
+) -> Result<ArgMatches<'a>, WordsError>
+    ensures value { Answers rows_in (rows_found (number_command name.entry.now) (text_of words.entry.now)) result }
+    ensures count { IfOk result (λ m. HasCount (rows_in m)) }
+{
+    match number_command(alloc, name) {
         Ok(command) => parsed(command, words),
         Err(AllocError) => Err(WordsError::Memory),
     }
@@ -129,6 +145,15 @@ fn found<'a>(alloc: Global, matches: &ArgMatches<'a>) -> Result<FileWords<'a>, A
     })
 }
 
+/// The number that `clap` found for a command with one.
+fn count(matches: &ArgMatches) -> u64
+    requires { HasCount (rows_in matches.now) }
+    ensures value { result ≡ count_of (rows_in matches.now) }
+    ensures limit { IsWithin MAKE_LIMIT result }
+{
+    number_of("N", matches).unwrap_or(1)
+}
+
 /// Reads the words of a command with files, of which the first is its name: a model, and after it data files,
 /// `--budget N` and `--int-range N` in any order. After `--` every word is a file.
 ///
@@ -143,6 +168,20 @@ pub fn read_files<'a>(
 {
     match parsed_files(alloc, name, words) {
         Ok(matches) => Ok(found(alloc, &matches)?),
+        Err(error) => Err(error),
+    }
+}
+
+/// Reads the words of a command with a number, of which the first is its name: the number, from 1 to `MAKE_LIMIT`, and
+/// nothing else but `--` before it.
+///
+/// `Usage` comes exactly where `clap` refuses the words for the command of this name. `Memory` may come at any words.
+pub fn read_number<'a>(alloc: Global, name: &'a str, words: &'a [String]) -> Result<u64, WordsError>
+    ensures value { Answers same_number (count_found (number_command name.entry.now) (text_of words.entry.now)) result }
+    ensures limit { IfOk result (IsWithin MAKE_LIMIT) }
+{
+    match parsed_number(alloc, name, words) {
+        Ok(matches) => Ok(count(&matches)),
         Err(error) => Err(error),
     }
 }

@@ -5,7 +5,7 @@ ghost use Rattle.std.specs.Prelude.{◌≡◌};
 ghost use Rattle.std.specs.Process.{exit_status};
 ghost use Rattle.mz_words_command.specs.Found.{text_of};
 ghost use Rattle.mz_words.specs.Requests.{asked};
-ghost use Rattle.mz_tool.specs.Words.{OnCheck};
+ghost use Rattle.mz_tool.specs.Words.{OnCheck, OnMake, UnlessPrint};
 ghost use Rattle.mz_tool.specs.Promises.{Promises};
 ghost use Rattle.mzc.specs.Exit.{number_of, EndsWith};
 
@@ -54,11 +54,28 @@ fn ended<F: Files, I: Source, S: Sink, E: Sink>(
     notes: &mut E,
 ) -> ExitCode
     ensures promises { EndsWith result (Promises (F.texts files.old) (asked (text_of words.now.items))
-        (record { files = F.counts files.old; out = S.held out.old; out_counts = S.counts out.old; notes = E.held notes.old; note_counts = E.counts notes.old })
-        (record { files = F.counts files.new; out = S.held out.new; out_counts = S.counts out.new; notes = E.held notes.new; note_counts = E.counts notes.new })) }
+        (record {
+          files = F.counts files.old;
+          input = I.left input.old;
+          input_faults = I.faults input.old;
+          out = S.held out.old;
+          out_counts = S.counts out.old;
+          notes = E.held notes.old;
+          note_counts = E.counts notes.old;
+        })
+        (record {
+          files = F.counts files.new;
+          input = I.left input.new;
+          input_faults = I.faults input.new;
+          out = S.held out.new;
+          out_counts = S.counts out.new;
+          notes = E.held notes.new;
+          note_counts = E.counts notes.new;
+        })) }
     ensures texts { F.texts files.new ≡ F.texts files.old }
     ensures silent { OnCheck (asked (text_of words.now.items)) (out.new ≡ out.old) }
-    ensures input { input.new ≡ input.old }
+    ensures input { UnlessPrint (asked (text_of words.now.items)) (input.new ≡ input.old) }
+    ensures quiet { OnMake (asked (text_of words.now.items)) (files.new ≡ files.old) }
 {
     let status = mz_tool::run(alloc, words, files, input, out, notes);
     code_of(&status)

@@ -1,29 +1,29 @@
-use Rattle.mz_analysis.specs.Analysis.{files_read, items_read}
-use Rattle.mz_words.specs.Requests.{request_of, settings}
-use Rattle.mz_tool.specs.StepsCompiling.{data_names}
-use Rattle.mz_tool.proofs.Endings.{read_ends, left_by_names, counts_files, unread_ends}
+use Rattle.fz_program.specs.declared.program.FzProgram.{FzProgram}
+use Rattle.fz_program.specs.Flat.{program}
+use Rattle.mz_words.specs.Requests.{compile, settings}
+use Rattle.mz_tool.proofs.Ended.{failed_counts, failed_counts_out, failed_ends, failed_named, written, written_counts, written_named}
 use Rattle.mz_tool.proofs.compile.compile.Goals as goal
 
+pub write_program-requires : goal.write_program-requires
+write_program-requires g c = c.in-Ok.ensures.flat.formed
+
 pub returns-in-Ok-clause-ended : goal.returns-in-Ok-clause-ended
-returns-in-Ok-clause-ended g c =
-    let table = c.read_files.new.names in
-    let texts = g.F.Files.texts c.args.files.now in
-    let s = settings c.options_of.result.now in
-    let files = files_read table c.in-Ok.read in
-    let items = items_read c.in-Ok.read in
-    read_ends table texts (request_of c.args.request.now) s files items c.in-Ok.ensures.sources _ _ c.compile_files.result c.options_of.ensures
-    (left_by_names (request_of c.args.request.now) table files (data_names table c.in-Ok.read) s.data_files items _ _ c.compile_files.result c.in-Ok.ensures.given c.compile_files.ensures.left)
+returns-in-Ok-clause-ended g c = written c.flat.new.names (g.F.Files.texts c.args.files.now) (settings c.args.options.now) (program c.in-Ok.flat) _ _ c.write_program.result c.in-Ok.ensures.flat c.write_program.ensures.left
+
+pub returns-in-Ok-clause-named : goal.returns-in-Ok-clause-named
+returns-in-Ok-clause-named g c = written_named c.flat.new.names (program c.in-Ok.flat) _ _ c.write_program.result c.write_program.ensures.left
 
 pub returns-in-Ok-clause-files : goal.returns-in-Ok-clause-files
-returns-in-Ok-clause-files g c =
-    let table = c.read_files.new.names in
-    rw c.in-Ok.ensures.counted
-    (counts_files (request_of c.args.request.now) table (files_read table c.in-Ok.read) (data_names table c.in-Ok.read) (items_read c.in-Ok.read) _ _ _ c.compile_files.result c.compile_files.ensures.left)
+returns-in-Ok-clause-files g c = written_counts (program c.in-Ok.flat) _ _ c.write_program.result _ _ c.write_program.ensures.left c.in-Ok.ensures.counted
 
 pub returns-in-Err-clause-ended : goal.returns-in-Err-clause-ended
-returns-in-Err-clause-ended g c =
-    let table = c.read_files.new.names in
-    let texts = g.F.Files.texts c.args.files.now in
-    let s = settings c.options_of.result.now in
-    rw c.not_gathered.ensures
-    (unread_ends table texts (request_of c.args.request.now) s _ c.in-Err.end c.options_of.ensures c.in-Err.ensures.refused)
+returns-in-Err-clause-ended g c = rw c.failed.ensures (failed_ends FzProgram c.flat.new.names (g.F.Files.texts c.args.files.now) (compile (settings c.args.options.now)) _ c.in-Err.end c.in-Err.ensures.refused)
+
+pub returns-in-Err-clause-named : goal.returns-in-Err-clause-named
+returns-in-Err-clause-named g c = rw c.failed.ensures (failed_named FzProgram c.flat.new.names c.in-Err.end c.in-Err.ensures.owner)
+
+pub returns-in-Err-clause-files : goal.returns-in-Err-clause-files
+returns-in-Err-clause-files g c = rw c.failed.ensures (failed_counts FzProgram _ _ c.in-Err.end c.in-Err.ensures.counted)
+
+pub returns-in-Err-clause-output : goal.returns-in-Err-clause-output
+returns-in-Err-clause-output g c = rw c.failed.ensures (failed_counts_out _ c.in-Err.end)

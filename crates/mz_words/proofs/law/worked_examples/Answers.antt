@@ -35,7 +35,22 @@ examples = record {
   abbreviation = refl;
   short_option = refl;
   help_option = refl;
-  no_command_yet = refl;
+  print_alone = refl;
+  print_with_data = refl;
+  print_nothing = refl;
+  print_zero_budget = refl;
+  make_least = refl;
+  make_greatest = refl;
+  make_plus = refl;
+  make_zeros = refl;
+  make_after_dashes = refl;
+  make_nothing = refl;
+  make_zero = refl;
+  make_past = refl;
+  make_twice = refl;
+  make_option = refl;
+  make_minus = refl;
+  make_word = refl;
 }
 
 pub returns : goal.returns

@@ -1,0 +1,4 @@
+pub mod Found
+pub mod Named
+pub mod Limits
+pub mod Ends

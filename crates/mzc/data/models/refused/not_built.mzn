@@ -1,1 +1,0 @@
-var 1..2: x; constraint all_different([x]); solve satisfy;

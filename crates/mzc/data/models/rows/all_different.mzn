@@ -1,0 +1,3 @@
+include "names.mzn";
+constraint all_different(a);
+solve satisfy;

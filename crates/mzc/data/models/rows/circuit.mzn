@@ -1,0 +1,3 @@
+include "names.mzn";
+constraint circuit(d);
+solve satisfy;

@@ -1,0 +1,3 @@
+include "names.mzn";
+constraint count(a, 3, y);
+solve satisfy;

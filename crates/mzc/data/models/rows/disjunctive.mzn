@@ -1,0 +1,3 @@
+include "names.mzn";
+constraint disjunctive(a, [2 | j in 1..n]);
+solve satisfy;

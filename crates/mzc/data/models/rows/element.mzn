@@ -1,0 +1,3 @@
+include "names.mzn";
+constraint element(i, a, x);
+solve satisfy;

@@ -1,0 +1,3 @@
+include "names.mzn";
+constraint increasing(a);
+solve satisfy;

@@ -1,0 +1,3 @@
+include "names.mzn";
+constraint inverse(d, e);
+solve satisfy;

@@ -1,0 +1,3 @@
+include "names.mzn";
+constraint lex_less(d, e);
+solve satisfy;

@@ -1,0 +1,3 @@
+include "names.mzn";
+constraint maximum(x, a);
+solve satisfy;

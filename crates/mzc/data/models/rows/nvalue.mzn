@@ -1,0 +1,3 @@
+include "names.mzn";
+constraint nvalue(x, a);
+solve satisfy;

@@ -1,0 +1,3 @@
+include "names.mzn";
+constraint sliding_sum(1, 9, 2, a);
+solve satisfy;

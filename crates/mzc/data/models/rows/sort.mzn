@@ -1,0 +1,3 @@
+include "names.mzn";
+constraint sort(d, e);
+solve satisfy;
