@@ -3,3 +3,4 @@ pub mod Telling
 pub mod Counting
 pub mod Values
 pub mod Rows
+pub mod KnownLaws

@@ -1,5 +1,5 @@
 -- What nodes say.
-use Rattle.std.proofs.Common.{◌≡◌, ◌∙◌, ℕ, ℤ, Bool, true, false, not, Result, Ok, Err, IfOk, Option, Some, None, is_some, refl, ap, arith}
+use Rattle.std.proofs.Common.{◌≡◌, ◌∙◌, ℕ, ℤ, Bool, true, false, not, Result, Ok, Err, IfOk, Option, Some, None, IsSome, is_some, refl, sym, ap, arith}
 use Rattle.std.proofs.lemmas.Int.{ints}
 use Rattle.std.specs.Ordering.{int_eq}
 use Rattle.mz_operations.specs.Views.{number_of_bool}
@@ -8,7 +8,7 @@ use Rattle.mz_arena.specs.declared.node.NodeKind.{NodeKind}
 use Rattle.mz_arena.specs.Values.{bit, holds, is_true, comparison_term, and_term, or_term, not_term, iff_term, to_int_term}
 use Rattle.mz_arena.specs.Values as terms
 use Rattle.mz_symbol.specs.Runs.{Run}
-use Rattle.mz_symbol.specs.Readings.{Reading}
+use Rattle.mz_symbol.specs.Readings.{Reading, Reads}
 use Rattle.glob_nodes.specs.declared.nodes.Compare.{Compare}
 use Rattle.glob_nodes.specs.declared.nodes.Compare.TheVariants.{Equal, Differ, AtMost, Less}
 use Rattle.glob_nodes.specs.declared.nodes.Join.{Join}
@@ -34,6 +34,13 @@ equal_itself n = grind (arith, ints)
 pub is_there : (o : Option ℤ) → holds o o int_eq ≡ is_some o
 is_there None = refl
 is_there (Some n) = equal_itself n
+
+-- what is there equals itself
+pub sure_says : (old new : Run) (x id : ℕ) → Says old new (λ _. true) id → ((r : Reading) → Reads r new → IsSome (num r x)) → Says old new (λ r. is_some (num r x)) id
+sure_says old new x id s f = record { same = s.same; is = λ r h. s.is r h ∙ ap bit (sym (f r h)); tells = λ r h. s.tells r h ∙ sym (f r h) }
+
+pub there_says : (old new : Run) (x id : ℕ) → Says old new (λ r. compares Equal (num r x) (num r x)) id → Says old new (λ r. is_some (num r x)) id
+there_says old new x id s = record { same = s.same; is = λ r h. s.is r h ∙ ap bit (is_there (num r x)); tells = λ r h. s.tells r h ∙ is_there (num r x) }
 
 compare_term : (op : Compare) (a b : ℕ) (r : Reading) → meaning_over (compare_kind op) a b r ≡ bit (compares op (num r a) (num r b))
 unfolding comparison_term

@@ -3,3 +3,4 @@ pub mod StepsNodes
 pub mod StepsEach
 pub mod Arguments
 pub mod Rows
+pub mod StepsKnown

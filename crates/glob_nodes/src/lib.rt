@@ -4,6 +4,7 @@
 mod arguments;
 mod each;
 mod guards;
+mod known;
 mod listing;
 mod nodes;
 mod relation;

@@ -8,12 +8,15 @@ ghost use Rattle.mz_operations.specs.declared.row.Arith.TheVariants as arith;
 ghost use Rattle.mz_arena.specs.Values as terms;
 ghost use Rattle.mz_operations.specs.Views.{number_of_bool};
 ghost use Rattle.mz_symbol.specs.Makes.{GoesOnBy};
+ghost use Rattle.mz_symbol_arrays.specs.Sure.{IsSure};
 ghost use Rattle.glob_nodes.specs.Says.{Gives, Says, num, compares, joins};
 ghost use Rattle.glob_nodes.specs.StepsNodes.{meaning_over, compare_kind, join_kind};
 
+use crate::known::{Known, known_comparison, known_join, known_product, known_sum};
 use mz_arena::{Id, Node, NodeKind};
 use mz_base::Memory;
 use mz_symbol::Run;
+use mz_symbol_arrays::is_sure;
 
 /// How an integer stands to another.
 #[derive(Clone, Copy)]
@@ -54,12 +57,24 @@ pub fn made(run: &mut Run, kind: NodeKind, a: Id, b: Id) -> Result<Id, Memory>
     }
 }
 
-/// Whether an integer stands so to another; false where one of them is undefined.
-pub fn compared(run: &mut Run, op: Compare, a: Id, b: Id) -> Result<Id, Memory>
+fn compared_node(run: &mut Run, op: Compare, a: Id, b: Id) -> Result<Id, Memory>
     ensures goes { GoesOnBy 6 run.old run.new }
     ensures says { IfOk result (Says run.old run.new (λ r. compares op (num r a) (num r b))) }
 {
     made(run, compare_kind(op), a, b)
+}
+
+/// Whether an integer stands so to another; false where one of them is undefined.
+#[tactic(auto, using(mz_symbol_rows::proofs::GoingOn::goes_most))]
+pub fn compared(run: &mut Run, op: Compare, a: Id, b: Id) -> Result<Id, Memory>
+    ensures goes { GoesOnBy 6 run.old run.new }
+    ensures says { IfOk result (Says run.old run.new (λ r. compares op (num r a) (num r b))) }
+{
+    let Some(p) = known_comparison(run.arena(), op, a, b) else {
+        return compared_node(run, op, a, b);
+    };
+    let id = truth(run, p)?;
+    Ok(id)
 }
 
 fn compare_kind(op: Compare) -> NodeKind
@@ -75,12 +90,29 @@ fn compare_kind(op: Compare) -> NodeKind
     }
 }
 
-/// Two truth values joined; an undefined one counts as false.
-pub fn joined(run: &mut Run, op: Join, a: Id, b: Id) -> Result<Id, Memory>
+fn joined_node(run: &mut Run, op: Join, a: Id, b: Id) -> Result<Id, Memory>
     ensures goes { GoesOnBy 6 run.old run.new }
     ensures says { IfOk result (Says run.old run.new (λ r. joins op (is_true (r.term a)) (is_true (r.term b)))) }
 {
     made(run, join_kind(op), a, b)
+}
+
+/// Two truth values joined; an undefined one counts as false.
+#[tactic(auto, using(mz_symbol_rows::proofs::GoingOn::goes_most))]
+pub fn joined(run: &mut Run, op: Join, a: Id, b: Id) -> Result<Id, Memory>
+    ensures goes { GoesOnBy 6 run.old run.new }
+    ensures says { IfOk result (Says run.old run.new (λ r. joins op (is_true (r.term a)) (is_true (r.term b)))) }
+{
+    let Some(k) = known_join(run.arena(), op, a, b) else {
+        return joined_node(run, op, a, b);
+    };
+    match k {
+        Known::Truth(p) => {
+            let id = truth(run, p)?;
+            Ok(id)
+        }
+        Known::Node(id) => Ok(id),
+    }
 }
 
 fn join_kind(op: Join) -> NodeKind
@@ -145,6 +177,16 @@ pub fn add(run: &mut Run, a: Id, b: Id) -> Result<Id, Memory>
     ensures goes { GoesOnBy 4 run.old run.new }
     ensures gives { IfOk result (Gives run.old run.new (λ r. arith_term arith.Add (r.term a) (r.term b))) }
 {
+    match known_sum(run.arena(), a, b) {
+        None => sum_node(run, a, b),
+        Some(id) => Ok(id),
+    }
+}
+
+fn sum_node(run: &mut Run, a: Id, b: Id) -> Result<Id, Memory>
+    ensures goes { GoesOnBy 4 run.old run.new }
+    ensures gives { IfOk result (Gives run.old run.new (λ r. arith_term arith.Add (r.term a) (r.term b))) }
+{
     made(run, NodeKind::Add, a, b)
 }
 
@@ -153,7 +195,48 @@ pub fn multiply(run: &mut Run, a: Id, b: Id) -> Result<Id, Memory>
     ensures goes { GoesOnBy 4 run.old run.new }
     ensures gives { IfOk result (Gives run.old run.new (λ r. arith_term arith.Mul (r.term a) (r.term b))) }
 {
+    match known_product(run.arena(), a, b) {
+        None => product_node(run, a, b),
+        Some(id) => Ok(id),
+    }
+}
+
+fn product_node(run: &mut Run, a: Id, b: Id) -> Result<Id, Memory>
+    ensures goes { GoesOnBy 4 run.old run.new }
+    ensures gives { IfOk result (Gives run.old run.new (λ r. arith_term arith.Mul (r.term a) (r.term b))) }
+{
     made(run, NodeKind::Mul, a, b)
+}
+
+/// True of an integer that surely is defined.
+fn sure_there(run: &mut Run, x: Id) -> Result<Id, Memory>
+    requires { IsSure run.old.arena x }
+    ensures goes { GoesOnBy 6 run.old run.new }
+    ensures says { IfOk result (Says run.old run.new (λ r. is_some (num r x))) }
+{
+    let _integer = x;
+    let yes = truth(run, true)?;
+    Ok(yes)
+}
+
+/// Whether an integer equals itself: it is false where that is undefined.
+fn tested_there(run: &mut Run, x: Id) -> Result<Id, Memory>
+    ensures goes { GoesOnBy 6 run.old run.new }
+    ensures says { IfOk result (Says run.old run.new (λ r. is_some (num r x))) }
+{
+    let there = compared(run, Compare::Equal, x, x)?;
+    Ok(there)
+}
+
+/// Whether an integer is defined.
+fn there(run: &mut Run, x: Id) -> Result<Id, Memory>
+    ensures goes { GoesOnBy 6 run.old run.new }
+    ensures says { IfOk result (Says run.old run.new (λ r. is_some (num r x))) }
+{
+    if is_sure(run.arena(), x) {
+        return sure_there(run, x);
+    }
+    tested_there(run, x)
 }
 
 /// A truth value where an integer is defined, else false.
@@ -162,6 +245,6 @@ pub fn where_defined(run: &mut Run, x: Id, body: Id) -> Result<Id, Memory>
     ensures goes { GoesOnBy 12 run.old run.new }
     ensures says { IfOk result (Says run.old run.new (λ r. is_some (num r x) && is_true (r.term body))) }
 {
-    let there = compared(run, Compare::Equal, x, x)?;
+    let there = there(run, x)?;
     joined(run, Join::Both, there, body)
 }

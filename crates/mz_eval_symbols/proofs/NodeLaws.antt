@@ -1,34 +1,18 @@
 -- Nodes as what they are made of.
-use Rattle.std.proofs.Common.{◌≡◌, ◌∙◌, ◌⊎◌, inl, inr, ℕ, ℤ, pos, Bool, true, false, List, [], ◌∷◌, map, slice_get, Option, Some, None, refl, ap, if◌then◌else◌}
-use Rattle.std.specs.Option.{option_map}
+use Rattle.std.proofs.Common.{◌≡◌, ◌∙◌, ◌⊎◌, inl, inr, ℕ, ℤ, pos, Bool, true, false, List, [], ◌∷◌, map, Some, None, refl, ap, if◌then◌else◌}
 use Rattle.mz_arena.specs.declared.node.Node.{Node}
-use Rattle.mz_arena.specs.declared.node.NodeKind.{NodeKind}
 use Rattle.mz_arena.specs.declared.node.NodeKind.TheVariants as kinds
 use Rattle.mz_arena.specs.Entries.{Entry, children, is_free}
-use Rattle.mz_arena.specs.Terms.{kind_term, node_term}
+use Rattle.mz_arena.specs.Terms.{kind_term}
 use Rattle.mz_arena.specs.Values.{Term, empty, guard_term, if_term, is_true, number, to_int_term}
 use Rattle.mz_symbol.specs.Runs.{ReadsNodes}
 use Rattle.mz_symbol.specs.Readings.{no_values}
+use Rattle.mz_symbol_arrays.specs.Sure.{IsNode}
+use Rattle.mz_symbol_arrays.proofs.SureLaws.{kind_read}
 use Rattle.mz_eval_symbols.specs.declared.nodes.Branching.{Branching}
 use Rattle.mz_eval_symbols.specs.declared.nodes.Pair.{Pair}
 use Rattle.mz_eval_symbols.specs.declared.nodes.Pair.TheVariants as pair
-use Rattle.mz_eval_symbols.specs.StepsNodes.{Counts, IsCount, IsIf, IsNode, IsNot, IsPair, kind_of, two_term}
-
--- a node of this kind
-record IsKind (t : ℕ → Term) (id : ℕ) (n : Node) (k : NodeKind) : Type 0 where
-  entry : Entry
-  is : entry.node ≡ n
-  term : t id ≡ node_term no_values entry (map t (children entry.node))
-
-entry_read : (t : ℕ → Term) (es : List Entry) (id : ℕ) (n : Node) (k : NodeKind) (o : Option Entry) → slice_get es id ≡ o → option_map (λ e. e.node) o ≡ Some n → n.kind ≡ k → is_free k ≡ false → ReadsNodes t es → IsKind t id n k
-entry_read t es id n k None s e f b h = absurd (cc)
-entry_read t es id n k (Some x) s e f b h =
-    let same : x.node ≡ n = cc in
-    let kind : x.node.kind ≡ k = ap (λ y. y.kind) same ∙ f in
-    record { entry = x; is = same; term = h.kinds id x s (ap is_free kind ∙ b) no_values }
-
-kind_read : (t : ℕ → Term) (es : List Entry) (id : ℕ) (n : Node) (k : NodeKind) → IsNode es id n → n.kind ≡ k → is_free k ≡ false → ReadsNodes t es → IsKind t id n k
-kind_read t es id n k e f b h = entry_read t es id n k (slice_get es id) refl e f b h
+use Rattle.mz_eval_symbols.specs.StepsNodes.{Counts, IsCount, IsIf, IsNot, IsPair, kind_of, two_term}
 
 bound_pair : (w : Pair) → is_free (kind_of w) ≡ false
 bound_pair pair.Access = refl
@@ -37,12 +21,6 @@ bound_pair pair.Cons = refl
 bound_pair pair.Equal = refl
 bound_pair pair.Guard = refl
 bound_pair pair.Or = refl
-
--- a node's term by its kind, from its parts
-by_kind : (t : ℕ → Term) (x : Entry) (n : Node) (k : NodeKind) → x.node ≡ n → n.kind ≡ k → node_term no_values x (map t (children x.node)) ≡ kind_term no_values x k (map t (children (record { kind = k; a = n.a; b = n.b; c = n.c; number = n.number })))
-by_kind t x n k e f =
-    ap (λ (m : Node). kind_term no_values x m.kind (map t (children m))) e
-    ∙ ap (λ (q : NodeKind). kind_term no_values x q (map t (children (record { kind = q; a = n.a; b = n.b; c = n.c; number = n.number })))) f
 
 pair_term : (t : ℕ → Term) (x : Entry) (n : Node) (w : Pair) → kind_term no_values x (kind_of w) (map t (children (record { kind = kind_of w; a = n.a; b = n.b; c = n.c; number = n.number }))) ≡ two_term w (t n.a) (t n.b)
 pair_term t x n pair.Access = refl
@@ -55,33 +33,33 @@ pair_term t x n pair.Or = refl
 pub pair_read : (es : List Entry) (w : Pair) (id : ℕ) (n : Node) → IsNode es id n → n.kind ≡ kind_of w → IsPair es w id (n.a, n.b)
 pair_read es w id n e f t h =
     let k = kind_read t es id n (kind_of w) e f (bound_pair w) h in
-    k.term ∙ by_kind t k.entry n (kind_of w) k.is f ∙ pair_term t k.entry n w
+    k.term ∙ pair_term t k.entry n w
 
 pub if_read : (es : List Entry) (id : ℕ) (n : Node) → IsNode es id n → n.kind ≡ kinds.If → IsIf es id (record { condition = n.a; first = n.b; second = n.c })
 if_read es id n e f t h =
     let k = kind_read t es id n kinds.If e f refl h in
-    k.term ∙ by_kind t k.entry n kinds.If k.is f
+    k.term
 
 pub not_read : (es : List Entry) (id : ℕ) (n : Node) → IsNode es id n → n.kind ≡ kinds.Not → IsNot es id n.a
 not_read es id n e f t h =
     let k = kind_read t es id n kinds.Not e f refl h in
-    k.term ∙ by_kind t k.entry n kinds.Not k.is f
+    k.term
 
 pub false_read : (es : List Entry) (id : ℕ) (n : Node) → IsNode es id n → n.kind ≡ kinds.Bool → n.number ≡ pos 0 → (t : ℕ → Term) → ReadsNodes t es → is_true (t id) ≡ false
 false_read es id n e f z t h =
     let k = kind_read t es id n kinds.Bool e f refl h in
-    ap is_true (k.term ∙ by_kind t k.entry n kinds.Bool k.is f ∙ ap (λ (m : Node). Some (number m.number)) k.is ∙ ap (λ (i : ℤ). Some (number i)) z)
+    ap is_true (k.term ∙ ap (λ (m : Node). Some (number m.number)) k.is ∙ ap (λ (i : ℤ). Some (number i)) z)
 
 pub nil_read : (es : List Entry) (id : ℕ) (n : Node) → IsNode es id n → n.kind ≡ kinds.Nil → (t : ℕ → Term) → ReadsNodes t es → t id ≡ Some empty
 nil_read es id n e f t h =
     let k = kind_read t es id n kinds.Nil e f refl h in
-    k.term ∙ by_kind t k.entry n kinds.Nil k.is f
+    k.term
 
 pub count_read : (es : List Entry) (id : ℕ) (n : Node) → IsNode es id n → n.kind ≡ kinds.ToInt → IsCount es id
 unfolding to_int_term
 count_read es id n e f t h =
     let k = kind_read t es id n kinds.ToInt e f refl h in
-    inr (is_true (t n.a), k.term ∙ by_kind t k.entry n kinds.ToInt k.is f)
+    inr (is_true (t n.a), k.term)
 
 counts_if : (x y : Term) (q : Bool) → x ≡ (if q then y else None) → Counts y → Counts x
 counts_if x y true e (inl n) = inl (e ∙ n)
@@ -95,7 +73,7 @@ guard_counts es id p f c t h = counts_if (t id) (t p.1) (is_true (t p.0)) (f t h
 pub zero_counts : (es : List Entry) (id : ℕ) (n : Node) → IsNode es id n → n.kind ≡ kinds.Int → n.number ≡ pos 0 → IsCount es id
 zero_counts es id n e f z t h =
     let k = kind_read t es id n kinds.Int e f refl h in
-    inr (false, k.term ∙ by_kind t k.entry n kinds.Int k.is f ∙ ap (λ (m : Node). Some (number m.number)) k.is ∙ ap (λ (i : ℤ). Some (number i)) z)
+    inr (false, k.term ∙ ap (λ (m : Node). Some (number m.number)) k.is ∙ ap (λ (i : ℤ). Some (number i)) z)
 
 counts_either : (x y z : Term) (q : Bool) → x ≡ (if q then y else z) → Counts y → Counts z → Counts x
 counts_either x y z true e (inl n) d = inl (e ∙ n)

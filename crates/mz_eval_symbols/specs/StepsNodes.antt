@@ -1,8 +1,6 @@
 -- Mirror of src/nodes.rt; private clauses only.
-use Rattle.std.specs.Prelude.{◌≡◌, ◌⊎◌, ℕ, Bool, List, Some, None, slice_get}
-use Rattle.std.specs.Option.{option_map}
+use Rattle.std.specs.Prelude.{◌≡◌, ◌⊎◌, ℕ, Bool, List, None}
 use Rattle.std.specs.Ordering.{int_eq}
-use Rattle.mz_arena.specs.declared.node.Node.{Node}
 use Rattle.mz_arena.specs.declared.node.NodeKind.{NodeKind}
 use Rattle.mz_arena.specs.declared.node.NodeKind.TheVariants as kinds
 use Rattle.mz_arena.specs.Entries.{Entry}
@@ -11,10 +9,6 @@ use Rattle.mz_symbol.specs.Runs.{ReadsNodes}
 use Rattle.mz_eval_symbols.specs.declared.nodes.Branching.{Branching}
 use Rattle.mz_eval_symbols.specs.declared.nodes.Pair.{Pair}
 use Rattle.mz_eval_symbols.specs.declared.nodes.Pair.TheVariants as pair
-
--- the node with this id
-abbrev pub IsNode : List Entry → ℕ → Node → Type 0
-IsNode es id n = option_map (λ e. e.node) (slice_get es id) ≡ Some n
 
 abbrev pub kind_of : Pair → NodeKind
 kind_of pair.Access = kinds.Access

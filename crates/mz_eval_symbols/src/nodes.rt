@@ -4,9 +4,10 @@ ghost use Rattle.std.specs.Prelude.{◌≡◌, MatchOption, Some, false, pos, tr
 ghost use Rattle.mz_arena.specs.declared.node.NodeKind.TheVariants.{Bool as BoolNode, Int as IntNode, Nil, ToInt};
 ghost use Rattle.mz_arena.specs.Values.{Term, empty, is_true};
 ghost use Rattle.mz_symbol.specs.Runs.{ReadsNodes};
-ghost use Rattle.mz_eval_symbols.specs.StepsNodes.{IsCount, IsIf, IsNode, IsNot, IsPair, kind_of};
+ghost use Rattle.mz_eval_symbols.specs.StepsNodes.{IsCount, IsIf, IsNot, IsPair, kind_of};
 
 use mz_arena::{Arena, Id, Node, NodeKind};
+use mz_symbol_arrays::node_at;
 
 /// Kinds of nodes with two parts.
 #[derive(Clone, Copy)]
@@ -17,15 +18,6 @@ pub enum Pair {
     Equal,
     Guard,
     Or,
-}
-
-fn node_at(nodes: &Arena, id: Id) -> Option<Node>
-    ensures { MatchOption result (Unit {0}) (IsNode nodes.now id) }
-{
-    if id >= nodes.len() {
-        return None;
-    }
-    Some(nodes.node(id))
 }
 
 pub(crate) fn is_same(a: Id, b: Id) -> bool

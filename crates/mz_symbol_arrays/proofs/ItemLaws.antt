@@ -9,16 +9,18 @@ use Rattle.mz_value.specs.Contents as values
 use Rattle.mz_core.specs.declared.types.Base.{Base}
 use Rattle.mz_core.specs.declared.types.Base.TheVariants as base
 use Rattle.mz_operations.specs.Views.{◌>>=◌}
-use Rattle.mz_arena.specs.Values.{Term, number, as_number, as_set, bit, holds, is_true, and_term, card_term, comparison_term, if_term}
+use Rattle.mz_arena.specs.Entries.{Entry}
+use Rattle.mz_arena.specs.Values.{Term, number, as_number, as_set, bit, holds, is_one, is_true, and_term, card_term, comparison_term, if_term}
 use Rattle.mz_instance.specs.Contents.{content_by}
 use Rattle.mz_symbol.specs.declared.types.Symbol.{Symbol}
-use Rattle.mz_symbol.specs.Symbols.{value_by, IsItem}
-use Rattle.mz_symbol.specs.Runs.{Run}
-use Rattle.mz_symbol.specs.Readings.{Reading, state_of}
+use Rattle.mz_symbol.specs.Symbols.{value_by}
+use Rattle.mz_symbol.specs.Runs.{ReadsNodes, Run}
+use Rattle.mz_symbol.specs.Readings.{Reading, Reads, state_of}
+use Rattle.mz_symbol.specs.Makes.{GoesOnBy}
 use Rattle.mz_symbol_rows.specs.RowValues.{as_argument, is_single}
-use Rattle.mz_symbol_rows.proofs.RowLaws.{truth_by, truth_is, bit_true}
-use Rattle.mz_symbol_arrays.specs.ArrayValues.{argued}
-use Rattle.mz_symbol_arrays.specs.StepsArrays.{symbol_of, is_number_base, is_set_sort, both_true, IsSame, IsItemFor, MakesItem}
+use Rattle.mz_symbol_rows.proofs.RowLaws.{truth_is, bit_true}
+use Rattle.mz_symbol_arrays.specs.StepsArrays.{symbol_of, is_number_base, is_set_sort, both_true, Fills, IsFilled, IsItemFor, MakesItem, Settles}
+use Rattle.mz_symbol_arrays.specs.Sure.{IsSure}
 
 pub single_number : (b : Base) → is_number_base b ≡ true → is_single b ≡ true
 single_number base.Int h = refl
@@ -30,10 +32,6 @@ single_bool b h = ap is_single h
 
 -- ---- truth values
 
-some_bit : (p : Bool) → IsSome (value_by base.Bool (bit p))
-some_bit true = refl
-some_bit false = refl
-
 twice : (p : Bool) → (p && p) ≡ p
 twice true = refl
 twice false = refl
@@ -41,21 +39,59 @@ twice false = refl
 never_false : (u : Term) → bit true ≡ u → is_true u ≡ false → true ≡ false
 never_false u e h = ap is_true e ∙ h
 
-never_true : (u : Term) → bit false ≡ u → is_true u ≡ true → false ≡ true
-never_true u e h = ap is_true e ∙ h
+bool_some : (o : Option ℤ) → IsSome o → IsSome (option_map (λ n. content_by base.Bool n []) o)
+bool_some None h = absurd (cc)
+bool_some (Some n) h = refl
 
-truth_item : (t : ℕ → Term) (x term one : ℕ) → and_term (t x) (t x) ≡ t term → bit true ≡ t one → IsItemFor t (symbol_of base.Bool None x) (symbol_of base.Bool None term) one
+bool_told : (o : Option ℤ) → IsSome o → option_map (λ n. content_by base.Bool n []) o ≡ Some (values.bool (is_one o))
+bool_told None h = absurd (cc)
+bool_told (Some n) h = refl
+
+pub truth_made : (t : ℕ → Term) (b : Base) (x term one : ℕ) → b ≡ base.Bool → is_true (t term) ≡ is_true (t x) → IsSome (as_number (t term)) → bit true ≡ t one → IsItemFor t (symbol_of b None x) (symbol_of b None term) one
+truth_made t b x term one h e s f = subst (λ (c : Base). IsItemFor t (symbol_of c None x) (symbol_of c None term) one) (sym h) by
+  where
+    by : IsItemFor t (symbol_of base.Bool None x) (symbol_of base.Bool None term) one
+    by = record {
+      there = λ q. record {
+        item = record { value = bool_some (as_number (t term)) s; occurs = tt };
+        value = bool_told (as_number (t term)) s ∙ ap (λ p. Some (values.bool p)) (e ∙ sym (truth_is (t x)));
+      };
+      gone = λ q. let clash : true ≡ false = never_false (t one) f q in absurd (cc);
+    }
+
+-- ---- nodes that are there
+
+pub goes_nothing : (n : ℕ) (s : Run) → GoesOnBy n s s
+goes_nothing n s = record { back = λ r h. h; paid = omega arith }
+
+pub and_settles : (r : Reading) (old new : Run) (x y : ℕ) → state_of r old ≡ state_of r new → and_term (r.term x) (r.term x) ≡ r.term y → Settles r old new x y
 unfolding and_term
-truth_item t x term one e f = record {
-  there = λ h. record {
-    item = record { value = subst (λ u. IsSome (value_by base.Bool u)) e (some_bit (is_true (t x) && is_true (t x))); occurs = tt };
-    value = ap (value_by base.Bool) (sym e) ∙ truth_by (is_true (t x) && is_true (t x)) ∙ ap (λ p. Some (values.bool p)) (twice (is_true (t x)) ∙ sym (truth_is (t x)));
+and_settles r old new x y s e =
+    let p = is_true (r.term x) in
+    record {
+      same = s;
+      truth = ap is_true (sym e) ∙ bit_true (p && p) ∙ twice p;
+      there = subst (λ u. IsSome (as_number u)) e refl;
+    }
+
+pub sure_settles : (r : Reading) (s : Run) (es : List Entry) (x : ℕ) → es ≡ s.arena → Reads r s → IsSure es x → Settles r s s x x
+sure_settles r s es x e h i = record { same = refl; truth = refl; there = i r.term (subst (ReadsNodes r.term) (sym e) h.nodes) }
+
+fills_by : (p q : Bool) (u z y : Term) → (if p then u else z) ≡ y → p ≡ q → (if q then u else z) ≡ y
+fills_by p q u z y e f = ap (λ b. if b then u else z) (sym f) ∙ e
+
+pub if_fills : (r : Reading) (old new : Run) (o x y none : ℕ) (n : ℤ) → state_of r old ≡ state_of r new → Some (number n) ≡ r.term none → if_term (r.term o) (r.term x) (r.term none) ≡ r.term y → Fills r old new o x y
+unfolding if_term
+if_fills r old new o x y none n s z e = record {
+  same = s;
+  filled = record {
+    there = λ q. sym (fills_by (is_true (r.term o)) true (r.term x) (r.term none) (r.term y) e q);
+    gone = λ q. subst (λ u. IsSome (as_number u)) (z ∙ fills_by (is_true (r.term o)) false (r.term x) (r.term none) (r.term y) e q) refl;
   };
-  gone = λ h. let clash : true ≡ false = never_false (t one) f h in absurd (cc);
 }
 
-pub truth_made : (t : ℕ → Term) (b : Base) (x term one : ℕ) → b ≡ base.Bool → and_term (t x) (t x) ≡ t term → bit true ≡ t one → IsItemFor t (symbol_of b None x) (symbol_of b None term) one
-truth_made t b x term one h e f = subst (λ (c : Base). IsItemFor t (symbol_of c None x) (symbol_of c None term) one) (sym h) (truth_item t x term one e f)
+pub sure_fills : (r : Reading) (s : Run) (es : List Entry) (o x : ℕ) → es ≡ s.arena → Reads r s → IsSure es x → Fills r s s o x x
+sure_fills r s es o x e h i = record { same = refl; filled = record { there = λ q. refl; gone = λ q. i r.term (subst (ReadsNodes r.term) (sym e) h.nodes) } }
 
 -- ---- numbers
 
@@ -65,6 +101,15 @@ same_number n = grind (arith, ints)
 number_some : (o : Option ℤ) → is_true (bit (holds o o int_eq)) ≡ true → IsSome o
 number_some None h = absurd (cc)
 number_some (Some n) h = refl
+
+there_some : (o : Option ℤ) → IsSome o → bit (holds o o int_eq) ≡ bit true
+there_some None h = absurd (cc)
+there_some (Some n) h = ap bit (same_number n)
+
+-- a number that is there is equal to itself
+pub sure_there : (u v : Term) → IsSome (as_number u) → bit true ≡ v → comparison_term int_eq u u ≡ v
+unfolding comparison_term
+sure_there u v s e = there_some (as_number u) s ∙ e
 
 number_none : (o : Option ℤ) → is_true (bit (holds o o int_eq)) ≡ false → o ≡ None
 number_none None h = refl
@@ -154,30 +199,28 @@ option_at b o v = refl
 abbrev option_value : Base → Bool → Term → Option Content
 option_value b p u = if p then value_by b u else Some values.absent
 
-chosen_value : (b : Base) (p : Bool) (u z : Term) → option_value b p (if p then u else z) ≡ option_value b p u
-chosen_value b true u z = refl
-chosen_value b false u z = refl
+filled_value : (b : Base) (p : Bool) (u y : Term) → (p ≡ true → y ≡ u) → option_value b p y ≡ option_value b p u
+filled_value b true u y h = ap (value_by b) (h refl)
+filled_value b false u y h = refl
 
-chosen_none : (b : Base) (p : Bool) (u : Term) (n : ℤ) → is_single b ≡ true → as_number (if p then u else Some (number n)) ≡ None → option_value b p u ≡ None
-chosen_none b true u n h e = single_none b u h e
-chosen_none b false u n h e = absurd (cc)
+filled_none : (b : Base) (p : Bool) (u y : Term) → is_single b ≡ true → (p ≡ true → y ≡ u) → (p ≡ false → IsSome (as_number y)) → as_number y ≡ None → option_value b p u ≡ None
+filled_none b true u y h f g e = single_none b u h (ap as_number (sym (f refl)) ∙ e)
+filled_none b false u y h f g e = let there : IsSome (as_number y) = g refl in absurd (cc)
 
-pub option_made : (t : ℕ → Term) (b : Base) (o x occurs term there zero : ℕ) (n : ℤ) → is_single b ≡ true → and_term (t o) (t o) ≡ t occurs → Some (number n) ≡ t zero → if_term (t o) (t x) (t zero) ≡ t term → comparison_term int_eq (t term) (t term) ≡ t there
+pub option_made : (t : ℕ → Term) (b : Base) (o x occurs term there : ℕ) → is_single b ≡ true → is_true (t occurs) ≡ is_true (t o) → IsSome (as_number (t occurs)) → IsFilled t o x term → comparison_term int_eq (t term) (t term) ≡ t there
     → IsItemFor t (symbol_of b (Some o) x) (symbol_of b (Some occurs) term) there
-unfolding comparison_term and_term if_term
-option_made t b o x occurs term there zero n h e z f g =
+unfolding comparison_term
+option_made t b o x occurs term there h e s f g =
     let p = is_true (t o) in
-    let same : is_true (t occurs) ≡ p = ap is_true (sym e) ∙ bit_true (p && p) ∙ twice p in
-    let chosen : (if p then t x else Some (number n)) ≡ t term = ap (λ u. if p then t x else u) z ∙ f in
     record {
       there = λ q. record {
         item = record {
           value = single_some b (t term) h (number_some (as_number (t term)) (ap is_true g ∙ q));
-          occurs = subst (λ u. IsSome (as_number u)) e refl;
+          occurs = s;
         };
-        value = ap (λ w. option_value b w (t term)) same ∙ ap (option_value b p) (sym chosen) ∙ chosen_value b p (t x) (Some (number n)) ∙ sym (option_at b o (option_value b p (t x)));
+        value = ap (λ w. option_value b w (t term)) e ∙ filled_value b p (t x) (t term) f.there ∙ sym (option_at b o (option_value b p (t x)));
       };
-      gone = λ q. option_at b o (option_value b p (t x)) ∙ chosen_none b p (t x) n h (ap as_number chosen ∙ number_none (as_number (t term)) (ap is_true g ∙ q));
+      gone = λ q. option_at b o (option_value b p (t x)) ∙ filled_none b p (t x) (t term) h f.there f.gone (number_none (as_number (t term)) (ap is_true g ∙ q));
     }
 
 -- ---- as what a call gives

@@ -1,2 +1,3 @@
 pub mod ItemLaws
 pub mod ArrayLaws
+pub mod SureLaws

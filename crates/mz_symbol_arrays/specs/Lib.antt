@@ -1,2 +1,3 @@
 pub mod ArrayValues
 pub mod StepsArrays
+pub mod Sure

@@ -1,8 +1,8 @@
 -- Mirror of src/; private clauses only.
-use Rattle.std.specs.Prelude.{◌≡◌, ℕ, Bool, true, false, ◌&&◌, List, [], ◌∷◌, ◌++◌, Option, Some, None, slice_get}
+use Rattle.std.specs.Prelude.{◌≡◌, ℕ, Bool, true, false, ◌&&◌, List, [], ◌∷◌, ◌++◌, Option, Some, None, IsSome, slice_get}
 use Rattle.mz_core.specs.declared.types.Base.{Base}
 use Rattle.mz_core.specs.declared.types.Base.TheVariants as base
-use Rattle.mz_arena.specs.Values.{Term, bit, is_true}
+use Rattle.mz_arena.specs.Values.{Term, as_number, bit, is_true}
 use Rattle.mz_symbol.specs.declared.types.Symbol.{Symbol}
 use Rattle.mz_symbol.specs.Symbols.{symbol_value, IsItem}
 use Rattle.mz_symbol.specs.Runs.{Run}
@@ -36,6 +36,21 @@ pub record IsItemFor (t : ℕ → Term) (s x : Symbol) (e : ℕ) : Type 0 where
 pub record MakesItem (r : Reading) (old new : Run) (s x : Symbol) (e : ℕ) : Type 0 where
   pub same : state_of r old ≡ state_of r new
   pub item : IsItemFor r.term s x e
+
+-- a Boolean node that is true where another is, and is there
+pub record Settles (r : Reading) (old new : Run) (x y : ℕ) : Type 0 where
+  pub same : state_of r old ≡ state_of r new
+  pub truth : is_true (r.term y) ≡ is_true (r.term x)
+  pub there : IsSome (as_number (r.term y))
+
+-- a node that is another where a third is true, and is there elsewhere
+pub record IsFilled (t : ℕ → Term) (o x y : ℕ) : Type 0 where
+  pub there : is_true (t o) ≡ true → t y ≡ t x
+  pub gone : is_true (t o) ≡ false → IsSome (as_number (t y))
+
+pub record Fills (r : Reading) (old new : Run) (o x y : ℕ) : Type 0 where
+  pub same : state_of r old ≡ state_of r new
+  pub filled : IsFilled r.term o x y
 
 -- ---- the first elements
 

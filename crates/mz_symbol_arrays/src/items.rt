@@ -9,8 +9,10 @@ ghost use Rattle.mz_meaning.specs.Runs.{give};
 ghost use Rattle.mz_symbol.specs.Readings.{Reading, Reads};
 ghost use Rattle.mz_symbol.specs.Makes.{GoesOnBy, Means};
 ghost use Rattle.mz_symbol_rows.specs.RowValues.{is_single};
-ghost use Rattle.mz_symbol_arrays.specs.StepsArrays.{MakesItem, is_number_base, is_set_sort, symbol_of};
+ghost use Rattle.mz_symbol_arrays.specs.StepsArrays.{Fills, MakesItem, Settles, is_number_base, is_set_sort, symbol_of};
+ghost use Rattle.mz_symbol_arrays.specs.Sure.{IsSure};
 
+use crate::sure::is_sure;
 use mz_arena::{Id, Node, NodeKind};
 use mz_base::Stop;
 use mz_core::Base;
@@ -32,8 +34,7 @@ pub(crate) fn both_node(run: &mut Run, x: Id, y: Id) -> Result<Id, Stop>
     run.node(&node)
 }
 
-/// Whether a number is there.
-fn number_there(run: &mut Run, x: Id) -> Result<Id, Stop>
+fn tested_node(run: &mut Run, x: Id) -> Result<Id, Stop>
     ensures goes { GoesOnBy 6 run.old run.new }
     ensures means { Means (λ r. r.term) result run.old run.new (λ r. give (comparison_term int_eq (r.term x) (r.term x))) }
 {
@@ -45,6 +46,28 @@ fn number_there(run: &mut Run, x: Id) -> Result<Id, Stop>
         number: 0,
     };
     run.node(&node)
+}
+
+/// Whether a number is there that surely is.
+fn sure_there(run: &mut Run, x: Id) -> Result<Id, Stop>
+    requires { IsSure run.old.arena x }
+    ensures goes { GoesOnBy 6 run.old run.new }
+    ensures means { Means (λ r. r.term) result run.old run.new (λ r. give (comparison_term int_eq (r.term x) (r.term x))) }
+{
+    let _number = x;
+    let yes = run.truth_node(true)?;
+    Ok(yes)
+}
+
+/// Whether a number is there.
+fn number_there(run: &mut Run, x: Id) -> Result<Id, Stop>
+    ensures goes { GoesOnBy 6 run.old run.new }
+    ensures means { Means (λ r. r.term) result run.old run.new (λ r. give (comparison_term int_eq (r.term x) (r.term x))) }
+{
+    if is_sure(run.arena(), x) {
+        return sure_there(run, x);
+    }
+    tested_node(run, x)
 }
 
 /// How many elements a set has.
@@ -96,6 +119,35 @@ fn symbol(base: Base, occurs: Option<Id>, term: Id) -> Symbol
     Symbol { base, occurs, term }
 }
 
+// ---- nodes that are there wherever they are read
+
+/// A Boolean node that is true where this one is.
+#[tactic(auto, using(mz_symbol_rows::proofs::GoingOn::goes_most))]
+fn settled(run: &mut Run, x: Id) -> Result<Id, Stop>
+    ensures goes { GoesOnBy 6 run.old run.new }
+    ensures settles { IfOk result (λ y. (r : Reading) → Reads r run.new → Settles r run.old run.new x y) }
+{
+    if is_sure(run.arena(), x) {
+        return Ok(x);
+    }
+    let y = both_node(run, x, x)?;
+    Ok(y)
+}
+
+/// The value of an option where it is there, and elsewhere some value.
+#[tactic(auto, using(mz_symbol_rows::proofs::GoingOn::goes_both, mz_symbol_rows::proofs::GoingOn::goes_most))]
+fn filled(run: &mut Run, o: Id, x: Id) -> Result<Id, Stop>
+    ensures goes { GoesOnBy 16 run.old run.new }
+    ensures fills { IfOk result (λ y. (r : Reading) → Reads r run.new → Fills r run.old run.new o x y) }
+{
+    if is_sure(run.arena(), x) {
+        return Ok(x);
+    }
+    let none = zero(run)?;
+    let y = chosen_node(run, o, x, none)?;
+    Ok(y)
+}
+
 // ---- elements by their sorts
 
 /// A truth value is always there: false in place of undefined.
@@ -105,7 +157,7 @@ fn truth_item(run: &mut Run, b: Base, x: Id) -> Result<(Symbol, Id), Stop>
     ensures goes { GoesOnBy 28 run.old run.new }
     ensures item { IfOk result (λ p. (r : Reading) → Reads r run.new → MakesItem r run.old run.new (symbol_of b None x) p.0 p.1) }
 {
-    let term = both_node(run, x, x)?;
+    let term = settled(run, x)?;
     let yes = run.truth_node(true)?;
     Ok((symbol(b, None, term), yes))
 }
@@ -139,9 +191,8 @@ fn option_item(run: &mut Run, b: Base, o: Id, x: Id) -> Result<(Symbol, Id), Sto
     ensures goes { GoesOnBy 28 run.old run.new }
     ensures item { IfOk result (λ p. (r : Reading) → Reads r run.new → MakesItem r run.old run.new (symbol_of b (Some o) x) p.0 p.1) }
 {
-    let occurs = both_node(run, o, o)?;
-    let none = zero(run)?;
-    let term = chosen_node(run, o, x, none)?;
+    let occurs = settled(run, o)?;
+    let term = filled(run, o, x)?;
     let there = number_there(run, term)?;
     Ok((symbol(b, Some(occurs), term), there))
 }

@@ -3,5 +3,7 @@
 
 mod arrays;
 mod items;
+mod sure;
 
 pub use arrays::line_of;
+pub use sure::{is_sure, node_at};

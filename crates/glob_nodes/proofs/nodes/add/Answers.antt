@@ -1,5 +1,6 @@
-use Rattle.glob_nodes.proofs.Saying.{ok_so}
+use Rattle.std.proofs.Common.{refl, subst, sym}
+use Rattle.mz_symbol.specs.Runs.{ReadsNodes}
 use Rattle.glob_nodes.proofs.nodes.add.Goals as goal
 
-pub returns-clause-gives : goal.returns-clause-gives
-returns-clause-gives c = ok_so c.made.result c.made.ensures.gives (λ id g. record { same = g.same; is = g.is })
+pub returns-in-Some-clause-gives : goal.returns-in-Some-clause-gives
+returns-in-Some-clause-gives c = record { same = λ r h. refl; is = λ r h. sym (c.in-Some.ensures r (subst (ReadsNodes r.term) (sym c.arena.ensures.nodes) h.nodes)) }

@@ -1,0 +1,5 @@
+use Rattle.glob_nodes.proofs.Saying.{ok_so}
+use Rattle.glob_nodes.proofs.nodes.sum_node.Goals as goal
+
+pub returns-clause-gives : goal.returns-clause-gives
+returns-clause-gives c = ok_so c.made.result c.made.ensures.gives (λ id g. record { same = g.same; is = g.is })
