@@ -3,3 +3,4 @@ pub mod FoldLaws
 pub mod LineLaws
 pub mod NoValues
 pub mod Settling
+pub mod TruthLaws

@@ -1,5 +1,5 @@
 -- Branches as lines under a reading.
-use Rattle.std.proofs.Common.{◌≡◌, ◌∙◌, ℕ, ◌+◌, ◌*◌, Bool, true, false, ◌&&◌, List, [], ◌∷◌, Option, refl, ap, subst, arith, if◌then◌else◌}
+use Rattle.std.proofs.Common.{◌≡◌, ◌∙◌, ℕ, ◌+◌, ◌*◌, Bool, true, false, ◌&&◌, List, [], ◌∷◌, length, Option, None, refl, sym, ap, subst, arith, if◌then◌else◌}
 use Rattle.std.specs.Option.{option_map}
 use Rattle.std.specs.Ordering.{int_eq}
 use Rattle.std.proofs.lemmas.Bool.Decides.{Decides-int_eq}
@@ -9,14 +9,18 @@ use Rattle.mz_value.specs.Contents as values
 use Rattle.mz_operations.specs.Sets.{same_set}
 use Rattle.mz_arena.specs.Values.{is_true}
 use Rattle.mz_meaning.specs.Cells.{Mode, Blank, Given, held}
+use Rattle.mz_symbol.specs.declared.types.Symbol.{Symbol}
 use Rattle.mz_symbol.specs.Runs.{Run}
 use Rattle.mz_symbol.specs.Readings.{Reading}
 use Rattle.mz_symbol.specs.Makes.{GoesOnBy}
 use Rattle.mz_symbol_rows.proofs.GoingOn.{goes_both, goes_most}
+use Rattle.mz_symbol_lines.proofs.WalkLaws.{goes_none}
 use Rattle.mz_symbol_branches.specs.ChosenValues.{chosen_line}
 use Rattle.mz_eval_cells.specs.declared.types.Known.{Known}
 use Rattle.mz_eval_symbols.specs.Taken.{line_seen, ranges_in}
 use Rattle.mz_eval_lines.specs.StepsBranches.{one_value}
+use Rattle.mz_eval_branches.specs.BranchLines.{AreNone, option_seen}
+use Rattle.mz_eval_branches.proofs.NoValues.{held_none}
 
 -- ---- index ranges
 
@@ -52,7 +56,28 @@ one_told r like id p q k x y f g e =
     ∙ chosen_by r.mode b (ranges_in like) (r.line p) (r.line q)
     ∙ ap (λ o. held r.mode (array_in (ranges_in like) o)) e
 
+abbrev pub held_line : Reading → Known → Option (List Content) → Option Content
+held_line r like o = held r.mode (array_in (ranges_in like) o)
+
+-- a line that isn't defined
+pub blank_told : (r : Reading) (like : Known) (k : ℕ) → None ≡ r.line k → None ≡ line_seen like r k
+blank_told r like k e = sym (held_none r.mode) ∙ ap (held_line r like) e
+
+none_of : (m : Mode) (b : Bool) (v w : Option Content) → v ≡ None → w ≡ None → held m (if b then v else w) ≡ None
+none_of m true v w e f = ap (held m) e ∙ held_none m
+none_of m false v w e f = ap (held m) f ∙ held_none m
+
+-- neither of two is there
+pub neither_told : (r : Reading) (like : Known) (id : ℕ) (p q : Option ℕ) → AreNone p q → one_value r id (option_seen like r p) (option_seen like r q) ≡ None
+neither_told r like id p q n = none_of r.mode (is_true (r.term id)) (option_seen like r p) (option_seen like r q) (ap (option_seen like r) n.0) (ap (option_seen like r) n.1)
+
 -- ---- what it costs
+
+pub goes_blank : (n : ℕ) (old mid new : Run) (ss : List Symbol) → length ss ≡ n → GoesOnBy 0 old mid → GoesOnBy (16 * length ss) mid new → GoesOnBy (20 * n) old new
+goes_blank n old mid new ss e f g = goes_most (0 + 16 * length ss) (20 * n) old new (omega (arith, e)) (goes_both 0 (16 * length ss) old mid new f g)
+
+pub goes_nothing : (n : ℕ) (s : Run) → GoesOnBy (88 * n + 16) s s
+goes_nothing n s = goes_most 0 (88 * n + 16) s s (omega arith) (goes_none s)
 
 pub goes_counted : (n m : ℕ) (old new : Run) → n ≡ m → GoesOnBy (20 * n) old new → GoesOnBy (20 * m) old new
 goes_counted n m old new e g = subst (λ k. GoesOnBy (20 * k) old new) e g

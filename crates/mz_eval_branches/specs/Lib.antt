@@ -1,2 +1,3 @@
 pub mod BranchLines
 pub mod StepsConditions
+pub mod Truths

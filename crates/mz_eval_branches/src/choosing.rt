@@ -16,13 +16,14 @@ use crate::charges::{fold_charge, symbols_charge};
 use crate::conditions::{all_settled, are_told};
 use crate::folding::chosen_line;
 use crate::lines::count_in;
-use crate::undefined::{has_no_value, no_values, unvalued};
+use crate::truths::chosen_truth;
+use crate::undefined::{has_missing, has_no_value, no_values, unvalued};
 use mz_base::{Span, Stop};
 use mz_core::{Base, TypeInst};
 use mz_eval_arrays::branch_cell;
 use mz_eval_cells::{Known, share};
-use mz_eval_lines::branch_cell_in;
-use mz_eval_symbols::cell_of_line;
+use mz_eval_lines::{branch_cell_in, var_bound};
+use mz_eval_symbols::{cell_of_line, cell_of_truth};
 use mz_symbol::Run;
 use std::alloc::{AllocError, Global};
 
@@ -68,7 +69,6 @@ fn drawn_line(
     branches: &[(Known, Known)],
     last: &Known,
 ) -> Result<Option<u64>, Stop>
-    requires { has_no_value like.now ≡ true }
     ensures goes { GoesOn run.old run.new }
     ensures means { Means (option_seen like.now) result run.old run.new (λ r. give (branches_value r branches.now last.now)) }
 {
@@ -154,6 +154,69 @@ fn symbol_choice(
     branch_cell_in(alloc, run, t, at, branches, copy)
 }
 
+/// The truth value of the chosen branch, which may be undefined; `k` is the cell without a value.
+fn drawn_truth(
+    alloc: Global,
+    run: &mut Run,
+    branches: &[(Known, Known)],
+    last: &Known,
+    k: &Known,
+) -> Result<Known, Stop>
+    ensures goes { GoesOn run.old run.new }
+    ensures means { Means seen result run.old run.new (λ r. give (with_value (branches_value r branches.now last.now) (cell_of k.now))) }
+{
+    let bound = var_bound(k)?;
+    let charge = symbols_charge(branches.len() as u64)?;
+    run.draw(charge)?;
+    let nodes = chosen_truth(alloc, run, branches, last)?;
+    let x = cell_of_truth(alloc, bound, nodes.0, nodes.1)?;
+    Ok(x)
+}
+
+fn truth_choice(
+    alloc: Global,
+    run: &mut Run,
+    t: &TypeInst,
+    at: Span,
+    branches: &[(Known, Known)],
+    last: &Known,
+) -> Result<Known, Stop>
+    requires { (plain_type t.now).var ≡ true }
+    ensures goes { GoesOn run.old run.new }
+    ensures means { Means seen result run.old run.new (λ r. arrays.branch_cell r.mode (plain_type t.now) at (pairs_by (seen r) branches.now) (seen r last.now)) }
+{
+    let k = shaped(alloc, t, at, branches, last)?;
+    let x = drawn_truth(alloc, run, branches, last, &k)?;
+    Ok(x)
+}
+
+/// Whether values of a type are Booleans, and no options.
+fn are_truths(t: &TypeInst) -> bool {
+    match t.base {
+        Base::Bool => !t.opt,
+        _ => false,
+    }
+}
+
+/// The cell of branches of a var type that is no array.
+fn scalar_choice(
+    alloc: Global,
+    run: &mut Run,
+    t: &TypeInst,
+    at: Span,
+    branches: &[(Known, Known)],
+    last: &Known,
+) -> Result<Known, Stop>
+    requires { (plain_type t.now).var ≡ true }
+    ensures goes { GoesOn run.old run.new }
+    ensures means { Means seen result run.old run.new (λ r. arrays.branch_cell r.mode (plain_type t.now) at (pairs_by (seen r) branches.now) (seen r last.now)) }
+{
+    if are_truths(t) && has_missing(branches, last) {
+        return truth_choice(alloc, run, t, at, branches, last);
+    }
+    symbol_choice(alloc, run, t, at, branches, last)
+}
+
 // ---- any type
 
 /// The cell of branches of a var type.
@@ -170,7 +233,7 @@ fn open_choice(
     ensures means { Means seen result run.old run.new (λ r. arrays.branch_cell r.mode (plain_type t.now) at (pairs_by (seen r) branches.now) (seen r last.now)) }
 {
     if t.dims.is_empty() && !no_values(branches, last) {
-        return symbol_choice(alloc, run, t, at, branches, last);
+        return scalar_choice(alloc, run, t, at, branches, last);
     }
     let k = shaped(alloc, t, at, branches, last)?;
     let x = valued(alloc, run, t.base, branches, last, k)?;
@@ -206,9 +269,9 @@ fn is_var(t: &TypeInst) -> bool
 ///
 /// Refused as `branch_cell` is. Where no branch has a value nothing is made. Else what the nodes may
 /// cost is drawn from what the run has saved: 48 a branch and 8 of what is no array; of arrays with n
-/// elements 108 n + 24 a branch, and 20 n. Out of memory too where less is saved; where the line of a
-/// branch, or the symbol of a branch or a condition, is (`line_in` and `symbol_in` of
-/// `mz_eval_symbols`); and so of Booleans that are no options, of which one is undefined.
+/// elements 108 n + 24 a branch, and 20 n. Out of memory too where less is saved, and where the line of
+/// a branch, or the symbol of a branch or a condition, is (`line_in` and `symbol_in` of
+/// `mz_eval_symbols`).
 pub fn chosen_branch(
     alloc: Global,
     run: &mut Run,

@@ -5,7 +5,7 @@ ghost use Rattle.mz_meaning.specs.Runs.{give};
 ghost use Rattle.mz_symbol.specs.Makes.{GoesOnBy, Means};
 ghost use Rattle.mz_eval_symbols.specs.Taken.{count_in};
 ghost use Rattle.mz_eval_lines.specs.StepsBranches.{branch_value, branches_value};
-ghost use Rattle.mz_eval_branches.specs.BranchLines.{branch_charge, fold_charge, has_no_value, option_seen};
+ghost use Rattle.mz_eval_branches.specs.BranchLines.{branch_charge, fold_charge, option_seen};
 
 use crate::lines::{count_in, one_option, ranged_line};
 use mz_base::Stop;
@@ -15,14 +15,14 @@ use mz_eval_lines::condition;
 use mz_symbol::Run;
 use std::alloc::Global;
 
-fn is_none(branches: &[(Known, Known)]) -> bool
+pub(crate) fn is_none(branches: &[(Known, Known)]) -> bool
     ensures { result ≡ true → branches.now ≡ [] }
 {
     branches.is_empty()
 }
 
 /// The first branch, and the others.
-fn split(branches: &[(Known, Known)]) -> Option<(&(Known, Known), &[(Known, Known)])>
+pub(crate) fn split(branches: &[(Known, Known)]) -> Option<(&(Known, Known), &[(Known, Known)])>
     ensures are { MatchOption result (Unit {0}) (λ x. branches.now ≡ x.0.now ∷ x.1.now) }
     ensures less { MatchOption result (Unit {0}) (λ x. length x.1.now < length branches.now) }
 {
@@ -32,7 +32,7 @@ fn split(branches: &[(Known, Known)]) -> Option<(&(Known, Known), &[(Known, Know
     }
 }
 
-/// One branch more before the others, under the index ranges of a cell without a value.
+/// One branch more before the others, under the index ranges of a cell.
 fn with_first(
     alloc: Global,
     run: &mut Run,
@@ -41,7 +41,6 @@ fn with_first(
     p: &(Known, Known),
     rest: Option<u64>,
 ) -> Result<Option<u64>, Stop>
-    requires { has_no_value like.now ≡ true }
     ensures goes { GoesOnBy (branch_charge (count_in like.now)) run.old run.new }
     ensures means { Means (option_seen like.now) result run.old run.new (λ r. give (branch_value r p.now (option_seen like.now r rest))) }
 {
@@ -50,13 +49,13 @@ fn with_first(
     };
     let count = count_in(like);
     let first = ranged_line(alloc, run, base, count, like, &p.1)?;
-    let both = one_option(alloc, run, base, like, id, first, rest)?;
+    let both = one_option(alloc, run, like, id, first, rest)?;
     Ok(both)
 }
 
 /// The line of the first branch whose condition is true, and else of the last, under the index ranges
-/// of a cell without a value; none where all of them are undefined.
-pub fn chosen_line(
+/// of a cell; none where all of them are undefined.
+pub(crate) fn chosen_line(
     alloc: Global,
     run: &mut Run,
     base: Base,
@@ -64,7 +63,6 @@ pub fn chosen_line(
     branches: &[(Known, Known)],
     last: &Known,
 ) -> Result<Option<u64>, Stop>
-    requires { has_no_value like.now ≡ true }
     ensures goes { GoesOnBy (fold_charge (count_in like.now) (length branches.now)) run.old run.new }
     ensures means { Means (option_seen like.now) result run.old run.new (λ r. give (branches_value r branches.now last.now)) }
 {

@@ -6,8 +6,8 @@ mod choosing;
 mod conditions;
 mod folding;
 mod lines;
+mod truths;
 mod undefined;
 
 pub use choosing::chosen_branch;
-pub use folding::chosen_line;
 pub use undefined::{has_no_value, unvalued};

@@ -1,12 +1,12 @@
 // Branches as lines of the run: an undefined branch is no line, until another one has a line.
 
-ghost use Rattle.std.specs.Prelude.{◌≡◌, ◌*◌, ◌+◌, IfOk, None, true};
+ghost use Rattle.std.specs.Prelude.{◌≡◌, ◌*◌, ◌+◌, IfOk, MatchOption, None, length, true};
 ghost use Rattle.mz_meaning.specs.Runs.{give};
 ghost use Rattle.mz_symbol.specs.Makes.{GoesOnBy, Means};
 ghost use Rattle.mz_symbol_branches.specs.ChosenValues.{chosen_line};
 ghost use Rattle.mz_eval_symbols.specs.Taken.{cell_value, count_in, line_seen, ranges_in};
 ghost use Rattle.mz_eval_lines.specs.StepsBranches.{one_value};
-ghost use Rattle.mz_eval_branches.specs.BranchLines.{has_no_value, option_seen};
+ghost use Rattle.mz_eval_branches.specs.BranchLines.{AreNone, option_seen};
 
 use crate::undefined::has_no_value;
 use mz_arena::Id;
@@ -14,7 +14,7 @@ use mz_base::{Memory, Stop};
 use mz_core::Base;
 use mz_eval_cells::{Known, length_of};
 use mz_eval_symbols::line_in;
-use mz_symbol::Run;
+use mz_symbol::{Run, Symbol};
 use mz_symbol_branches::choose_lines;
 use mz_symbol_lines::defined;
 use std::alloc::Global;
@@ -108,31 +108,59 @@ pub(crate) fn ranged_line(
     Ok(Some(line))
 }
 
-/// The line of a cell without a value.
-fn blank_line(alloc: Global, run: &mut Run, base: Base, like: &Known) -> Result<u64, Stop>
-    requires { has_no_value like.now ≡ true }
-    ensures goes { GoesOnBy (20 * count_in like.now) run.old run.new }
-    ensures means { Means (line_seen like.now) result run.old run.new (λ r. give None) }
+// ---- one of two
+
+/// The elements of an array, of which there are so many.
+fn items_of(alloc: Global, run: &Run, line: u64, count: u64) -> Result<Vec<Symbol>, Memory>
+    ensures { IfOk result (λ v. length v.items ≡ count) }
 {
-    let line = line_in(alloc, run, base, like)?;
+    let Some(l) = run.line(line) else {
+        return Err(Memory);
+    };
+    let items = Vec::from_slice(alloc, &l.items)?;
+    are_so_many(items.len() as u64, count)?;
+    Ok(items)
+}
+
+/// An array that isn't defined, with the elements of another one, of which there are so many.
+fn blank_line(alloc: Global, run: &mut Run, count: u64, other: u64) -> Result<u64, Stop>
+    ensures goes { GoesOnBy (20 * count) run.old run.new }
+    ensures means { (like : Known) → Means (line_seen like) result run.old run.new (λ r. give None) }
+{
+    let items = items_of(alloc, run, other, count)?;
+    let no = run.truth_node(false)?;
+    let line = run.push_line(no, items)?;
     Ok(line)
 }
 
-/// The line that an option of a line is; of none one of a cell without a value.
+/// The line that an option of a line is; of none one that isn't defined, with the elements of another
+/// line.
 fn line_or(
     alloc: Global,
     run: &mut Run,
-    base: Base,
-    like: &Known,
+    count: u64,
+    other: u64,
     p: Option<u64>,
 ) -> Result<u64, Stop>
-    requires { has_no_value like.now ≡ true }
-    ensures goes { GoesOnBy (20 * count_in like.now) run.old run.new }
-    ensures means { Means (line_seen like.now) result run.old run.new (λ r. give (option_seen like.now r p)) }
+    ensures goes { GoesOnBy (20 * count) run.old run.new }
+    ensures means { (like : Known) → Means (line_seen like) result run.old run.new (λ r. give (option_seen like r p)) }
 {
     match p {
         Some(k) => Ok(k),
-        None => blank_line(alloc, run, base, like),
+        None => blank_line(alloc, run, count, other),
+    }
+}
+
+/// One of two lines, if one is there.
+fn either(p: Option<u64>, q: Option<u64>) -> Option<u64>
+    ensures { MatchOption result (AreNone p q) (λ k. Unit {0}) }
+{
+    match p {
+        Some(k) => Some(k),
+        None => match q {
+            Some(k) => Some(k),
+            None => None,
+        },
     }
 }
 
@@ -147,24 +175,43 @@ fn one_line(alloc: Global, run: &mut Run, id: Id, count: u64, p: u64, q: u64) ->
     Ok(line)
 }
 
-/// The same of arrays under the index ranges of a cell without a value, of which one may be undefined.
-pub(crate) fn one_option(
+/// The same of arrays under the index ranges of a cell, of which one may be undefined and another is
+/// there.
+fn one_of(
     alloc: Global,
     run: &mut Run,
-    base: Base,
     like: &Known,
     id: Id,
+    other: u64,
     p: Option<u64>,
     q: Option<u64>,
 ) -> Result<Option<u64>, Stop>
-    requires { has_no_value like.now ≡ true }
     ensures goes { GoesOnBy (88 * count_in like.now + 16) run.old run.new }
     ensures means { Means (option_seen like.now) result run.old run.new
         (λ r. give (one_value r id (option_seen like.now r p) (option_seen like.now r q))) }
 {
     let count = count_in(like);
-    let first = line_or(alloc, run, base, like, p)?;
-    let second = line_or(alloc, run, base, like, q)?;
+    let first = line_or(alloc, run, count, other, p)?;
+    let second = line_or(alloc, run, count, other, q)?;
     let line = one_line(alloc, run, id, count, first, second)?;
     Ok(Some(line))
+}
+
+/// The same; none where both are undefined.
+pub(crate) fn one_option(
+    alloc: Global,
+    run: &mut Run,
+    like: &Known,
+    id: Id,
+    p: Option<u64>,
+    q: Option<u64>,
+) -> Result<Option<u64>, Stop>
+    ensures goes { GoesOnBy (88 * count_in like.now + 16) run.old run.new }
+    ensures means { Means (option_seen like.now) result run.old run.new
+        (λ r. give (one_value r id (option_seen like.now r p) (option_seen like.now r q))) }
+{
+    match either(p, q) {
+        None => Ok(None),
+        Some(other) => one_of(alloc, run, like, id, other, p, q),
+    }
 }

@@ -69,3 +69,13 @@ pub(crate) fn no_values(branches: &[(Known, Known)], last: &Known) -> bool
         false
     }
 }
+
+/// Whether a branch, or the last one, is surely undefined wherever it is read.
+pub(crate) fn has_missing(branches: &[(Known, Known)], last: &Known) -> bool {
+    for p in branches {
+        if has_no_value(&p.1) {
+            return true;
+        }
+    }
+    has_no_value(last)
+}

@@ -1,5 +1,5 @@
 -- `++` of two arrays of which one is a run's.
-use Rattle.std.proofs.Common.{◌≡◌, ◌∙◌, ℕ, ◌+◌, ◌*◌, ◌^◌, ◌≤◌, ◌<◌, pos, min, List, [], ◌∷◌, ◌++◌, length, Option, Some, None, refl, sym, ap, arith}
+use Rattle.std.proofs.Common.{◌≡◌, ◌∙◌, ℕ, ◌+◌, ◌*◌, ◌^◌, ◌≤◌, ◌<◌, pos, min, Bool, true, false, ◌&&◌, List, [], ◌∷◌, ◌++◌, length, Option, Some, None, refl, sym, ap, arith}
 use Rattle.std.specs.Prelude.{unwrap_or}
 use Rattle.std.specs.Option.{option_map, option_and_then}
 use Rattle.mz_value.specs.Ranges.{Range}
@@ -21,11 +21,14 @@ use Rattle.mz_meaning.specs.Coerced.{recast}
 use Rattle.mz_meaning.specs.Operations.{own_size, row_cost, size_of}
 use Rattle.mz_symbol.specs.Runs.{Run}
 use Rattle.mz_symbol.specs.Readings.{Reading, Reads}
+use Rattle.mz_symbol.specs.Makes.{GoesOnBy}
 use Rattle.mz_symbol_lines.specs.LineValues.{IsLineOf, array_argument}
 use Rattle.mz_symbol_joins.specs.JoinValues.{joined_line, joined_values}
 use Rattle.mz_eval_cells.specs.declared.types.Known.{Known}
 use Rattle.mz_eval_cells.specs.Views.{cell_of, seen}
 use Rattle.mz_eval_symbols.specs.Taken.{cell_value, count_in, line_seen, ranges_in}
+use Rattle.mz_eval_lines.specs.Told.{is_told}
+use Rattle.mz_eval_lines.proofs.Missing.{held_none, untold}
 use Rattle.mz_eval_terms.specs.NodeRows.{var_value}
 use Rattle.mz_eval_term_rows.specs.StepsCells.{HasCount}
 use Rattle.mz_eval_term_rows.proofs.HandedLaws.{line_count, recast_array}
@@ -67,6 +70,33 @@ by_mode (Given k) b v w ix jx o p q e f g h i = concat_is b v w ix jx o p e f g 
 pub joined_told : (r : Reading) (names : Names) (t : PlainType) (a b : Known) (x y n : ℕ) → length (ranges_in a) ≡ 1 → length (ranges_in b) ≡ 1 → cell_value r a ≡ line_seen a r x → cell_value r b ≡ line_seen b r y → joined_line r x y ≡ r.line n → var_value r.mode names (Made made.Concat) t (seen r a ∷ seen r b ∷ []) ≡ line_as t r n
 joined_told r names t a b x y n e f g h i = by_mode r.mode t.base (value_of (seen r a)) (value_of (seen r b)) (ranges_in a) (ranges_in b) (r.line x) (r.line y) (r.line n) e f g h i
 
+-- ---- what is undefined wherever it is read
+
+row_none : (args : Arguments) (k : ℕ) → at args k ≡ None → row_at args k ≡ None
+unfolding row_at
+row_none args k f = ap (option_and_then as_row) f
+
+none_then : (b : Base) (o : Option (List Content)) → option_map (recast b) (option_and_then (λ xs. option_and_then (λ ys. Some (line (xs ++ ys))) None) o) ≡ None
+none_then b None = refl
+none_then b (Some xs) = refl
+
+first_none : (b : Base) (v w : Option Content) → v ≡ None → option_map (recast b) (made_value made.Concat (v ∷ w ∷ [])) ≡ None
+unfolding made_value at
+first_none b v w e = ap (λ a. option_map (recast b) (option_and_then (λ xs. option_and_then (λ ys. Some (line (xs ++ ys))) (row_at (v ∷ w ∷ []) 1)) a)) (row_none (v ∷ w ∷ []) 0 e)
+
+second_none : (b : Base) (v w : Option Content) → w ≡ None → option_map (recast b) (made_value made.Concat (v ∷ w ∷ [])) ≡ None
+unfolding made_value at
+second_none b v w e =
+    ap (λ a. option_map (recast b) (option_and_then (λ xs. option_and_then (λ ys. Some (line (xs ++ ys))) a) (row_at (v ∷ w ∷ []) 0))) (row_none (v ∷ w ∷ []) 1 e)
+    ∙ none_then b (row_at (v ∷ w ∷ []) 0)
+
+pub untold_joined : (r : Reading) (names : Names) (t : PlainType) (a b : Known) → (is_told a && is_told b) ≡ false → var_value r.mode names (Made made.Concat) t (seen r a ∷ seen r b ∷ []) ≡ None
+untold_joined r names t a b h = by (is_told a) refl h
+  where
+    by : (q : Bool) → is_told a ≡ q → (q && is_told b) ≡ false → var_value r.mode names (Made made.Concat) t (seen r a ∷ seen r b ∷ []) ≡ None
+    by false e g = ap (held r.mode) (first_none t.base (value_of (seen r a)) (value_of (seen r b)) (untold r a e)) ∙ held_none r.mode
+    by true e g = ap (held r.mode) (second_none t.base (value_of (seen r a)) (value_of (seen r b)) (untold r b g)) ∙ held_none r.mode
+
 -- ---- the cell
 
 lined_by : (m : Mode) (b : Base) (ix : List Range) (o : Option (List Content)) (n : ℕ) → HasCount o n → ix ≡ (pos 1, pos n) ∷ [] → held m (listed b o) ≡ held m (array_on ix o)
@@ -96,3 +126,7 @@ concat_pays a b p q = both_paid (count_in a) (count_in b) (size_of (cell_of a)) 
 
 pub line_paid : (c d x y : ℕ) → x ≡ c → y ≡ d → 20 * c + 20 * d + (16 * x + 16 * y + 6) ≤ 36 * c + 36 * d + 6
 line_paid c d x y e f = omega (arith, e, f)
+
+-- nothing is made
+pub goes_same : (n : ℕ) (s : Run) → GoesOnBy n s s
+goes_same n s = record { back = λ r h. h; paid = omega arith }

@@ -1,6 +1,6 @@
 // `++` of two arrays of which one is a run's: the elements of both as a new array of the run.
 
-ghost use Rattle.std.specs.Prelude.{◌≡◌, ◌+◌, ◌*◌, ◌^◌, ◌<◌, ◌∷◌, [], pos, false, true, IfOk, Option, length, map, slice_get};
+ghost use Rattle.std.specs.Prelude.{◌≡◌, ◌+◌, ◌*◌, ◌^◌, ◌<◌, ◌&&◌, ◌∷◌, [], pos, false, true, IfOk, None, Option, length, map, slice_get};
 ghost use Rattle.mz_base.specs.declared.fault.Span.{Span as PlainSpan};
 ghost use Rattle.mz_value.specs.Contents.{Content, case_names};
 ghost use Rattle.mz_value.specs.Shown.{Names};
@@ -16,12 +16,14 @@ ghost use Rattle.mz_symbol.specs.Makes.{GoesOnBy, Means};
 ghost use Rattle.mz_symbol_lines.specs.LineValues.{array_argument, count_of};
 ghost use Rattle.mz_eval_symbols.specs.Taken.{count_in, ranges_in};
 ghost use Rattle.mz_eval_cells.specs.Views.{cell_of, known_bound, seen};
+ghost use Rattle.mz_eval_lines.specs.Told.{is_told};
 ghost use Rattle.mz_eval_terms.specs.NodeRows.{row_node, shape_stamped, stamped, var_value, with_value};
 ghost use Rattle.mz_eval_joined_rows.specs.StepsJoined.{line_as, line_cell};
 
 use mz_base::{Memory, Span, Stop};
 use mz_core::TypeInst;
-use mz_eval_cells::{Bound, Known, Origins, VarItems, length_of, share};
+use mz_eval_cells::{Bound, Known, Origins, VarItems, length_of, row_of, share};
+use mz_eval_lines::is_told;
 use mz_eval_symbols::{cell_of_line, line_in};
 use mz_eval_term_rows as rows;
 use mz_eval_terms::{Argument, shape_of_two, whole};
@@ -264,6 +266,87 @@ fn joined_cell(
     }
 }
 
+/// An array without a value, with these index ranges and its elements' bounds.
+fn untold_row(
+    alloc: Global,
+    index: Rc<Vec<(i64, i64)>>,
+    all: Rc<Vec<Bound>>,
+) -> Result<Known, AllocError>
+    ensures { IfOk result (λ x. (r : Reading) → seen r x ≡ Var (bounds.many index.value.items (map known_bound all.value.items)) None) }
+{
+    let k = row_of(alloc, index, all, Origins::Nothing)?;
+    Ok(k)
+}
+
+/// The row's shape as an array without a value.
+fn blank_row(
+    alloc: Global,
+    ix: &Rc<Vec<(i64, i64)>>,
+    ys: &Rc<VarItems>,
+) -> Result<Known, AllocError>
+    ensures { IfOk result (λ x. (r : Reading) → seen r x
+        ≡ Var (bounds.many ix.now.value.items (map known_bound ys.now.value.bounds.value.items)) None) }
+{
+    let ranges = ix.clone()?;
+    let all = ys.bounds.clone()?;
+    let k = untold_row(alloc, ranges, all)?;
+    Ok(k)
+}
+
+/// The row's shape as a cell without a value.
+fn blank_cell(alloc: Global, shape: &Known) -> Result<Known, Memory>
+    ensures { IfOk result (λ x. (r : Reading) → with_value None (cell_of shape.now) ≡ seen r x) }
+{
+    match shape {
+        Known::Row(ix, ys) => {
+            let k = blank_row(alloc, ix, ys)?;
+            Ok(k)
+        }
+        _ => {
+            let k = whole_shape(shape)?;
+            Ok(k)
+        }
+    }
+}
+
+/// Whether something tells the values of both.
+fn are_told(a: &Argument, b: &Argument) -> bool
+    ensures { result ≡ (is_told a.now.cell && is_told b.now.cell) }
+{
+    is_told(&a.cell) && is_told(&b.cell)
+}
+
+/// The cell of both where nothing tells one of them: it has no value.
+fn untold_cell(alloc: Global, shape: &Known, a: &Argument, b: &Argument) -> Result<Known, Memory>
+    requires { (is_told a.now.cell && is_told b.now.cell) ≡ false }
+    ensures { (names : Names) (t : PlainType) → IfOk result (λ x. (r : Reading)
+        → shape_stamped r names (Made made.Concat) t (seen r a.now.cell ∷ seen r b.now.cell ∷ []) shape.now ≡ stamped t r x) }
+{
+    let _first = a.base;
+    let _second = b.base;
+    let k = blank_cell(alloc, shape)?;
+    Ok(k)
+}
+
+/// The cell of both, which may be undefined wherever it is read.
+fn both_cell(
+    alloc: Global,
+    shape: &Known,
+    a: &Argument,
+    b: &Argument,
+    run: &mut Run,
+) -> Result<Known, Stop>
+    ensures goes { GoesOnBy (64 * (1 + row_cost (Made made.Concat) (cell_of a.now.cell ∷ cell_of b.now.cell ∷ []))) run.old run.new }
+    ensures means { (names : Names) (t : PlainType) → Means (stamped t) result run.old run.new
+        (λ r. give (shape_stamped r names (Made made.Concat) t (seen r a.now.cell ∷ seen r b.now.cell ∷ []) shape.now)) }
+{
+    if are_told(a, b) {
+        return joined_cell(alloc, shape, a, b, run);
+    }
+    let k = untold_cell(alloc, shape, a, b)?;
+    Ok(k)
+}
+
 /// `++` of two arrays. Out of memory too where one has 2^60 elements or more, or hasn't as many as
 /// its cell says.
 fn row_of_joined(
@@ -282,7 +365,7 @@ fn row_of_joined(
     let x = share(&a.cell)?;
     let y = share(&b.cell)?;
     let shape = shape_of_two(alloc, cases, Row::Made(MadeRow::Concat), t, at, x, y)?;
-    joined_cell(alloc, &shape, a, b, run)
+    both_cell(alloc, &shape, a, b, run)
 }
 
 // ---- rows of two arguments

@@ -157,7 +157,7 @@ fn base_of(t: &TypeInst) -> Base
 }
 
 /// The bounds of a var cell that is no array; else out of memory.
-fn var_bound(k: &Known) -> Result<Bound, AllocError>
+pub fn var_bound(k: &Known) -> Result<Bound, AllocError>
     ensures { IfOk result (λ b. cell_of k.now ≡ Var (bounds.one (known_bound b)) None) }
 {
     match k {

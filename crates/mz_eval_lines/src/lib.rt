@@ -9,7 +9,7 @@ mod symbols;
 mod told;
 
 pub use arrays::array_cell_in;
-pub use branches::{branch_cell_in, condition};
+pub use branches::{branch_cell_in, condition, var_bound};
 pub use kinds::{of_kind, uncounted};
 pub use lines::{array_over, line_cell_in};
 pub use told::{are_told, is_told};

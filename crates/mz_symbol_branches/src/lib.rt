@@ -6,4 +6,4 @@ mod lines;
 mod single;
 
 pub use lines::choose_lines;
-pub use single::choose;
+pub use single::{choose, if_node};

@@ -33,8 +33,8 @@ pub fn choose(run: &mut Run, cond: Id, p: Symbol, q: Symbol) -> Result<Symbol, S
     Ok(picked)
 }
 
-/// A value, by a condition.
-pub(crate) fn if_node(run: &mut Run, c: Id, x: Id, y: Id) -> Result<Id, Stop>
+/// The node of the first of two where a Boolean node is true, else of the second.
+pub fn if_node(run: &mut Run, c: Id, x: Id, y: Id) -> Result<Id, Stop>
     ensures goes { GoesOnBy 16 run.old run.new }
     ensures means { Means (λ r. r.term) result run.old run.new (λ r. give (if_term (r.term c) (r.term x) (r.term y))) }
 {

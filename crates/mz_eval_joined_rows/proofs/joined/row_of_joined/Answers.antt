@@ -20,6 +20,6 @@ returns-clause-means c r h =
     let s = state_of r c.args.run.now in
     let told : List Cell → Type 0 = λ cs. row_cell r.mode names row t c.args.at cs s ≡ Out (with_value (var_value r.mode names row t cs) (cell_of c.in_ok-shape.shape)) s in
     let cs = seen r c.args.a.now.cell ∷ seen r c.args.b.now.cell ∷ [] in
-    node_meets r.mode names row t c.args.at cs (with_value (var_value r.mode names row t cs) (cell_of c.in_ok-shape.shape)) s (state_of r c.joined_cell.new.run) (stamped t r) c.joined_cell.result
+    node_meets r.mode names row t c.args.at cs (with_value (var_value r.mode names row t cs) (cell_of c.in_ok-shape.shape)) s (state_of r c.both_cell.new.run) (stamped t r) c.both_cell.result
     (subst (λ x. told (seen r c.args.a.now.cell ∷ x ∷ [])) (c.in_ok-y.ensures.seen r) (subst (λ x. told (x ∷ seen r c.in_ok-y.y ∷ [])) (c.in_ok-x.ensures.seen r) ((c.in_ok-shape.ensures r).by s)))
-    (c.joined_cell.ensures.means names t r h)
+    (c.both_cell.ensures.means names t r h)
