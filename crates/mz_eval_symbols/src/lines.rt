@@ -10,8 +10,8 @@ ghost use Rattle.mz_meaning.specs.Cells.{held};
 ghost use Rattle.mz_meaning.specs.Coerced.{recast};
 ghost use Rattle.mz_meaning.specs.Runs.{give};
 ghost use Rattle.mz_symbol.specs.Runs.{ReadsNodes};
-ghost use Rattle.mz_symbol.specs.Readings.{Reading, Reads};
-ghost use Rattle.mz_symbol.specs.Makes.{GoesOnBy, Means};
+ghost use Rattle.mz_symbol.specs.Readings.{Reading, Reads, state_of};
+ghost use Rattle.mz_symbol.specs.Makes.{GoesOn, GoesOnBy, Means};
 ghost use Rattle.mz_symbol_lines.specs.LineValues.{array_argument};
 ghost use Rattle.mz_eval_cells.specs.Views.{known_bound, origins_value, row_content};
 ghost use Rattle.mz_eval_symbols.specs.Steps.{AreCasts, AreMade, IsLineWith, elements_cast, item_cast};
@@ -63,12 +63,31 @@ fn repeated(alloc: Global, s: Symbol, count: u64) -> Result<Vec<Symbol>, Memory>
     Ok(all)
 }
 
+fn no_truth(run: &mut Run) -> Result<Id, Stop>
+    ensures goes { GoesOn run.old run.new }
+    ensures same { IfOk result (λ _. (r : Reading) → Reads r run.new → state_of r run.old ≡ state_of r run.new) }
+{
+    let no = run.truth_node(false)?;
+    Ok(no)
+}
+
+/// Some node that an element of a base may have, which is no option.
+fn plain_node(alloc: Global, run: &mut Run, base: Base) -> Result<Id, Stop>
+    ensures goes { GoesOn run.old run.new }
+    ensures same { IfOk result (λ _. (r : Reading) → Reads r run.new → state_of r run.old ≡ state_of r run.new) }
+{
+    match base {
+        Base::Bool => no_truth(run),
+        _ => any_node(alloc, run, base),
+    }
+}
+
 /// A line of so many elements that isn't defined.
 fn undefined_line(alloc: Global, run: &mut Run, base: Base, count: u64) -> Result<u64, Stop>
     ensures goes { GoesOnBy (16 * count) run.old run.new }
     ensures means { Means (λ r. r.line) result run.old run.new (λ r. give None) }
 {
-    let Ok(term) = any_node(alloc, run, base) else {
+    let Ok(term) = plain_node(alloc, run, base) else {
         return Err(Stop::Memory);
     };
     let s = Symbol {

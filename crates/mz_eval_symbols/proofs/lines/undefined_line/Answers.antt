@@ -6,13 +6,13 @@ use Rattle.mz_eval_symbols.proofs.LineLaws.{line_undefined, undefined_whole, goe
 use Rattle.mz_eval_symbols.proofs.lines.undefined_line.Goals as goal
 
 pub push_line-requires : goal.push_line-requires
-push_line-requires c = undefined_whole c.any_node.new.run c.truth_node.new.self c.in_ok-no.no c.in_ok-all.all.items (λ r h. out_value (c.in_ok-no.ensures.means r h))
+push_line-requires c = undefined_whole c.plain_node.new.run c.truth_node.new.self c.in_ok-no.no c.in_ok-all.all.items (λ r h. out_value (c.in_ok-no.ensures.means r h))
 
 pub returns-in_err-line-clause-goes : goal.returns-in_err-line-clause-goes
-returns-in_err-line-clause-goes c = goes_items c.args.count c.args.run.now c.truth_node.new.self c.push_line.new.self c.in_ok-all.all.items c.in_ok-all.ensures (goes_on c.args.run.now c.any_node.new.run c.truth_node.new.self c.any_node.ensures.goes c.truth_node.ensures.goes) c.push_line.ensures.goes
+returns-in_err-line-clause-goes c = goes_items c.args.count c.args.run.now c.truth_node.new.self c.push_line.new.self c.in_ok-all.all.items c.in_ok-all.ensures (goes_on c.args.run.now c.plain_node.new.run c.truth_node.new.self c.plain_node.ensures.goes c.truth_node.ensures.goes) c.push_line.ensures.goes
 
 pub returns-clause-goes : goal.returns-clause-goes
-returns-clause-goes c = goes_items c.args.count c.args.run.now c.truth_node.new.self c.push_line.new.self c.in_ok-all.all.items c.in_ok-all.ensures (goes_on c.args.run.now c.any_node.new.run c.truth_node.new.self c.any_node.ensures.goes c.truth_node.ensures.goes) c.push_line.ensures.goes
+returns-clause-goes c = goes_items c.args.count c.args.run.now c.truth_node.new.self c.push_line.new.self c.in_ok-all.all.items c.in_ok-all.ensures (goes_on c.args.run.now c.plain_node.new.run c.truth_node.new.self c.plain_node.ensures.goes c.truth_node.ensures.goes) c.push_line.ensures.goes
 
 pub returns-clause-means : goal.returns-clause-means
 returns-clause-means c r h =
