@@ -144,8 +144,12 @@ name_within count files (source.declaration t n at e) h = h.1
 names_within : (count files : ℕ) (ds : List Declaration) → All (OfDeclaration (λ n. n < count) (λ at. at.file < files)) ds → All (λ n. n < count) (map name_of ds)
 names_within count files ds h = All-map (λ n. n < count) name_of ds (All-weaker (OfDeclaration (λ n. n < count) (λ at. at.file < files)) (λ d. name_of d < count) (name_within count files) ds h)
 
+-- what holds of the names of the scoped model's declarations holds of the program's
+typed_named : (Q : ℕ → Type 0) {table : List (List ℕ)} {files : List File} {items : List Given} {p : PlainProgram} (h : IsTypedModel table files items p) → All Q (map name_of h.scoped.decls) → All Q (names_of (ordered p.decls p.order))
+typed_named Q h all = subst (All Q) (sym (names_are h)) all
+
 pub typed_within : (table : List (List ℕ)) (files : List File) (items : List Given) (p : PlainProgram) (names places : ℕ) (h : IsTypedModel table files items p) → IsWithin names places h.scoped → All (λ n. n < names) (names_of (ordered p.decls p.order))
-typed_within table files items p names places h within = subst (All (λ n. n < names)) (sym (names_are h)) (names_within names places h.scoped.decls within.decls)
+typed_within table files items p names places h within = typed_named (λ n. n < names) h (names_within names places h.scoped.decls within.decls)
 
 -- ---- in source order: the same declarations, each once
 
@@ -156,11 +160,14 @@ by_each Q (d ∷ ds) h = (h 0 d.name (omega arith), by_each Q ds (λ k n low. h 
 from_each : (Q : ℕ → Type 0) (ds : List Decl) → AllBy (λ d. Q d.name) ds → All Q (names_of ds)
 from_each Q ds h = all_indexed Q (names_of ds) (all_mapped (λ d. Q d.name) Q (λ d. d.name) ds (λ d q. q) h)
 
-pub declared_within : (table : List (List ℕ)) (files : List File) (items : List Given) (p : PlainProgram) (names places : ℕ) (h : IsTypedModel table files items p) → IsWithin names places h.scoped → All (λ n. n < names) (names_of p.decls)
-declared_within table files items p names places h within =
+pub declared_named : (Q : ℕ → Type 0) {table : List (List ℕ)} {files : List File} {items : List Given} {p : PlainProgram} (h : IsTypedModel table files items p) → All Q (map name_of h.scoped.decls) → All Q (names_of p.decls)
+declared_named Q {table = table} {p = p} h all =
     let numbers : AreNumbered h.types.all.decls = checked_numbered table h.scoped h.types.order h.types.all h.types.are in
-    let here : All (λ n. n < names) (names_of h.types.all.decls) = subst (λ (ds : List Decl). All (λ n. n < names) (names_of ds)) (sections_of h) (typed_within table files items p names places h within) in
-    from_each (λ n. n < names) p.decls
+    let here : All Q (names_of h.types.all.decls) = subst (λ (ds : List Decl). All Q (names_of ds)) (sections_of h) (typed_named Q h all) in
+    from_each Q p.decls
     (all_hold p.decls h.types.all.decls p.order h.types.program.ordered h.types.program.counted
     (numbered_from 0 h.types.all.decls (λ i d low. numbers i d low ∙ (let z : i ≡ 0 + i = omega arith in z)))
-    (λ d. d.name < names) (by_each (λ n. n < names) h.types.all.decls here))
+    (λ d. Q d.name) (by_each Q h.types.all.decls here))
+
+pub declared_within : (table : List (List ℕ)) (files : List File) (items : List Given) (p : PlainProgram) (names places : ℕ) (h : IsTypedModel table files items p) → IsWithin names places h.scoped → All (λ n. n < names) (names_of p.decls)
+declared_within table files items p names places h within = declared_named (λ n. n < names) h (names_within names places h.scoped.decls within.decls)

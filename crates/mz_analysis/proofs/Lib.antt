@@ -12,6 +12,7 @@ pub mod Orders
 pub mod Parts
 pub mod Reasons
 pub mod Single
+pub mod Spelled
 pub mod Stopping
 pub mod Tested
 pub mod Types

@@ -20,7 +20,7 @@ use Rattle.mz_analysis.proofs.Items.{all_mapped}
 use Rattle.mz_analysis.proofs.DataParts.{cases_given, items_given}
 
 -- the places in the order of evaluation are places of declarations
-counted : (is : List ItemTree) (gs : List Given) {s : ScopedTree} (h : IsScoped is gs s) → All (λ k. k < length (decls_of is)) h.order
+pub counted : (is : List ItemTree) (gs : List Given) {s : ScopedTree} (h : IsScoped is gs s) → All (λ k. k < length (decls_of is)) h.order
 counted is gs h = subst (λ n. All (λ k. k < n) h.order) (length-map (decls_of is) decl_sketch) (all_counted (length (map decl_sketch (decls_of is))) h.order h.sequence.is)
 
 module _ (N : Name → Type 0) (P : Span → Type 0) where

@@ -1,8 +1,13 @@
 -- What holds of every model with its data.
-use Rattle.std.specs.Prelude.{◌≡◌, ◌<◌, ℕ, List}
+use Rattle.std.specs.Prelude.{◌≡◌, ◌<◌, ℕ, List, true, false, All}
 use Rattle.mz_base.specs.declared.fault.Fault.{Fault}
+use Rattle.mz_base.specs.Names.{text_of}
+use Rattle.mz_base.specs.Words.{is_identifier}
+use Rattle.mz_io.specs.Files.{Texts}
 use Rattle.mz_tree.specs.Data.{Given}
+use Rattle.mz_scope_faults.specs.Tests.{begins_reserved}
 use Rattle.mz_include.specs.Naming.{File}
+use Rattle.mz_include.specs.Sources.{IsSources}
 use Rattle.mz_scope_order.specs.Scoped.{ScopedTree, AreDistinct}
 use Rattle.mz_scope_order.specs.Subjects.{Subject, IsTypeOrder}
 use Rattle.mz_check_data.specs.WithData.{AreNumbered, checked_with_data, IsRefusedWithData}
@@ -42,3 +47,11 @@ TypesAreRefusedInFiles = (names files : ℕ) (table : List (List ℕ)) (s : Scop
 -- The declarations of a typed program, in the order of evaluation, have their places as slots, and no name stands twice.
 abbrev pub DeclarationsAreNumbered : Type 0
 DeclarationsAreNumbered = (table : List (List ℕ)) (files : List File) (items : List Given) (p : PlainProgram) → IsTypedModel table files items p → AreNumbered (evaluated p) × AreDistinct (names_of (evaluated p))
+
+-- an identifier that doesn't begin with `X_`
+abbrev pub IsOwnIdentifier : List ℕ → Type 0
+IsOwnIdentifier x = (is_identifier x ≡ true) × (begins_reserved x ≡ false)
+
+-- The names of the declarations of a typed program of a model's files are such identifiers.
+abbrev pub NamesAreOwn : Type 0
+NamesAreOwn = (table : List (List ℕ)) (texts : Texts) (first : List ℕ) (files : List File) (items : List Given) (p : PlainProgram) → IsSources table texts first files → IsTypedModel table files items p → All (λ n. IsOwnIdentifier (text_of table n)) (names_of p.decls)

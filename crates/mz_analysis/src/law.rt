@@ -1,6 +1,6 @@
 // What holds of every model's names.
 
-ghost use Rattle.mz_analysis.specs.Promise.{HaveOneScopedModel, ScopedOrRefused, TypedOrRefused, TypesAreRefusedInFiles, OrderMakesNoDifference, HaveOneTypedProgram, HaveOneFault, DeclarationsAreNumbered};
+ghost use Rattle.mz_analysis.specs.Promise.{HaveOneScopedModel, ScopedOrRefused, TypedOrRefused, TypesAreRefusedInFiles, OrderMakesNoDifference, HaveOneTypedProgram, HaveOneFault, DeclarationsAreNumbered, NamesAreOwn};
 
 /// Files have at most one scoped model.
 pub fn one_scoped_model()
@@ -40,4 +40,9 @@ pub fn any_order_of_types()
 /// The declarations of a typed program, in the order of evaluation, have their places as slots, and no name stands twice.
 pub fn declarations_are_numbered()
     ensures { DeclarationsAreNumbered }
+{}
+
+/// The names of a typed program's declarations are identifiers, and none begins with `X_`.
+pub fn names_are_own()
+    ensures { NamesAreOwn }
 {}

@@ -1,7 +1,6 @@
 // A typed program → its FlatZinc program, through the instance between them.
 #![tactic(auto)]
 
-mod spelled;
 mod top_call;
 
 pub use top_call::compiled;

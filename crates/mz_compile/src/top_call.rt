@@ -1,6 +1,6 @@
 // The call: a typed program → its FlatZinc program.
 
-ghost use Rattle.std.specs.Prelude.{◌<◌, ◌^◌, ◌≤ℤ◌, All, length, map, pos};
+ghost use Rattle.std.specs.Prelude.{◌<◌, ◌^◌, ◌≤ℤ◌, All, map, pos};
 ghost use Rattle.mz_value.specs.Ranges.{greatest};
 ghost use Rattle.mz_base.specs.Names.{text_of};
 ghost use Rattle.mz_core.specs.Program.{plain_program};
@@ -13,8 +13,8 @@ ghost use Rattle.flat_meaning.specs.Faithful.{Faithful};
 ghost use Rattle.mz_headline.specs.Keeping.{AreNumbered};
 ghost use Rattle.mz_model.specs.Walks.{Ends};
 ghost use Rattle.mz_compile.specs.Compiled.{CompileEnds};
+ghost use Rattle.mz_compile.specs.Spelled.{IsSpelled};
 
-use crate::spelled::are_spelled;
 use flat::flatten;
 use fz_program::FzProgram;
 use mz_arena::Instance;
@@ -42,8 +42,7 @@ fn flattened(alloc: Global, inst: Instance, names: &Names) -> Result<FzProgram, 
 /// flattened (`flat::flatten`).
 ///
 /// Refused, at its place, where each walk over the program stops, whatever values its variables
-/// have; nothing solves it then. Out of memory too where the name of a variable is no identifier or
-/// begins with `X_`, which the tests of names refuse before.
+/// have; nothing solves it then.
 pub fn compiled(
     alloc: Global,
     program: &Program,
@@ -55,13 +54,10 @@ pub fn compiled(
     requires from_zero { pos 0 ≤ℤ int_range }
     requires in_limit { int_range ≤ℤ greatest }
     requires numbered { AreNumbered (ordered (plain_program program.now).decls (plain_program program.now).order) }
-    requires known { All (λ n. n < length names.now) (map (λ d. d.name) (plain_program program.now).decls) }
+    requires spelled { All (λ n. IsSpelled (text_of names.now n)) (map (λ d. d.name) (plain_program program.now).decls) }
     requires distinct { AreDistinct (map (λ d. text_of names.now d.name) (ordered (plain_program program.now).decls (plain_program program.now).order)) }
     ensures { CompileEnds (record { budget = budget; int_range = int_range }) names.now (plain_program program.now) result }
 {
-    if !are_spelled(names, program.decls.as_slice()) {
-        return Err(Stop::Memory);
-    }
     match model(alloc, program, budget, int_range) {
         Ok(inst) => flattened(alloc, inst, names),
         Err(stop) => Err(stop),

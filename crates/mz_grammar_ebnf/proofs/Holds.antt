@@ -16,7 +16,7 @@ use Rattle.mz_data_names.specs.Named.{names_in, names_in_all, names_in_lines}
 use Rattle.mz_grammar_rules.specs.Tokens.{place}
 use Rattle.mz_grammar.specs.Data.{Dimensions}
 use Rattle.mz_grammar_ebnf.specs.Next.{Next, begins}
-use Rattle.mz_grammar_ebnf.specs.TokenParts.{name_of, IsNameOf, IsPlaceOf, OfGiven}
+use Rattle.mz_grammar_ebnf.specs.TokenParts.{name_of, IsNameOf, IsPlaceOf, IsIdentifierOf, declared_name, DeclaresIdentifier, OfGiven}
 use Rattle.mz_grammar_ebnf.specs.ModelSyntax as model
 use Rattle.mz_grammar_ebnf.specs.ModelSyntax.{DerivesModel, with_accesses}
 use Rattle.mz_grammar_ebnf.specs.DataSyntax as given
@@ -34,14 +34,15 @@ known_name names (TextMid m) h n e = subst (λ k. k < length names) (some_inner 
 known_name names (TextTail m) h n e = subst (λ k. k < length names) (some_inner e) h
 known_name names _ h n e = absurd (cc)
 
-module _ (Named : Name → Type 0) (Placed : Span → Type 0) where
-  -- it holds of the token's name, if it has one, and of its place
-  abbrev pub OfToken : Token → Type 0
-  OfToken t = ((n : Name) → name_of t.tok ≡ Some n → Named n) × Placed t.span
+-- it holds of the token's name, if it has one, and of its place
+abbrev pub OfToken : (Name → Type 0) → (Span → Type 0) → Token → Type 0
+OfToken Named Placed t = ((n : Name) → name_of t.tok ≡ Some n → Named n) × Placed t.span
 
+-- where this is known of each token, and it tells of the name and the place
+module _ (Named : Name → Type 0) (Placed : Span → Type 0) (Seen : Token → Type 0) (tells : (t : Token) → Seen t → OfToken Named Placed t) where
   -- a token, and those that follow it
-  next : {k : Tok} {ts us : List Token} → Next k ts us → All OfToken ts → ((n : Name) → name_of k ≡ Some n → Named n) × Placed (place ts) × All OfToken us
-  next (begins {t = t} {us = us} e) h = let first = All-head OfToken t us h in (λ n g. first.0 n (ap name_of e ∙ g), first.1, All-tail OfToken t us h)
+  next : {k : Tok} {ts us : List Token} → Next k ts us → All Seen ts → ((n : Name) → name_of k ≡ Some n → Named n) × Placed (place ts) × All Seen us
+  next (begins {t = t} {us = us} e) h = let first = tells t (All-head Seen t us h) in (λ n g. first.0 n (ap name_of e ∙ g), first.1, All-tail Seen t us h)
 
   -- Lists of a tree's parts
 
@@ -119,7 +120,7 @@ module _ (Named : Name → Type 0) (Placed : Span → Type 0) where
   At (model.term g f) ts = Placed (place ts)
   At _ ts = Unit {0}
 
-  model_holds : {k : ℕ} {p : model.Phrase} {ts us : List Token} {x : model.Meaning p} → model.Derives k p ts x us → All OfToken ts → Of p x × At p ts × All OfToken us
+  model_holds : {k : ℕ} {p : model.Phrase} {ts us : List Token} {x : model.Meaning p} → model.Derives k p ts x us → All Seen ts → Of p x × At p ts × All Seen us
   unfolding OfTree
   model_holds (model.include_item n h0 h1) h = let a = next h0 h in let b = next h1 a.2 in ((b.0 n refl, b.1), tt, b.2)
   model_holds (model.decl_item h0) h = model_holds h0 h
@@ -211,9 +212,6 @@ module _ (Named : Name → Type 0) (Placed : Span → Type 0) where
   model_holds (model.none {p = p}) h = (All-nil (Of p), tt, h)
   model_holds (model.some h0) h = model_holds h0 h
 
-  pub items_hold : {k : ℕ} {tokens : List Token} {items : List ItemTree} → DerivesModel k tokens items → All OfToken tokens → All (OfItem Named Placed) items
-  items_hold d h = (model_holds d h).0
-
   -- Data files
 
   abbrev OfValue : Value → Type 0
@@ -244,7 +242,7 @@ module _ (Named : Name → Type 0) (Placed : Span → Type 0) where
   DataAt (given.optional s p) ts = Unit {0}
   DataAt _ ts = Placed (place ts)
 
-  data_holds : {k : ℕ} {p : given.Phrase} {ts us : List Token} {x : given.Meaning p} → given.Derives k p ts x us → All OfToken ts → OfData p x × DataAt p ts × All OfToken us
+  data_holds : {k : ℕ} {p : given.Phrase} {ts us : List Token} {x : given.Meaning p} → given.Derives k p ts x us → All Seen ts → OfData p x × DataAt p ts × All Seen us
   unfolding names_in
   data_holds (given.a_true h0) h = let a = next h0 h in (All-nil Named, a.1, a.2)
   data_holds (given.a_false h0) h = let a = next h0 h in (All-nil Named, a.1, a.2)
@@ -270,8 +268,12 @@ module _ (Named : Name → Type 0) (Placed : Span → Type 0) where
   data_holds (given.none {p = p}) h = (All-nil (OfData p), tt, h)
   data_holds (given.some h0) h = data_holds h0 h
 
-  pub data_items_hold : {d : Dimensions} {k : ℕ} {tokens : List Token} {items : List Given} → DerivesFile d k tokens items → All OfToken tokens → All (OfGiven Named Placed) items
-  data_items_hold d h = (data_holds d h).0
+-- what holds of the tokens' names and places
+pub items_hold : (Named : Name → Type 0) (Placed : Span → Type 0) {k : ℕ} {tokens : List Token} {items : List ItemTree} → DerivesModel k tokens items → All (OfToken Named Placed) tokens → All (OfItem Named Placed) items
+items_hold Named Placed d h = (model_holds Named Placed (OfToken Named Placed) (λ t seen. seen) d h).0
+
+pub data_items_hold : (Named : Name → Type 0) (Placed : Span → Type 0) {d : Dimensions} {k : ℕ} {tokens : List Token} {items : List Given} → DerivesFile d k tokens items → All (OfToken Named Placed) tokens → All (OfGiven Named Placed) items
+data_items_hold Named Placed d h = (data_holds Named Placed (OfToken Named Placed) (λ t seen. seen) d h).0
 
 -- each name and each place is that of a token
 own_parts : (tokens : List Token) → All (OfToken (IsNameOf tokens) (IsPlaceOf tokens)) tokens
@@ -282,3 +284,37 @@ items_have_parts k tokens items d = items_hold (IsNameOf tokens) (IsPlaceOf toke
 
 pub data_items_have_parts : (d : Dimensions) (k : ℕ) (tokens : List Token) (items : List Given) → DerivesFile d k tokens items → All (OfGiven (IsNameOf tokens) (IsPlaceOf tokens)) items
 data_items_have_parts d k tokens items h = data_items_hold (IsNameOf tokens) (IsPlaceOf tokens) h (own_parts tokens)
+
+-- ---- the names of declarations are those of identifiers
+
+-- what follows a phrase is seen as well
+rest_seen : (Seen : Token → Type 0) {k : ℕ} {p : model.Phrase} {ts us : List Token} {x : model.Meaning p} → model.Derives k p ts x us → All Seen ts → All Seen us
+rest_seen Seen d h = (model_holds (λ n. Unit {0}) (λ s. Unit {0}) Seen (λ t seen. (λ n e. tt, tt)) d h).2
+
+next_seen : (Seen : Token → Type 0) {k : Tok} {ts us : List Token} → Next k ts us → All Seen ts → ((t : Token) × Seen t × (t.tok ≡ k)) × All Seen us
+next_seen Seen (begins {t = t} {us = us} e) h = ((t, All-head Seen t us h, e), All-tail Seen t us h)
+
+abbrev Identifies : List Token → (p : model.Phrase) → model.Meaning p → Type 0
+Identifies whole model.item i = DeclaresIdentifier whole i
+Identifies whole model.decl d = IsIdentifierOf whole (declared_name d)
+Identifies whole (model.list s p) xs = All (Identifies whole p) xs
+Identifies whole (model.optional s p) xs = All (Identifies whole p) xs
+Identifies whole _ x = Unit {0}
+
+identified : (whole : List Token) {k : ℕ} {p : model.Phrase} {ts us : List Token} {x : model.Meaning p} → model.Derives k p ts x us → All (Contains whole) ts → Identifies whole p x
+identified whole (model.decl_item h0) h = identified whole h0 h
+identified whole (model.declares n h0 h1 h2 h3 h4) h =
+    let colon = rest_seen (Contains whole) h0 h in
+    let name = (next_seen (Contains whole) h1 colon).1 in
+    (next_seen (Contains whole) h2 name).0
+identified whole (model.last {p = p} {x = x} h0) h = All-cons (Identifies whole p) x [] (identified whole h0 h) (All-nil (Identifies whole p))
+identified whole (model.trailing {p = p} {x = x} h0 h1) h = All-cons (Identifies whole p) x [] (identified whole h0 h) (All-nil (Identifies whole p))
+identified whole (model.more {p = p} {x = x} {xs = xs} h0 h1 h2) h =
+    let after = (next_seen (Contains whole) h1 (rest_seen (Contains whole) h0 h)).1 in
+    All-cons (Identifies whole p) x xs (identified whole h0 h) (identified whole h2 after)
+identified whole (model.none {p = p}) h = All-nil (Identifies whole p)
+identified whole (model.some h0) h = identified whole h0 h
+identified whole _ h = tt
+
+pub declarations_identified : (k : ℕ) (tokens : List Token) (items : List ItemTree) → DerivesModel k tokens items → All (DeclaresIdentifier tokens) items
+declarations_identified k tokens items d = identified tokens d (All-contains_itself tokens)

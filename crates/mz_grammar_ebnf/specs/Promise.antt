@@ -16,7 +16,7 @@ use Rattle.mz_grammar.specs.Model as model
 use Rattle.mz_grammar_ebnf.specs.DataSyntax.{DerivesFile}
 use Rattle.mz_grammar_ebnf.specs.ModelSyntax.{Ending, Derives, DerivesModel, expr, decl, type, marks, anns}
 use Rattle.mz_grammar_ebnf.specs.LeftOut.{IsLeftOut}
-use Rattle.mz_grammar_ebnf.specs.TokenParts.{IsNameOf, IsPlaceOf, OfGiven}
+use Rattle.mz_grammar_ebnf.specs.TokenParts.{IsNameOf, IsPlaceOf, DeclaresIdentifier, OfGiven}
 
 -- an array call has a dimension at least
 abbrev pub ArePositive : Dimensions → Type 0
@@ -55,6 +55,10 @@ ModelsHaveTokenParts = (k : ℕ) (tokens : List Token) (items : List ItemTree) �
 
 abbrev pub DataFilesHaveTokenParts : Type 0
 DataFilesHaveTokenParts = (dimensions : Dimensions) (k : ℕ) (tokens : List Token) (items : List Given) → DerivesFile dimensions k tokens items → All (OfGiven (IsNameOf tokens) (IsPlaceOf tokens)) items
+
+-- The name of every declaration at top level in what is derived of a model is that of an identifier.
+abbrev pub DeclarationsHaveIdentifiers : Type 0
+DeclarationsHaveIdentifiers = (k : ℕ) (tokens : List Token) (items : List ItemTree) → DerivesModel k tokens items → All (DeclaresIdentifier tokens) items
 
 -- What is derived of a model where this many tokens may be open at once is at most so high.
 abbrev pub ModelsAreBounded : Type 0

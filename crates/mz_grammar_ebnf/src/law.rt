@@ -1,6 +1,6 @@
 // What holds of the grammars and of the lines of their EBNF.
 
-ghost use Rattle.mz_grammar_ebnf.specs.Promise.{AnnotationsAreDerived, DataFilesAreDerived, DataFilesHaveTokenParts, DataItemsAreDerived, DeclarationsAreDerived, DerivedDataFilesAreTaken, DerivesOneDataFile, ExpressionsAreDerived, LeftOutIsAForm, MarksAreDerived, ModelsAreBounded, ModelsAreDerived, ModelsHaveTokenParts, MoreMayBeOpen, MoreMayBeOpenInData, NoDerivedDataFileIsRefused, TypesAreDerived};
+ghost use Rattle.mz_grammar_ebnf.specs.Promise.{AnnotationsAreDerived, DataFilesAreDerived, DataFilesHaveTokenParts, DataItemsAreDerived, DeclarationsAreDerived, DeclarationsHaveIdentifiers, DerivedDataFilesAreTaken, DerivesOneDataFile, ExpressionsAreDerived, LeftOutIsAForm, MarksAreDerived, ModelsAreBounded, ModelsAreDerived, ModelsHaveTokenParts, MoreMayBeOpen, MoreMayBeOpenInData, NoDerivedDataFileIsRefused, TypesAreDerived};
 
 /// What the rules take of a data file is derived by the lines of the EBNF, with no more tokens open at once than there is room for.
 pub fn data_files_are_derived()
@@ -40,9 +40,11 @@ pub fn more_may_be_open()
     ensures models { MoreMayBeOpen }
 {}
 
-/// Every name and every place in what the EBNF derives of a list of tokens is that of one of these tokens.
+/// Every name and every place in what the EBNF derives of a list of tokens is that of one of these tokens, and the name that a
+/// declaration at top level gives that of an identifier.
 pub fn names_and_places_are_tokens()
     ensures models { ModelsHaveTokenParts }
+    ensures declarations { DeclarationsHaveIdentifiers }
     ensures data_files { DataFilesHaveTokenParts }
 {}
 

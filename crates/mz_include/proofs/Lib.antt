@@ -3,6 +3,7 @@ pub mod Queues
 pub mod Places
 pub mod KnownItems
 pub mod Later
+pub mod Spelled
 pub mod KnownFiles
 pub mod Noting
 pub mod FaultKinds

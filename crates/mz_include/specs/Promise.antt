@@ -1,9 +1,11 @@
 -- What holds of every model's files, and of its first failure.
-use Rattle.std.specs.Prelude.{◌≡◌, ℕ, List, Option, Some}
+use Rattle.std.specs.Prelude.{◌≡◌, ℕ, List, Option, Some, All}
+use Rattle.std.specs.List.{flat_map}
 use Rattle.mz_base.specs.declared.fault.Fault.{Fault}
 use Rattle.mz_base.specs.Names.{AreDistinct, Grows}
 use Rattle.mz_io.specs.Files.{Texts}
 use Rattle.mz_tree.specs.declared.source.SourceFile.{SourceFile}
+use Rattle.mz_include.specs.Trees.{DeclaresSpelled}
 use Rattle.mz_include.specs.Naming.{File}
 use Rattle.mz_include.specs.Sources.{IsSources, IsFirstFailure, IsInItsFile}
 use Rattle.mz_include.specs.Views.{AreKnown}
@@ -34,3 +36,7 @@ StaySo = (old new : List (List ℕ)) → Grows old new
     → ((texts : Texts) (first : List ℕ) (files : List File) → IsSources old texts first files → IsSources new texts first files)
     × ((texts : Texts) (first : List ℕ) (f : Fault) (owner : List ℕ) → IsFirstFailure old texts first f owner → IsFirstFailure new texts first f owner)
     × ((files : List SourceFile) → AreKnown old files → AreKnown new files)
+
+-- The names that the declarations of a model's files give are identifiers.
+abbrev pub DeclarationsAreSpelled : Type 0
+DeclarationsAreSpelled = (names : List (List ℕ)) (texts : Texts) (first : List ℕ) (files : List File) → IsSources names texts first files → All (DeclaresSpelled names) (flat_map (λ f. f.items) files)

@@ -1,7 +1,10 @@
--- Every name in an item is of a table, and every place in it is in one file.
-use Rattle.std.specs.Prelude.{◌≡◌, ℕ, ◌<◌, List, length, refl}
+-- Every name in an item is of a table, and every place in it is in one file; the names that declarations give are identifiers.
+use Rattle.std.specs.Prelude.{◌≡◌, ℕ, ◌<◌, List, length, true, refl}
 use Rattle.mz_base.specs.declared.fault.Span.{Span}
-use Rattle.mz_tree.specs.Items.{ItemTree, include}
+use Rattle.mz_base.specs.Names.{text_of}
+use Rattle.mz_base.specs.Words.{is_identifier}
+use Rattle.mz_tree.specs.Tree.{declaration}
+use Rattle.mz_tree.specs.Items.{ItemTree, include, declare}
 use Rattle.mz_tree.specs.Kinds.{OfItem}
 
 -- every name in the item is one of this table, and every place in it is in the file of this number
@@ -12,6 +15,11 @@ IsItemOf names turn i = OfItem (λ n. n < length names) (λ s. s.file ≡ turn) 
 abbrev pub IsIncludeKnown : List (List ℕ) → ItemTree → Type 0
 IsIncludeKnown names (include n s) = n < length names
 IsIncludeKnown names _ = Unit {0}
+
+-- the name that a declaration gives is an identifier
+abbrev pub DeclaresSpelled : List (List ℕ) → ItemTree → Type 0
+DeclaresSpelled names (declare (declaration t n s e)) = is_identifier (text_of names n) ≡ true
+DeclaresSpelled names _ = Unit {0}
 
 -- What is said of an include item of the third file
 pub of_an_include : (names : List (List ℕ)) (s : Span) → IsItemOf names 2 (include 0 s) ≡ ((0 < length names) × (s.file ≡ 2))

@@ -1,6 +1,6 @@
 // What holds of every model's files, and of its first failure.
 
-ghost use Rattle.mz_include.specs.Promise.{ExcludeEachOther, HasOneModel, HasOneFailure, FaultsAreInTheirFiles, StaySo};
+ghost use Rattle.mz_include.specs.Promise.{ExcludeEachOther, HasOneModel, HasOneFailure, FaultsAreInTheirFiles, StaySo, DeclarationsAreSpelled};
 
 /// Where the texts of the files are told, a model's files and a first failure exclude each other.
 pub fn sources_or_failure()
@@ -27,4 +27,9 @@ pub fn fault_in_its_file()
 /// places in files stays known, where the table of names grows.
 pub fn kept_by_names()
     ensures { StaySo }
+{}
+
+/// The names that the declarations of a model's files give are identifiers.
+pub fn declarations_are_spelled()
+    ensures { DeclarationsAreSpelled }
 {}

@@ -12,4 +12,7 @@ mod read;
 
 pub use end::GatherEnd;
 pub use gathering::gather;
-pub use law::{fault_in_its_file, kept_by_names, one_failure, one_model, sources_or_failure};
+pub use law::{
+    declarations_are_spelled, fault_in_its_file, kept_by_names, one_failure, one_model,
+    sources_or_failure,
+};

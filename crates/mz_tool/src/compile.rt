@@ -1,13 +1,14 @@
 // A model with its included files and its data, compiled or checked.
 
-ghost use Rattle.std.specs.Prelude.{◌≡◌, ◌<◌, IfOk, length};
+ghost use Rattle.std.specs.Prelude.{◌≡◌, ◌<◌, All, IfOk, length};
 ghost use Rattle.mz_base.specs.Names.{AreDistinct, text_of};
 ghost use Rattle.mz_core.specs.Program.{plain_program};
 ghost use Rattle.mz_include.specs.Ends.{IfRefused, OnReadFault, CountsFiles};
 ghost use Rattle.mz_io.specs.Sink.{Held, SinkCounts};
 ghost use Rattle.mz_words.specs.Requests.{IsWithinLimits, compile, check, settings};
 ghost use Rattle.fz_program.specs.Flat.{program, WellFormed};
-ghost use Rattle.mz_analysis.specs.Analysis.{IsRead};
+ghost use Rattle.mz_analysis.specs.Analysis.{IsRead, names_of};
+ghost use Rattle.mz_analysis.specs.Promise.{IsOwnIdentifier};
 ghost use Rattle.mz_compile.specs.Compiled.{IsCompiled};
 ghost use Rattle.mz_tool.specs.Headline.{limits_of};
 ghost use Rattle.mz_tool.specs.Status.{CountsFiles as Counts, CountsOut, IsRefusal};
@@ -37,6 +38,7 @@ fn flat_of(
     requires distinct { AreDistinct names.now }
     requires read { IsRead names.now checked.now.read }
     requires program { HasProgram names.now checked.now }
+    requires spelled { All (λ n. IsOwnIdentifier (text_of names.now n)) (names_of (plain_program checked.now.program).decls) }
     ensures compiled { IfOk result (λ flat. IsCompiled (limits_of (settings options.now)) names.now (plain_program checked.now.program) (program flat)) }
     ensures refused { IfRefused result (IsNamedRefusal (limits_of (settings options.now)) names.now checked.now.read) }
     ensures owner { IfRefused result (λ _ n. n < length names.now) }

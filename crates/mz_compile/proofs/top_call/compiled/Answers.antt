@@ -1,17 +1,12 @@
-use Rattle.std.proofs.Common.{length}
 use Rattle.std.specs.Prelude.{Err}
 use Rattle.mz_arena.specs.Instances.{instance}
 use Rattle.mz_core.specs.Program.{plain_program}
-use Rattle.mz_meaning.specs.Walk.{ordered}
 use Rattle.mz_model_meaning.specs.Modeled.{Modeled}
 use Rattle.mz_model.specs.Ending.{ModelEnds}
 use Rattle.mz_compile.proofs.Limits.{as_read}
 use Rattle.mz_compile.proofs.Made.{flattened, refused}
-use Rattle.mz_compile.proofs.Spelling.{are_named, ordered_spelled, all_known, all_spelled}
+use Rattle.mz_compile.proofs.Spelling.{are_named}
 use Rattle.mz_compile.proofs.top_call.compiled.Goals as goal
-
-pub are_spelled-requires : goal.are_spelled-requires
-are_spelled-requires c = all_known (length c.args.names.now) c.args.program.now c.as_slice.result.now c.as_slice.ensures.value c.requires.known
 
 pub flattened-requires-clause-instance : goal.flattened-requires-clause-instance
 flattened-requires-clause-instance c = c.in-Ok.ensures.sound
@@ -19,9 +14,7 @@ flattened-requires-clause-instance c = c.in-Ok.ensures.sound
 pub flattened-requires-clause-named : goal.flattened-requires-clause-named
 flattened-requires-clause-named c =
     let p = plain_program c.args.program.now in
-    are_named c.args.names.now (ordered p.decls p.order) (instance c.in-Ok.inst).vars
-    (ordered_spelled c.args.names.now p.decls p.order (all_spelled c.args.names.now c.args.program.now c.as_slice.result.now c.as_slice.ensures.value (c.are_spelled.ensures c.if-not-are_spelled.false)))
-    c.requires.distinct c.in-Ok.ensures.vars
+    are_named c.args.names.now p.decls p.order (instance c.in-Ok.inst).vars c.requires.spelled c.requires.distinct c.in-Ok.ensures.vars
 
 pub returns-in-Ok : goal.returns-in-Ok
 returns-in-Ok c =

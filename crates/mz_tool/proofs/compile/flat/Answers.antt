@@ -1,9 +1,12 @@
 use Rattle.std.proofs.lemmas.Result.{IfOk-weaker}
 use Rattle.std.proofs.Common.{◌<◌, length}
 use Rattle.mz_base.specs.Names.{text_of}
+use Rattle.mz_core.specs.Program.{plain_program}
 use Rattle.fz_program.specs.declared.program.FzProgram.{FzProgram}
 use Rattle.fz_program.specs.Flat.{program}
 use Rattle.mz_words.specs.Requests.{settings}
+use Rattle.mz_analysis.specs.Analysis.{files_read, items_read}
+use Rattle.mz_analysis.proofs.Spelled.{names_own}
 use Rattle.mz_tool.specs.declared.checking.Checked.{Checked}
 use Rattle.mz_tool.specs.Headline.{limits_of}
 use Rattle.mz_tool.specs.Status.{IsRefusal}
@@ -19,6 +22,13 @@ flat_of-requires-clause-read g c = c.in-Ok.ensures.checked.read
 
 pub flat_of-requires-clause-program : goal.flat_of-requires-clause-program
 flat_of-requires-clause-program g c = c.in-Ok.ensures.checked.program
+
+pub flat_of-requires-clause-spelled : goal.flat_of-requires-clause-spelled
+flat_of-requires-clause-spelled g c =
+    let table = c.checked_model.new.names in
+    let s = settings c.args.options.now in
+    let k = c.in-Ok.checked in
+    names_own table (g.F.Files.texts c.args.files.now) s.model (files_read table k.read) (items_read k.read) (plain_program k.program) c.in-Ok.ensures.checked.sources.model c.in-Ok.ensures.checked.program.typed
 
 pub returns-in-Ok-clause-flat : goal.returns-in-Ok-clause-flat
 returns-in-Ok-clause-flat g c =

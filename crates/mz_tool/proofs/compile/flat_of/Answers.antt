@@ -29,8 +29,8 @@ compiled-requires-clause-numbered c =
     let k = c.args.checked.now in
     typed_numbered table (files_read table k.read) (items_read k.read) (plain_program k.program) c.requires.program.typed
 
-pub compiled-requires-clause-known : goal.compiled-requires-clause-known
-compiled-requires-clause-known c = c.requires.program.named
+pub compiled-requires-clause-spelled : goal.compiled-requires-clause-spelled
+compiled-requires-clause-spelled c = c.requires.spelled
 
 pub compiled-requires-clause-distinct : goal.compiled-requires-clause-distinct
 compiled-requires-clause-distinct c =
