@@ -2,12 +2,13 @@
 // node of a constraint is taken apart.
 
 use crate::evaluation::expanded;
+use mz_base::Memory;
 use mz_core::{Core, CoreForm, CoreStep};
-use mz_eval_cells::{Item, Known};
-use mz_eval_scopes::World;
+use mz_eval_cells::{Item, Known, bounds_in, share, var_cell};
+use mz_eval_scopes::{Env, Scope, World, seek};
 use mz_operations::{Connective, Row, ScalarRow, row_of};
 use mz_symbol::Run;
-use std::alloc::Global;
+use std::alloc::{AllocError, Global};
 
 fn is_conjunction(number: u32) -> bool {
     match row_of(number) {
@@ -31,6 +32,27 @@ fn is_unmet(k: &Known) -> bool {
         Known::One(Item::Bool(b)) => !*b,
         _ => false,
     }
+}
+
+/// A name's cell without what tells a variable's value.
+fn untold(alloc: Global, k: &Known) -> Result<Known, AllocError> {
+    match k {
+        Known::Var(_) | Known::Row(_, _) => var_cell(alloc, bounds_in(alloc, k)?),
+        _ => share(k),
+    }
+}
+
+/// The cells of so many names without what tells their values, so that an evaluation over them makes
+/// none of their nodes.
+fn untold_names(alloc: Global, world: &World, count: u64) -> Result<Env, Memory> {
+    let mut env = Env::new(alloc);
+    let top = Scope::Top;
+    for slot in 0..count {
+        if let Some(k) = seek(world, &top, slot) {
+            env.set_cell(slot, untold(alloc, k)?)?;
+        }
+    }
+    Ok(env)
 }
 
 /// 1 for an expression that is par and isn't true. It is evaluated by itself, and its work isn't counted.
@@ -83,13 +105,42 @@ fn written_count(e: &Core) -> u64 {
     }
 }
 
-/// How many roots a constraint with this cell has: of a conjunction that is par and false one for each
-/// operand that is false, and of another one for each operand. A conjunction in parentheses that isn't
-/// the first operand is one of them where it is var.
-pub(crate) fn operand_count(alloc: Global, world: &World, e: &Core, cell: &Known) -> u64 {
-    if is_unmet(cell) {
-        unmet_count(alloc, world, e)
+/// The same of one that is par and false: one for each operand that is false. The operands are
+/// evaluated over the names' untold cells, which are made once and kept.
+fn false_count(alloc: Global, world: &World, names: u64, e: &Core, kept: &mut Option<Env>) -> u64 {
+    if kept.is_none() {
+        let Ok(env) = untold_names(alloc, world, names) else {
+            return 1;
+        };
+        *kept = Some(env);
+    }
+    let Some(env) = &*kept else {
+        return 1;
+    };
+    let apart = World {
+        program: world.program,
+        env,
+        budget: world.budget,
+        int_range: world.int_range,
+    };
+    unmet_count(alloc, &apart, e)
+}
+
+/// How many roots a constraint with this cell has, where there are so many names: of a conjunction that
+/// is par and false one for each operand that is false, and of another one for each operand. A
+/// conjunction in parentheses that isn't the first operand is one of them where it is var.
+pub(crate) fn operand_count(
+    alloc: Global,
+    world: &World,
+    names: u64,
+    e: &Core,
+    cell: &Known,
+    kept: &mut Option<Env>,
+) -> u64 {
+    let written = written_count(e);
+    if written > 1 && is_unmet(cell) {
+        false_count(alloc, world, names, e, kept)
     } else {
-        written_count(e)
+        written
     }
 }

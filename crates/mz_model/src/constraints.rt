@@ -12,17 +12,19 @@ use crate::evaluation::expanded;
 use crate::types::{HeldConstraint, Names, Task};
 use mz_base::Stop;
 use mz_core::Core;
+use mz_eval_scopes::Env;
 use mz_model_hand::{walks_are_closed, walks_go_on};
 use mz_model_roots::constraint_roots;
 use mz_symbol::Run;
 use std::alloc::Global;
 
-/// One more constraint: its cell, and its roots.
+/// One more constraint: its cell, and its roots. `untold` is for `operand_count` alone.
 fn constrain_next(
     alloc: Global,
     task: &Task,
     names: &Names,
     e: &Core,
+    untold: &mut Option<Env>,
     run: &mut Run,
 ) -> Result<HeldConstraint, Stop>
     requires { AreReadable names.now }
@@ -32,7 +34,7 @@ fn constrain_next(
     walks_are_closed();
     let world = world_in(&*task, &*names);
     let cell = expanded(alloc, &world, e, run)?;
-    let count = operand_count(alloc, &world, e, &cell);
+    let count = operand_count(alloc, &world, names.list.len() as u64, e, &cell, untold);
     let Ok(roots) = constraint_roots(alloc, run, &cell, count) else {
         return Err(Stop::Memory);
     };
@@ -52,8 +54,9 @@ pub(crate) fn constrain_each(
     ensures { ConstraintsEnd task.now run.old run.new (names_of names.now) (map tree all.now) result }
 {
     let mut cs = Vec::new(alloc);
+    let mut untold = None;
     for e in all {
-        let c = constrain_next(alloc, task, names, e, run)?;
+        let c = constrain_next(alloc, task, names, e, &mut untold, run)?;
         let Ok(()) = cs.push(c) else {
             return Err(Stop::Memory);
         };
