@@ -33,11 +33,14 @@ argument go ctx var env d e k = do
 abbrev pub ended_call : World → Function → Span → Sure → List Want → Want → Cell → Run Cell
 ended_call w f at holds ixs x r = handed w.mode r >> done w at (result_cell w.mode f.result.ty holds ixs x r)
 
--- in the scope of the parameters, of which `holds` tells whether all that is declared of them holds
-abbrev pub called_in : World → Eval → Context → Function → Span → Sure → Env → Run Cell
-called_in w go ctx f at holds env = do
-  c ← go ctx f.body env
+-- what the body gives, under the result's sets
+abbrev pub result_in : World → Eval → Context → Function → Span → Sure → Env → Cell → Run Cell
+result_in w go ctx f at holds env c = do
   ixs ← index_wants go ctx f.result.index env
   x ← want go ctx f.result.set env
   r ← fitted (place_of f.body) ixs c
   ended_call w f at holds ixs x r
+
+-- in the scope of the parameters, of which `holds` tells whether all that is declared of them holds
+abbrev pub called_in : World → Eval → Context → Function → Span → Sure → Env → Run Cell
+called_in w go ctx f at holds env = go ctx f.body env >>= λ c. result_in w go ctx f at holds env c

@@ -14,7 +14,7 @@ ghost use Rattle.mz_eval_names.specs.Names.{names_seen};
 ghost use Rattle.mz_symbol.specs.Makes.{GoesOn, Means};
 ghost use Rattle.mz_eval_domains.specs.Wants.{wanted, wants_of};
 ghost use Rattle.mz_eval.specs.Levels.{world_in, at_level, in_scope};
-ghost use Rattle.mz_eval.specs.Calls.{argument, arguments_seen, called_in, ended_call};
+ghost use Rattle.mz_eval.specs.Calls.{argument, arguments_seen, called_in, ended_call, result_in};
 ghost use Rattle.mz_meaning.specs.Lets as lets;
 
 use crate::forms::{eval_expression, eval_parts};
@@ -232,6 +232,25 @@ pub(crate) fn eval_called(
     ensures means { Means seen result run.old run.new (λ r. in_scope r level.now bound.now.scope.now (λ w go ctx env. called_in w go ctx (function f.now) at (guard_seen r bound.now.holds) env)) }
 {
     let c = eval_expression(level, &f.body, bound.scope, run)?;
+    eval_result(level, f, at, bound, c, run)
+}
+
+// What the body gives, under the result's sets. It stands apart from the call, so that a call that waits
+// for its body takes little of the stack.
+#[inline(never)]
+#[cycle(forms)]
+fn eval_result(
+    level: &Level,
+    f: &CoreFunction,
+    at: Span,
+    bound: &CallScope,
+    c: Known,
+    run: &mut Run,
+) -> Result<Known, Stop>
+    ensures goes { GoesOn run.old run.new }
+    ensures means { Means seen result run.old run.new
+        (λ r. in_scope r level.now bound.now.scope.now (λ w go ctx env. result_in w go ctx (function f.now) at (guard_seen r bound.now.holds) env (seen r c))) }
+{
     let index = eval_indices(level, &f.result.index, bound.scope, run)?;
     let set = eval_want(level, &f.result.set, bound.scope, run)?;
     let r = fitted(level.alloc, place_of(&f.body), &index, c)?;

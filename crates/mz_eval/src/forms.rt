@@ -138,6 +138,7 @@ fn eval_slot(
     done(level.world, at, cell, run)
 }
 
+#[inline(never)]
 fn eval_text(level: &Level, n: Name, at: Span, run: &mut Run) -> Result<Known, Stop>
     ensures goes { GoesOn run.old run.new }
     ensures means { Means seen result run.old run.new (λ r. done (world_in r level.now) at (text_cell (text_at (world_in r level.now).texts n))) }
@@ -146,6 +147,7 @@ fn eval_text(level: &Level, n: Name, at: Span, run: &mut Run) -> Result<Known, S
     done(level.world, at, cell, run)
 }
 
+#[inline(never)]
 fn eval_cases(level: &Level, e: u64, at: Span, run: &mut Run) -> Result<Known, Stop>
     ensures goes { GoesOn run.old run.new }
     ensures means { Means seen result run.old run.new (λ r. done (world_in r level.now) at (par_value (all_cases (world_in r level.now).cases e))) }
@@ -203,7 +205,8 @@ fn eval_builtin(
     run: &mut Run,
 ) -> Result<Known, Stop>
     ensures goes { GoesOn run.old run.new }
-    ensures means { Means (stamped (plain_type node.now.ty)) result run.old run.new (λ r. at_node r level.now scope.now node.now (λ w go ctx at t env. typed_by w t (builtin w go ctx n (map tree all.now) at t env))) }
+    ensures means { Means (stamped (plain_type node.now.ty)) result run.old run.new
+        (λ r. at_node r level.now scope.now node.now (λ w go ctx at t env. typed_by w t (builtin w go ctx n (map tree all.now) at t env))) }
 {
     let base = arguments_base(all, &node.ty);
     let row = row_at(n, base);
@@ -229,7 +232,8 @@ fn eval_called(
     run: &mut Run,
 ) -> Result<Known, Stop>
     ensures goes { GoesOn run.old run.new }
-    ensures means { Means (stamped (plain_type node.now.ty)) result run.old run.new (λ r. at_node r level.now scope.now node.now (λ w go ctx at t env. typed_by w t (with_row_or_global w at t n row (parts go ctx (map tree all.now) env)))) }
+    ensures means { Means (stamped (plain_type node.now.ty)) result run.old run.new
+        (λ r. at_node r level.now scope.now node.now (λ w go ctx at t env. typed_by w t (with_row_or_global w at t n row (parts go ctx (map tree all.now) env)))) }
 {
     match row {
         None => eval_global(level, node, n, all, scope, run),
@@ -249,7 +253,8 @@ fn eval_row(
     run: &mut Run,
 ) -> Result<Known, Stop>
     ensures goes { GoesOn run.old run.new }
-    ensures means { Means (stamped (plain_type node.now.ty)) result run.old run.new (λ r. at_node r level.now scope.now node.now (λ w go ctx at t env. typed_by w t (with_row w at t row (parts go ctx (map tree all.now) env)))) }
+    ensures means { Means (stamped (plain_type node.now.ty)) result run.old run.new
+        (λ r. at_node r level.now scope.now node.now (λ w go ctx at t env. typed_by w t (with_row w at t row (parts go ctx (map tree all.now) env)))) }
 {
     let count = all.len();
     if count == 1 {
@@ -280,7 +285,8 @@ fn eval_one(
     run: &mut Run,
 ) -> Result<Known, Stop>
     ensures goes { GoesOn run.old run.new }
-    ensures means { Means (stamped (plain_type node.now.ty)) result run.old run.new (λ r. at_node r level.now scope.now node.now (λ w go ctx at t env. typed_by w t (with_row w at t row (parts go ctx (tree a.now ∷ []) env)))) }
+    ensures means { Means (stamped (plain_type node.now.ty)) result run.old run.new
+        (λ r. at_node r level.now scope.now node.now (λ w go ctx at t env. typed_by w t (with_row w at t row (parts go ctx (tree a.now ∷ []) env)))) }
 {
     let x = eval_expression(level, a, scope, run)?;
     let arg = argument_of(a, x);
@@ -298,7 +304,8 @@ fn eval_two(
     run: &mut Run,
 ) -> Result<Known, Stop>
     ensures goes { GoesOn run.old run.new }
-    ensures means { Means (stamped (plain_type node.now.ty)) result run.old run.new (λ r. at_node r level.now scope.now node.now (λ w go ctx at t env. typed_by w t (with_row w at t row (parts go ctx (tree a.now ∷ tree b.now ∷ []) env)))) }
+    ensures means { Means (stamped (plain_type node.now.ty)) result run.old run.new
+        (λ r. at_node r level.now scope.now node.now (λ w go ctx at t env. typed_by w t (with_row w at t row (parts go ctx (tree a.now ∷ tree b.now ∷ []) env)))) }
 {
     let x = eval_expression(level, a, scope, run)?;
     let y = eval_expression(level, b, scope, run)?;
@@ -457,7 +464,8 @@ fn eval_access(
     run: &mut Run,
 ) -> Result<Known, Stop>
     ensures goes { GoesOn run.old run.new }
-    ensures means { Means (stamped (plain_type node.now.ty)) result run.old run.new (λ r. at_node r level.now scope.now node.now (λ w go ctx at t env. typed_by w t (access w go ctx (tree a.now) (map tree all.now) at t env))) }
+    ensures means { Means (stamped (plain_type node.now.ty)) result run.old run.new
+        (λ r. at_node r level.now scope.now node.now (λ w go ctx at t env. typed_by w t (access w go ctx (tree a.now) (map tree all.now) at t env))) }
 {
     let count = all.len();
     if count == 1 {
@@ -478,7 +486,8 @@ fn eval_element(
     run: &mut Run,
 ) -> Result<Known, Stop>
     ensures goes { GoesOn run.old run.new }
-    ensures means { Means (stamped (plain_type node.now.ty)) result run.old run.new (λ r. at_node r level.now scope.now node.now (λ w go ctx at t env. typed_by w t (access w go ctx (tree a.now) (tree i.now ∷ []) at t env))) }
+    ensures means { Means (stamped (plain_type node.now.ty)) result run.old run.new
+        (λ r. at_node r level.now scope.now node.now (λ w go ctx at t env. typed_by w t (access w go ctx (tree a.now) (tree i.now ∷ []) at t env))) }
 {
     let cell = eval_expression(level, a, scope, run)?;
     let index = eval_expression(level, i, scope, run)?;

@@ -48,7 +48,8 @@ pub(crate) fn eval_global(
     run: &mut Run,
 ) -> Result<Known, Stop>
     ensures goes { GoesOn run.old run.new }
-    ensures means { Means (stamped (plain_type node.now.ty)) result run.old run.new (λ r. at_node r level.now scope.now node.now (λ w go ctx at t env. typed_by w t (with_global w at n (parts go ctx (map tree all.now) env)))) }
+    ensures means { Means (stamped (plain_type node.now.ty)) result run.old run.new
+        (λ r. at_node r level.now scope.now node.now (λ w go ctx at t env. typed_by w t (with_global w at n (parts go ctx (map tree all.now) env)))) }
 {
     let cells = eval_parts(level, all, scope, run)?;
     let g = global_numbered(n);

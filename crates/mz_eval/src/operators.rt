@@ -23,7 +23,7 @@ use mz_eval_cells::Known;
 use mz_eval_chains::{Innermost, Operator, all_operators, has_innermost, is_appended, place_of};
 use mz_eval_nodes::{
     Appended, append_operand, appended_nodes, contexts_before, first_within, is_settled, kind_of,
-    left_argument, nothing_appended, operand_within, operated_on, prepared, right_within,
+    nothing_appended, operand_within, operated_on, prepared, right_within,
 };
 use mz_eval_scopes::{Context, Scope};
 use mz_symbol::Run;
@@ -125,8 +125,7 @@ fn eval_operator(
 {
     let a = prepared(level.alloc, level.world, place, o, cell, run)?;
     let c = eval_expression(level, o.operand, scope, run)?;
-    let left = left_argument(o, kind, a);
-    operated_on(level.alloc, level.world, o, left, c, run)
+    operated_on(level.alloc, level.world, o, kind, a, c, run)
 }
 
 // With the operators of the first operand.
@@ -175,7 +174,8 @@ fn eval_operators(
 ) -> Result<Known, Stop>
     requires { map ctx_of contexts.items ≡ later (ctx_of level.now.ctx) (map operator_of all.now) }
     ensures goes { GoesOn run.old run.new }
-    ensures means { Means seen result run.old run.new (λ r. in_scope r level.now scope.now (λ w go ctx env. operators w go ctx env (place_of (tree first.now)) (seen r left_cell) (map operator_of all.now))) }
+    ensures means { Means seen result run.old run.new
+        (λ r. in_scope r level.now scope.now (λ w go ctx env. operators w go ctx env (place_of (tree first.now)) (seen r left_cell) (map operator_of all.now))) }
 {
     let mut cell = left_cell;
     let mut place = place_of(first);

@@ -72,11 +72,14 @@ fn saved(run: &mut Run, n: u64) -> Result<(), Memory>
 }
 
 /// So much weight; what it pays for is saved for later nodes.
-#[tactic(auto, using(crate::proofs::WeightLaws::earns_pays))]
+#[tactic(auto, using(crate::proofs::WeightLaws::earns_pays, crate::proofs::WeightLaws::goes_none, mz_eval_declared::proofs::Taking::none_weighed))]
 pub(crate) fn weighed(run: &mut Run, n: u64) -> Result<(), Stop>
     ensures goes { GoesOn run.old run.new }
     ensures means { Means (λ _ _. tt) result run.old run.new (λ r. weigh r.mode n) }
 {
+    if n == 0 {
+        return Ok(());
+    }
     run.weigh(n)?;
     saved(run, n)?;
     Ok(())

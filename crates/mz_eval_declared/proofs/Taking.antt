@@ -2,7 +2,7 @@
 use Rattle.std.proofs.Common.{◌≡◌, ◌∙◌, ℕ, zero, suc, ◌+◌, ◌*◌, ◌≤◌, ◌<◌, Bool, true, false, List, [], ◌∷◌, ◌++◌, length, replicate, refl, sym, ap, subst, arith}
 use Rattle.mz_meaning.specs.Cells.{Mode, Blank, Given}
 use Rattle.mz_meaning.specs.Domains.{Domain}
-use Rattle.mz_meaning.specs.Runs.{State, Out, noted}
+use Rattle.mz_meaning.specs.Runs.{State, Out, noted, weigh}
 use Rattle.mz_symbol.specs.Runs.{Run}
 use Rattle.mz_symbol.specs.Readings.{Reading, Reads, state_of}
 use Rattle.mz_symbol.specs.Makes.{GoesOnBy}
@@ -34,6 +34,10 @@ none_noted : (m : Mode) (s : State) → noted m [] 0 s ≡ s
 none_noted (Blank false) s = refl
 none_noted (Blank true) s = ap (λ ds. after s.work ds (s.weight + 0)) (no_more s.taken) ∙ ap (after s.work s.taken) (same_weight s.weight)
 none_noted (Given f) s = ap (λ ds. after s.work ds (s.weight + 0)) (no_more s.taken) ∙ ap (after s.work s.taken) (same_weight s.weight)
+
+-- no weight changes nothing
+pub none_weighed : (m : Mode) (n : ℕ) (s : State) → n ≡ 0 → weigh m n s ≡ Out tt s
+none_weighed m n s e = ap (λ k. weigh m k s) e ∙ ap (Out tt) (none_noted m s)
 
 more_noted : (m : Mode) (k : ℕ) (d : Domain) (s : State) → noted m (d ∷ []) 0 (noted m (replicate k d) 0 s) ≡ noted m (replicate (suc k) d) 0 s
 more_noted (Blank false) k d s = refl

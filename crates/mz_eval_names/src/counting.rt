@@ -36,11 +36,14 @@ fn spent(world: &World, at: Span, n: u64, run: &mut Run) -> Result<(), Stop>
 }
 
 /// More weight, and what it pays for is saved.
-#[tactic(auto, using(crate::proofs::CountLaws::earned_saved))]
+#[tactic(auto, using(crate::proofs::CountLaws::earned_saved, crate::proofs::GuardLaws::goes_on, mz_eval_declared::proofs::Taking::none_weighed))]
 fn weighed(n: u64, run: &mut Run) -> Result<(), Stop>
     ensures goes { GoesOn run.old run.new }
     ensures means { Means (λ _ _. tt) result run.old run.new (λ r. weigh r.mode n) }
 {
+    if n == 0 {
+        return Ok(());
+    }
     run.weigh(n)?;
     run.save(paid(n))?;
     Ok(())

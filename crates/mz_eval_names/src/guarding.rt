@@ -1,8 +1,8 @@
 // The cells of lets and calls: undefined where something that is declared doesn't hold.
 
-ghost use Rattle.std.specs.Prelude.{◌≡◌, IfOk, false};
+ghost use Rattle.std.specs.Prelude.{◌≡◌, IfOk, false, true};
 ghost use Rattle.mz_arena.specs.Values.{is_true};
-ghost use Rattle.mz_core.specs.Types.{plain_type};
+ghost use Rattle.mz_core.specs.Types.{PlainType, plain_type};
 ghost use Rattle.mz_meaning.specs.Cells as cells;
 ghost use Rattle.mz_meaning.specs.Cells.{kept_if};
 ghost use Rattle.mz_meaning.specs.Runs.{give};
@@ -129,6 +129,16 @@ pub fn guarded_in(
     Ok(x)
 }
 
+/// Whether a cell is a par value, of which no set is declared, and all that is declared before holds.
+fn is_plain(index: &[Want], set: &Want, holds: Guard, c: &Known) -> bool
+    ensures { result ≡ true → (r : Reading) (t : PlainType) → result_cell r.mode t (guard_seen r holds) (wants_of index.now) (wanted set.now) (seen r c.now) ≡ seen r c.now }
+{
+    match (index, set, holds, c) {
+        ([], Want::Anything, Guard::Par(true), Known::One(_)) => true,
+        _ => false,
+    }
+}
+
 /// A call's cell: its body's, under the result's index sets already, and undefined where an argument
 /// or the result doesn't suit.
 #[tactic(auto, using(crate::proofs::GuardLaws::goes_then))]
@@ -145,6 +155,9 @@ pub fn resulting(
     ensures means { Means seen result run.old run.new
         (λ r. give (result_cell r.mode (plain_type t.now) (guard_seen r holds) (wants_of index.now) (wanted set.now) (seen r c))) }
 {
+    if is_plain(index, set, holds, &c) {
+        return Ok(c);
+    }
     let own = all_suit(alloc, run, index, set, &c)?;
     let all = both_of(run, holds, own)?;
     let x = guarded_by(alloc, run, t, all, c)?;

@@ -54,7 +54,7 @@ fn coerced_kind(
 
 /// An operator's left operand under its coercions, as an argument; `kind` is what the type of the
 /// node before says.
-pub fn left_argument(o: &Operator, kind: (Base, bool), k: Known) -> Argument
+pub(crate) fn left_argument(o: &Operator, kind: (Base, bool), k: Known) -> Argument
     ensures { result.cell ≡ k }
 {
     let (base, opt) = coerced_kind(o.before, &o.step.left, kind);

@@ -10,7 +10,7 @@ mod globals;
 mod operands;
 mod types;
 
-pub use arguments::{argument_of, arguments_base, kind_of, left_argument};
+pub use arguments::{argument_of, arguments_base, kind_of};
 pub use branches::with_branch;
 pub use contexts::{
     arguments_within, contexts_before, elsewhere, first_within, is_settled, operand_within,

@@ -9,12 +9,13 @@ ghost use Rattle.mz_eval_scopes.specs.Seen.{world_seen};
 ghost use Rattle.mz_eval_chains.specs.Innermosts.{operator_of};
 ghost use Rattle.mz_eval_nodes.specs.Operators.{operator_node, operated_on, placed_seen, nothing_appended, appended_seen, appended_nodes, left_seen, lefts_seen};
 
-use crate::arguments::{element_argument, right_argument};
+use crate::arguments::{element_argument, left_argument, right_argument};
 use crate::types::Appended;
 use mz_base::{Span, Stop};
-use mz_eval_cells::Known;
+use mz_core::Base;
+use mz_eval_cells::{Known, is_par};
 use mz_eval_chains::{Operator, coerce_both, is_uncoerced, operand_base, place_of};
-use mz_eval_row_nodes::node_of_two;
+use mz_eval_row_nodes::{node_of_pars, node_of_two};
 use mz_eval_rows::row_at;
 use mz_eval_scopes::World;
 use mz_eval_terms::Argument;
@@ -56,27 +57,50 @@ fn node_of(
     node_of_two(alloc, world, o.at, &o.step.ty, row, args, run)
 }
 
-/// An operator's node: its right operand's coercions, and the row.
+// the same over cells; `kind` is what the type of the node before says
+fn node_over(
+    alloc: Global,
+    world: &World,
+    o: &Operator,
+    kind: (Base, bool),
+    a: Known,
+    b: Known,
+    run: &mut Run,
+) -> Result<Known, Stop>
+    ensures goes { GoesOn run.old run.new }
+    ensures means { Means seen result run.old run.new (λ r. operator_node (world_seen r world.now) (operator_of o.now) (seen r a) (seen r b)) }
+    ensures bare { MeansBare seen result run.old run.new (λ r. operator_node (world_seen r world.now) (operator_of o.now) (seen r a) (seen r b)) }
+{
+    if is_par(&a) && is_par(&b) {
+        let row = row_at(o.step.row, operand_base(o));
+        return node_of_pars(alloc, world, o.at, &o.step.ty, row, a, b, run);
+    }
+    let x = left_argument(o, kind, a);
+    let y = right_argument(o, b);
+    node_of(alloc, world, o, (x, y), run)
+}
+
+/// An operator's node: its right operand's coercions, and the row. `kind` is what the type of the node
+/// before says.
 pub fn operated_on(
     alloc: Global,
     world: &World,
     o: &Operator,
-    a: Argument,
+    kind: (Base, bool),
+    a: Known,
     c: Known,
     run: &mut Run,
 ) -> Result<Known, Stop>
     ensures goes { GoesOn run.old run.new }
-    ensures means { Means seen result run.old run.new (λ r. operated_on (world_seen r world.now) (seen r a.cell) (operator_of o.now) (seen r c)) }
-    ensures bare { MeansBare seen result run.old run.new (λ r. operated_on (world_seen r world.now) (seen r a.cell) (operator_of o.now) (seen r c)) }
+    ensures means { Means seen result run.old run.new (λ r. operated_on (world_seen r world.now) (seen r a) (operator_of o.now) (seen r c)) }
+    ensures bare { MeansBare seen result run.old run.new (λ r. operated_on (world_seen r world.now) (seen r a) (operator_of o.now) (seen r c)) }
 {
     if is_uncoerced(o.after, &o.step.right) {
-        let x = right_argument(o, c);
-        return node_of(alloc, world, o, (a, x), run);
+        return node_over(alloc, world, o, kind, a, c, run);
     }
     let place = place_of(o.operand);
     let b = coerce_both(alloc, world, place, o.after, &o.step.right, c, run)?;
-    let y = right_argument(o, b);
-    node_of(alloc, world, o, (a, y), run)
+    node_over(alloc, world, o, kind, a, b, run)
 }
 
 /// The first operand alone.

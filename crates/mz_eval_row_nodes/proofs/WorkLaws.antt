@@ -42,6 +42,15 @@ cost_fits row cs n e = let small : row_cost row cs ≤ 2 ^ 62 = omega arith in o
 
 -- ---- work pays for nodes
 
+pub earns_goes : (n : ℕ) (old mid new : symbol_runs.Run) → Earns n old mid → GoesOn mid new → GoesOn old new
+earns_goes n old mid new f g = record {
+  back = λ r h. f.back r (g.back r h);
+  paid = sums (owed old) (owed mid) (owed new) (earned old) (earned mid) (earned new) n f.paid g.paid;
+}
+  where
+    sums : (a b c x y z n : ℕ) → b + (x + 64 * n) ≤ a + y → c + y ≤ b + z + 0 → c + x ≤ a + z + 0
+    sums a b c x y z n p q = omega (arith, p, q)
+
 pub earns_pays : (n : ℕ) (old mid new : symbol_runs.Run) → Earns n old mid → GoesOnBy (64 * n) mid new → GoesOn old new
 earns_pays n old mid new f g = record {
   back = λ r h. f.back r (g.back r h);

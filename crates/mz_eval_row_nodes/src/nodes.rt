@@ -17,7 +17,7 @@ use mz_eval_cells::{Known, stays, typed, undefined};
 use mz_eval_joined_rows::row_of_two;
 use mz_eval_rows::{cost_of_all, cost_of_one, cost_of_two};
 use mz_eval_scopes::{World, done};
-use mz_eval_term_rows::{Argument, row_of_all, row_of_one};
+use mz_eval_term_rows::{Argument, row_of_all, row_of_one, rows_of_par};
 use mz_operations::Row;
 use mz_symbol::Run;
 use std::alloc::{AllocError, Global};
@@ -114,6 +114,30 @@ fn row_all(
     row_of_all(alloc, &world.program.cases, row, t, at, all, run)
 }
 
+/// The same of two par arguments.
+fn par_row_two(
+    alloc: Global,
+    world: &World,
+    at: Span,
+    t: &TypeInst,
+    row: Row,
+    a: Known,
+    b: Known,
+    run: &mut Run,
+) -> Result<Known, Stop>
+    ensures goes { GoesOn run.old run.new }
+    ensures means { Means (stamped (plain_type t.now)) result run.old run.new
+        (λ r. node_by (world_seen r world.now) at (plain_type t.now) (seen r a ∷ seen r b ∷ []) (Some row)) }
+    ensures bare { MeansBare (stamped (plain_type t.now)) result run.old run.new
+        (λ r. node_by (world_seen r world.now) at (plain_type t.now) (seen r a ∷ seen r b ∷ []) (Some row)) }
+{
+    let cost = cost_of_two(row, &a, &b);
+    run.spend(world.budget, at, 1 + cost)?;
+    let k = rows_of_par(alloc, &world.program.cases, row, t, at, a, b, run);
+    sound(run);
+    k
+}
+
 /// Where there is no row.
 fn untyped(world: &World, at: Span, t: &TypeInst, run: &mut Run) -> Result<Known, Stop>
     ensures goes { GoesOn run.old run.new }
@@ -202,6 +226,31 @@ pub fn node_of_two(
         return no_row(alloc, world, at, t, run);
     };
     let k = row_two(alloc, world, at, t, w, args, run)?;
+    let x = typed_row(alloc, t, k)?;
+    Ok(x)
+}
+
+/// The same of two par arguments.
+pub fn node_of_pars(
+    alloc: Global,
+    world: &World,
+    at: Span,
+    t: &TypeInst,
+    row: Option<Row>,
+    a: Known,
+    b: Known,
+    run: &mut Run,
+) -> Result<Known, Stop>
+    ensures goes { GoesOn run.old run.new }
+    ensures means { Means seen result run.old run.new
+        (λ r. node_by (world_seen r world.now) at (plain_type t.now) (seen r a ∷ seen r b ∷ []) row) }
+    ensures bare { MeansBare seen result run.old run.new
+        (λ r. node_by (world_seen r world.now) at (plain_type t.now) (seen r a ∷ seen r b ∷ []) row) }
+{
+    let Some(w) = row else {
+        return no_row(alloc, world, at, t, run);
+    };
+    let k = par_row_two(alloc, world, at, t, w, a, b, run)?;
     let x = typed_row(alloc, t, k)?;
     Ok(x)
 }

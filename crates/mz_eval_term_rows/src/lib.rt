@@ -8,4 +8,4 @@ mod rows;
 mod settled;
 
 pub use mz_eval_terms::Argument;
-pub use rows::{row_of_all, row_of_one, row_of_two};
+pub use rows::{row_of_all, row_of_one, row_of_two, rows_of_par};

@@ -137,8 +137,9 @@ pub fn row_of_one(
     row_of_settled(alloc, cases, row, t, at, a.cell, x, run)
 }
 
-/// A row of two par arguments.
-fn rows_of_par(
+/// What a row gives of two par arguments, at a node of this type, before its type is stamped on it.
+/// No node is made. The refusals are those of `row_of_all`.
+pub fn rows_of_par(
     alloc: Global,
     cases: &Cases,
     row: Row,

@@ -174,7 +174,10 @@ abbrev pub decreases-calls::eval_parameters : goal.decreases-calls::eval_paramet
 decreases-calls::eval_parameters l = 2 ^ 140 * l.level.now.left + 6
 
 abbrev pub decreases-calls::eval_called : goal.decreases-calls::eval_called
-decreases-calls::eval_called l = 2 ^ 140 * l.level.now.left + 3
+decreases-calls::eval_called l = 2 ^ 140 * l.level.now.left + 4
+
+abbrev pub decreases-calls::eval_result : goal.decreases-calls::eval_result
+decreases-calls::eval_result l = 2 ^ 140 * l.level.now.left + 3
 
 abbrev pub decreases-calls::eval_function : goal.decreases-calls::eval_function
 decreases-calls::eval_function l = 2 ^ 140 * l.level.now.left + 7
@@ -186,19 +189,19 @@ abbrev pub decreases-calls::eval_declared_call : goal.decreases-calls::eval_decl
 decreases-calls::eval_declared_call l = 2 ^ 140 * l.level.now.left + 9
 
 abbrev pub decreases-plain_calls::eval_unbound : goal.decreases-plain_calls::eval_unbound
-decreases-plain_calls::eval_unbound l = 2 ^ 140 * l.level.now.left + 4
+decreases-plain_calls::eval_unbound l = 2 ^ 140 * l.level.now.left + 5
 
 abbrev pub decreases-plain_calls::eval_weighed : goal.decreases-plain_calls::eval_weighed
-decreases-plain_calls::eval_weighed l = 2 ^ 140 * l.level.now.left + 4
+decreases-plain_calls::eval_weighed l = 2 ^ 140 * l.level.now.left + 5
 
 abbrev pub decreases-plain_calls::eval_bound : goal.decreases-plain_calls::eval_bound
-decreases-plain_calls::eval_bound l = 2 ^ 140 * l.level.now.left + (2 * length l.all.now + 5)
+decreases-plain_calls::eval_bound l = 2 ^ 140 * l.level.now.left + (2 * length l.all.now + 6)
 
 abbrev pub decreases-plain_calls::eval_first : goal.decreases-plain_calls::eval_first
-decreases-plain_calls::eval_first l = 2 ^ 140 * l.level.now.left + (2 * length l.all.now + 6)
+decreases-plain_calls::eval_first l = 2 ^ 140 * l.level.now.left + (2 * length l.all.now + 7)
 
 abbrev pub decreases-plain_calls::eval_plain_call : goal.decreases-plain_calls::eval_plain_call
-decreases-plain_calls::eval_plain_call l = 2 ^ 140 * l.level.now.left + (2 * length l.all.now + 6)
+decreases-plain_calls::eval_plain_call l = 2 ^ 140 * l.level.now.left + (2 * length l.all.now + 7)
 
 abbrev pub decreases-calls::eval_call : goal.decreases-calls::eval_call
 decreases-calls::eval_call l = 2 ^ 140 * l.level.now.left + (2 * length l.all.now + 10)
