@@ -5,6 +5,7 @@ use Rattle.std.specs.Option.{option_map, option_and_then}
 use Rattle.mz_value.specs.Ranges.{Range}
 use Rattle.mz_value.specs.Contents.{Content, contents}
 use Rattle.mz_value.specs.Contents as values
+use Rattle.mz_core.specs.declared.types.Base.{Base}
 use Rattle.mz_arena.specs.Values.{Term, is_true}
 use Rattle.mz_operations.specs.Bounds as bounds
 use Rattle.mz_meaning.specs.Cells.{Cell, Var, Mode, Blank, Given, Bare, held, only_if, value_of}
@@ -20,7 +21,9 @@ use Rattle.mz_symbol_lines.specs.LineValues.{array_argument}
 use Rattle.glob_nodes.specs.Says.{Says}
 use Rattle.mz_eval_cells.specs.declared.types.Bound.{Bound}
 use Rattle.mz_eval_cells.specs.declared.types.Known.{Known}
-use Rattle.mz_eval_cells.specs.Views.{cell_of, known_bound, seen}
+use Rattle.mz_eval_cells.specs.declared.types.Origins.TheVariants as origins
+use Rattle.mz_eval_cells.specs.declared.types.VarItems.{VarItems}
+use Rattle.mz_eval_cells.specs.Views.{array_of, cast_by, cell_of, known_bound, origins_value, row_content, seen}
 use Rattle.mz_eval_symbols.specs.Taken.{cell_value, line_seen, ranges_in}
 use Rattle.mz_eval_guards.specs.Guards.{IsCell}
 use Rattle.mz_eval_guards.specs.StepsLines.{HasItems}
@@ -94,3 +97,27 @@ row_goes n c bs old one new e f g h =
 
 pub row_begins : (n c : ℕ) (old new : Run) → c ≡ n → GoesOnBy (20 * c) old new → GoesOnBy (6 + 36 * n) old new
 row_begins n c old new e g = goes_most (20 * c) (6 + 36 * n) old new (omega (arith, e)) g
+
+-- ---- arrays that nothing tells
+
+none_listed : (c : Option Base) → cast_by c None ≡ None
+none_listed None = refl
+none_listed (Some b) = refl
+
+pub nothing_listed : (xs : VarItems) → xs.origins ≡ origins.Nothing → (l : ℕ → Option (List Content)) (ix : List Range) → row_content l ix xs ≡ None
+nothing_listed xs e l ix = ap (λ o. cast_by xs.cast (array_of ix (origins_value l o))) e ∙ none_listed xs.cast
+
+pub untold_row : (s : Run) (ix : List Range) (bs : List bounds.Bound) (d : ℕ) (xs : VarItems) (k : Known) → ((l : ℕ → Option (List Content)) (js : List Range) → row_content l js xs ≡ None)
+    → cell_of k ≡ Var (bounds.many ix bs) None → ((r : Reading) → seen r k ≡ Var (bounds.many ix bs) (held r.mode None))
+    → IsCell s s (λ r. Var (bounds.many ix bs) (held r.mode (only_if (is_true (r.term d)) (held r.mode (row_content r.line ix xs))))) k
+untold_row s ix bs d xs k f of e = record {
+  same = λ r h. refl;
+  is = λ r h. e r ∙ ap (λ v. Var (bounds.many ix bs) (held r.mode v)) (untold_if r.mode (is_true (r.term d)) ∙ ap (λ x. only_if (is_true (r.term d)) (held r.mode x)) (sym (f r.line ix)));
+  bare = of;
+}
+  where
+    untold_if : (m : Mode) (p : Bool) → None ≡ only_if p (held m None)
+    untold_if (Blank n) true = refl
+    untold_if (Blank n) false = refl
+    untold_if (Given f) true = refl
+    untold_if (Given f) false = refl

@@ -1,8 +1,9 @@
 // The cells that guards guard: they have their values where the guard holds, and none elsewhere.
 
-ghost use Rattle.std.specs.Prelude.{◌≡◌, ◌*◌, ◌+◌, IfOk, None, Option, Some, false, length, map, true, ℕ};
+ghost use Rattle.std.specs.Prelude.{◌≡◌, ◌*◌, ◌+◌, IfOk, List, None, Option, Some, false, length, map, true, ℕ};
 ghost use Rattle.mz_value.specs.Contents as values;
 ghost use Rattle.mz_value.specs.Contents.{Content};
+ghost use Rattle.mz_value.specs.Ranges.{Range};
 ghost use Rattle.mz_core.specs.declared.types.Base.TheVariants as base;
 ghost use Rattle.mz_core.specs.Types.{plain_type};
 ghost use Rattle.mz_arena.specs.Values.{Term, is_true};
@@ -15,7 +16,7 @@ ghost use Rattle.mz_symbol.specs.Symbols.{symbol_value};
 ghost use Rattle.mz_symbol_rows.specs.RowValues.{as_argument};
 ghost use Rattle.mz_symbol_lines.specs.LineValues.{array_argument};
 ghost use Rattle.mz_eval_cells.specs.declared.types.Known.TheVariants as known;
-ghost use Rattle.mz_eval_cells.specs.Views.{cell_of, known_bound, seen, truth_by, var_content};
+ghost use Rattle.mz_eval_cells.specs.Views.{cell_of, known_bound, row_content, seen, truth_by, var_content};
 ghost use Rattle.mz_eval_symbols.specs.Taken.{count_in, ranges_in};
 ghost use Rattle.mz_eval_guards.specs.Guards.{IsCell, guard_seen, held_truth};
 ghost use Rattle.mz_eval_guards.specs.StepsGuarding.{IsLineKept, IsTruth};
@@ -278,9 +279,53 @@ fn line_cell(
     cell_of_line(alloc, ranges, all, line)
 }
 
-/// A var array. A line of its own is made, which copies the elements.
+/// Whether nothing tells the elements of a var array.
+#[tactic(auto, using(crate::proofs::RowLaws::nothing_listed))]
+fn is_untold_row(xs: &VarItems) -> bool
+    ensures { result ≡ true → (l : ℕ → Option (List Content)) (ix : List Range) → row_content l ix xs.now ≡ None }
+{
+    match &xs.origins {
+        Origins::Nothing => true,
+        Origins::Values(_) => false,
+        Origins::Line(_) => false,
+    }
+}
+
+/// The array with these index ranges and bounds that nothing tells.
+fn empty_row(
+    alloc: Global,
+    index: &Rc<Vec<(i64, i64)>>,
+    xs: &Rc<VarItems>,
+) -> Result<Known, AllocError>
+    ensures of { IfOk result (λ k. cell_of k ≡ Var (bounds.many index.now.value.items (map known_bound xs.now.value.bounds.value.items)) None) }
+    ensures seen { IfOk result (λ k. (r : Reading) → seen r k ≡ Var (bounds.many index.now.value.items (map known_bound xs.now.value.bounds.value.items)) (held r.mode None)) }
+{
+    let ranges = index.clone()?;
+    let all = xs.bounds.clone()?;
+    row_of(alloc, ranges, all, Origins::Nothing)
+}
+
+/// A var array that is undefined wherever it is read.
+fn untold_row(
+    alloc: Global,
+    run: &mut Run,
+    d: Id,
+    index: &Rc<Vec<(i64, i64)>>,
+    xs: &Rc<VarItems>,
+) -> Result<Known, Memory>
+    requires { (l : ℕ → Option (List Content)) (ix : List Range) → row_content l ix xs.now.value ≡ None }
+    ensures goes { GoesOnBy (6 + 36 * length (map known_bound xs.now.value.bounds.value.items)) run.old run.new }
+    ensures cell { IfOk result (IsCell run.old run.new (λ r.
+        Var (bounds.many index.now.value.items (map known_bound xs.now.value.bounds.value.items)) (held r.mode (only_if (is_true (r.term d)) (value_of (seen r (known.Row index.now xs.now))))))) }
+{
+    let _work = run.work();
+    let k = empty_row(alloc, index, xs)?;
+    Ok(k)
+}
+
+/// A var array of which something tells the elements. A line of its own is made, which copies them.
 #[tactic(auto, using(crate::proofs::RowLaws::row_goes, crate::proofs::RowLaws::row_begins))]
-fn row_kept(
+fn told_row(
     alloc: Global,
     run: &mut Run,
     base: Base,
@@ -299,6 +344,26 @@ fn row_kept(
     let made = line_kept(alloc, run, d, line, xs.bounds.len() as u64)?;
     let x = line_cell(alloc, index, xs, made)?;
     Ok(x)
+}
+
+/// A var array.
+fn row_kept(
+    alloc: Global,
+    run: &mut Run,
+    base: Base,
+    d: Id,
+    index: &Rc<Vec<(i64, i64)>>,
+    xs: &Rc<VarItems>,
+) -> Result<Known, Memory>
+    ensures goes { GoesOnBy (6 + 36 * length (map known_bound xs.now.value.bounds.value.items)) run.old run.new }
+    ensures cell { IfOk result (IsCell run.old run.new (λ r.
+        Var (bounds.many index.now.value.items (map known_bound xs.now.value.bounds.value.items)) (held r.mode (only_if (is_true (r.term d)) (value_of (seen r (known.Row index.now xs.now))))))) }
+{
+    if is_untold_row(xs) {
+        untold_row(alloc, run, d, index, xs)
+    } else {
+        told_row(alloc, run, base, d, index, xs)
+    }
 }
 
 /// A var cell, which has its value where a truth value is true.

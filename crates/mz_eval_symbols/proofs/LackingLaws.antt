@@ -96,6 +96,9 @@ branches_lack es o x p q f g e k l t h i =
     ap as_number (g t h ∙ ap (λ c. if_term (t c) (t q.first) (t q.second)) (sym e))
     ∙ branch_none (t p.condition) (t p.first) (t p.second) (t q.first) (t q.second) (ap is_true (sym (f t h)) ∙ i) (k t h) (l t h)
 
+pub choice_lacks : (es : List Entry) (o x : ℕ) (q : Branching) → IsIf es x q → q.condition ≡ o → Lacks es o q.first → Lacks es o x
+choice_lacks es o x q g e k t h i = ap as_number (g t h) ∙ first_none (t q.condition) (t q.first) (t q.second) (ap (λ c. is_true (t c)) e ∙ i) (k t h i)
+
 pub condition_lacks : (es : List Entry) (o x : ℕ) (p : ℕ × ℕ) (q : Branching) → IsPair es pair.And o p → IsIf es x q → p.0 ≡ q.condition → Lacks es p.0 q.first → Lacks es o x
 condition_lacks es o x p q f g e k t h i =
     let holds : is_true (t p.0) ≡ true = first_both (is_true (t p.0)) (is_true (t p.1)) (sym (and_true (t p.0) (t p.1)) ∙ ap is_true (sym (f t h)) ∙ i) in

@@ -99,6 +99,19 @@ fn by_condition(nodes: &Arena, o: Id, x: Id) -> Reason
     Reason::One(Claim::Nodes(p.0, q.first))
 }
 
+/// The second node is chosen by the first.
+fn by_choice(nodes: &Arena, o: Id, x: Id) -> Reason
+    ensures { Suffices nodes.now (Nodes o x) result }
+{
+    let Some(q) = if_at(nodes, x) else {
+        return Reason::Unknown;
+    };
+    if !is_same(q.condition, o) {
+        return Reason::Unknown;
+    }
+    Reason::One(Claim::Nodes(o, q.first))
+}
+
 /// The first node is an And.
 fn by_both(nodes: &Arena, o: Id, x: Id) -> Reason
     ensures { Suffices nodes.now (Nodes o x) result }
@@ -173,7 +186,8 @@ fn of_nodes(nodes: &Arena, o: Id, x: Id) -> Reason
     }
     let joined = first(by_element(nodes, o, x), by_both(nodes, o, x));
     let chosen = first(by_branches(nodes, o, x), by_condition(nodes, o, x));
-    let other = first(chosen, joined);
+    let told = first(by_choice(nodes, o, x), chosen);
+    let other = first(told, joined);
     first(by_guard(nodes, o, x), other)
 }
 

@@ -10,4 +10,4 @@ returns c =
     let es = c.args.nodes.now in
     let d = claim.Nodes c.args.o c.args.x in
     c.first.ensures es d c.by_guard.ensures
-    (c.first-other.ensures es d (c.first-chosen.ensures es d c.by_branches.ensures c.by_condition.ensures) (c.first-joined.ensures es d c.by_element.ensures c.by_both.ensures))
+    (c.first-other.ensures es d (c.first-told.ensures es d c.by_choice.ensures (c.first-chosen.ensures es d c.by_branches.ensures c.by_condition.ensures)) (c.first-joined.ensures es d c.by_element.ensures c.by_both.ensures))
