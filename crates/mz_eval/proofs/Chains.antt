@@ -2,17 +2,20 @@
 use Rattle.std.proofs.Common.{◌≡◌, ◌∙◌, ℕ, zero, suc, ◌+◌, ◌-◌, ◌<◌, Bool, true, false, Option, Some, None, is_some, List, [], ◌∷◌, map, take, drop, length, get_or, refl, sym, ap, arith, if◌then◌else◌}
 use Rattle.std.proofs.lemmas.List.{at_drop_more}
 use Rattle.mz_base.specs.declared.fault.Span.{Span}
+use Rattle.mz_core.specs.declared.tree.CoreStep.{CoreStep}
 use Rattle.mz_core.specs.Tree.{Tree, Step, steps, place_of}
+use Rattle.mz_core.specs.TreeViews.{step}
 use Rattle.mz_meaning.specs.Runs.{State, Answer, Out, then_do}
 use Rattle.mz_meaning.specs.Cells.{Cell, Env}
 use Rattle.mz_meaning.specs.Contexts.{Context, Untested, Positive, Other}
-use Rattle.mz_meaning.specs.Chains.{Operator, Innermost, with_innermost, chained, innermost_of, chain_level, same_level, backed, operand_base, right_in, before, first_in}
+use Rattle.mz_meaning.specs.Chains.{Operator, Innermost, with_innermost, chained, innermost_of, chain_level, same_level, backed, operand_base, left_in, right_in, before, first_in}
 use Rattle.mz_meaning.specs.Forms.{World, Eval, coerced_by, operated, operators, operand_place, chain, chain_by, Appended, append_operand, append_operands}
 use Rattle.mz_eval_chains.specs.declared.types.Operator as code
 use Rattle.mz_eval_chains.specs.Innermosts.{operator_of}
 use Rattle.mz_eval_nodes.specs.Contexts.{settled}
 use Rattle.mz_eval_nodes.specs.Operators.{operator_step}
-use Rattle.mz_eval_chains.proofs.Runs.{regroup}
+use Rattle.mz_eval_chains.proofs.Runs.{regroup, then_same, out_again}
+use Rattle.mz_eval.specs.Chains.{one_operator}
 
 pub operators_next : (w : World) (go : Eval) (ctx : Context) (env : Env) (at : Span) (left : Cell) (o : Operator) (os : List Operator) (s : State) → operators w go ctx env at left (o ∷ os) s ≡ then_do (operator_step w go (right_in (before ctx os) o.step) env at left o s) (λ next. operators w go ctx env o.at next os)
 operators_next w go ctx env at left o os s = regroup (coerced_by w at o.step.left left s) (λ a. go (right_in (before ctx os) o.step) o.step.operand env) (λ a c. coerced_by w (operand_place o.step) o.step.right c) (λ a c b. operated w o.at o.step.ty o.step.row (operand_base o.step) (a ∷ b ∷ [])) (λ next. operators w go ctx env o.at next os)
@@ -55,6 +58,35 @@ no_innermost w go ctx env at e ss s t f p q r k =
     chain_is w go ctx env at e ss s t false p q
     ∙ ap (λ u. chain_by w go ctx env false (chained_if u at e ss) s) (sym p ∙ q)
     ∙ ap (λ o. chain_by w go ctx env false (with_innermost at ss e o) s) (no_innermost_is (innermost_of (chain_level ss) e) (sym r ∙ k))
+
+-- ---- one operator
+
+before_one : (ctx : Context) (o : Operator) → before ctx (o ∷ []) ≡ left_in ctx o.step
+before_one Untested o = refl
+before_one Positive o = refl
+before_one Other o = refl
+
+before_none : (ctx : Context) → before ctx [] ≡ ctx
+before_none Untested = refl
+before_none Positive = refl
+before_none Other = refl
+
+operators_one : (w : World) (go : Eval) (ctx : Context) (env : Env) (at : Span) (left : Cell) (o : Operator) (s : State) → operators w go ctx env at left (o ∷ []) s ≡ operator_step w go (right_in ctx o.step) env at left o s
+operators_one w go ctx env at left o s =
+    operators_next w go ctx env at left o [] s
+    ∙ out_again (operator_step w go (right_in (before ctx []) o.step) env at left o s)
+    ∙ ap (λ k. operator_step w go (right_in k o.step) env at left o s) (before_none ctx)
+
+pub chain_of_one : (w : World) (go : Eval) (ctx : Context) (env : Env) (at : Span) (e : Tree) (x : Step) (s : State) → chain_by w go ctx env false (with_innermost at (x ∷ []) e None) s ≡ one_operator w go ctx env at e x s
+chain_of_one w go ctx env at e x s =
+    let o : Operator = record { at = at; step = x } in
+    ap (λ k. then_do (go k e env s) (λ left. operators w go ctx env (place_of e) left (o ∷ []))) (before_one ctx o)
+    ∙ then_same (go (left_in ctx x) e env s) (λ left. operators w go ctx env (place_of e) left (o ∷ [])) (λ left. operator_step w go (right_in ctx x) env (place_of e) left o) (λ left t. operators_one w go ctx env (place_of e) left o t)
+
+pub steps_one : (xs : List CoreStep) (d : CoreStep) → length xs ≡ 1 → map step xs ≡ step (get_or xs 0 d) ∷ []
+steps_one [] d h = absurd (omega arith)
+steps_one (x ∷ []) d h = refl
+steps_one (x ∷ y ∷ xs) d h = absurd (omega arith)
 
 -- ---- `++`: an operand more
 

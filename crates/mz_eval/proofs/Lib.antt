@@ -10,3 +10,4 @@ pub mod Wanting
 pub mod Sets
 pub mod Left
 pub mod Blind
+pub mod Results

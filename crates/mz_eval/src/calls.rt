@@ -1,6 +1,6 @@
 // Calls of a program's functions.
 
-ghost use Rattle.std.specs.Prelude.{◌≡◌, map, MatchOption, slice_get, None, Some};
+ghost use Rattle.std.specs.Prelude.{◌≡◌, [], map, true, MatchOption, slice_get, None, Some};
 ghost use Rattle.mz_core.specs.Types.{plain_type};
 ghost use Rattle.mz_core.specs.Program.{function};
 ghost use Rattle.mz_core.specs.TreeViews.{tree, decl};
@@ -11,10 +11,12 @@ ghost use Rattle.mz_eval_cells.specs.Views.{seen, all_seen};
 ghost use Rattle.mz_eval_guards.specs.Guards.{guard_seen};
 ghost use Rattle.mz_eval_declared.specs.Locals.{local_in};
 ghost use Rattle.mz_eval_names.specs.Names.{names_seen};
+ghost use Rattle.mz_meaning.specs.Cells.{sure};
 ghost use Rattle.mz_symbol.specs.Makes.{GoesOn, Means};
+ghost use Rattle.mz_symbol.specs.Readings.{Reading};
 ghost use Rattle.mz_eval_domains.specs.Wants.{wanted, wants_of};
 ghost use Rattle.mz_eval.specs.Levels.{world_in, at_level, in_scope};
-ghost use Rattle.mz_eval.specs.Calls.{argument, arguments_seen, called_in, ended_call, result_in};
+ghost use Rattle.mz_eval.specs.Calls.{HasOwnCell, argument, arguments_seen, called_in, ended_call, result_in};
 ghost use Rattle.mz_meaning.specs.Lets as lets;
 
 use crate::forms::{eval_expression, eval_parts};
@@ -235,6 +237,35 @@ pub(crate) fn eval_called(
     eval_result(level, f, at, bound, c, run)
 }
 
+// whether a result has no declared set
+fn is_undeclared(f: &CoreFunction) -> bool
+    ensures index { result ≡ true → (function f.now).result.index ≡ [] }
+    ensures set { result ≡ true → (function f.now).result.set ≡ None }
+{
+    f.result.index.is_empty() && f.result.set.is_none()
+}
+
+// whether par cells tell that all arguments suit
+fn is_sure(holds: Guard) -> bool
+    ensures { result ≡ true → (r : Reading) → guard_seen r holds ≡ sure }
+{
+    match holds {
+        Guard::Par(is) => is,
+        Guard::Open(_) => false,
+    }
+}
+
+// whether a call surely has its body's cell as it is
+#[tactic(auto, using(crate::proofs::Results::own_result))]
+fn has_own_cell(f: &CoreFunction, holds: Guard, c: &Known) -> bool
+    ensures { result ≡ true → HasOwnCell (function f.now) holds c.now }
+{
+    match c {
+        Known::One(_) => is_sure(holds) && is_undeclared(f),
+        _ => false,
+    }
+}
+
 // What the body gives, under the result's sets. It stands apart from the call, so that a call that waits
 // for its body takes little of the stack.
 #[inline(never)]
@@ -251,6 +282,9 @@ fn eval_result(
     ensures means { Means seen result run.old run.new
         (λ r. in_scope r level.now bound.now.scope.now (λ w go ctx env. result_in w go ctx (function f.now) at (guard_seen r bound.now.holds) env (seen r c))) }
 {
+    if has_own_cell(f, bound.holds, &c) {
+        return done(level.world, at, c, run);
+    }
     let index = eval_indices(level, &f.result.index, bound.scope, run)?;
     let set = eval_want(level, &f.result.set, bound.scope, run)?;
     let r = fitted(level.alloc, place_of(&f.body), &index, c)?;

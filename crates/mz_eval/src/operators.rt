@@ -1,6 +1,6 @@
 // Chains of operators of one level.
 
-ghost use Rattle.std.specs.Prelude.{◌≡◌, is_some, map, true, false};
+ghost use Rattle.std.specs.Prelude.{◌≡◌, is_some, length, map, true, false};
 ghost use Rattle.mz_core.specs.Tree.{place_of};
 ghost use Rattle.mz_core.specs.TreeViews.{tree, step};
 ghost use Rattle.mz_meaning.specs.Chains as chains;
@@ -9,7 +9,7 @@ ghost use Rattle.mz_meaning.specs.Forms.{chain, chain_by, operators, append_oper
 ghost use Rattle.mz_symbol.specs.Makes.{GoesOn, Means};
 ghost use Rattle.mz_eval_cells.specs.Views.{seen};
 ghost use Rattle.mz_eval_scopes.specs.Seen.{ctx_of};
-ghost use Rattle.mz_eval.specs.Chains.{own_operators, operands};
+ghost use Rattle.mz_eval.specs.Chains.{one_operator, own_operators, operands};
 ghost use Rattle.mz_eval.specs.Levels.{in_scope};
 ghost use Rattle.mz_eval_chains.specs.Innermosts.{operator_of, innermost_of};
 ghost use Rattle.mz_eval_nodes.specs.Contexts.{later, settled};
@@ -23,7 +23,7 @@ use mz_eval_cells::Known;
 use mz_eval_chains::{Innermost, Operator, all_operators, has_innermost, is_appended, place_of};
 use mz_eval_nodes::{
     Appended, append_operand, appended_nodes, contexts_before, first_within, is_settled, kind_of,
-    nothing_appended, operand_within, operated_on, prepared, right_within,
+    left_within, nothing_appended, operand_within, operated_on, prepared, right_within,
 };
 use mz_eval_scopes::{Context, Scope};
 use mz_symbol::Run;
@@ -47,7 +47,66 @@ pub(crate) fn eval_chain(
     if is_plain(level.ctx, first, all) {
         return eval_plain(level, first, all, at, scope, run);
     }
+    if is_single(first, all) {
+        return eval_single(level, first, &all[0], at, scope, run);
+    }
     eval_with_innermost(level, first, all, at, scope, run)
+}
+
+// whether there is one operator, and none of the first operand belongs to the chain
+fn is_single(first: &Core, all: &[CoreStep]) -> bool
+    ensures one { result ≡ true → length all.now ≡ 1 }
+    ensures own { result ≡ true → is_some (chains.innermost_of (chain_level (map step all.now)) (tree first.now)) ≡ false }
+{
+    if all.len() == 1 {
+        !has_innermost(first, all)
+    } else {
+        false
+    }
+}
+
+// One operator over an operand that none of its chain belongs to.
+#[cycle(forms)]
+fn eval_single(
+    level: &Level,
+    first: &Core,
+    s: &CoreStep,
+    at: Span,
+    scope: &Scope,
+    run: &mut Run,
+) -> Result<Known, Stop>
+    ensures goes { GoesOn run.old run.new }
+    ensures means { Means seen result run.old run.new (λ r. in_scope r level.now scope.now (λ w go ctx env. one_operator w go ctx env at (tree first.now) (step s.now))) }
+{
+    let o = Operator {
+        at,
+        step: &*s,
+        before: None,
+        operand: &s.operand,
+        after: None,
+    };
+    let before = Level {
+        alloc: level.alloc,
+        world: level.world,
+        left: level.left,
+        ctx: left_within(level.ctx, &o),
+    };
+    let cell = eval_expression(&before, first, scope, run)?;
+    let inside = Level {
+        alloc: level.alloc,
+        world: level.world,
+        left: level.left,
+        ctx: right_within(level.ctx, &o),
+    };
+    eval_operator(
+        &inside,
+        place_of(first),
+        kind_of(&first.ty),
+        cell,
+        &o,
+        scope,
+        run,
+    )
 }
 
 // whether no operator of the first operand belongs to a chain, and all operands have its context

@@ -1,11 +1,15 @@
 -- What types and guards leave of cells.
-use Rattle.std.proofs.Common.{◌≡◌, ◌∙◌, Bool, true, false, ◌&&◌, None, refl, sym, ap}
+use Rattle.std.proofs.Common.{◌≡◌, ◌∙◌, Bool, true, false, ◌&&◌, Option, None, Some, refl, sym, ap, subst}
 use Rattle.std.specs.Prelude.{not}
+use Rattle.mz_value.specs.Contents.{Content}
+use Rattle.mz_value.specs.Contents as values
 use Rattle.mz_core.specs.Types.{PlainType}
-use Rattle.mz_meaning.specs.Cells.{Cell, Par, Var, Unshaped, Mode, Bare, is_par, is_truth, to_par, to_var, sealed, widened, risen, typed, kept_if, undefined}
+use Rattle.mz_operations.specs.Bounds as bounds
+use Rattle.mz_meaning.specs.Cells.{Cell, Par, Var, Unshaped, Mode, Bare, is_par, is_truth, to_par, to_var, sealed, widened, risen, typed, kept_if, undefined, held, is_true}
 use Rattle.mz_eval_cells.specs.declared.types.Known.{Known}
 use Rattle.mz_eval_cells.specs.declared.types.Known.TheVariants as known
 use Rattle.mz_eval_cells.specs.Views.{cell_of}
+use Rattle.mz_eval_cells.proofs.Held.{held_truth}
 
 widened_par : (w : Bool) (c : Cell) → is_par c ≡ true → widened w c ≡ c
 widened_par false c e = refl
@@ -73,3 +77,23 @@ stays_truth m n t c v p r =
     ap (λ c. risen m (is_truth t) (widened (not n && is_truth t) c)) (sealed_same m t.var t c (p ∙ sym (ap not v)))
     ∙ ap (risen m (is_truth t)) (widened_par (not n && is_truth t) c p)
     ∙ r (is_truth t)
+
+-- of a var Boolean that may be false or true, and that is there
+wide_kept : (w : Bool) (v : Option Content) → widened w (Var (bounds.one (bounds.number bounds.truth)) v) ≡ Var (bounds.one (bounds.number bounds.truth)) v
+wide_kept true v = refl
+wide_kept false v = refl
+
+risen_kept : (m : Mode) (b : Bool) (v : Option Content) → v ≡ Some (values.bool (is_true v)) → risen m b (Var (bounds.one (bounds.number bounds.truth)) (held m v)) ≡ Var (bounds.one (bounds.number bounds.truth)) (held m v)
+risen_kept m false v e = refl
+risen_kept m true v e = ap (Var (bounds.one (bounds.number bounds.truth))) (held_truth m v ∙ ap (held m) (sym e))
+
+pub truth_kept : (m : Mode) (b w : Bool) (x : bounds.Bound) (v : Option Content) → x ≡ bounds.number bounds.truth → v ≡ Some (values.bool (is_true v)) →
+    risen m b (widened w (Var (bounds.one x) (held m v))) ≡ Var (bounds.one x) (held m v)
+truth_kept m b w x v e there =
+    subst (λ x. risen m b (widened w (Var (bounds.one x) (held m v))) ≡ Var (bounds.one x) (held m v)) (sym e)
+    (ap (risen m b) (wide_kept w (held m v)) ∙ risen_kept m b v there)
+
+pub stays_var : (m : Mode) (n : Bool) (t : PlainType) (c : Cell) → t.var ≡ true → is_par c ≡ false → ((b w : Bool) → risen m b (widened w c) ≡ c) → typed m n t c ≡ c
+stays_var m n t c v p k =
+    ap (λ c. risen m (is_truth t) (widened (not n && is_truth t) c)) (sealed_same m t.var t c (p ∙ sym (ap not v)))
+    ∙ k (is_truth t) (not n && is_truth t)

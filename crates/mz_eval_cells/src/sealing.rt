@@ -1,6 +1,6 @@
 // What a type makes of a cell, and what becomes of one where something that is declared doesn't hold.
 
-ghost use Rattle.std.specs.Prelude.{◌≡◌, Bool, IfOk, None, Some, map, true, ℕ};
+ghost use Rattle.std.specs.Prelude.{◌≡◌, Bool, IfOk, None, Some, false, map, true, ℕ};
 ghost use Rattle.mz_value.specs.Contents as values;
 ghost use Rattle.mz_value.specs.Contents.{content, contents};
 ghost use Rattle.mz_core.specs.Types.{plain_type};
@@ -282,14 +282,81 @@ fn is_truth_value(k: &Known) -> bool
     }
 }
 
+// whether a symbol is a truth value that is no option: it is false where its node has no value
+#[tactic(auto, using(crate::proofs::Held::truth_stays))]
+fn is_truth_symbol(s: Symbol) -> bool
+    ensures { result ≡ true → (t : ℕ → Term) → origin_value t (origin.Symbol s) ≡ Some (values.bool (cells.is_true (origin_value t (origin.Symbol s)))) }
+{
+    match s.base {
+        Base::Bool => s.occurs.is_none(),
+        _ => false,
+    }
+}
+
+fn is_truth_origin(o: &Origin) -> bool
+    ensures { result ≡ true → (t : ℕ → Term) → origin_value t o.now ≡ Some (values.bool (cells.is_true (origin_value t o.now))) }
+{
+    match o {
+        Origin::Symbol(s) => is_truth_symbol(*s),
+        _ => false,
+    }
+}
+
+fn is_any_truth(b: &Bound) -> bool
+    ensures { result ≡ true → known_bound b.now ≡ bounds.number bounds.truth }
+{
+    match b {
+        Bound::Number(0, 1) => true,
+        _ => false,
+    }
+}
+
+// whether a var value may be false or true, and is surely there
+fn is_var_truth(v: &VarValue) -> bool
+    ensures bound { result ≡ true → known_bound v.now.bound ≡ bounds.number bounds.truth }
+    ensures truth { result ≡ true → (t : ℕ → Term) → var_content t v.now ≡ Some (values.bool (cells.is_true (var_content t v.now))) }
+{
+    match v.cast {
+        None => is_any_truth(&v.bound) && is_truth_origin(&v.origin),
+        Some(_) => false,
+    }
+}
+
+// the same of a cell. It stands apart, so that `stays` is short where a cell is par
+#[inline(never)]
+#[tactic(auto, using(crate::proofs::Seals::truth_kept))]
+fn is_var_truth_cell(k: &Known) -> bool
+    ensures of { result ≡ true → (b w : Bool) → cells.risen Bare b (cells.widened w (cell_of k.now)) ≡ cell_of k.now }
+    ensures seen { result ≡ true → (r : Reading) (b w : Bool) → cells.risen r.mode b (cells.widened w (seen r k.now)) ≡ seen r k.now }
+    ensures var { result ≡ true → cells.is_par (cell_of k.now) ≡ false }
+{
+    match k {
+        Known::Var(v) => is_var_truth(v),
+        _ => false,
+    }
+}
+
+// whether one Boolean that is no option stays: a par one that is defined, and a var one that may be false or true
+#[tactic(auto, unfolding(mz_core::specs::Types::plain_type), using(crate::proofs::Seals::stays_truth, crate::proofs::Seals::stays_var, crate::proofs::Seeing::par_seen))]
+fn stays_truth(t: &TypeInst, k: &Known) -> bool
+    ensures of { result ≡ true → (n : Bool) → cells.typed Bare n (plain_type t.now) (cell_of k.now) ≡ cell_of k.now }
+    ensures seen { result ≡ true → (r : Reading) (n : Bool) → cells.typed r.mode n (plain_type t.now) (seen r k.now) ≡ seen r k.now }
+{
+    if t.var {
+        is_var_truth_cell(k)
+    } else {
+        is_truth_value(k)
+    }
+}
+
 /// Whether a type surely leaves a cell as it is, whether or not the cell is that of a name.
-#[tactic(auto, unfolding(mz_core::specs::Types::plain_type), using(crate::proofs::Seals::stays_truth, crate::proofs::Seals::stays_other, crate::proofs::Seeing::par_seen))]
+#[tactic(auto, unfolding(mz_core::specs::Types::plain_type), using(crate::proofs::Seals::stays_other, crate::proofs::Seeing::par_seen))]
 pub fn stays(t: &TypeInst, k: &Known) -> bool
     ensures of { result ≡ true → (n : Bool) → cells.typed Bare n (plain_type t.now) (cell_of k.now) ≡ cell_of k.now }
     ensures seen { result ≡ true → (r : Reading) (n : Bool) → cells.typed r.mode n (plain_type t.now) (seen r k.now) ≡ seen r k.now }
 {
     if is_truth(t) {
-        !t.var && is_truth_value(k)
+        stays_truth(t, k)
     } else if t.var {
         !is_par(k)
     } else {

@@ -13,8 +13,8 @@ mod types;
 pub use arguments::{argument_of, arguments_base, kind_of};
 pub use branches::with_branch;
 pub use contexts::{
-    arguments_within, contexts_before, elsewhere, first_within, is_settled, operand_within,
-    right_within, within,
+    arguments_within, contexts_before, elsewhere, first_within, is_settled, left_within,
+    operand_within, right_within, within,
 };
 pub use counting::counted;
 pub use globals::operated_global;

@@ -167,6 +167,7 @@ fn row_by_integer(
 }
 
 /// What a row gives of these two arguments, as `row_of_one` says.
+#[inline(always)]
 pub fn row_of_two(
     alloc: Global,
     cases: &Cases,

@@ -139,6 +139,7 @@ pub fn row_of_one(
 
 /// What a row gives of two par arguments, at a node of this type, before its type is stamped on it.
 /// No node is made. The refusals are those of `row_of_all`.
+#[inline(always)]
 pub fn rows_of_par(
     alloc: Global,
     cases: &Cases,

@@ -1,4 +1,4 @@
-use Rattle.std.proofs.Common.{◌≡◌, ◌∙◌, ◌+◌, ◌-◌, List, [], ◌∷◌, ◌++◌, Err, map, true, false, refl, sym, ap}
+use Rattle.std.proofs.Common.{◌≡◌, ◌∙◌, ◌+◌, ◌-◌, List, [], ◌∷◌, ◌++◌, Err, None, map, true, false, refl, sym, ap}
 use Rattle.std.proofs.lemmas.Result.{err_from_is_err_and}
 use Rattle.mz_core.specs.Types.{plain_type}
 use Rattle.mz_core.specs.Program.{function}
@@ -9,7 +9,8 @@ use Rattle.mz_meaning.specs.Runs.{Run, Out, then_do, give, loop, weigh}
 use Rattle.mz_meaning.specs.Cells.{Cell, both_sure, bind, bind_all, length_of, or_zero, test_of}
 use Rattle.mz_meaning.specs.Arrays.{Anything}
 use Rattle.mz_meaning.specs.Comprehensions.{Made, Presence, both_occur, elements_in, filtered, names, where_, with_set}
-use Rattle.mz_meaning.specs.Forms.{part}
+use Rattle.mz_meaning.specs.Chains.{with_innermost}
+use Rattle.mz_meaning.specs.Forms.{chain_by, part}
 use Rattle.mz_meaning.specs.Lets.{Names, nothing_bound, with_local}
 use Rattle.mz_meaning.specs.Calls.{argument_suits, arguments, call_of, called, parameter}
 use Rattle.mz_meaning.specs.Evaluation.{eval, is_name, node}
@@ -30,7 +31,7 @@ use Rattle.mz_eval.specs.Calls.{called_in}
 use Rattle.mz_eval.specs.Comprehensions.{from_generators, from_own_condition, from_value}
 use Rattle.mz_eval.specs.PlainCalls.{called_on}
 use Rattle.mz_eval.proofs.OneLevel.{eval_end, eval_more, finish, parameter_is}
-use Rattle.mz_eval.proofs.Chains.{chain_is, no_innermost, taken_from, append_goes}
+use Rattle.mz_eval.proofs.Chains.{chain_is, no_innermost, chain_of_one, steps_one, taken_from, append_goes}
 use Rattle.mz_eval.proofs.PlainCalls.{called_next, plain_call}
 use Rattle.mz_eval.proofs.Left.{next_fewer, next_is, none_left, turn_goes, turn_stops, turns_end}
 use Rattle.mz_eval.proofs.Stamps.{stamps}
@@ -90,6 +91,21 @@ operators::eval_chain-returns-then-is_plain-clause-means t c r h =
     meets_at_is (seen r) c.eval_plain.result (state_of r c.eval_plain.new.run) _ _
     (no_innermost w (go_of r c.args.level.now) (ctx_of c.args.level.now.ctx) (scope_of r c.args.level.now c.args.scope.now) c.args.at (tree c.args.first.now) (map step c.args.all.now) (state_of r c.args.run.now) c.is_appended.result _ c.is_appended.ensures c.if-is_appended.false refl (c.is_plain.ensures.plain c.if-is_plain.true))
     (c.eval_plain.ensures.means r h)
+
+pub operators::eval_chain-returns-then-is_single-clause-means : goal.operators::eval_chain-returns-then-is_single-clause-means
+operators::eval_chain-returns-then-is_single-clause-means t c r h =
+    let w = world_in r c.args.level.now in
+    let go = go_of r c.args.level.now in
+    let ctx = ctx_of c.args.level.now.ctx in
+    let env = scope_of r c.args.level.now c.args.scope.now in
+    let e = tree c.args.first.now in
+    let s = state_of r c.args.run.now in
+    let x = c.index-all-0.result in
+    meets_at_is (seen r) c.eval_single.result (state_of r c.eval_single.new.run) _ _
+    (no_innermost w go ctx env c.args.at e (map step c.args.all.now) s c.is_appended.result _ c.is_appended.ensures c.if-is_appended.false refl (c.is_single.ensures.own c.if-is_single.true)
+    ∙ ap (λ ss. chain_by w go ctx env false (with_innermost c.args.at ss e None) s) (steps_one c.args.all.now x (c.is_single.ensures.one c.if-is_single.true) ∙ ap (λ y. step y ∷ []) (sym c.index-all-0.is))
+    ∙ chain_of_one w go ctx env c.args.at e (step x) s)
+    (c.eval_single.ensures.means r h)
 
 pub operators::eval_chain-returns-clause-means : goal.operators::eval_chain-returns-clause-means
 operators::eval_chain-returns-clause-means t c r h =

@@ -80,6 +80,9 @@ decreases-operators::eval_operator l = 2 ^ 140 * l.level.now.left + 1
 abbrev pub decreases-operators::eval_step : goal.decreases-operators::eval_step
 decreases-operators::eval_step l = 2 ^ 140 * l.level.now.left + 2
 
+abbrev pub decreases-operators::eval_single : goal.decreases-operators::eval_single
+decreases-operators::eval_single l = 2 ^ 140 * l.level.now.left + 2
+
 abbrev pub decreases-operators::eval_plain : goal.decreases-operators::eval_plain
 decreases-operators::eval_plain l = 2 ^ 140 * l.level.now.left + 3
 
