@@ -11,7 +11,7 @@ use Rattle.mz_meaning.specs.Cells.{Cell, value_of}
 use Rattle.mz_meaning.specs.Arrays.{all_there, all_indices, indices_in}
 use Rattle.mz_eval_cells.specs.declared.types.Known.{Known}
 use Rattle.mz_eval_cells.specs.Views.{cell_of, cells_of}
-use Rattle.mz_eval_access.specs.StepsPlaces.{cell_index, placed}
+use Rattle.mz_eval_access.specs.Places.{cell_index, placed}
 
 abbrev index_with : Option ℤ → Option (List ℤ) → Option (List ℤ)
 index_with o rest = option_and_then (λ n. option_map (λ ns. n ∷ ns) rest) o

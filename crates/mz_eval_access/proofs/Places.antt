@@ -18,7 +18,7 @@ use Rattle.mz_eval_cells.specs.declared.types.Item.{Item}
 use Rattle.mz_eval_cells.specs.declared.types.Item.TheVariants as item
 use Rattle.mz_eval_cells.specs.declared.types.Known.{Known}
 use Rattle.mz_eval_cells.specs.Views.{cells_of, item_content, known_bound}
-use Rattle.mz_eval_access.specs.StepsPlaces.{placed}
+use Rattle.mz_eval_access.specs.Places.{placed}
 
 -- ---- the element at a place
 

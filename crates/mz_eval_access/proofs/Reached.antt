@@ -1,5 +1,5 @@
 -- The elements that indices with bounds reach, range by range.
-use Rattle.std.proofs.Common.{◌≡◌, ◌∙◌, ℕ, zero, suc, ◌+◌, ◌*◌, List, [], ◌∷◌, ◌++◌, map, length, drop, Bool, true, false, ◌&&◌, refl, sym, ap, arith, append-nil, length-append}
+use Rattle.std.proofs.Common.{◌≡◌, ◌∙◌, ℕ, zero, suc, ◌+◌, ◌*◌, List, [], ◌∷◌, ◌++◌, map, length, take, drop, Some, slice_get, Bool, true, false, ◌&&◌, refl, sym, ap, arith, append-nil, length-append}
 use Rattle.std.specs.Prelude.{ℤ, pos, ◌+ℤ◌, ◌-ℤ◌, ◌≤ℤ◌, ◌<ℤ◌, int_le, nat_abs, unsigned_abs, cond, zip, filter, if◌then◌else◌}
 use Rattle.std.specs.Int.{int_max, int_min}
 use Rattle.std.specs.List.{flat_map}
@@ -14,6 +14,9 @@ use Rattle.mz_interval.specs.Ends.{Ends}
 use Rattle.mz_index.specs.Places.{count_of, length_of}
 use Rattle.mz_operations.specs.Sets.{is_within}
 use Rattle.mz_operations.specs.Bounds.{index_tuples, is_reached, reached}
+use Rattle.mz_meaning.specs.Arrays.{ends_in}
+use Rattle.mz_eval_cells.specs.declared.types.Bound.{Bound}
+use Rattle.mz_eval_cells.specs.Views.{known_bound}
 use Rattle.mz_eval_access.specs.StepsPlaces.{swept, runs, reach, steps_between}
 
 -- ---- tuples and elements side by side
@@ -320,3 +323,36 @@ sweep_runs go r e o c n xs ys f g h =
     sweep_starts go r e c o.0 xs first
     ∙ swept_runs go r e c n o.0 (drop (steps_between r.0 o.0 * c) xs) (omega (arith, ints, clamps)) (g ∙ ap (λ k. length_of (o.0, k)) last)
     ∙ ap (runs go c n) (sym h)
+
+-- ---- one index
+
+abbrev overlap : Range → Ends → Range
+overlap r e = (int_max r.0 e.0, int_min r.1 e.1)
+
+run_once : {A : Type 0} (xs : List A) → runs (reach [] []) 1 1 xs ≡ take 1 xs
+unfolding reach
+run_once xs = runs_step (reach [] []) 1 1 0 xs refl ∙ ap (λ t. take 1 xs ++ t) (runs_none (reach [] []) 1 0 (drop 1 xs) refl) ∙ append-nil (take 1 xs)
+
+-- what stands at one index inside the range of a list
+one_place : {A : Type 0} (r : Range) (e : Ends) (xs : List A) → e.0 ≡ e.1 → r.0 ≤ℤ e.0 → e.0 ≤ℤ r.1 → reached (r ∷ []) (e ∷ []) xs ≡ take 1 (drop (steps_between r.0 e.0) xs)
+unfolding reach
+one_place r e xs f l h =
+    let first : int_max r.0 e.0 ≡ e.0 = omega (arith, ints, clamps) in
+    let last : int_min r.1 e.1 ≡ e.0 = omega (arith, ints, clamps) in
+    let some = length_some (int_max r.0 e.0) (int_min r.1 e.1) (omega (arith, ints)) in
+    let count : 1 ≡ length_of (overlap r e) = omega (arith, ints) in
+    let steps : steps_between r.0 e.0 * 1 ≡ steps_between r.0 e.0 = omega arith in
+    reached_is (r ∷ []) (e ∷ []) xs
+    ∙ sweep_runs (reach [] []) r e (overlap r e) 1 1 xs (drop (steps_between r.0 (int_max r.0 e.0) * 1) xs) refl count refl
+    ∙ run_once (drop (steps_between r.0 (int_max r.0 e.0) * 1) xs)
+    ∙ ap (λ i. take 1 (drop (steps_between r.0 i * 1) xs)) first
+    ∙ ap (λ k. take 1 (drop k xs)) steps
+
+first_of : {X Y : Type 0} (f : X → Y) (xs : List X) (k : ℕ) (x : X) → slice_get xs k ≡ Some x → take 1 (drop k (map f xs)) ≡ f x ∷ []
+first_of f [] k x e = absurd (cc)
+first_of f (y ∷ xs) zero x e = let same : y ≡ x = cc in ap (λ z. f z ∷ []) same
+first_of f (y ∷ xs) (suc k) x e = first_of f xs k x e
+
+pub one_reached : (r : Range) (e : Ends) (all : List Bound) (k : ℕ) (b : Bound) → (e.0 ≡ e.1) × (r.0 ≤ℤ e.0) × (e.0 ≤ℤ r.1) → k ≡ steps_between r.0 e.0 → slice_get all k ≡ Some b → map ends_in (reached (r ∷ []) (e ∷ []) (map known_bound all)) ≡ ends_in (known_bound b) ∷ []
+one_reached r e all k b h s g =
+    ap (map ends_in) (one_place r e (map known_bound all) h.0 h.1 h.2 ∙ ap (λ j. take 1 (drop j (map known_bound all))) (sym s) ∙ first_of known_bound all k b g)

@@ -1,9 +1,11 @@
 -- The elements of an array, and those that indices reach.
-use Rattle.std.specs.Prelude.{List, map, Option}
-use Rattle.std.specs.Option.{option_and_then}
+use Rattle.std.specs.Prelude.{ℕ, ℤ, List, map, min, Option}
+use Rattle.std.specs.Option.{option_and_then, option_map}
 use Rattle.mz_value.specs.Contents.{Content, array, content, contents}
 use Rattle.mz_value.specs.Ranges.{Range}
 use Rattle.mz_core.specs.Types.{PlainType}
+use Rattle.mz_index.specs.Places.{most, place_of}
+use Rattle.mz_operations.specs.Views.{as_element}
 use Rattle.mz_operations.specs.Bounds.{Bound, bound_of}
 use Rattle.mz_meaning.specs.Arrays.{element_at, elements_reached, ends_in, hull_over, indices_in}
 use Rattle.mz_meaning.specs.Cells.{Cell, bounds_in, scalar_bound, value_of}
@@ -22,3 +24,11 @@ element_in ix xs at = option_and_then (element_at (array ix (contents xs))) (ind
 -- the bounds of all elements of an array that these indices reach
 abbrev pub reached_bound : PlainType → Cell → List Cell → Bound
 reached_bound t a at = hull_over t (elements_reached (bounds_in a) (map (λ c. ends_in (scalar_bound (bounds_in c))) at))
+
+-- the index that a cell is
+abbrev pub cell_index : Cell → Option ℤ
+cell_index c = option_and_then as_element (value_of c)
+
+-- the place of indices, where each is one and lies in its range, told as at most the greatest number
+abbrev pub placed : List Range → List Cell → Option ℕ
+placed rs cs = option_map (min most) (option_and_then (place_of rs) (indices_in (map value_of cs)))

@@ -1,21 +1,9 @@
--- Mirror of src/indexing.rt and src/placing.rt; private clauses only.
-use Rattle.std.specs.Prelude.{ℤ, pos, int_le, nat_abs, ◌-ℤ◌, ℕ, zero, suc, ◌+ℤ◌, List, [], ◌∷◌, ◌++◌, map, take, drop, min, Option, if◌then◌else◌}
-use Rattle.std.specs.Option.{option_and_then, option_map}
+-- Mirror of src/placing.rt; private clauses only.
+use Rattle.std.specs.Prelude.{ℤ, pos, int_le, nat_abs, ◌-ℤ◌, ℕ, zero, suc, ◌+ℤ◌, List, [], ◌∷◌, ◌++◌, take, drop, if◌then◌else◌}
 use Rattle.mz_value.specs.Ranges.{Range}
 use Rattle.mz_interval.specs.Ends.{Ends}
-use Rattle.mz_index.specs.Places.{count_of, length_of, most, place_of}
+use Rattle.mz_index.specs.Places.{count_of, length_of}
 use Rattle.mz_operations.specs.Sets.{is_within}
-use Rattle.mz_operations.specs.Views.{as_element}
-use Rattle.mz_meaning.specs.Cells.{Cell, value_of}
-use Rattle.mz_meaning.specs.Arrays.{indices_in}
-
--- the index that a cell is
-abbrev pub cell_index : Cell → Option ℤ
-cell_index c = option_and_then as_element (value_of c)
-
--- the place of indices, where each is one and lies in its range, told as at most the greatest number
-abbrev pub placed : List Range → List Cell → Option ℕ
-placed rs cs = option_map (min most) (option_and_then (place_of rs) (indices_in (map value_of cs)))
 
 -- how far an index is past another
 abbrev pub steps_between : ℤ → ℤ → ℕ

@@ -1,6 +1,6 @@
 // Accesses to arrays.
 
-ghost use Rattle.std.specs.Prelude.{◌≡◌, [], IfOk, MatchOption, None, Some, map, slice_get};
+ghost use Rattle.std.specs.Prelude.{◌≡◌, ◌≤ℤ◌, ◌∷◌, [], IfOk, MatchOption, None, Some, map, slice_get, true};
 ghost use Rattle.std.specs.Option.{option_and_then};
 ghost use Rattle.mz_value.specs.Contents as values;
 ghost use Rattle.mz_value.specs.Contents.{content, contents};
@@ -10,18 +10,15 @@ ghost use Rattle.mz_operations.specs.Bounds as bounds;
 ghost use Rattle.mz_operations.specs.Sets as sets;
 ghost use Rattle.mz_meaning.specs.Arrays as arrays;
 ghost use Rattle.mz_meaning.specs.Cells as cells;
-ghost use Rattle.mz_meaning.specs.Cells.{Bare, Par, Var, value_of};
+ghost use Rattle.mz_meaning.specs.Cells.{Par, value_of};
 ghost use Rattle.mz_eval_cells.specs.Views.{cell_of, cells_of, item_content, known_bound};
 ghost use Rattle.mz_eval_access.specs.Places.{element_in, places_of, reached_bound};
 
 use crate::indexing::place_of;
-use crate::placing::{Places, with_reached};
+use crate::placing::{Places, distance, with_reached};
 use mz_builtin_arguments::union;
 use mz_core::TypeInst;
-use mz_eval_cells::{
-    Bound, Item, Known, all_par, copied_cell, is_par, is_set_base, scalar_bound, undefined,
-    var_value,
-};
+use mz_eval_cells::{Bound, Item, Known, copied_cell, is_set_base, scalar_bound, undefined};
 use mz_value::{RangeSet, Value};
 use std::alloc::{AllocError, Global};
 use std::rc::Rc;
@@ -64,8 +61,10 @@ fn element(
     Ok(k)
 }
 
+/// The element of a par array at par indices: undefined where the array or an index is undefined, or
+/// an index lies outside its range.
 #[tactic(auto, using(crate::proofs::Places::no_element))]
-fn accessed(alloc: Global, a: &Known, at: &[Known]) -> Result<Known, AllocError>
+pub fn par_element(alloc: Global, a: &Known, at: &[Known]) -> Result<Known, AllocError>
     ensures { IfOk result (λ k. cell_of k ≡ Par (arrays.accessed (value_of (cell_of a.now)) (map value_of (cells_of at.now)))) }
 {
     match a {
@@ -242,31 +241,102 @@ fn hull_over(alloc: Global, t: &TypeInst, bs: &[Bound]) -> Result<Bound, AllocEr
     }
 }
 
-fn open_access(alloc: Global, t: &TypeInst, a: &Known, at: &[Known]) -> Result<Known, AllocError>
-    ensures { IfOk result (λ k. cell_of k ≡ Var (bounds.one (reached_bound (plain_type t.now) (cell_of a.now) (cells_of at.now))) None) }
+/// The bound of one of the elements that these indices reach.
+fn bound_of_all(alloc: Global, t: &TypeInst, a: &Known, at: &[Known]) -> Result<Bound, AllocError>
+    ensures { IfOk result (λ b. known_bound b ≡ reached_bound (plain_type t.now) (cell_of a.now) (cells_of at.now)) }
 {
     let ends = index_ends(alloc, at)?;
     let reached = elements_reached(alloc, a, &ends)?;
-    let bound = hull_over(alloc, t, &reached)?;
-    var_value(alloc, bound)
+    hull_over(alloc, t, &reached)
 }
 
-/// The element of an array at these indices, of this type.
-///
-/// Where all are par it is the element, undefined where the array or an index is undefined or an
-/// index lies outside its range. Else it is var, and its bounds are those of all elements that
-/// indices of these bounds reach: the hull of numbers, and of sets the union of what they may have.
-pub fn access_cell(
+// ---- at one index that is known, without a list
+
+/// Whether these are the bounds of one index alone, which lies in the range.
+fn is_one_in(r: (i64, i64), e: (i64, i64)) -> bool
+    ensures { result ≡ true → (e.0 ≡ e.1) × (r.0 ≤ℤ e.0) × (e.0 ≤ℤ r.1) }
+{
+    e.0 == e.1 && (r.0 <= e.0 && e.0 <= r.1)
+}
+
+fn bound_nth(all: &[Bound], n: u64) -> Option<&Bound>
+    ensures { MatchOption result (Unit {0}) (λ b. slice_get all.now n ≡ Some b.now) }
+{
+    all.get(n as usize)
+}
+
+/// The ends of what stands at an index of this range; none where the bounds are those of several
+/// indices, or of one outside.
+#[tactic(auto, using(crate::proofs::Reached::one_reached))]
+fn ends_at(r: (i64, i64), all: &[Bound], e: (i64, i64)) -> Option<(i64, i64)>
+    ensures { MatchOption result (Unit {0}) (λ n. map arrays.ends_in (bounds.reached (r ∷ []) (e ∷ []) (map known_bound all.now)) ≡ n ∷ []) }
+{
+    if !is_one_in(r, e) {
+        return None;
+    }
+    match bound_nth(all, distance(r.0, e.0)) {
+        None => None,
+        Some(b) => Some(ends_in(b)),
+    }
+}
+
+/// The same in an array, which may have more dimensions than one.
+fn ends_in_list(ranges: &[(i64, i64)], all: &[Bound], e: (i64, i64)) -> Option<(i64, i64)>
+    ensures { MatchOption result (Unit {0}) (λ n. map arrays.ends_in (bounds.reached ranges.now (e ∷ []) (map known_bound all.now)) ≡ n ∷ []) }
+{
+    match ranges {
+        [r] => ends_at(*r, all, e),
+        _ => None,
+    }
+}
+
+/// The ends of the number that stands in an array at this index, where its bounds tell the place.
+fn ends_of_one(alloc: Global, a: &Known, i: &Known) -> Result<Option<(i64, i64)>, AllocError>
+    ensures { IfOk result (λ o. MatchOption o (Unit {0}) (λ n. map arrays.ends_in (arrays.elements_reached (cells.bounds_in (cell_of a.now)) (arrays.ends_in (cells.scalar_bound (cells.bounds_in (cell_of i.now))) ∷ [])) ≡ n ∷ [])) }
+{
+    match a {
+        Known::Row(index, xs) => {
+            let b = scalar_bound(alloc, i)?;
+            Ok(ends_in_list(index.as_slice(), xs.bounds.as_slice(), ends_in(&b)))
+        }
+        _ => Ok(None),
+    }
+}
+
+/// The bound of the elements that one index reaches.
+#[tactic(auto, unfolding(mz_core::specs::Types::plain_type))]
+fn bound_of_one(
     alloc: Global,
     t: &TypeInst,
     a: &Known,
     at: &[Known],
-) -> Result<Known, AllocError>
-    ensures { IfOk result (λ k. cell_of k ≡ arrays.access_cell Bare (plain_type t.now) (cell_of a.now) (cells_of at.now)) }
+    i: &Known,
+) -> Result<Bound, AllocError>
+    requires { at.now ≡ i.now ∷ [] }
+    ensures { IfOk result (λ b. known_bound b ≡ reached_bound (plain_type t.now) (cell_of a.now) (cells_of at.now)) }
 {
-    if is_par(a) && all_par(at) {
-        accessed(alloc, a, at)
-    } else {
-        open_access(alloc, t, a, at)
+    if is_set_base(t.base) {
+        return bound_of_all(alloc, t, a, at);
+    }
+    match ends_of_one(alloc, a, i)? {
+        None => bound_of_all(alloc, t, a, at),
+        Some(e) => Ok(Bound::Number(e.0, e.1)),
+    }
+}
+
+/// The bound of the element of an array at indices of which one is var, or of a var array, of this
+/// type: that of all elements which indices of these bounds reach, the hull of numbers, and of sets
+/// the union of what they may have.
+pub fn access_bound(
+    alloc: Global,
+    t: &TypeInst,
+    a: &Known,
+    at: &[Known],
+) -> Result<Bound, AllocError>
+    ensures { IfOk result (λ b. known_bound b ≡ reached_bound (plain_type t.now) (cell_of a.now) (cells_of at.now)) }
+{
+    match at {
+        [i] => bound_of_one(alloc, t, a, at, i),
+        _ => bound_of_all(alloc, t, a, at),
     }
 }

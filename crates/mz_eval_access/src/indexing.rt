@@ -6,7 +6,7 @@ ghost use Rattle.mz_operations.specs.Views.{as_element};
 ghost use Rattle.mz_meaning.specs.Arrays as arrays;
 ghost use Rattle.mz_meaning.specs.Cells.{value_of};
 ghost use Rattle.mz_eval_cells.specs.Views.{cell_of, cells_of, item_content};
-ghost use Rattle.mz_eval_access.specs.StepsPlaces.{cell_index, placed};
+ghost use Rattle.mz_eval_access.specs.Places.{cell_index, placed};
 
 use mz_eval_cells::{Item, Known};
 use mz_index::place_in;
@@ -86,7 +86,7 @@ fn place_of_all(
 
 /// The place of these indices, from 0, where the last index runs fastest, or the greatest `u64`
 /// where it is greater; `None` where one is undefined or lies outside its range.
-pub(crate) fn place_of(
+pub fn place_of(
     alloc: Global,
     ranges: &[(i64, i64)],
     at: &[Known],

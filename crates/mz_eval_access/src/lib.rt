@@ -5,4 +5,5 @@ mod accessing;
 mod indexing;
 mod placing;
 
-pub use accessing::access_cell;
+pub use accessing::{access_bound, par_element};
+pub use indexing::place_of;

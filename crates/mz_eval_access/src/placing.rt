@@ -98,7 +98,7 @@ fn with_first(alloc: Global, p: Places<'_>, out: Vec<Bound>) -> Result<Vec<Bound
 }
 
 /// How far an index is past another, `0` where it is before it.
-fn distance(lo: i64, i: i64) -> u64
+pub(crate) fn distance(lo: i64, i: i64) -> u64
     ensures { result ≡ steps_between lo i }
 {
     if lo <= i { i.abs_diff(lo) } else { 0 }

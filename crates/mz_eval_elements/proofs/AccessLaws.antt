@@ -8,7 +8,7 @@ use Rattle.mz_core.specs.declared.types.Base.TheVariants as base
 use Rattle.mz_core.specs.Types.{PlainType}
 use Rattle.mz_core.specs.Order.{no_dims}
 use Rattle.mz_operations.specs.Bounds as bounds
-use Rattle.mz_meaning.specs.Cells.{Cell, Par, Var, Mode, Blank, Given, Bare, all_par, bounds_in, held, is_bool, is_par, is_truth, risen, scalar_bound, sealed, typed, value_of, widened}
+use Rattle.mz_meaning.specs.Cells.{Cell, Par, Var, Mode, Blank, Given, all_par, bounds_in, held, is_bool, is_par, is_truth, risen, scalar_bound, sealed, typed, value_of, widened}
 use Rattle.mz_meaning.specs.Arrays.{access_cell, accessed, elements_reached, ends_in, hull_over}
 use Rattle.mz_symbol.specs.declared.types.Symbol.{Symbol}
 use Rattle.mz_symbol.specs.Symbols.{symbol_value}
@@ -103,11 +103,11 @@ and_rest : (a b : Bool) → (a && b) ≡ true → b ≡ true
 and_rest true b h = h
 and_rest false b h = absurd (cc)
 
-pub par_told : (r : Reading) (t : PlainType) (a : Known) (at : List Known) (k : Known) → (is_par (cell_of a) && all_par (cells_of at)) ≡ true → cell_of k ≡ access_cell Bare t (cell_of a) (cells_of at) → access_cell r.mode t (seen r a) (all_seen r at) ≡ seen r k
+pub par_told : (r : Reading) (t : PlainType) (a : Known) (at : List Known) (k : Known) → (is_par (cell_of a) && all_par (cells_of at)) ≡ true → cell_of k ≡ Par (accessed (value_of (cell_of a)) (map value_of (cells_of at))) → access_cell r.mode t (seen r a) (all_seen r at) ≡ seen r k
 par_told r t a at k p e =
     let ca = cell_of a in
     let cs = cells_of at in
     ap (λ c. access_cell r.mode t c (all_seen r at)) (par_same r a (and_first (is_par ca) (all_par cs) p))
     ∙ ap (access_cell r.mode t ca) (all_same r at (and_rest (is_par ca) (all_par cs) p))
     ∙ ap (accessed_by r.mode t ca cs) p
-    ∙ sym (par_cell r k (accessed (value_of ca) (map value_of cs)) (e ∙ ap (accessed_by Bare t ca cs) p))
+    ∙ sym (par_cell r k (accessed (value_of ca) (map value_of cs)) e)

@@ -8,7 +8,7 @@ use Rattle.mz_core.specs.Types.{PlainType}
 use Rattle.mz_core.specs.Order.{no_dims}
 use Rattle.mz_operations.specs.Bounds as bounds
 use Rattle.mz_meaning.specs.Arrays.{access_cell, accessed, all_indices, element_at, indices_in}
-use Rattle.mz_meaning.specs.Cells.{Var, Bare, all_par, bounds_in, is_par, scalar_bound, typed, value_of}
+use Rattle.mz_meaning.specs.Cells.{Var, all_par, is_par, typed, value_of}
 use Rattle.mz_symbol.specs.declared.types.Symbol.{Symbol}
 use Rattle.mz_symbol.specs.Runs.{Run}
 use Rattle.mz_symbol.specs.Readings.{Reading}
@@ -41,10 +41,9 @@ untold_element r a at h = untold_by r a at (is_told a) (list_all is_told at) ref
 
 -- ---- the cell at its node
 
-pub open_typed : (r : Reading) (t : PlainType) (a : Known) (at : List Known) (k : Known) (b : bounds.Bound) (c : Base) (o : Bool) (x : Known) → (is_par (cell_of a) && all_par (cells_of at)) ≡ false → no_dims t.dims ≡ true → cell_of k ≡ access_cell Bare t (cell_of a) (cells_of at) → b ≡ scalar_bound (bounds_in (cell_of k)) → c ≡ t.base → o ≡ t.opt → element_value r c o a at ≡ counted_seen c o r x → cell_of x ≡ Var (bounds.one b) None
+pub open_typed : (r : Reading) (t : PlainType) (a : Known) (at : List Known) (b : bounds.Bound) (c : Base) (o : Bool) (x : Known) → (is_par (cell_of a) && all_par (cells_of at)) ≡ false → no_dims t.dims ≡ true → b ≡ reached_bound t (cell_of a) (cells_of at) → c ≡ t.base → o ≡ t.opt → element_value r c o a at ≡ counted_seen c o r x → cell_of x ≡ Var (bounds.one b) None
     → typed r.mode false t (access_cell r.mode t (seen r a) (all_seen r at)) ≡ typed r.mode false t (seen r x)
-open_typed r t a at k b c o x p d e i f g h s =
-    let bound : b ≡ reached_bound t (cell_of a) (cells_of at) = i ∙ ap (λ c. scalar_bound (bounds_in c)) (e ∙ ap (accessed_by Bare t (cell_of a) (cells_of at)) p) in
+open_typed r t a at b c o x p d bound f g h s =
     let by_base : element_value r t.base o a at ≡ counted_seen t.base o r x = subst (λ y. element_value r y o a at ≡ counted_seen y o r x) f h in
     let by_type : element_value r t.base t.opt a at ≡ counted_seen t.base t.opt r x = subst (λ y. element_value r t.base y a at ≡ counted_seen t.base y r x) g by_base in
     ap (λ q. typed r.mode false t (accessed_by r.mode t (seen r a) (all_seen r at) q)) (both_seen r a at ∙ p)

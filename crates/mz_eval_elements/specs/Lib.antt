@@ -1,4 +1,3 @@
 pub mod ElementCells
 pub mod StepsElements
 pub mod StepsLines
-pub mod StepsPlacing

@@ -29,8 +29,8 @@ use crate::places::row_element;
 use mz_arena::Arena;
 use mz_base::{Memory, Stop};
 use mz_core::{Base, TypeInst};
-use mz_eval_access::access_cell;
-use mz_eval_cells::{Bound, Known, all_par, is_par, scalar_bound};
+use mz_eval_access::{access_bound, par_element};
+use mz_eval_cells::{Bound, Known, all_par, is_par};
 use mz_eval_lines::{are_told, is_told, of_kind};
 use mz_eval_symbols::{is_gone, symbol_base};
 use mz_symbol::{Run, Symbol};
@@ -291,31 +291,32 @@ fn is_scalar(t: &TypeInst) -> bool
     t.dims.is_empty()
 }
 
-/// The element of an array, which or of which an index is var; `k` is its cell without a value.
+/// The element of an array, which or of which an index is var.
 fn open_element(
     alloc: Global,
     run: &mut Run,
     t: &TypeInst,
     a: &Known,
     at: &[Known],
-    k: &Known,
 ) -> Result<Known, Stop>
     requires some_var { (cells.is_par (cell_of a.now) && cells.all_par (cells_of at.now)) ≡ false }
     requires scalar { no_dims (plain_type t.now).dims ≡ true }
-    requires bare { cell_of k.now ≡ arrays.access_cell Bare (plain_type t.now) (cell_of a.now) (cells_of at.now) }
     ensures goes { GoesOn run.old run.new }
     ensures means { Means (typed_seen (plain_type t.now)) result run.old run.new
         (λ r. give (cells.typed r.mode false (plain_type t.now) (arrays.access_cell r.mode (plain_type t.now) (seen r a.now) (all_seen r at.now)))) }
 {
-    let bound = scalar_bound(alloc, k)?;
+    let bound = access_bound(alloc, t, a, at)?;
     let base = base_of(t);
     let opt = is_option(t);
     let x = var_element(alloc, run, base, opt, a, at, &bound)?;
     Ok(x)
 }
 
-/// The element of an array at these indices, of a node of this type, as `access_cell` gives it, once the
-/// type is stamped on it.
+/// The element of an array at these indices, of a node of this type, once the type is stamped on it.
+///
+/// Where all are par it is the element, undefined where the array or an index is undefined or an
+/// index lies outside its range. Else it is var, and its bounds are those of all elements that
+/// indices of these bounds reach: the hull of numbers, and of sets the union of what they may have.
 ///
 /// Where all are par, and where nothing tells the array or an index, no node is made and nothing is
 /// drawn. The element of a var array at par indices is what stands at its place, and takes constant
@@ -333,12 +334,12 @@ pub fn element_cell_in(
     ensures means { Means (typed_seen (plain_type t.now)) result run.old run.new
         (λ r. give (cells.typed r.mode false (plain_type t.now) (arrays.access_cell r.mode (plain_type t.now) (seen r a.now) (all_seen r at.now)))) }
 {
-    let k = access_cell(alloc, t, a, at)?;
     if are_par(a, at) {
+        let k = par_element(alloc, a, at)?;
         return Ok(k);
     }
     if !is_scalar(t) {
         return Err(Stop::Memory);
     }
-    open_element(alloc, run, t, a, at, &k)
+    open_element(alloc, run, t, a, at)
 }

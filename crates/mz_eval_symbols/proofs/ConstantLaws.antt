@@ -9,6 +9,7 @@ use Rattle.mz_core.specs.declared.types.Base.TheVariants as base
 use Rattle.mz_arena.specs.Values.{Term, as_number, bit, is_true, number, set}
 use Rattle.mz_meaning.specs.Runs.{Out}
 use Rattle.mz_meaning.specs.Cells.{Mode, Blank, Given, held}
+use Rattle.mz_meaning.specs.Coerced.{recast_all}
 use Rattle.mz_eval_cells.specs.declared.types.Item.{Item}
 use Rattle.mz_eval_cells.specs.Views.{cast_by, item_content}
 use Rattle.mz_eval_cells.proofs.Items.{recast_item}
@@ -129,6 +130,11 @@ told_by (Given f) t s x h = h ∙ sym (argument_kept (record { mode = Given f; t
 -- a symbol that has a value is an argument as it stands
 pub argument_told : (r : Reading) (s : Symbol) (x : Content) → held r.mode (Some x) ≡ symbol_seen r s → held r.mode (Some x) ≡ argument r s
 argument_told r s x h = told_by r.mode r.term s x h
+
+-- the same of one that is recast
+pub cast_argued : (r : Reading) (s : Symbol) (c : Option Base) (x : Content) → held r.mode (cast_by c (Some x)) ≡ symbol_seen r s → held r.mode (cast_by c (Some x)) ≡ argument r s
+cast_argued r s None x e = argument_told r s x e
+cast_argued r s (Some b) x e = argument_told r s (recast_all b x) e
 
 pub item_told : (c : Option Base) (i : Item) (v w : Content) → v ≡ item_content i → w ≡ item_cast c v → cast_by c (Some (item_content i)) ≡ Some w
 item_told None i v w e f = ap (λ x. Some x) (sym (f ∙ e))

@@ -1,5 +1,5 @@
 -- The values of lines that are made of cells.
-use Rattle.std.proofs.Common.{◌≡◌, ◌∙◌, ℕ, suc, ◌+◌, ◌*◌, ◌≤◌, Bool, true, false, List, [], ◌∷◌, length, map, Option, Some, None, slice_get, refl, sym, ap, subst, arith, if◌then◌else◌}
+use Rattle.std.proofs.Common.{◌≡◌, ◌∙◌, ℕ, ◌+◌, ◌*◌, Bool, true, false, List, [], ◌∷◌, length, map, Option, Some, None, slice_get, refl, sym, ap, subst, arith, if◌then◌else◌}
 use Rattle.std.proofs.lemmas.List.{length-map}
 use Rattle.std.specs.Option.{option_map, option_and_then}
 use Rattle.mz_value.specs.declared.value.Value.{Value}
@@ -14,7 +14,7 @@ use Rattle.mz_symbol.specs.declared.types.Symbol.{Symbol}
 use Rattle.mz_symbol.specs.declared.types.Line.{Line}
 use Rattle.mz_symbol.specs.Symbols.{symbol_value, all_there, elements_value, AreItems, AreWhole}
 use Rattle.mz_symbol.specs.Runs.{Run, ReadsNodes, IsRun}
-use Rattle.mz_symbol.specs.Readings.{Reading, Reads, line_in, state_of}
+use Rattle.mz_symbol.specs.Readings.{Reading, Reads, line_in}
 use Rattle.mz_symbol.specs.Makes.{GoesOnBy}
 use Rattle.mz_symbol_rows.proofs.GoingOn.{goes_both, goes_most}
 use Rattle.mz_eval_symbols.specs.Steps.{ArePrefix, AreConstants, AreCasts, IsCast, IsLineWith, Stands, item_cast}

@@ -187,7 +187,8 @@ fn recast_argument(alloc: Global, run: &mut Run, b: Base, s: Symbol) -> Result<S
 
 // ---- symbols of another base than their node's
 
-fn is_base(a: Base, b: Base) -> bool {
+/// Whether a symbol of the first base is one of a node of the second.
+pub(crate) fn is_base(a: Base, b: Base) -> bool {
     match a {
         Base::Bool => matches!(b, Base::Bool),
         Base::Int => matches!(b, Base::Int),

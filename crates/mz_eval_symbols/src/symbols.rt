@@ -1,16 +1,18 @@
 // Cells as symbols.
 
-ghost use Rattle.std.specs.Prelude.{◌≡◌, IfOk, Option, Some};
+ghost use Rattle.std.specs.Prelude.{◌≡◌, IfOk, MatchOption, Option, Some, ℕ};
 ghost use Rattle.mz_value.specs.Contents.{content};
+ghost use Rattle.mz_arena.specs.Values.{Term};
 ghost use Rattle.mz_meaning.specs.Cells.{held};
 ghost use Rattle.mz_meaning.specs.Runs.{give};
-ghost use Rattle.mz_symbol.specs.Makes.{GoesOnBy, Means};
+ghost use Rattle.mz_symbol.specs.Makes.{GoesOn, GoesOnBy, Means};
+ghost use Rattle.mz_symbol.specs.Readings.{symbol_seen};
 ghost use Rattle.mz_symbol_rows.specs.RowValues.{argument};
 ghost use Rattle.mz_eval_cells.specs.Views.{cast_by, item_content, origin_value, var_content};
 ghost use Rattle.mz_eval_symbols.specs.Steps.{argued};
 ghost use Rattle.mz_eval_symbols.specs.Taken.{cell_value};
 
-use crate::casts::{cast_symbol, cast_value};
+use crate::casts::{cast_symbol, cast_value, is_base};
 use crate::constants::{constant, symbol_base, undefined};
 use mz_arena::Id;
 use mz_base::{Memory, Stop};
@@ -68,6 +70,43 @@ fn item_value(alloc: Global, i: &Item) -> Result<Value, AllocError>
     same.into_value(alloc)
 }
 
+/// The constant of a value, recast where a base is told.
+fn value_constant(
+    alloc: Global,
+    run: &mut Run,
+    base: Base,
+    cast: Option<Base>,
+    i: &Item,
+) -> Result<Symbol, Stop>
+    ensures goes { GoesOn run.old run.new }
+    ensures means { Means symbol_seen result run.old run.new (λ r. give (held r.mode (cast_by cast (Some (item_content i.now))))) }
+{
+    let v = item_value(alloc, i)?;
+    let w = cast_value(cast, v);
+    let s = constant(run, base, w)?;
+    Ok(s)
+}
+
+/// The same, by a shorter way for an integer that isn't recast.
+fn item_constant(
+    alloc: Global,
+    run: &mut Run,
+    base: Base,
+    cast: Option<Base>,
+    i: &Item,
+) -> Result<Symbol, Stop>
+    ensures goes { GoesOn run.old run.new }
+    ensures means { Means symbol_seen result run.old run.new (λ r. give (held r.mode (cast_by cast (Some (item_content i.now))))) }
+{
+    match cast {
+        Some(_) => value_constant(alloc, run, base, cast, i),
+        None => match i {
+            Item::Int(n) => run.integer(*n),
+            _ => value_constant(alloc, run, base, None, i),
+        },
+    }
+}
+
 #[tactic(auto, using(mz_symbol_rows::proofs::GoingOn::goes_both, mz_symbol_rows::proofs::GoingOn::goes_most))]
 fn item_symbol(
     alloc: Global,
@@ -80,9 +119,7 @@ fn item_symbol(
     ensures goes { GoesOnBy 4 run.old run.new }
     ensures means { Means argument result run.old run.new (λ r. give (held r.mode (cast_by cast (Some (item_content i.now))))) }
 {
-    let v = item_value(alloc, i)?;
-    let w = cast_value(cast, v);
-    let s = constant(run, base, w)?;
+    let s = item_constant(alloc, run, base, cast, i)?;
     let x = as_asked(run, opt, s)?;
     Ok(x)
 }
@@ -149,7 +186,31 @@ fn origin_symbol(
     }
 }
 
-fn var_symbol(
+/// The symbol of a var value, where it is one of its node's base as it stands, and an option where one
+/// is asked for.
+fn own_symbol(base: Base, opt: bool, v: &VarValue) -> Option<Symbol>
+    ensures { MatchOption result (Unit {0}) (λ s. (t : ℕ → Term) → var_content t v.now ≡ argued t s) }
+{
+    match v.cast {
+        Some(_) => None,
+        None => match &v.origin {
+            Origin::Symbol(s) => fit_symbol(base, opt, *s),
+            _ => None,
+        },
+    }
+}
+
+fn fit_symbol(base: Base, opt: bool, s: Symbol) -> Option<Symbol>
+    ensures { MatchOption result (Unit {0}) (λ x. x ≡ s) }
+{
+    if is_base(s.base, base) && (!opt || s.occurs.is_some()) {
+        Some(s)
+    } else {
+        None
+    }
+}
+
+fn other_symbol(
     alloc: Global,
     run: &mut Run,
     base: Base,
@@ -161,6 +222,23 @@ fn var_symbol(
 {
     let s = origin_symbol(alloc, run, base, opt, v.cast, &v.origin)?;
     Ok(s)
+}
+
+#[tactic(auto, using(mz_symbol_rows::proofs::GoingOn::goes_most))]
+fn var_symbol(
+    alloc: Global,
+    run: &mut Run,
+    base: Base,
+    opt: bool,
+    v: &VarValue,
+) -> Result<Symbol, Stop>
+    ensures goes { GoesOnBy 8 run.old run.new }
+    ensures means { Means argument result run.old run.new (λ r. give (held r.mode (held r.mode (var_content r.term v.now)))) }
+{
+    match own_symbol(base, opt, v) {
+        None => other_symbol(alloc, run, base, opt, v),
+        Some(s) => Ok(s),
+    }
 }
 
 /// The symbol of a cell that is no array, as an argument of a row: of a node whose type has this base

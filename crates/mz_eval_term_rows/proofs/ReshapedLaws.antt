@@ -12,7 +12,7 @@ use Rattle.mz_operations.specs.Arguments.{Arguments, at, items_at, set_at}
 use Rattle.mz_operations.specs.Arrays.{IndexShape, is_shape_of, shape, shape_from, with_index}
 use Rattle.mz_operations.specs.Values.{made_value}
 use Rattle.mz_builtin_arguments.proofs.Views.{items_in_contents}
-use Rattle.mz_meaning.specs.Cells.{Mode, Blank, Given, Var, held, value_of}
+use Rattle.mz_meaning.specs.Cells.{Mode, Blank, Given, held, value_of}
 use Rattle.mz_meaning.specs.Coerced.{recast}
 use Rattle.mz_symbol.specs.Readings.{Reading}
 use Rattle.mz_eval_cells.specs.declared.types.Known.{Known}

@@ -24,7 +24,7 @@ use Rattle.mz_operations.specs.Answers.{Answer, Gives, Stops, unless_negative, i
 use Rattle.mz_operations.specs.Values.{value, scalar_value, power}
 use Rattle.mz_meaning.specs.Exact.{exact_value, exact_power}
 use Rattle.mz_meaning.specs.Runs.{State, Out}
-use Rattle.mz_meaning.specs.Cells.{Cell, Par, Var, Mode, Blank, Given, Bare, all_par, held, is_par, value_of}
+use Rattle.mz_meaning.specs.Cells.{Cell, Par, Mode, Blank, Given, Bare, all_par, held, is_par, value_of}
 use Rattle.mz_meaning.specs.Coerced.{recast}
 use Rattle.mz_meaning.specs.Operations.{known_names, par_answer, par_row, reads_bounds, row_cell, var_row}
 use Rattle.mz_operations.specs.RowBounds.{value_by_bounds}
@@ -36,7 +36,7 @@ use Rattle.mz_base.specs.declared.stop.Memory.{Memory}
 use Rattle.mz_eval_cells.specs.declared.types.Known.{Known}
 use Rattle.mz_eval_cells.specs.declared.types.Known.TheVariants as known
 use Rattle.mz_eval_cells.specs.Views.{cell_of, seen}
-use Rattle.mz_eval_terms.specs.NodeRows.{exact_row, var_value}
+use Rattle.mz_eval_terms.specs.NodeRows.{var_value}
 use Rattle.mz_eval_term_rows.specs.Settled.{IsExact, IsSettled, is_fold, is_plain, is_power}
 
 -- ---- values that no node tells

@@ -20,7 +20,10 @@ use mz_base::{Span, Stop};
 use mz_core::TypeInst;
 use mz_eval_cells::{Known, is_par, share};
 use mz_eval_rows as plain;
-use mz_eval_terms::{Argument, cell_of_one, cell_of_two, shape_of_one, shape_of_two, whole};
+use mz_eval_terms::{
+    Argument, cell_by_ends, cell_of_one, cell_of_two, ends_of_two, shape_of_one, shape_of_two,
+    whole,
+};
 use mz_operations::{MadeRow, Row};
 use mz_symbol::Run;
 use mz_value::Cases;
@@ -185,8 +188,8 @@ fn rows_of_settled(
     Ok(k)
 }
 
-/// A row of two arguments, of which one is var.
-fn rows_of_var(
+/// A row of two arguments, of which one is var, from its cell without values.
+fn rows_of_shape(
     alloc: Global,
     cases: &Cases,
     row: Row,
@@ -204,6 +207,28 @@ fn rows_of_var(
     let y = share(&b.cell)?;
     let shape = shape_of_two(alloc, cases, row, t, at, x, y)?;
     cell_of_two(alloc, row, t, &shape, a, b, run)
+}
+
+/// A row of two arguments, of which one is var: by its ends alone where those of the arguments tell
+/// them.
+fn rows_of_var(
+    alloc: Global,
+    cases: &Cases,
+    row: Row,
+    t: &TypeInst,
+    at: Span,
+    a: &Argument,
+    b: &Argument,
+    run: &mut Run,
+) -> Result<Known, Stop>
+    ensures goes { GoesOnBy (64 * (1 + row_cost row (cell_of a.now.cell ∷ cell_of b.now.cell ∷ []))) run.old run.new }
+    ensures means { Means (stamped (plain_type t.now)) result run.old run.new
+        (λ r. row_node r.mode (case_names cases.now) row (plain_type t.now) at (seen r a.now.cell ∷ seen r b.now.cell ∷ [])) }
+{
+    match ends_of_two(row, &a.cell, &b.cell) {
+        Some(ends) => cell_by_ends(alloc, cases, row, t, at, ends, a, b, run),
+        None => rows_of_shape(alloc, cases, row, t, at, a, b, run),
+    }
 }
 
 /// What a row gives of these two arguments, as `row_of_one` says.

@@ -1,3 +1,4 @@
+pub mod EndLaws
 pub mod LineLaws
 pub mod RowLaws
 pub mod ToldLaws

@@ -1,5 +1,5 @@
 -- A row over cells is the same under each mode, but for the value of its cell.
-use Rattle.std.proofs.Common.{◌≡◌, ◌∙◌, ℕ, Bool, true, false, ◌&&◌, ◌||◌, List, [], ◌∷◌, ◌++◌, map, take, drop, Option, Some, None, refl, sym, ap, if◌then◌else◌}
+use Rattle.std.proofs.Common.{◌≡◌, ◌∙◌, ℕ, Bool, true, false, ◌||◌, List, [], ◌∷◌, ◌++◌, map, take, drop, Option, Some, None, refl, sym, ap, if◌then◌else◌}
 use Rattle.std.specs.List.{take-map, drop-map}
 use Rattle.std.proofs.lemmas.Option.{slice_get-map}
 use Rattle.std.specs.Prelude.{slice_get, unwrap_or}
@@ -10,8 +10,6 @@ use Rattle.mz_value.specs.Contents.{Content}
 use Rattle.mz_value.specs.Shown.{Names}
 use Rattle.mz_core.specs.declared.types.Base.{Base}
 use Rattle.mz_core.specs.Types.{PlainType}
-use Rattle.mz_operations.specs.declared.row.ScalarRow.{ScalarRow}
-use Rattle.mz_operations.specs.declared.row.MadeRow.{MadeRow}
 use Rattle.mz_operations.specs.declared.row.MadeRow.TheVariants as made
 use Rattle.mz_operations.specs.declared.row.Row.{Row}
 use Rattle.mz_operations.specs.declared.row.Row.TheVariants.{Scalar, Made, Bounding, Show, ShowArray}
@@ -20,9 +18,8 @@ use Rattle.mz_operations.specs.Answers.{Answer as Values}
 use Rattle.mz_operations.specs.Bounds.{Bounds}
 use Rattle.mz_operations.specs.RowBounds.{row_bounds, value_by_bounds}
 use Rattle.mz_meaning.specs.Runs.{Run, State, Answer, Out, Stopped, then_do, give}
-use Rattle.mz_meaning.specs.Cells.{Cell, Par, Var, Unshaped, Mode, Bare, held, all_par, is_par, value_of, bounds_in, no_bounds}
+use Rattle.mz_meaning.specs.Cells.{Cell, Par, Var, Unshaped, Mode, Bare, held, all_par, value_of, bounds_in, no_bounds}
 use Rattle.mz_meaning.specs.Coerced.{recast}
-use Rattle.mz_meaning.specs.Exact.{exact_value}
 use Rattle.mz_meaning.specs.Operations.{known, tested, limited, index_set_bounds, argument_bounds, at_place, or_unshaped, or_reshaped, is_no_set, shaped_by, with_shape, reads_bounds, var_row, known_names, par_answer, par_row, row_cell}
 use Rattle.mz_eval_terms.specs.NodeRows.{with_value, var_value}
 

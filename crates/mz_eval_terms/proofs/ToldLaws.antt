@@ -1,5 +1,5 @@
 -- What rows tell of cells, under each reading, and what a node's type leaves of them.
-use Rattle.std.proofs.Common.{◌≡◌, ◌∙◌, ◌≤◌, ◌*◌, ◌+◌, ℕ, Bool, true, false, ◌&&◌, List, [], ◌∷◌, map, Option, Some, None, Result, Ok, Err, refl, sym, ap, subst, arith, if◌then◌else◌}
+use Rattle.std.proofs.Common.{◌≡◌, ◌∙◌, ◌≤◌, ◌*◌, ◌+◌, ℕ, Bool, true, false, List, [], ◌∷◌, map, Option, Some, None, Result, Ok, Err, refl, sym, ap, subst, arith}
 use Rattle.mz_base.specs.declared.fault.Span.{Span}
 use Rattle.mz_base.specs.declared.stop.Stop.{Stop}
 use Rattle.mz_base.specs.declared.stop.Stop.TheVariants.{Refused, Memory}
@@ -10,7 +10,7 @@ use Rattle.mz_core.specs.Types.{PlainType}
 use Rattle.mz_operations.specs.declared.row.Row.{Row}
 use Rattle.mz_operations.specs.Bounds.{Bounds}
 use Rattle.mz_operations.specs.Bounds as bounds
-use Rattle.mz_meaning.specs.Runs.{Run, State, Answer, Out, then_do}
+use Rattle.mz_meaning.specs.Runs.{State, Answer, Out, then_do}
 use Rattle.mz_meaning.specs.Cells as cells
 use Rattle.mz_meaning.specs.Cells.{Cell, Var, Unshaped, Mode, Blank, Given, Bare, held, is_true, is_truth, typed}
 use Rattle.mz_operations.specs.Costs.{cost}

@@ -24,7 +24,7 @@ use Rattle.mz_operations.specs.Values.{scalar_value, made_value, equality}
 use Rattle.mz_arena.specs.Values.{Term, as_number, as_set}
 use Rattle.mz_arena.specs.Values as terms
 use Rattle.mz_instance.specs.Contents.{content_by}
-use Rattle.mz_meaning.specs.Cells.{Mode, Blank, Given, held, is_true, is_bool, is_truth}
+use Rattle.mz_meaning.specs.Cells.{Mode, Blank, Given, held, is_bool, is_truth}
 use Rattle.mz_meaning.specs.Coerced.{recast}
 use Rattle.mz_meaning.specs.Exact.{exact_value}
 use Rattle.mz_symbol.specs.declared.types.Symbol.{Symbol}

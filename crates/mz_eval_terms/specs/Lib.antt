@@ -1,3 +1,4 @@
 pub mod NodeRows
 pub mod StepsRows
 pub mod StepsNever
+pub mod Ends

@@ -1,5 +1,5 @@
 -- WHAT THE NODE OF A ROW IS: the row's cell, once the node's type is stamped on it.
-use Rattle.std.specs.Prelude.{ℕ, Bool, true, false, List, map, Option, Some, None, if◌then◌else◌}
+use Rattle.std.specs.Prelude.{Bool, true, false, List, map, Option}
 use Rattle.std.specs.Option.{option_map}
 use Rattle.mz_base.specs.declared.fault.Span.{Span}
 use Rattle.mz_value.specs.Contents.{Content}

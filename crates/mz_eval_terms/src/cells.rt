@@ -1,7 +1,7 @@
 // The cells of rows: the shape without values, and the symbol that tells the value.
 
 ghost use Rattle.std.specs.Prelude.{◌≡◌, ◌+◌, ◌*◌, ◌∷◌, [], false, IfOk, Option};
-ghost use Rattle.mz_value.specs.Contents.{Content};
+ghost use Rattle.mz_value.specs.Contents.{Content, case_names};
 ghost use Rattle.mz_value.specs.Shown.{Names};
 ghost use Rattle.mz_core.specs.Types.{plain_type};
 ghost use Rattle.mz_operations.specs.Bounds as bounds;
@@ -13,17 +13,19 @@ ghost use Rattle.mz_symbol.specs.Readings.{Reading};
 ghost use Rattle.mz_symbol.specs.Makes.{GoesOnBy, Means};
 ghost use Rattle.mz_symbol_rows.specs.RowValues.{argument};
 ghost use Rattle.mz_eval_cells.specs.Views.{cell_of, known_bound, seen};
-ghost use Rattle.mz_eval_terms.specs.NodeRows.{is_open, shape_stamped, stamped, var_value, with_value};
+ghost use Rattle.mz_eval_terms.specs.NodeRows.{is_open, row_node, shape_stamped, stamped, var_value, with_value};
+ghost use Rattle.mz_eval_terms.specs.Ends.{HasEnds};
 
 use crate::told::{symbol_of_one, symbol_of_two};
 use crate::types::Argument;
 use mz_arena::Arena;
-use mz_base::{Memory, Stop};
+use mz_base::{Memory, Span, Stop};
 use mz_core::{Base, TypeInst};
 use mz_eval_cells::{Bound, Known, share, share_bound, var_value};
 use mz_eval_symbols::{cell_of_symbol, is_gone};
 use mz_operations::Row;
 use mz_symbol::{Run, Symbol};
+use mz_value::Cases;
 use std::alloc::{AllocError, Global};
 
 /// The var cell of a symbol, with these bounds.
@@ -175,4 +177,32 @@ pub fn cell_of_two(
             Ok(k)
         }
     }
+}
+
+fn number_bound(e: (i64, i64)) -> Bound
+    ensures { known_bound result ≡ bounds.number e }
+{
+    Bound::Number(e.0, e.1)
+}
+
+/// The cell of a row of two arguments whose bounds have these ends.
+pub fn cell_by_ends(
+    alloc: Global,
+    cases: &Cases,
+    row: Row,
+    t: &TypeInst,
+    at: Span,
+    ends: (i64, i64),
+    a: &Argument,
+    b: &Argument,
+    run: &mut Run,
+) -> Result<Known, Stop>
+    requires { (r : Reading) → HasEnds row (seen r a.now.cell ∷ seen r b.now.cell ∷ []) ends }
+    ensures goes { GoesOnBy (64 * (1 + row_cost row (cell_of a.now.cell ∷ cell_of b.now.cell ∷ []))) run.old run.new }
+    ensures means { Means (stamped (plain_type t.now)) result run.old run.new
+        (λ r. row_node r.mode (case_names cases.now) row (plain_type t.now) at (seen r a.now.cell ∷ seen r b.now.cell ∷ [])) }
+{
+    let bound = number_bound(ends);
+    let k = single_of_two(alloc, row, t, &bound, a, b, run)?;
+    Ok(k)
 }

@@ -2,6 +2,7 @@
 #![tactic(auto)]
 
 mod cells;
+mod ends;
 mod lines;
 mod pairs;
 mod sets;
@@ -11,7 +12,8 @@ mod stated;
 mod told;
 mod types;
 
-pub use cells::{bounded, cell_of_one, cell_of_two, whole};
+pub use cells::{bounded, cell_by_ends, cell_of_one, cell_of_two, whole};
+pub use ends::ends_of_two;
 pub use lines::drawn_line;
 pub use shapes::{shape_of_all, shape_of_one, shape_of_two};
 pub use stated::symbol_at;

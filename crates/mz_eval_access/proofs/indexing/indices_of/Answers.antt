@@ -1,7 +1,7 @@
 use Rattle.std.proofs.Common.{◌≡◌, arith, rules, refl}
 use Rattle.std.specs.Prelude.{Some, None}
 use Rattle.mz_eval_cells.specs.Views.{cell_of}
-use Rattle.mz_eval_access.specs.StepsPlaces.{cell_index}
+use Rattle.mz_eval_access.specs.Places.{cell_index}
 use Rattle.mz_eval_access.proofs.Indices.{none_before, stops, goes, ends, of_known}
 use Rattle.mz_eval_access.proofs.indexing.indices_of.Goals as goal
 

@@ -1,4 +1,4 @@
-use Rattle.std.proofs.Common.{◌≡◌, ◌∙◌, ◌+◌, map, ap, length, subst, arith}
+use Rattle.std.proofs.Common.{◌≡◌, ◌+◌, map, ap, length, subst, arith}
 use Rattle.mz_value.specs.Contents.{content}
 use Rattle.mz_symbol.proofs.RunLaws.{goes_on}
 use Rattle.mz_symbol_lines.proofs.WalkLaws.{goes_none}

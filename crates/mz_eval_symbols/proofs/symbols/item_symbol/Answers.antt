@@ -1,13 +1,12 @@
-use Rattle.std.proofs.Common.{◌∙◌, ap}
-use Rattle.mz_value.specs.Contents.{content}
-use Rattle.mz_meaning.specs.Cells.{held}
+use Rattle.std.proofs.Common.{◌∙◌}
 use Rattle.mz_symbol.proofs.ConstantLaws.{out_value, out_state}
 use Rattle.mz_symbol_rows.proofs.RowLaws.{out_both}
-use Rattle.mz_eval_symbols.proofs.ConstantLaws.{argument_told, item_told}
+use Rattle.mz_eval_cells.specs.Views.{item_content}
+use Rattle.mz_eval_symbols.proofs.ConstantLaws.{cast_argued}
 use Rattle.mz_eval_symbols.proofs.symbols.item_symbol.Goals as goal
 
 pub returns-clause-means : goal.returns-clause-means
 returns-clause-means c r h =
     let e = c.in_ok-x.ensures.means r h in
     let f = c.in_ok-s.ensures.means r (c.in_ok-x.ensures.goes.back r h) in
-    out_both (ap (held r.mode) (item_told c.args.cast c.args.i.now (content c.in_ok-v.v) (content c.cast_value-w.result) c.in_ok-v.ensures c.cast_value-w.ensures) ∙ argument_told r c.in_ok-s.s (content c.cast_value-w.result) (out_value f) ∙ out_value e) (out_state f ∙ out_state e)
+    out_both (cast_argued r c.in_ok-s.s c.args.cast (item_content c.args.i.now) (out_value f) ∙ out_value e) (out_state f ∙ out_state e)

@@ -1,4 +1,4 @@
-use Rattle.std.proofs.Common.{◌∙◌, false, sym, ap}
+use Rattle.std.proofs.Common.{◌∙◌, false, ap}
 use Rattle.mz_core.specs.Types.{plain_type}
 use Rattle.mz_meaning.specs.Runs.{Out}
 use Rattle.mz_meaning.specs.Cells.{typed, value_of}

@@ -1,11 +1,8 @@
-use Rattle.std.proofs.Common.{◌∙◌, ap}
 use Rattle.std.specs.Option.{option_map}
 use Rattle.mz_operations.specs.declared.row.MadeRow.TheVariants as made
 use Rattle.mz_operations.specs.Values.{made_value}
 use Rattle.mz_meaning.specs.Cells.{held}
 use Rattle.mz_meaning.specs.Coerced.{recast}
-use Rattle.mz_eval_cells.specs.Views.{cell_of}
-use Rattle.mz_eval_terms.specs.NodeRows.{with_value}
 use Rattle.mz_eval_term_rows.proofs.reshaped.reshaped_cell.Goals as goal
 
 pub returns-in_ok-k-in_default : goal.returns-in_ok-k-in_default

@@ -1,4 +1,4 @@
-use Rattle.std.proofs.Common.{◌≡◌, List, [], ◌∷◌, false, subst}
+use Rattle.std.proofs.Common.{◌≡◌, List, [], ◌∷◌, subst}
 use Rattle.mz_value.specs.Contents.{case_names}
 use Rattle.mz_core.specs.Types.{plain_type}
 use Rattle.mz_meaning.specs.Runs.{Out}

@@ -1,4 +1,4 @@
-use Rattle.std.proofs.Common.{◌≡◌, ◌∙◌, ℕ, ap, sym}
+use Rattle.std.proofs.Common.{◌∙◌, ap, sym}
 use Rattle.mz_eval_cells.specs.Views.{var_content}
 use Rattle.mz_eval_terms.proofs.NeverLaws.{nothing_value}
 use Rattle.mz_eval_terms.proofs.told.is_missing.Goals as goal

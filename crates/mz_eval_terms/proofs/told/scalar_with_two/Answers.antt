@@ -1,4 +1,4 @@
-use Rattle.std.proofs.Common.{[], ◌∷◌, ◌≤◌, arith}
+use Rattle.std.proofs.Common.{[], ◌∷◌, arith}
 use Rattle.mz_operations.specs.declared.row.Row.TheVariants.{Scalar}
 use Rattle.mz_eval_cells.specs.Views.{cell_of}
 use Rattle.mz_eval_terms.proofs.ToldLaws.{goes_paid}

@@ -1,4 +1,4 @@
-use Rattle.std.proofs.Common.{◌≡◌, List, [], ◌∷◌, false, subst}
+use Rattle.std.proofs.Common.{◌≡◌, List, [], ◌∷◌, subst}
 use Rattle.mz_value.specs.Contents.{case_names}
 use Rattle.mz_core.specs.Types.{plain_type}
 use Rattle.mz_meaning.specs.Runs.{Out}
@@ -8,7 +8,7 @@ use Rattle.mz_symbol.specs.Readings.{state_of}
 use Rattle.mz_eval_cells.specs.Views.{cell_of, seen}
 use Rattle.mz_eval_terms.specs.NodeRows.{stamped, var_value, with_value}
 use Rattle.mz_eval_term_rows.proofs.NodeLaws.{node_meets}
-use Rattle.mz_eval_term_rows.proofs.rows.rows_of_var.Goals as goal
+use Rattle.mz_eval_term_rows.proofs.rows.rows_of_shape.Goals as goal
 
 pub returns-clause-means : goal.returns-clause-means
 returns-clause-means c r h =
