@@ -33,13 +33,22 @@ fn integer_in(i: &Item) -> Option<i64>
 }
 
 /// The integer that a par cell is.
-pub(crate) fn integer_of(k: &Known) -> Option<i64>
+fn integer_of(k: &Known) -> Option<i64>
     ensures { IfSome result (λ n. cell_of k.now ≡ par_value (int n)) }
 {
     match k {
         Known::One(i) => integer_in(i),
         _ => None,
     }
+}
+
+/// The integers that two par cells are.
+pub(crate) fn integers_of(a: &Known, b: &Known) -> Option<(i64, i64)>
+    ensures { IfSome result (λ n. (cell_of a.now ≡ par_value (int n.0)) × (cell_of b.now ≡ par_value (int n.1))) }
+{
+    let x = integer_of(a)?;
+    let y = integer_of(b)?;
+    Some((x, y))
 }
 
 /// The cell of a truth value, as one of this base.

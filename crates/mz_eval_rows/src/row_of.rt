@@ -1,19 +1,19 @@
 // A row over cells: one for each number of arguments, since rows of one and two arguments need no list.
 
 ghost use Rattle.std.specs.Prelude.{◌≡◌, ◌&&◌, ◌∷◌, [], IfOk, map};
-ghost use Rattle.mz_value.specs.Contents.{case_names, int};
+ghost use Rattle.mz_value.specs.Contents.{case_names};
 ghost use Rattle.mz_value.specs.Shown.{Names};
 ghost use Rattle.mz_core.specs.Types.{plain_type};
 ghost use Rattle.mz_operations.specs.Arguments.{arguments};
 ghost use Rattle.mz_meaning.specs.Cells as cells;
-ghost use Rattle.mz_meaning.specs.Cells.{Bare, par_value, value_of};
+ghost use Rattle.mz_meaning.specs.Cells.{Bare, value_of};
 ghost use Rattle.mz_meaning.specs.Operations.{par_row, row_cell};
 ghost use Rattle.mz_eval_cells.specs.Views.{cell_of, cells_of};
 ghost use Rattle.mz_eval_cells.specs.Meets.{Tells};
 ghost use Rattle.mz_eval_rows.specs.Steps as steps;
 
 use crate::applied::par_row;
-use crate::integers::{integer_of, row_of_integers};
+use crate::integers::{integers_of, row_of_integers};
 use crate::opened::open_row;
 use crate::sets::{row_of_extreme, row_of_member};
 use mz_base::{Span, Stop};
@@ -146,27 +146,7 @@ fn row_of_cells(
     }
 }
 
-/// A row of an integer, which the first cell is, and a second cell.
-fn row_by_integer(
-    alloc: Global,
-    cases: &Cases,
-    row: Row,
-    t: &TypeInst,
-    at: Span,
-    x: i64,
-    a: Known,
-    b: Known,
-) -> Result<Known, Stop>
-    requires { cell_of a ≡ par_value (int x) }
-    ensures { Tells cell_of result (row_cell Bare (case_names cases.now) row (plain_type t.now) at (cell_of a ∷ cell_of b ∷ [])) }
-{
-    match integer_of(&b) {
-        None => row_of_cells(alloc, cases, row, t, at, a, b),
-        Some(y) => row_of_integers(alloc, cases, row, t.base, at, x, y),
-    }
-}
-
-/// What a row gives of these two arguments, as `row_of_one` says.
+/// What a row gives of these two arguments, as `row_of_one` says. Integers are read where they are.
 #[inline(always)]
 pub fn row_of_two(
     alloc: Global,
@@ -179,9 +159,9 @@ pub fn row_of_two(
 ) -> Result<Known, Stop>
     ensures { Tells cell_of result (row_cell Bare (case_names cases.now) row (plain_type t.now) at (cell_of a ∷ cell_of b ∷ [])) }
 {
-    match integer_of(&a) {
+    match integers_of(&a, &b) {
         None => row_of_cells(alloc, cases, row, t, at, a, b),
-        Some(x) => row_by_integer(alloc, cases, row, t, at, x, a, b),
+        Some(n) => row_of_integers(alloc, cases, row, t.base, at, n.0, n.1),
     }
 }
 

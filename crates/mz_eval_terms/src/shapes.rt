@@ -33,6 +33,7 @@ pub fn shape_of_one(
 }
 
 /// The same of two arguments.
+#[inline(always)]
 pub fn shape_of_two(
     alloc: Global,
     cases: &Cases,
