@@ -14,12 +14,10 @@ use Rattle.mz_symbol.specs.Runs.{Run}
 use Rattle.mz_symbol.specs.Readings.{Reading}
 use Rattle.mz_symbol.specs.Makes.{GoesOnBy}
 use Rattle.mz_symbol_rows.proofs.GoingOn.{goes_both, goes_most}
-use Rattle.mz_symbol_lines.proofs.WalkLaws.{goes_none}
 use Rattle.mz_symbol_branches.specs.ChosenValues.{chosen_line}
 use Rattle.mz_eval_cells.specs.declared.types.Known.{Known}
 use Rattle.mz_eval_symbols.specs.Taken.{line_seen, ranges_in}
 use Rattle.mz_eval_lines.specs.StepsBranches.{one_value}
-use Rattle.mz_eval_branches.specs.BranchLines.{AreNone, option_seen}
 use Rattle.mz_eval_branches.proofs.NoValues.{held_none}
 
 -- ---- index ranges
@@ -63,34 +61,25 @@ held_line r like o = held r.mode (array_in (ranges_in like) o)
 pub blank_told : (r : Reading) (like : Known) (k : ℕ) → None ≡ r.line k → None ≡ line_seen like r k
 blank_told r like k e = sym (held_none r.mode) ∙ ap (held_line r like) e
 
-none_of : (m : Mode) (b : Bool) (v w : Option Content) → v ≡ None → w ≡ None → held m (if b then v else w) ≡ None
-none_of m true v w e f = ap (held m) e ∙ held_none m
-none_of m false v w e f = ap (held m) f ∙ held_none m
-
--- neither of two is there
-pub neither_told : (r : Reading) (like : Known) (id : ℕ) (p q : Option ℕ) → AreNone p q → one_value r id (option_seen like r p) (option_seen like r q) ≡ None
-neither_told r like id p q n = none_of r.mode (is_true (r.term id)) (option_seen like r p) (option_seen like r q) (ap (option_seen like r) n.0) (ap (option_seen like r) n.1)
-
 -- ---- what it costs
 
 pub goes_blank : (n : ℕ) (old mid new : Run) (ss : List Symbol) → length ss ≡ n → GoesOnBy 0 old mid → GoesOnBy (16 * length ss) mid new → GoesOnBy (20 * n) old new
 goes_blank n old mid new ss e f g = goes_most (0 + 16 * length ss) (20 * n) old new (omega (arith, e)) (goes_both 0 (16 * length ss) old mid new f g)
 
-pub goes_nothing : (n : ℕ) (s : Run) → GoesOnBy (88 * n + 16) s s
-goes_nothing n s = goes_most 0 (88 * n + 16) s s (omega arith) (goes_none s)
-
 pub goes_counted : (n m : ℕ) (old new : Run) → n ≡ m → GoesOnBy (20 * n) old new → GoesOnBy (20 * m) old new
 goes_counted n m old new e g = subst (λ k. GoesOnBy (20 * k) old new) e g
 
-pub goes_chosen : (n m : ℕ) (old new : Run) → n ≡ m → GoesOnBy (48 * n + 16) old new → GoesOnBy (48 * m + 16) old new
-goes_chosen n m old new e g = subst (λ k. GoesOnBy (48 * k + 16) old new) e g
+pub goes_chosen : (n m : ℕ) (old new : Run) → n ≡ m → GoesOnBy (56 * n + 16) old new → GoesOnBy (56 * m + 16) old new
+goes_chosen n m old new e g = subst (λ k. GoesOnBy (56 * k + 16) old new) e g
 
-pub goes_first : (n : ℕ) (old new : Run) → GoesOnBy (20 * n) old new → GoesOnBy (88 * n + 16) old new
-goes_first n old new f = goes_most (20 * n) (88 * n + 16) old new (omega arith) f
+pub goes_blank_alone : (n : ℕ) (old new : Run) → GoesOnBy (20 * n) old new → GoesOnBy (76 * n + 16) old new
+goes_blank_alone n old new f = goes_most (20 * n) (76 * n + 16) old new (omega arith) f
 
-pub goes_second : (n : ℕ) (old mid new : Run) → GoesOnBy (20 * n) old mid → GoesOnBy (20 * n) mid new → GoesOnBy (88 * n + 16) old new
-goes_second n old mid new f g = goes_most (20 * n + 20 * n) (88 * n + 16) old new (omega arith) (goes_both (20 * n) (20 * n) old mid new f g)
+pub goes_blank_chosen : (n : ℕ) (old mid new : Run) → GoesOnBy (20 * n) old mid → GoesOnBy (56 * n + 16) mid new → GoesOnBy (76 * n + 16) old new
+goes_blank_chosen n old mid new f g = goes_most (20 * n + (56 * n + 16)) (76 * n + 16) old new (omega arith) (goes_both (20 * n) (56 * n + 16) old mid new f g)
 
-pub goes_line : (n c : ℕ) (old first mid new : Run) → c ≡ n → GoesOnBy (20 * n) old first → GoesOnBy (20 * n) first mid → GoesOnBy (48 * c + 16) mid new → GoesOnBy (88 * n + 16) old new
-goes_line n c old first mid new e f g h =
-    goes_most (20 * n + (20 * n + (48 * n + 16))) (88 * n + 16) old new (omega arith) (goes_both (20 * n) (20 * n + (48 * n + 16)) old first new f (goes_both (20 * n) (48 * n + 16) first mid new g (goes_chosen c n mid new e h)))
+pub goes_both_there : (n m : ℕ) (old new : Run) → n ≡ m → GoesOnBy (56 * n + 16) old new → GoesOnBy (88 * m + 16) old new
+goes_both_there n m old new e f = goes_most (56 * n + 16) (88 * m + 16) old new (omega (arith, e)) f
+
+pub goes_one_there : (n m : ℕ) (old new : Run) → n ≡ m → GoesOnBy (76 * n + 16) old new → GoesOnBy (88 * m + 16) old new
+goes_one_there n m old new e f = goes_most (76 * n + 16) (88 * m + 16) old new (omega (arith, e)) f

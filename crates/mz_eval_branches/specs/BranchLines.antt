@@ -1,5 +1,5 @@
 -- Branches of an array type as lines of the run.
-use Rattle.std.specs.Prelude.{◌≡◌, ℕ, ◌+◌, ◌*◌, Bool, true, false, Option, Some, None}
+use Rattle.std.specs.Prelude.{ℕ, ◌+◌, ◌*◌, Bool, true, false, Option, Some, None}
 use Rattle.mz_value.specs.Contents.{Content}
 use Rattle.mz_symbol.specs.Readings.{Reading}
 use Rattle.mz_eval_cells.specs.declared.types.Known.{Known}
@@ -14,9 +14,6 @@ use Rattle.mz_eval_symbols.specs.Taken.{line_seen}
 abbrev pub option_seen : Known → Reading → Option ℕ → Option Content
 option_seen like r None = None
 option_seen like r (Some k) = line_seen like r k
-
-abbrev pub AreNone : Option ℕ → Option ℕ → Type 0
-AreNone p q = (p ≡ None) × (q ≡ None)
 
 -- nothing tells a value
 abbrev pub is_untold : Origin → Bool

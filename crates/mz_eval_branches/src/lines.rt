@@ -1,12 +1,12 @@
 // Branches as lines of the run: an undefined branch is no line, until another one has a line.
 
-ghost use Rattle.std.specs.Prelude.{◌≡◌, ◌*◌, ◌+◌, IfOk, MatchOption, None, length, true};
+ghost use Rattle.std.specs.Prelude.{◌≡◌, ◌*◌, ◌+◌, IfOk, None, length, true};
 ghost use Rattle.mz_meaning.specs.Runs.{give};
 ghost use Rattle.mz_symbol.specs.Makes.{GoesOnBy, Means};
 ghost use Rattle.mz_symbol_branches.specs.ChosenValues.{chosen_line};
 ghost use Rattle.mz_eval_symbols.specs.Taken.{cell_value, count_in, line_seen, ranges_in};
 ghost use Rattle.mz_eval_lines.specs.StepsBranches.{one_value};
-ghost use Rattle.mz_eval_branches.specs.BranchLines.{AreNone, option_seen};
+ghost use Rattle.mz_eval_branches.specs.BranchLines.{option_seen};
 
 use crate::undefined::has_no_value;
 use mz_arena::Id;
@@ -133,40 +133,9 @@ fn blank_line(alloc: Global, run: &mut Run, count: u64, other: u64) -> Result<u6
     Ok(line)
 }
 
-/// The line that an option of a line is; of none one that isn't defined, with the elements of another
-/// line.
-fn line_or(
-    alloc: Global,
-    run: &mut Run,
-    count: u64,
-    other: u64,
-    p: Option<u64>,
-) -> Result<u64, Stop>
-    ensures goes { GoesOnBy (20 * count) run.old run.new }
-    ensures means { (like : Known) → Means (line_seen like) result run.old run.new (λ r. give (option_seen like r p)) }
-{
-    match p {
-        Some(k) => Ok(k),
-        None => blank_line(alloc, run, count, other),
-    }
-}
-
-/// One of two lines, if one is there.
-fn either(p: Option<u64>, q: Option<u64>) -> Option<u64>
-    ensures { MatchOption result (AreNone p q) (λ k. Unit {0}) }
-{
-    match p {
-        Some(k) => Some(k),
-        None => match q {
-            Some(k) => Some(k),
-            None => None,
-        },
-    }
-}
-
 /// The first of two arrays with so many elements under a condition, else the second.
 fn one_line(alloc: Global, run: &mut Run, id: Id, count: u64, p: u64, q: u64) -> Result<u64, Stop>
-    ensures goes { GoesOnBy (48 * count + 16) run.old run.new }
+    ensures goes { GoesOnBy (56 * count + 16) run.old run.new }
     ensures means { Means (λ r. r.line) result run.old run.new (λ r. give (chosen_line r id p q)) }
 {
     let found = defined(run, p)?;
@@ -175,29 +144,66 @@ fn one_line(alloc: Global, run: &mut Run, id: Id, count: u64, p: u64, q: u64) ->
     Ok(line)
 }
 
-/// The same of arrays under the index ranges of a cell, of which one may be undefined and another is
-/// there.
-fn one_of(
+/// The same under the index ranges of a cell.
+fn of_both(
     alloc: Global,
     run: &mut Run,
     like: &Known,
     id: Id,
-    other: u64,
-    p: Option<u64>,
-    q: Option<u64>,
+    count: u64,
+    p: u64,
+    q: u64,
 ) -> Result<Option<u64>, Stop>
-    ensures goes { GoesOnBy (88 * count_in like.now + 16) run.old run.new }
-    ensures means { Means (option_seen like.now) result run.old run.new
-        (λ r. give (one_value r id (option_seen like.now r p) (option_seen like.now r q))) }
+    ensures goes { GoesOnBy (56 * count + 16) run.old run.new }
+    ensures means { Means (option_seen like.now) result run.old run.new (λ r. give (one_value r id (line_seen like.now r p) (line_seen like.now r q))) }
 {
-    let count = count_in(like);
-    let first = line_or(alloc, run, count, other, p)?;
-    let second = line_or(alloc, run, count, other, q)?;
-    let line = one_line(alloc, run, id, count, first, second)?;
+    let _ranges = like;
+    let line = one_line(alloc, run, id, count, p, q)?;
     Ok(Some(line))
 }
 
-/// The same; none where both are undefined.
+/// The same where the second is undefined.
+#[tactic(auto, using(crate::proofs::LineLaws::goes_blank_alone, crate::proofs::LineLaws::goes_blank_chosen))]
+fn of_first(
+    alloc: Global,
+    run: &mut Run,
+    like: &Known,
+    id: Id,
+    count: u64,
+    p: u64,
+) -> Result<Option<u64>, Stop>
+    ensures goes { GoesOnBy (76 * count + 16) run.old run.new }
+    ensures means { Means (option_seen like.now) result run.old run.new (λ r. give (one_value r id (line_seen like.now r p) None)) }
+{
+    let Ok(none) = blank_line(alloc, run, count, p) else {
+        return Err(Stop::Memory);
+    };
+    let line = of_both(alloc, run, like, id, count, p, none)?;
+    Ok(line)
+}
+
+/// The same where the first is.
+#[tactic(auto, using(crate::proofs::LineLaws::goes_blank_alone, crate::proofs::LineLaws::goes_blank_chosen))]
+fn of_second(
+    alloc: Global,
+    run: &mut Run,
+    like: &Known,
+    id: Id,
+    count: u64,
+    q: u64,
+) -> Result<Option<u64>, Stop>
+    ensures goes { GoesOnBy (76 * count + 16) run.old run.new }
+    ensures means { Means (option_seen like.now) result run.old run.new (λ r. give (one_value r id None (line_seen like.now r q))) }
+{
+    let Ok(none) = blank_line(alloc, run, count, q) else {
+        return Err(Stop::Memory);
+    };
+    let line = of_both(alloc, run, like, id, count, none, q)?;
+    Ok(line)
+}
+
+/// The same of lines that may be undefined; none where both are.
+#[tactic(auto, using(crate::proofs::LineLaws::goes_both_there, crate::proofs::LineLaws::goes_one_there))]
 pub(crate) fn one_option(
     alloc: Global,
     run: &mut Run,
@@ -210,8 +216,15 @@ pub(crate) fn one_option(
     ensures means { Means (option_seen like.now) result run.old run.new
         (λ r. give (one_value r id (option_seen like.now r p) (option_seen like.now r q))) }
 {
-    match either(p, q) {
-        None => Ok(None),
-        Some(other) => one_of(alloc, run, like, id, other, p, q),
+    let count = count_in(like);
+    match p {
+        Some(x) => match q {
+            Some(y) => of_both(alloc, run, like, id, count, x, y),
+            None => of_first(alloc, run, like, id, count, x),
+        },
+        None => match q {
+            Some(y) => of_second(alloc, run, like, id, count, y),
+            None => Ok(None),
+        },
     }
 }

@@ -26,7 +26,7 @@ picked_more t c zero (x ∷ ps) (y ∷ qs) (z ∷ ss) p q s w e f k = absurd w
 picked_more t c (suc i) (x ∷ ps) (y ∷ qs) [] p q s w e f k = absurd w
 picked_more t c (suc i) (x ∷ ps) (y ∷ qs) (z ∷ ss) p q s w e f k = (w.0, picked_more t c i ps qs ss p q s w.1 e f k)
 
-length_more : (ss : List Symbol) (s : Symbol) → length (ss ++ s ∷ []) ≡ suc (length ss)
+pub length_more : (ss : List Symbol) (s : Symbol) → length (ss ++ s ∷ []) ≡ suc (length ss)
 length_more [] s = refl
 length_more (x ∷ ss) s = ap (λ n. suc n) (length_more ss s)
 
@@ -59,7 +59,7 @@ picks_more old mid new c i j ps qs ss zs e h g w = subst (λ n. HasPicked old ne
       };
 }))
 
-take_all : (n : ℕ) (xs : List Symbol) → length xs ≡ n → take n xs ≡ xs
+pub take_all : (n : ℕ) (xs : List Symbol) → length xs ≡ n → take n xs ≡ xs
 take_all n [] e = ap (λ k. take k []) (sym e)
 take_all zero (x ∷ xs) e = absurd (omega (arith, e))
 take_all (suc n) (x ∷ xs) e = ap (λ ys. x ∷ ys) (take_all n xs (omega (arith, e)))

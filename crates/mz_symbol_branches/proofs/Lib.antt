@@ -1,3 +1,4 @@
 pub mod ChooseLaws
 pub mod ItemLaws
+pub mod LiftLaws
 pub mod LineLaws

@@ -11,8 +11,9 @@ use Rattle.mz_symbol.specs.Runs.{Run, ReadsNodes, IsRun}
 use Rattle.mz_symbol.specs.Readings.{Reading, Reads, line_in}
 use Rattle.mz_symbol_lines.specs.LineValues.{count_of}
 use Rattle.mz_symbol_branches.specs.ChosenValues.{chosen_line}
-use Rattle.mz_symbol_branches.specs.StepsChoose.{ArePicked}
+use Rattle.mz_symbol_branches.specs.StepsChoose.{AreLifted, ArePicked}
 use Rattle.mz_symbol_branches.specs.StepsLines.{HasItems}
+use Rattle.mz_symbol_branches.proofs.LiftLaws.{lifted_elements, lifted_whole}
 use Rattle.mz_symbol_branches.proofs.ItemLaws.{AreAllLike, all_first, all_second, same_values, same_items}
 
 -- terms that obey a run's nodes are a reading's
@@ -42,11 +43,11 @@ picked_line t c d e id ps qs ss false h i w = sym (like_value t id e ss qs (ap i
 line_is : (r : Reading) (s : Run) (k d : ℕ) (ps : List Symbol) → HasItems s k d ps → Reads r s → r.line k ≡ elements_value r.term d ps
 line_is r s k d ps h q = q.lines k h.line h.stands ∙ ap (λ i. elements_value r.term i h.line.items.items) h.defined ∙ ap (elements_value r.term d) h.items
 
-pub chosen_is : (r : Reading) (s : Run) (c p q d e id : ℕ) (ps qs ss : List Symbol) → HasItems s p d ps → HasItems s q e qs → Reads r s → if_term (r.term c) (r.term d) (r.term e) ≡ r.term id → ArePicked r.term c ps qs ss → chosen_line r c p q ≡ elements_value r.term id ss
-chosen_is r s c p q d e id ps qs ss h k z i w =
-    ap (λ v. if is_true (r.term c) then v else r.line q) (line_is r s p d ps h z)
-    ∙ ap (λ v. if is_true (r.term c) then elements_value r.term d ps else v) (line_is r s q e qs k z)
-    ∙ picked_line r.term c d e id ps qs ss (is_true (r.term c)) refl i w
+pub chosen_is : (r : Reading) (s : Run) (c p q d e id : ℕ) (ps qs xs ys ss : List Symbol) → HasItems s p d ps → HasItems s q e qs → Reads r s → AreLifted r.term ps xs → AreLifted r.term qs ys → if_term (r.term c) (r.term d) (r.term e) ≡ r.term id → ArePicked r.term c xs ys ss → chosen_line r c p q ≡ elements_value r.term id ss
+chosen_is r s c p q d e id ps qs xs ys ss h k z a b i w =
+    ap (λ v. if is_true (r.term c) then v else r.line q) (line_is r s p d ps h z ∙ lifted_elements r.term d ps xs a (h.whole r.term z.nodes))
+    ∙ ap (λ v. if is_true (r.term c) then elements_value r.term d xs else v) (line_is r s q e qs k z ∙ lifted_elements r.term e qs ys b (k.whole r.term z.nodes))
+    ∙ picked_line r.term c d e id xs ys ss (is_true (r.term c)) refl i w
 
 -- ---- its elements have values
 
@@ -54,8 +55,8 @@ picked_whole : (t : ℕ → Term) (c d e id : ℕ) (ps qs ss : List Symbol) (b :
 picked_whole t c d e id ps qs ss true h i u v w = λ x. same_items t ss ps (all_first t c ps qs ss h w) (u (sym (if_true (t c) (t d) (t e) true h) ∙ ap is_true i ∙ x))
 picked_whole t c d e id ps qs ss false h i u v w = λ x. same_items t ss qs (all_second t c ps qs ss h w) (v (sym (if_true (t c) (t d) (t e) false h) ∙ ap is_true i ∙ x))
 
-pub chosen_whole : (t : ℕ → Term) (s : Run) (c p q d e id : ℕ) (ps qs ss : List Symbol) → HasItems s p d ps → HasItems s q e qs → ReadsNodes t s.arena → if_term (t c) (t d) (t e) ≡ t id → ArePicked t c ps qs ss → AreWhole t id ss
-chosen_whole t s c p q d e id ps qs ss h k z i w = picked_whole t c d e id ps qs ss (is_true (t c)) refl i (h.whole t z) (k.whole t z) w
+pub chosen_whole : (t : ℕ → Term) (s : Run) (c p q d e id : ℕ) (ps qs xs ys ss : List Symbol) → HasItems s p d ps → HasItems s q e qs → ReadsNodes t s.arena → AreLifted t ps xs → AreLifted t qs ys → if_term (t c) (t d) (t e) ≡ t id → ArePicked t c xs ys ss → AreWhole t id ss
+chosen_whole t s c p q d e id ps qs xs ys ss h k z a b i w = picked_whole t c d e id xs ys ss (is_true (t c)) refl i (lifted_whole t d ps xs a (h.whole t z)) (lifted_whole t e qs ys b (k.whole t z)) w
 
 -- ---- an array's elements
 

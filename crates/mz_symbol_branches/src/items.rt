@@ -11,7 +11,7 @@ use mz_base::Memory;
 use mz_symbol::{Run, Symbol};
 use std::alloc::Global;
 
-fn item(items: &[Symbol], place: u64) -> Option<Symbol>
+pub(crate) fn item(items: &[Symbol], place: u64) -> Option<Symbol>
     ensures { result ≡ slice_get items.now place }
 {
     match items.get(place as usize) {

@@ -2,6 +2,7 @@
 #![tactic(auto)]
 
 mod items;
+mod lifting;
 mod lines;
 mod single;
 

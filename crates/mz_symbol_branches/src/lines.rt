@@ -7,7 +7,7 @@ ghost use Rattle.mz_symbol_lines.specs.LineValues.{count_of};
 ghost use Rattle.mz_symbol_branches.specs.ChosenValues.{chosen_line};
 ghost use Rattle.mz_symbol_branches.specs.StepsLines.{HasItems};
 
-use crate::items::picked_items;
+use crate::lifting::chosen_items;
 use crate::single::if_node;
 use mz_arena::Id;
 use mz_base::{Memory, Stop};
@@ -26,10 +26,10 @@ struct Held {
 /// caller refuses.
 ///
 /// Out of memory too where there is no such array, where there are more elements in one than in the
-/// other, where they are of two bases, and of truth values of which one alone is an option.
+/// other, and where they are of two bases. A truth value beside an option becomes one.
 #[tactic(auto, using(mz_symbol_rows::proofs::GoingOn::goes_both, mz_symbol_rows::proofs::GoingOn::goes_most))]
 pub fn choose_lines(alloc: Global, run: &mut Run, cond: Id, p: u64, q: u64) -> Result<u64, Stop>
-    ensures goes { GoesOnBy (48 * count_of (slice_get run.old.lines p) + 16) run.old run.new }
+    ensures goes { GoesOnBy (56 * count_of (slice_get run.old.lines p) + 16) run.old run.new }
     ensures means { Means (λ r. r.line) result run.old run.new (λ r. give (chosen_line r cond p q)) }
 {
     let first = elements(alloc, run, p)?;
@@ -39,7 +39,7 @@ pub fn choose_lines(alloc: Global, run: &mut Run, cond: Id, p: u64, q: u64) -> R
         return Err(Stop::Memory);
     }
     let defined = if_node(run, cond, first.defined, second.defined)?;
-    let Ok(items) = picked_items(alloc, run, cond, &first.items, &second.items, count) else {
+    let Ok(items) = chosen_items(alloc, run, cond, &first.items, &second.items, count) else {
         return Err(Stop::Memory);
     };
     let line = run.push_line(defined, items)?;
