@@ -1,9 +1,10 @@
 -- The elements of an array, and those that indices reach.
-use Rattle.std.specs.Prelude.{ℕ, ℤ, List, map, min, Option}
+use Rattle.std.specs.Prelude.{◌≡◌, ◌∷◌, [], ℕ, ℤ, List, map, min, Option}
 use Rattle.std.specs.Option.{option_and_then, option_map}
 use Rattle.mz_value.specs.Contents.{Content, array, content, contents}
 use Rattle.mz_value.specs.Ranges.{Range}
 use Rattle.mz_core.specs.Types.{PlainType}
+use Rattle.mz_interval.specs.Ends.{Ends}
 use Rattle.mz_index.specs.Places.{most, place_of}
 use Rattle.mz_operations.specs.Views.{as_element}
 use Rattle.mz_operations.specs.Bounds.{Bound, bound_of}
@@ -24,6 +25,10 @@ element_in ix xs at = option_and_then (element_at (array ix (contents xs))) (ind
 -- the bounds of all elements of an array that these indices reach
 abbrev pub reached_bound : PlainType → Cell → List Cell → Bound
 reached_bound t a at = hull_over t (elements_reached (bounds_in a) (map (λ c. ends_in (scalar_bound (bounds_in c))) at))
+
+-- the one element that an index reaches has these ends
+abbrev pub ReachesOne : Cell → Cell → Ends → Type 0
+ReachesOne a i e = map ends_in (elements_reached (bounds_in a) (ends_in (scalar_bound (bounds_in i)) ∷ [])) ≡ e ∷ []
 
 -- the index that a cell is
 abbrev pub cell_index : Cell → Option ℤ

@@ -12,7 +12,7 @@ ghost use Rattle.mz_meaning.specs.Arrays as arrays;
 ghost use Rattle.mz_meaning.specs.Cells as cells;
 ghost use Rattle.mz_meaning.specs.Cells.{Par, value_of};
 ghost use Rattle.mz_eval_cells.specs.Views.{cell_of, cells_of, item_content, known_bound};
-ghost use Rattle.mz_eval_access.specs.Places.{element_in, places_of, reached_bound};
+ghost use Rattle.mz_eval_access.specs.Places.{ReachesOne, element_in, places_of, reached_bound};
 
 use crate::indexing::place_of;
 use crate::placing::{Places, distance, with_reached};
@@ -292,7 +292,7 @@ fn ends_in_list(ranges: &[(i64, i64)], all: &[Bound], e: (i64, i64)) -> Option<(
 
 /// The ends of the number that stands in an array at this index, where its bounds tell the place.
 fn ends_of_one(alloc: Global, a: &Known, i: &Known) -> Result<Option<(i64, i64)>, AllocError>
-    ensures { IfOk result (λ o. MatchOption o (Unit {0}) (λ n. map arrays.ends_in (arrays.elements_reached (cells.bounds_in (cell_of a.now)) (arrays.ends_in (cells.scalar_bound (cells.bounds_in (cell_of i.now))) ∷ [])) ≡ n ∷ [])) }
+    ensures { IfOk result (λ o. MatchOption o (Unit {0}) (ReachesOne (cell_of a.now) (cell_of i.now))) }
 {
     match a {
         Known::Row(index, xs) => {
