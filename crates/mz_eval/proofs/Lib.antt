@@ -1,4 +1,5 @@
 pub mod OneLevel
+pub mod NameLaws
 pub mod Stamps
 pub mod Chains
 pub mod Ends

@@ -1,4 +1,5 @@
 pub mod Levels
+pub mod Named
 pub mod Nodes
 pub mod Rows
 pub mod Chains

@@ -1,7 +1,8 @@
 // The evaluation of expressions: one function for each definition.
 
-ghost use Rattle.std.specs.Prelude.{◌≡◌, ◌∷◌, [], IfOk, map};
+ghost use Rattle.std.specs.Prelude.{◌≡◌, ◌∷◌, [], IfOk, MatchOption, map};
 ghost use Rattle.mz_core.specs.TreeViews.{tree, form_layer};
+ghost use Rattle.mz_core.specs.declared.tree.CoreForm.TheOpen as open_form;
 ghost use Rattle.mz_core.specs.declared.tree.CoreForm.TheViews.{out-CoreForm};
 ghost use Rattle.mz_meaning.specs.Runs.{loop};
 ghost use Rattle.mz_meaning.specs.Cells.{par_value};
@@ -17,6 +18,7 @@ ghost use Rattle.mz_eval_nodes.specs.Views.{gathered_seen};
 ghost use Rattle.mz_eval_terms.specs.NodeRows.{stamped};
 ghost use Rattle.mz_eval_tables.specs.TableCells.{rows_seen};
 ghost use Rattle.mz_eval.specs.Levels.{world_in, go_of, scope_of, in_scope, at_node};
+ghost use Rattle.mz_eval.specs.Named.{IsNamed};
 ghost use Rattle.mz_eval.specs.Nodes.{access_node, node_stamped, stamped_at, table_node, typed_by};
 ghost use Rattle.mz_eval.specs.Rows.{with_row, with_row_or_global, row_trees};
 
@@ -30,14 +32,14 @@ use crate::types::Level;
 use mz_base::{Fault, Kind, Name, Span, Stop};
 use mz_core::{Core, CoreForm};
 use mz_eval_arrays::{Gathered, nothing_gathered, set_cell};
-use mz_eval_cells::{Item, Known, one, undefined};
+use mz_eval_cells::{Item, Known, one, share, stays, undefined};
 use mz_eval_chains::{finished, inner};
 use mz_eval_elements::element_cell_in;
 use mz_eval_lines::array_cell_in;
 use mz_eval_nodes::{argument_of, arguments_base, arguments_within, within};
 use mz_eval_row_nodes::{untyped_all, untyped_one, untyped_two};
 use mz_eval_rows::row_at;
-use mz_eval_scopes::{Scope, all_cases, at_slot, done, literal_text};
+use mz_eval_scopes::{Scope, all_cases, at_slot, done, literal_text, seek};
 use mz_eval_tables::table_cell_in;
 use mz_eval_turns::gathered_with;
 use mz_operations::Row;
@@ -46,13 +48,25 @@ use std::alloc::{AllocError, Global};
 
 // An expression.
 #[cycle(forms)]
-#[tactic(auto, using(crate::proofs::OneLevel::eval_end, crate::proofs::OneLevel::eval_more))]
 pub(crate) fn eval_expression(
     level: &Level,
     e: &Core,
     scope: &Scope,
     run: &mut Run,
 ) -> Result<Known, Stop>
+    ensures goes { GoesOn run.old run.new }
+    ensures means { Means seen result run.old run.new (λ r. go_of r level.now (ctx_of level.now.ctx) (tree e.now) (scope_of r level.now scope.now)) }
+{
+    match named(&*level, e, &*scope) {
+        None => eval_node(level, e, scope, run),
+        Some(k) => name_cell(level, e, k, scope, run),
+    }
+}
+
+// an expression that is no name, or whose name's cell isn't its own
+#[cycle(forms)]
+#[tactic(auto, using(crate::proofs::OneLevel::eval_end, crate::proofs::OneLevel::eval_more))]
+fn eval_node(level: &Level, e: &Core, scope: &Scope, run: &mut Run) -> Result<Known, Stop>
     ensures goes { GoesOn run.old run.new }
     ensures means { Means seen result run.old run.new (λ r. go_of r level.now (ctx_of level.now.ctx) (tree e.now) (scope_of r level.now scope.now)) }
 {
@@ -73,6 +87,68 @@ pub(crate) fn eval_expression(
     };
     let cell = eval_form(&below, node, scope, run)?;
     finished(level.alloc, level.world, e, node, cell, run)
+}
+
+// ---- names that have their slot's cell as it stands: no coercion stands round them, and their type
+// leaves it
+
+#[inline(always)]
+fn named<'a>(level: &Level<'a>, e: &Core, scope: &'a Scope<'a>) -> Option<&'a Known>
+    ensures { MatchOption result (Unit {0}) (λ k. IsNamed level.now scope.now e.now k.now) }
+{
+    match &e.form {
+        CoreForm::Slot(s) => slot_cell(level, e, *s, scope),
+        _ => None,
+    }
+}
+
+#[tactic(auto, using(crate::proofs::NameLaws::named))]
+fn slot_cell<'a>(level: &Level<'a>, e: &Core, slot: u64, scope: &'a Scope<'a>) -> Option<&'a Known>
+    requires { out-CoreForm e.now.form ≡ open_form.Slot slot }
+    ensures { MatchOption result (Unit {0}) (λ k. IsNamed level.now scope.now e.now k.now) }
+{
+    if level.left == 0 {
+        return None;
+    }
+    let Some(k) = seek(level.world, scope, slot) else {
+        return None;
+    };
+    if stays(&e.ty, k) { Some(k) } else { None }
+}
+
+// the work of such a name
+fn name_done(
+    level: &Level,
+    e: &Core,
+    k: &Known,
+    scope: &Scope,
+    run: &mut Run,
+) -> Result<(), Stop>
+    requires { IsNamed level.now scope.now e.now k.now }
+    ensures goes { GoesOn run.old run.new }
+    ensures means { Means (λ r _. seen r k.now) result run.old run.new (λ r. go_of r level.now (ctx_of level.now.ctx) (tree e.now) (scope_of r level.now scope.now)) }
+{
+    let _left = scope;
+    run.spend(level.world.budget, e.span, 1)?;
+    run.save(64)?;
+    Ok(())
+}
+
+// its cell once more
+fn name_cell(
+    level: &Level,
+    e: &Core,
+    k: &Known,
+    scope: &Scope,
+    run: &mut Run,
+) -> Result<Known, Stop>
+    requires { IsNamed level.now scope.now e.now k.now }
+    ensures goes { GoesOn run.old run.new }
+    ensures means { Means seen result run.old run.new (λ r. go_of r level.now (ctx_of level.now.ctx) (tree e.now) (scope_of r level.now scope.now)) }
+{
+    name_done(level, e, k, scope, run)?;
+    let same = share(k)?;
+    Ok(same)
 }
 
 // A node below its coercions, whose parts are one level deeper, as it is once its type is stamped on
@@ -476,8 +552,49 @@ fn eval_access(
     element_among(level, node, &cell, cells, run)
 }
 
+// An array's element at one index.
 #[cycle(forms)]
 fn eval_element(
+    level: &Level,
+    node: &Core,
+    a: &Core,
+    i: &Core,
+    scope: &Scope,
+    run: &mut Run,
+) -> Result<Known, Stop>
+    ensures goes { GoesOn run.old run.new }
+    ensures means { Means (stamped (plain_type node.now.ty)) result run.old run.new
+        (λ r. at_node r level.now scope.now node.now (λ w go ctx at t env. typed_by w t (access w go ctx (tree a.now) (tree i.now ∷ []) at t env))) }
+{
+    match named(&*level, a, &*scope) {
+        None => eval_element_of_any(level, node, a, i, scope, run),
+        Some(k) => eval_element_of_name(level, node, a, k, i, scope, run),
+    }
+}
+
+#[cycle(forms)]
+fn eval_element_of_name(
+    level: &Level,
+    node: &Core,
+    a: &Core,
+    k: &Known,
+    i: &Core,
+    scope: &Scope,
+    run: &mut Run,
+) -> Result<Known, Stop>
+    requires { IsNamed level.now scope.now a.now k.now }
+    ensures goes { GoesOn run.old run.new }
+    ensures means { Means (stamped (plain_type node.now.ty)) result run.old run.new
+        (λ r. at_node r level.now scope.now node.now (λ w go ctx at t env. typed_by w t (access w go ctx (tree a.now) (tree i.now ∷ []) at t env))) }
+{
+    name_done(level, a, k, scope, run)?;
+    let index = eval_expression(level, i, scope, run)?;
+    let indices = [index];
+    element_of(level, node, k, &indices, run)
+}
+
+#[cycle(forms)]
+fn eval_element_of_any(
     level: &Level,
     node: &Core,
     a: &Core,

@@ -1,4 +1,5 @@
 pub mod Lefts
+pub mod NumberLaws
 pub mod Work
 pub mod ContextLaws
 pub mod Calls

@@ -1,3 +1,4 @@
 pub mod Operators
+pub mod Numbers
 pub mod Views
 pub mod Contexts

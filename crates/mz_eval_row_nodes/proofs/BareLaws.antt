@@ -19,9 +19,9 @@ use Rattle.mz_eval_cells.specs.Views.{all_seen, seen}
 use Rattle.mz_eval_scopes.specs.declared.types.World.{World}
 use Rattle.mz_eval_scopes.specs.Seen.{world_seen}
 use Rattle.mz_eval_terms.specs.NodeRows.{stamped}
-use Rattle.mz_eval_row_nodes.specs.RowNodes.{node_by}
+use Rattle.mz_eval_row_nodes.specs.RowNodes.{IsBlind, node_by}
 
-cell_blind : (s : Run) (k : Known) → seen (bare s) k ≡ seen blank k
+pub cell_blind : (s : Run) (k : Known) → seen (bare s) k ≡ seen blank k
 cell_blind s known.Undefined = refl
 cell_blind s (known.One i) = refl
 cell_blind s (known.Array ix xs) = refl
@@ -47,3 +47,11 @@ bare_follows t (Err Memory) old new m a n h = tt
 
 pub node_bare : (w : World) (place : Span) (t : PlainType) (ks : List Known) (row : Row) (x : Result Known Stop) (old new : Run) → IsArena new.arena → Means (stamped t) x old new (node_seen w place t ks row) → MeansBare (stamped t) x old new (node_seen w place t ks row)
 node_bare w place t ks row x old new a h = bare_follows t x old new (node_seen w place t ks row) a (node_blind w place t ks row new) h
+
+numbers_blind : (w : World) (place : Span) (t : PlainType) (x y : Reading → Cell) (row : Row) (s : Run) → IsBlind x → IsBlind y → node_by (world_seen (bare s) w) place t (x (bare s) ∷ y (bare s) ∷ []) (Some row) ≡ node_by (world_seen blank w) place t (x blank ∷ y blank ∷ []) (Some row)
+numbers_blind w place t x y row s h i =
+    ap (λ c. node_by (world_seen blank w) place t (c ∷ y (bare s) ∷ []) (Some row)) (h s)
+    ∙ ap (λ c. node_by (world_seen blank w) place t (x blank ∷ c ∷ []) (Some row)) (i s)
+
+pub numbers_bare : (w : World) (place : Span) (t : PlainType) (x y : Reading → Cell) (row : Row) (k : Result Known Stop) (old new : Run) → IsArena new.arena → IsBlind x → IsBlind y → Means (stamped t) k old new (λ r. node_by (world_seen r w) place t (x r ∷ y r ∷ []) (Some row)) → MeansBare (stamped t) k old new (λ r. node_by (world_seen r w) place t (x r ∷ y r ∷ []) (Some row))
+numbers_bare w place t x y row k old new a h i j = bare_follows t k old new (λ r. node_by (world_seen r w) place t (x r ∷ y r ∷ []) (Some row)) a (numbers_blind w place t x y row new h i) j

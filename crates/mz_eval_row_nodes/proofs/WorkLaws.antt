@@ -1,10 +1,13 @@
 -- A row's node with its work, under each reading.
-use Rattle.std.proofs.Common.{◌≡◌, ◌∙◌, ℕ, ◌+◌, ◌*◌, ◌≤◌, ◌^◌, false, List, [], ◌∷◌, map, Some, Result, Err, Fits, w64, refl, sym, ap, subst, arith}
+use Rattle.std.proofs.Common.{◌≡◌, ◌∙◌, ℕ, ◌+◌, ◌*◌, ◌≤◌, ◌^◌, true, false, List, [], ◌∷◌, map, Some, Result, Err, Fits, w64, refl, sym, ap, subst, arith}
 use Rattle.mz_base.specs.declared.fault.Span.{Span}
 use Rattle.mz_base.specs.declared.stop.Stop.{Stop}
 use Rattle.mz_base.specs.declared.stop.Stop.TheVariants.{Refused, Memory}
 use Rattle.mz_core.specs.Types.{PlainType}
 use Rattle.mz_operations.specs.declared.row.Row.{Row}
+use Rattle.mz_operations.specs.declared.row.Row.TheVariants.{Scalar}
+use Rattle.mz_operations.specs.declared.row.ScalarRow.TheVariants as scalar
+use Rattle.mz_operations.specs.Costs as costs
 use Rattle.mz_operations.specs.Costs.{cost}
 use Rattle.mz_meaning.specs.Runs.{State, Out, then_do, give, spend}
 use Rattle.mz_meaning.specs.Cells.{Cell, typed}
@@ -16,6 +19,7 @@ use Rattle.mz_symbol.specs.Makes.{Earns, GoesOn, GoesOnBy, MeetsAt, owed, earned
 use Rattle.mz_eval_cells.specs.declared.types.Known.{Known}
 use Rattle.mz_eval_cells.specs.declared.types.Known.TheVariants as known
 use Rattle.mz_eval_cells.specs.Views.{all_seen, cell_of, cells_of, seen}
+use Rattle.mz_eval_terms.specs.Ends.{is_simple}
 use Rattle.mz_eval_terms.specs.NodeRows.{row_node}
 use Rattle.mz_eval_row_nodes.specs.RowNodes.{node_by}
 
@@ -39,6 +43,15 @@ cost_seen r row ks = ap (cost row) (sizes_seen r ks)
 pub cost_fits : (row : Row) (cs : List Cell) (n : ℕ) → n ≡ row_cost row cs → Fits w64 (1 + n)
 unfolding cost
 cost_fits row cs n e = let small : row_cost row cs ≤ 2 ^ 62 = omega arith in omega (arith, e, small)
+
+pub simple_cost : (row : Row) (cs : List Cell) → is_simple row ≡ true → 1 ≡ row_cost row cs
+unfolding cost costs.counts_from costs.scalar_counts
+simple_cost (Scalar (scalar.Arith op)) cs h = refl
+simple_cost (Scalar (scalar.Logic op)) cs h = refl
+simple_cost (Scalar (scalar.Order op)) cs h = refl
+simple_cost (Scalar scalar.Equal) cs h = refl
+simple_cost (Scalar scalar.Unequal) cs h = refl
+simple_cost row cs h = absurd (cc)
 
 -- ---- work pays for nodes
 

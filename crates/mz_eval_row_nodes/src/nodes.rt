@@ -2,14 +2,16 @@
 
 ghost use Rattle.std.specs.Prelude.{◌≡◌, ◌∷◌, [], IfOk, Some, false};
 ghost use Rattle.mz_core.specs.Types.{plain_type};
-ghost use Rattle.mz_meaning.specs.Cells.{typed};
+ghost use Rattle.mz_operations.specs.declared.row.Row.TheVariants.{Scalar};
+ghost use Rattle.mz_meaning.specs.Cells.{Cell, typed};
 ghost use Rattle.mz_symbol.specs.Readings.{Reading};
 ghost use Rattle.mz_symbol.specs.Runs.{IsRun};
 ghost use Rattle.mz_symbol.specs.Makes.{GoesOn, Means, MeansBare};
 ghost use Rattle.mz_eval_cells.specs.Views.{all_seen, seen};
 ghost use Rattle.mz_eval_scopes.specs.Seen.{world_seen};
 ghost use Rattle.mz_eval_terms.specs.NodeRows.{stamped};
-ghost use Rattle.mz_eval_row_nodes.specs.RowNodes.{node_by, nothing_by};
+ghost use Rattle.mz_eval_terms.specs.Numbers.{AreNumbers};
+ghost use Rattle.mz_eval_row_nodes.specs.RowNodes.{IsBlind, node_by, nothing_by};
 
 use mz_base::{Span, Stop};
 use mz_core::TypeInst;
@@ -18,6 +20,7 @@ use mz_eval_joined_rows::row_of_two;
 use mz_eval_rows::{cost_of_all, cost_of_one, cost_of_two};
 use mz_eval_scopes::{World, done};
 use mz_eval_term_rows::{Argument, row_of_all, row_of_one, rows_of_par};
+use mz_eval_terms::{NumberRow, cell_of_numbers};
 use mz_operations::Row;
 use mz_symbol::Run;
 use std::alloc::{AllocError, Global};
@@ -226,6 +229,46 @@ pub fn node_of_two(
         return no_row(alloc, world, at, t, run);
     };
     let k = row_two(alloc, world, at, t, w, args, run)?;
+    let x = typed_row(alloc, t, k)?;
+    Ok(x)
+}
+
+fn number_row(
+    alloc: Global,
+    world: &World,
+    at: Span,
+    t: &TypeInst,
+    n: &NumberRow,
+    run: &mut Run,
+) -> Result<Known, Stop>
+    ensures goes { GoesOn run.old run.new }
+    ensures means { (x y : Reading → Cell) → AreNumbers x y n.now → Means (stamped (plain_type t.now)) result run.old run.new
+        (λ r. node_by (world_seen r world.now) at (plain_type t.now) (x r ∷ y r ∷ []) (Some (Scalar n.now.row))) }
+    ensures bare { (x y : Reading → Cell) → IsBlind x → IsBlind y → AreNumbers x y n.now → MeansBare (stamped (plain_type t.now)) result run.old run.new
+        (λ r. node_by (world_seen r world.now) at (plain_type t.now) (x r ∷ y r ∷ []) (Some (Scalar n.now.row))) }
+{
+    run.spend(world.budget, at, 2)?;
+    let k = cell_of_numbers(alloc, &world.program.cases, t, at, n, run);
+    sound(run);
+    k
+}
+
+/// The node of a row of two numbers.
+pub fn node_of_numbers(
+    alloc: Global,
+    world: &World,
+    at: Span,
+    t: &TypeInst,
+    n: &NumberRow,
+    run: &mut Run,
+) -> Result<Known, Stop>
+    ensures goes { GoesOn run.old run.new }
+    ensures means { (x y : Reading → Cell) → AreNumbers x y n.now → Means seen result run.old run.new
+        (λ r. node_by (world_seen r world.now) at (plain_type t.now) (x r ∷ y r ∷ []) (Some (Scalar n.now.row))) }
+    ensures bare { (x y : Reading → Cell) → IsBlind x → IsBlind y → AreNumbers x y n.now → MeansBare seen result run.old run.new
+        (λ r. node_by (world_seen r world.now) at (plain_type t.now) (x r ∷ y r ∷ []) (Some (Scalar n.now.row))) }
+{
+    let k = number_row(alloc, world, at, t, n, run)?;
     let x = typed_row(alloc, t, k)?;
     Ok(x)
 }

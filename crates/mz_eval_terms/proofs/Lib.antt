@@ -1,4 +1,5 @@
 pub mod EndLaws
+pub mod NumberLaws
 pub mod LineLaws
 pub mod RowLaws
 pub mod ToldLaws

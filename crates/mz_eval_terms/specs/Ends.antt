@@ -5,6 +5,7 @@ use Rattle.mz_value.specs.Contents.{int}
 use Rattle.mz_operations.specs.declared.row.Arith.TheVariants as arith
 use Rattle.mz_operations.specs.declared.row.Row.{Row}
 use Rattle.mz_operations.specs.declared.row.Row.TheVariants.{Scalar}
+use Rattle.mz_operations.specs.declared.row.ScalarRow.{ScalarRow}
 use Rattle.mz_operations.specs.declared.row.ScalarRow.TheVariants as scalar
 use Rattle.mz_operations.specs.Bounds.{Bounds, arith_ends, bound_of, bounds_of, number, one}
 use Rattle.mz_operations.specs.RowBounds.{bounds_at, ends_at, row_bounds, scalar_bounds}
@@ -24,6 +25,10 @@ pub record AreEnds (row : Row) (bs : List Bounds) (e : Ends) : Type 0 where
   pub simple : is_simple row ≡ true
   pub bounds : row_bounds row bs ≡ Some (one (number e))
   pub inside : (is_number e.0 && is_number e.1) ≡ true
+
+-- the same of two numbers with these ends
+abbrev pub HaveEnds : ScalarRow → Ends → Ends → Ends → Type 0
+HaveEnds w e f g = (b c : Bounds) → b ≡ one (number e) → c ≡ one (number f) → AreEnds (Scalar w) (b ∷ c ∷ []) g
 
 -- the same of cells of which one is var
 pub record HasEnds (row : Row) (cs : List Cell) (e : Ends) : Type 0 where

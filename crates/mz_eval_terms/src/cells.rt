@@ -179,7 +179,8 @@ pub fn cell_of_two(
     }
 }
 
-fn number_bound(e: (i64, i64)) -> Bound
+/// The bound with these ends.
+pub(crate) fn number_bound(e: (i64, i64)) -> Bound
     ensures { known_bound result ≡ bounds.number e }
 {
     Bound::Number(e.0, e.1)

@@ -1,13 +1,13 @@
 // The ends of rows of two arguments, told by those of the arguments, without a cell in between.
 
-ghost use Rattle.std.specs.Prelude.{◌≡◌, ◌&&◌, ◌∷◌, [], MatchOption};
+ghost use Rattle.std.specs.Prelude.{◌≡◌, ◌&&◌, ◌∷◌, [], List, MatchOption, pos, true};
 ghost use Rattle.mz_operations.specs.declared.row.Row.TheVariants.{Scalar};
 ghost use Rattle.mz_operations.specs.declared.row.ScalarRow.TheVariants as scalar;
 ghost use Rattle.mz_operations.specs.Bounds as bounds;
 ghost use Rattle.mz_meaning.specs.Cells.{bounds_in, is_par};
 ghost use Rattle.mz_symbol.specs.Readings.{Reading};
 ghost use Rattle.mz_eval_cells.specs.Views.{cell_of, item_content, known_bound, seen};
-ghost use Rattle.mz_eval_terms.specs.Ends.{AreEnds, HasEnds};
+ghost use Rattle.mz_eval_terms.specs.Ends.{AreEnds, HasEnds, HaveEnds};
 
 use mz_eval_cells::{Bound, Item, Known, is_par};
 use mz_eval_int_bounds::{arith_ends, in_limit};
@@ -43,7 +43,42 @@ fn ends_of(k: &Known) -> Option<(i64, i64)>
     }
 }
 
+/// The ends of an operation on two numbers with these ends, where they lie in the limit.
 #[tactic(auto, using(crate::proofs::EndLaws::arith_told))]
+fn arith_of(op: Arith, e: (i64, i64), f: (i64, i64)) -> Option<(i64, i64)>
+    ensures { MatchOption result (Unit {0}) (HaveEnds (scalar.Arith op) e f) }
+{
+    match in_limit(&arith_ends(op, &e, &f)) {
+        None => None,
+        Some(inside) => Some(inside),
+    }
+}
+
+/// Whether the bounds of a row are those of a truth value, whatever its arguments are.
+#[tactic(auto, unfolding(mz_operations::specs::RowBounds::scalar_bounds))]
+fn is_truth_row(w: ScalarRow) -> bool
+    ensures { result ≡ true → (bs : List bounds.Bounds) → AreEnds (Scalar w) bs (pos 0, pos 1) }
+{
+    match w {
+        ScalarRow::Logic(_) => true,
+        ScalarRow::Order(_) => true,
+        ScalarRow::Equal => true,
+        ScalarRow::Unequal => true,
+        _ => false,
+    }
+}
+
+/// The ends of a row of two numbers with these ends: of arithmetic where they lie in the limit, and of
+/// connectives and comparisons. None of other rows.
+pub(crate) fn row_ends(w: ScalarRow, e: (i64, i64), f: (i64, i64)) -> Option<(i64, i64)>
+    ensures { MatchOption result (Unit {0}) (HaveEnds w e f) }
+{
+    match w {
+        ScalarRow::Arith(op) => arith_of(op, e, f),
+        _ => if is_truth_row(w) { Some((0, 1)) } else { None },
+    }
+}
+
 fn ends_of_arith(op: Arith, a: &Known, b: &Known) -> Option<(i64, i64)>
     ensures { MatchOption result (Unit {0}) (λ e. (r : Reading) → AreEnds (Scalar (scalar.Arith op)) (bounds_in (seen r a.now) ∷ bounds_in (seen r b.now) ∷ []) e) }
 {
@@ -53,24 +88,19 @@ fn ends_of_arith(op: Arith, a: &Known, b: &Known) -> Option<(i64, i64)>
     let Some(f) = ends_of(b) else {
         return None;
     };
-    match in_limit(&arith_ends(op, &e, &f)) {
+    match arith_of(op, e, f) {
         None => None,
         Some(inside) => Some(inside),
     }
 }
 
 /// The ends of such a row, whether or not an argument is var.
-#[tactic(auto, unfolding(mz_operations::specs::RowBounds::scalar_bounds))]
 fn ends_of_row(w: ScalarRow, a: &Known, b: &Known) -> Option<(i64, i64)>
     ensures { MatchOption result (Unit {0}) (λ e. (r : Reading) → AreEnds (Scalar w) (bounds_in (seen r a.now) ∷ bounds_in (seen r b.now) ∷ []) e) }
 {
     match w {
         ScalarRow::Arith(op) => ends_of_arith(op, a, b),
-        ScalarRow::Logic(_) => Some((0, 1)),
-        ScalarRow::Order(_) => Some((0, 1)),
-        ScalarRow::Equal => Some((0, 1)),
-        ScalarRow::Unequal => Some((0, 1)),
-        _ => None,
+        _ => if is_truth_row(w) { Some((0, 1)) } else { None },
     }
 }
 

@@ -4,6 +4,7 @@
 mod cells;
 mod ends;
 mod lines;
+mod numbers;
 mod pairs;
 mod sets;
 mod shapes;
@@ -15,6 +16,7 @@ mod types;
 pub use cells::{bounded, cell_by_ends, cell_of_one, cell_of_two, whole};
 pub use ends::ends_of_two;
 pub use lines::drawn_line;
+pub use numbers::{cell_of_numbers, integer, number_in, row_of_numbers};
 pub use shapes::{shape_of_all, shape_of_one, shape_of_two};
 pub use stated::symbol_at;
-pub use types::Argument;
+pub use types::{Argument, Number, NumberRow, Operand};

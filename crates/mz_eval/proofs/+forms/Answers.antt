@@ -38,8 +38,8 @@ use Rattle.mz_eval.proofs.Stamps.{stamps}
 use Rattle.mz_eval.proofs.WeightLaws.{goes_none}
 use Rattle.mz_eval.proofs.+forms.Goals as goal
 
-pub forms::eval_expression-returns-clause-means : goal.forms::eval_expression-returns-clause-means
-forms::eval_expression-returns-clause-means t c r h =
+pub forms::eval_node-returns-clause-means : goal.forms::eval_node-returns-clause-means
+forms::eval_node-returns-clause-means t c r h =
     let w = world_in r c.args.level.now in
     let left = c.args.level.now.left in
     let e = c.args.e.now in
@@ -52,8 +52,8 @@ forms::eval_expression-returns-clause-means t c r h =
     ∙ ap (λ a. then_do a (finish w e b)) (c.in_ok-cell.ensures.means r (c.finished.ensures.goes.back r h)))
     (c.finished.ensures.means r h)
 
-pub forms::eval_expression-returns-in_err-cell-clause-means : goal.forms::eval_expression-returns-in_err-cell-clause-means
-forms::eval_expression-returns-in_err-cell-clause-means t c r h =
+pub forms::eval_node-returns-in_err-cell-clause-means : goal.forms::eval_node-returns-in_err-cell-clause-means
+forms::eval_node-returns-in_err-cell-clause-means t c r h =
     let p = err_from_is_err_and c.from_residual.result c.from_residual.ensures.1 in
     let w = world_in r c.args.level.now in
     let left = c.args.level.now.left in
@@ -67,8 +67,8 @@ forms::eval_expression-returns-in_err-cell-clause-means t c r h =
     ∙ ap (λ k. then_do (node_stamped w (eval w (left - 1)) k (form_layer (out-CoreForm b.form)) b.span (plain_type b.ty) env s) (finish w e b)) (sym c.within-ctx.ensures))
     (meets_at_err (stamped_at b r) (seen r) c.in_err-cell.field-0.0 n n _ (finish w e b) (c.in_err-cell.ensures.means r h)))
 
-pub forms::eval_expression-returns-then-level-eq0-clause-means : goal.forms::eval_expression-returns-then-level-eq0-clause-means
-forms::eval_expression-returns-then-level-eq0-clause-means t c r h =
+pub forms::eval_node-returns-then-level-eq0-clause-means : goal.forms::eval_node-returns-then-level-eq0-clause-means
+forms::eval_node-returns-then-level-eq0-clause-means t c r h =
     eval_end (world_in r c.args.level.now) c.args.level.now.left (ctx_of c.args.level.now.ctx) c.args.e.now c.inner-node.result.now (scope_of r c.args.level.now c.args.scope.now) (state_of r c.args.run.now) c.if-level-eq0.true c.inner-node.ensures
 
 pub forms::eval_form-returns-in_default-clause-means : goal.forms::eval_form-returns-in_default-clause-means

@@ -30,184 +30,193 @@ use Rattle.mz_eval.specs.Comprehensions.{from_own_condition, turn}
 use Rattle.mz_eval.proofs.+forms.Given as goal
 
 abbrev pub decreases-forms::eval_expression : goal.decreases-forms::eval_expression
-decreases-forms::eval_expression l = 2 ^ 140 * l.level.now.left + 0
+decreases-forms::eval_expression l = 2 ^ 140 * l.level.now.left + 1
+
+abbrev pub decreases-forms::eval_node : goal.decreases-forms::eval_node
+decreases-forms::eval_node l = 2 ^ 140 * l.level.now.left + 0
 
 abbrev pub decreases-forms::eval_parts : goal.decreases-forms::eval_parts
-decreases-forms::eval_parts l = 2 ^ 140 * l.level.now.left + 1
+decreases-forms::eval_parts l = 2 ^ 140 * l.level.now.left + 2
 
 abbrev pub decreases-forms::eval_gathered : goal.decreases-forms::eval_gathered
-decreases-forms::eval_gathered l = 2 ^ 140 * l.level.now.left + 1
+decreases-forms::eval_gathered l = 2 ^ 140 * l.level.now.left + 2
 
 abbrev pub decreases-forms::eval_one : goal.decreases-forms::eval_one
-decreases-forms::eval_one l = 2 ^ 140 * l.level.now.left + 1
+decreases-forms::eval_one l = 2 ^ 140 * l.level.now.left + 2
 
 abbrev pub decreases-forms::eval_two : goal.decreases-forms::eval_two
-decreases-forms::eval_two l = 2 ^ 140 * l.level.now.left + 1
+decreases-forms::eval_two l = 2 ^ 140 * l.level.now.left + 2
 
 abbrev pub decreases-forms::eval_row : goal.decreases-forms::eval_row
-decreases-forms::eval_row l = 2 ^ 140 * l.level.now.left + 2
+decreases-forms::eval_row l = 2 ^ 140 * l.level.now.left + 3
 
 abbrev pub decreases-globals::eval_global : goal.decreases-globals::eval_global
-decreases-globals::eval_global l = 2 ^ 140 * l.level.now.left + 2
+decreases-globals::eval_global l = 2 ^ 140 * l.level.now.left + 3
 
 abbrev pub decreases-forms::eval_called : goal.decreases-forms::eval_called
-decreases-forms::eval_called l = 2 ^ 140 * l.level.now.left + 3
+decreases-forms::eval_called l = 2 ^ 140 * l.level.now.left + 4
 
 abbrev pub decreases-forms::eval_builtin : goal.decreases-forms::eval_builtin
-decreases-forms::eval_builtin l = 2 ^ 140 * l.level.now.left + 4
+decreases-forms::eval_builtin l = 2 ^ 140 * l.level.now.left + 5
 
 abbrev pub decreases-forms::eval_array : goal.decreases-forms::eval_array
-decreases-forms::eval_array l = 2 ^ 140 * l.level.now.left + 2
+decreases-forms::eval_array l = 2 ^ 140 * l.level.now.left + 3
 
 abbrev pub decreases-forms::eval_set : goal.decreases-forms::eval_set
-decreases-forms::eval_set l = 2 ^ 140 * l.level.now.left + 2
+decreases-forms::eval_set l = 2 ^ 140 * l.level.now.left + 3
 
 abbrev pub decreases-forms::eval_rows : goal.decreases-forms::eval_rows
-decreases-forms::eval_rows l = 2 ^ 140 * l.level.now.left + 2
+decreases-forms::eval_rows l = 2 ^ 140 * l.level.now.left + 3
 
 abbrev pub decreases-forms::eval_table : goal.decreases-forms::eval_table
-decreases-forms::eval_table l = 2 ^ 140 * l.level.now.left + 3
+decreases-forms::eval_table l = 2 ^ 140 * l.level.now.left + 4
 
 abbrev pub decreases-forms::eval_element : goal.decreases-forms::eval_element
-decreases-forms::eval_element l = 2 ^ 140 * l.level.now.left + 1
+decreases-forms::eval_element l = 2 ^ 140 * l.level.now.left + 3
+
+abbrev pub decreases-forms::eval_element_of_name : goal.decreases-forms::eval_element_of_name
+decreases-forms::eval_element_of_name l = 2 ^ 140 * l.level.now.left + 2
+
+abbrev pub decreases-forms::eval_element_of_any : goal.decreases-forms::eval_element_of_any
+decreases-forms::eval_element_of_any l = 2 ^ 140 * l.level.now.left + 2
 
 abbrev pub decreases-forms::eval_access : goal.decreases-forms::eval_access
-decreases-forms::eval_access l = 2 ^ 140 * l.level.now.left + 2
+decreases-forms::eval_access l = 2 ^ 140 * l.level.now.left + 4
 
 abbrev pub decreases-operators::eval_operator : goal.decreases-operators::eval_operator
-decreases-operators::eval_operator l = 2 ^ 140 * l.level.now.left + 1
+decreases-operators::eval_operator l = 2 ^ 140 * l.level.now.left + 2
 
 abbrev pub decreases-operators::eval_step : goal.decreases-operators::eval_step
-decreases-operators::eval_step l = 2 ^ 140 * l.level.now.left + 2
+decreases-operators::eval_step l = 2 ^ 140 * l.level.now.left + 3
 
 abbrev pub decreases-operators::eval_single : goal.decreases-operators::eval_single
-decreases-operators::eval_single l = 2 ^ 140 * l.level.now.left + 2
+decreases-operators::eval_single l = 2 ^ 140 * l.level.now.left + 3
 
 abbrev pub decreases-operators::eval_plain : goal.decreases-operators::eval_plain
-decreases-operators::eval_plain l = 2 ^ 140 * l.level.now.left + 3
+decreases-operators::eval_plain l = 2 ^ 140 * l.level.now.left + 4
 
 abbrev pub decreases-operators::eval_operators : goal.decreases-operators::eval_operators
-decreases-operators::eval_operators l = 2 ^ 140 * l.level.now.left + 2
+decreases-operators::eval_operators l = 2 ^ 140 * l.level.now.left + 3
 
 abbrev pub decreases-operators::eval_innermost : goal.decreases-operators::eval_innermost
-decreases-operators::eval_innermost l = 2 ^ 140 * l.level.now.left + 3
+decreases-operators::eval_innermost l = 2 ^ 140 * l.level.now.left + 4
 
 abbrev pub decreases-operators::eval_with_innermost : goal.decreases-operators::eval_with_innermost
-decreases-operators::eval_with_innermost l = 2 ^ 140 * l.level.now.left + 4
+decreases-operators::eval_with_innermost l = 2 ^ 140 * l.level.now.left + 5
 
 abbrev pub decreases-operators::eval_operand : goal.decreases-operators::eval_operand
-decreases-operators::eval_operand l = 2 ^ 140 * l.level.now.left + 1
+decreases-operators::eval_operand l = 2 ^ 140 * l.level.now.left + 2
 
 abbrev pub decreases-operators::eval_operands : goal.decreases-operators::eval_operands
-decreases-operators::eval_operands l = 2 ^ 140 * l.level.now.left + 2
+decreases-operators::eval_operands l = 2 ^ 140 * l.level.now.left + 3
 
 abbrev pub decreases-operators::eval_back : goal.decreases-operators::eval_back
-decreases-operators::eval_back l = 2 ^ 140 * l.level.now.left + 3
+decreases-operators::eval_back l = 2 ^ 140 * l.level.now.left + 4
 
 abbrev pub decreases-operators::eval_appended : goal.decreases-operators::eval_appended
-decreases-operators::eval_appended l = 2 ^ 140 * l.level.now.left + 4
+decreases-operators::eval_appended l = 2 ^ 140 * l.level.now.left + 5
 
 abbrev pub decreases-operators::eval_chain : goal.decreases-operators::eval_chain
-decreases-operators::eval_chain l = 2 ^ 140 * l.level.now.left + 5
+decreases-operators::eval_chain l = 2 ^ 140 * l.level.now.left + 6
 
 abbrev pub decreases-choices::eval_last : goal.decreases-choices::eval_last
-decreases-choices::eval_last l = 2 ^ 140 * l.level.now.left + 1
+decreases-choices::eval_last l = 2 ^ 140 * l.level.now.left + 2
 
 abbrev pub decreases-choices::eval_otherwise : goal.decreases-choices::eval_otherwise
-decreases-choices::eval_otherwise l = 2 ^ 140 * l.level.now.left + 2
+decreases-choices::eval_otherwise l = 2 ^ 140 * l.level.now.left + 3
 
 abbrev pub decreases-choices::eval_branch : goal.decreases-choices::eval_branch
-decreases-choices::eval_branch l = 2 ^ 140 * l.level.now.left + 1
+decreases-choices::eval_branch l = 2 ^ 140 * l.level.now.left + 2
 
 abbrev pub decreases-choices::eval_open : goal.decreases-choices::eval_open
-decreases-choices::eval_open l = 2 ^ 140 * l.level.now.left + 2
+decreases-choices::eval_open l = 2 ^ 140 * l.level.now.left + 3
 
 abbrev pub decreases-choices::eval_if : goal.decreases-choices::eval_if
-decreases-choices::eval_if l = 2 ^ 140 * l.level.now.left + 3
+decreases-choices::eval_if l = 2 ^ 140 * l.level.now.left + 4
 
 abbrev pub decreases-comprehensions::eval_head : goal.decreases-comprehensions::eval_head
-decreases-comprehensions::eval_head l = 2 ^ 140 * l.level.now.left + 1
+decreases-comprehensions::eval_head l = 2 ^ 140 * l.level.now.left + 2
 
 abbrev pub decreases-locals::eval_under : goal.decreases-locals::eval_under
-decreases-locals::eval_under l = 2 ^ 140 * l.level.now.left + 1
+decreases-locals::eval_under l = 2 ^ 140 * l.level.now.left + 2
 
 abbrev pub decreases-locals::eval_constraint : goal.decreases-locals::eval_constraint
-decreases-locals::eval_constraint l = 2 ^ 140 * l.level.now.left + 2
+decreases-locals::eval_constraint l = 2 ^ 140 * l.level.now.left + 3
 
 abbrev pub decreases-locals::eval_want : goal.decreases-locals::eval_want
-decreases-locals::eval_want l = 2 ^ 140 * l.level.now.left + 1
+decreases-locals::eval_want l = 2 ^ 140 * l.level.now.left + 2
 
 abbrev pub decreases-locals::eval_index : goal.decreases-locals::eval_index
-decreases-locals::eval_index l = 2 ^ 140 * l.level.now.left + 1
+decreases-locals::eval_index l = 2 ^ 140 * l.level.now.left + 2
 
 abbrev pub decreases-locals::eval_indices : goal.decreases-locals::eval_indices
-decreases-locals::eval_indices l = 2 ^ 140 * l.level.now.left + 2
+decreases-locals::eval_indices l = 2 ^ 140 * l.level.now.left + 3
 
 abbrev pub decreases-locals::eval_given : goal.decreases-locals::eval_given
-decreases-locals::eval_given l = 2 ^ 140 * l.level.now.left + 1
+decreases-locals::eval_given l = 2 ^ 140 * l.level.now.left + 2
 
 abbrev pub decreases-locals::eval_declared : goal.decreases-locals::eval_declared
-decreases-locals::eval_declared l = 2 ^ 140 * l.level.now.left + 3
+decreases-locals::eval_declared l = 2 ^ 140 * l.level.now.left + 4
 
 abbrev pub decreases-locals::eval_framed : goal.decreases-locals::eval_framed
-decreases-locals::eval_framed l = 2 ^ 140 * l.level.now.left + 4
+decreases-locals::eval_framed l = 2 ^ 140 * l.level.now.left + 5
 
 abbrev pub decreases-locals::eval_local : goal.decreases-locals::eval_local
-decreases-locals::eval_local l = 2 ^ 140 * l.level.now.left + 5
+decreases-locals::eval_local l = 2 ^ 140 * l.level.now.left + 6
 
 abbrev pub decreases-locals::eval_item : goal.decreases-locals::eval_item
-decreases-locals::eval_item l = 2 ^ 140 * l.level.now.left + 6
+decreases-locals::eval_item l = 2 ^ 140 * l.level.now.left + 7
 
 abbrev pub decreases-locals::eval_items : goal.decreases-locals::eval_items
-decreases-locals::eval_items l = 2 ^ 140 * l.level.now.left + 7
+decreases-locals::eval_items l = 2 ^ 140 * l.level.now.left + 8
 
 abbrev pub decreases-locals::eval_let : goal.decreases-locals::eval_let
-decreases-locals::eval_let l = 2 ^ 140 * l.level.now.left + 8
+decreases-locals::eval_let l = 2 ^ 140 * l.level.now.left + 9
 
 abbrev pub decreases-calls::eval_argument : goal.decreases-calls::eval_argument
-decreases-calls::eval_argument l = 2 ^ 140 * l.level.now.left + 3
+decreases-calls::eval_argument l = 2 ^ 140 * l.level.now.left + 4
 
 abbrev pub decreases-calls::eval_suited : goal.decreases-calls::eval_suited
-decreases-calls::eval_suited l = 2 ^ 140 * l.level.now.left + 4
+decreases-calls::eval_suited l = 2 ^ 140 * l.level.now.left + 5
 
 abbrev pub decreases-calls::eval_parameter : goal.decreases-calls::eval_parameter
-decreases-calls::eval_parameter l = 2 ^ 140 * l.level.now.left + 5
+decreases-calls::eval_parameter l = 2 ^ 140 * l.level.now.left + 6
 
 abbrev pub decreases-calls::eval_parameters : goal.decreases-calls::eval_parameters
-decreases-calls::eval_parameters l = 2 ^ 140 * l.level.now.left + 6
+decreases-calls::eval_parameters l = 2 ^ 140 * l.level.now.left + 7
 
 abbrev pub decreases-calls::eval_called : goal.decreases-calls::eval_called
-decreases-calls::eval_called l = 2 ^ 140 * l.level.now.left + 4
+decreases-calls::eval_called l = 2 ^ 140 * l.level.now.left + 5
 
 abbrev pub decreases-calls::eval_result : goal.decreases-calls::eval_result
-decreases-calls::eval_result l = 2 ^ 140 * l.level.now.left + 3
+decreases-calls::eval_result l = 2 ^ 140 * l.level.now.left + 4
 
 abbrev pub decreases-calls::eval_function : goal.decreases-calls::eval_function
-decreases-calls::eval_function l = 2 ^ 140 * l.level.now.left + 7
+decreases-calls::eval_function l = 2 ^ 140 * l.level.now.left + 8
 
 abbrev pub decreases-calls::eval_call_of : goal.decreases-calls::eval_call_of
-decreases-calls::eval_call_of l = 2 ^ 140 * l.level.now.left + 8
+decreases-calls::eval_call_of l = 2 ^ 140 * l.level.now.left + 9
 
 abbrev pub decreases-calls::eval_declared_call : goal.decreases-calls::eval_declared_call
-decreases-calls::eval_declared_call l = 2 ^ 140 * l.level.now.left + 9
+decreases-calls::eval_declared_call l = 2 ^ 140 * l.level.now.left + 10
 
 abbrev pub decreases-plain_calls::eval_unbound : goal.decreases-plain_calls::eval_unbound
-decreases-plain_calls::eval_unbound l = 2 ^ 140 * l.level.now.left + 5
+decreases-plain_calls::eval_unbound l = 2 ^ 140 * l.level.now.left + 6
 
 abbrev pub decreases-plain_calls::eval_weighed : goal.decreases-plain_calls::eval_weighed
-decreases-plain_calls::eval_weighed l = 2 ^ 140 * l.level.now.left + 5
+decreases-plain_calls::eval_weighed l = 2 ^ 140 * l.level.now.left + 6
 
 abbrev pub decreases-plain_calls::eval_bound : goal.decreases-plain_calls::eval_bound
-decreases-plain_calls::eval_bound l = 2 ^ 140 * l.level.now.left + (2 * length l.all.now + 6)
+decreases-plain_calls::eval_bound l = 2 ^ 140 * l.level.now.left + (2 * length l.all.now + 7)
 
 abbrev pub decreases-plain_calls::eval_first : goal.decreases-plain_calls::eval_first
-decreases-plain_calls::eval_first l = 2 ^ 140 * l.level.now.left + (2 * length l.all.now + 7)
+decreases-plain_calls::eval_first l = 2 ^ 140 * l.level.now.left + (2 * length l.all.now + 8)
 
 abbrev pub decreases-plain_calls::eval_plain_call : goal.decreases-plain_calls::eval_plain_call
-decreases-plain_calls::eval_plain_call l = 2 ^ 140 * l.level.now.left + (2 * length l.all.now + 7)
+decreases-plain_calls::eval_plain_call l = 2 ^ 140 * l.level.now.left + (2 * length l.all.now + 8)
 
 abbrev pub decreases-calls::eval_call : goal.decreases-calls::eval_call
-decreases-calls::eval_call l = 2 ^ 140 * l.level.now.left + (2 * length l.all.now + 10)
+decreases-calls::eval_call l = 2 ^ 140 * l.level.now.left + (2 * length l.all.now + 11)
 
 abbrev pub decreases-forms::eval_form : goal.decreases-forms::eval_form
 decreases-forms::eval_form l = 2 ^ 140 * l.level.now.left + (2 ^ 140 - 1)
@@ -219,25 +228,25 @@ abbrev pub decreases-comprehensions::eval_comprehension : goal.decreases-compreh
 decreases-comprehensions::eval_comprehension l = 2 ^ 140 * l.level.now.left + (2 ^ 140 - 3)
 
 abbrev pub decreases-comprehensions::eval_generators : goal.decreases-comprehensions::eval_generators
-decreases-comprehensions::eval_generators l = 2 ^ 140 * l.level.now.left + (2 ^ 70 * length l.all.now + 2)
+decreases-comprehensions::eval_generators l = 2 ^ 140 * l.level.now.left + (2 ^ 70 * length l.all.now + 3)
 
 abbrev pub decreases-comprehensions::eval_generator : goal.decreases-comprehensions::eval_generator
 decreases-comprehensions::eval_generator l = 2 ^ 140 * l.level.now.left + (2 ^ 70 * length l.others.now + 2 ^ 70)
 
 abbrev pub decreases-comprehensions::eval_names : goal.decreases-comprehensions::eval_names
-decreases-comprehensions::eval_names l = 2 ^ 140 * l.level.now.left + (2 ^ 70 * length l.g.now.others.now + (5 * length l.slots.now + 5))
+decreases-comprehensions::eval_names l = 2 ^ 140 * l.level.now.left + (2 ^ 70 * length l.g.now.others.now + (5 * length l.slots.now + 6))
 
 abbrev pub decreases-comprehensions::eval_name : goal.decreases-comprehensions::eval_name
-decreases-comprehensions::eval_name l = 2 ^ 140 * l.level.now.left + (2 ^ 70 * length l.g.now.others.now + (5 * length l.slots.now.others.now + 9))
+decreases-comprehensions::eval_name l = 2 ^ 140 * l.level.now.left + (2 ^ 70 * length l.g.now.others.now + (5 * length l.slots.now.others.now + 10))
 
 abbrev pub decreases-comprehensions::eval_turn : goal.decreases-comprehensions::eval_turn
-decreases-comprehensions::eval_turn l = 2 ^ 140 * l.level.now.left + (2 ^ 70 * length l.g.now.others.now + (5 * length l.slots.now.others.now + 7))
+decreases-comprehensions::eval_turn l = 2 ^ 140 * l.level.now.left + (2 ^ 70 * length l.g.now.others.now + (5 * length l.slots.now.others.now + 8))
 
 abbrev pub decreases-comprehensions::eval_where : goal.decreases-comprehensions::eval_where
-decreases-comprehensions::eval_where l = 2 ^ 140 * l.level.now.left + (2 ^ 70 * length l.g.now.others.now + 4)
+decreases-comprehensions::eval_where l = 2 ^ 140 * l.level.now.left + (2 ^ 70 * length l.g.now.others.now + 5)
 
 abbrev pub decreases-comprehensions::eval_filtered : goal.decreases-comprehensions::eval_filtered
-decreases-comprehensions::eval_filtered l = 2 ^ 140 * l.level.now.left + (2 ^ 70 * length l.g.now.others.now + 3)
+decreases-comprehensions::eval_filtered l = 2 ^ 140 * l.level.now.left + (2 ^ 70 * length l.g.now.others.now + 4)
 
 abbrev pub invariant-forms::eval_parts-loop-e : goal.invariant-forms::eval_parts-loop-e
 invariant-forms::eval_parts-loop-e l = Continues l.fn.run l.run
