@@ -1,3 +1,4 @@
 pub mod Indices
 pub mod Places
 pub mod Reached
+pub mod NumberLaws

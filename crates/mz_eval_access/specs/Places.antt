@@ -10,6 +10,8 @@ use Rattle.mz_operations.specs.Views.{as_element}
 use Rattle.mz_operations.specs.Bounds.{Bound, bound_of}
 use Rattle.mz_meaning.specs.Arrays.{element_at, elements_reached, ends_in, hull_over, indices_in}
 use Rattle.mz_meaning.specs.Cells.{Cell, bounds_in, scalar_bound, value_of}
+use Rattle.mz_eval_cells.specs.declared.types.Known.{Known}
+use Rattle.mz_eval_cells.specs.declared.types.Known.TheVariants as known
 use Rattle.mz_eval_cells.specs.Views.{known_bound}
 use Rattle.mz_eval_access.specs.declared.placing.Places.{Places}
 use Rattle.mz_eval_access.specs.declared.placing.Places.TheVariants as placing
@@ -37,3 +39,8 @@ cell_index c = option_and_then as_element (value_of c)
 -- the place of indices, where each is one and lies in its range, told as at most the greatest number
 abbrev pub placed : List Range → List Cell → Option ℕ
 placed rs cs = option_map (min most) (option_and_then (place_of rs) (indices_in (map value_of cs)))
+
+-- the index ranges of a var array; none of another cell
+abbrev pub list_ranges : Known → List Range
+list_ranges (known.Row ix xs) = ix.value.items
+list_ranges k = []

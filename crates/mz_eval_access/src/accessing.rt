@@ -78,7 +78,7 @@ pub fn par_element(alloc: Global, a: &Known, at: &[Known]) -> Result<Known, Allo
 }
 
 /// The ends of a number's bounds, 0..0 of a set's.
-fn ends_in(b: &Bound) -> (i64, i64)
+pub(crate) fn ends_in(b: &Bound) -> (i64, i64)
     ensures { result ≡ arrays.ends_in (known_bound b.now) }
 {
     match b {
@@ -259,7 +259,7 @@ fn is_one_in(r: (i64, i64), e: (i64, i64)) -> bool
     e.0 == e.1 && (r.0 <= e.0 && e.0 <= r.1)
 }
 
-fn bound_nth(all: &[Bound], n: u64) -> Option<&Bound>
+pub(crate) fn bound_nth(all: &[Bound], n: u64) -> Option<&Bound>
     ensures { MatchOption result (Unit {0}) (λ b. slice_get all.now n ≡ Some b.now) }
 {
     all.get(n as usize)

@@ -4,3 +4,4 @@ pub mod ChargeLaws
 pub mod ElementLaws
 pub mod LineLaws
 pub mod PlaceLaws
+pub mod NumberLaws

@@ -75,6 +75,21 @@ pub(crate) fn symbol_cell(
     Ok(k)
 }
 
+/// The same of a number, whose bounds have these ends.
+pub(crate) fn number_cell(
+    alloc: Global,
+    cast: Option<Base>,
+    s: Symbol,
+    ends: (i64, i64),
+) -> Result<Known, AllocError>
+    ensures of { IfOk result (λ k. cell_of k ≡ Var (bounds.one (bounds.number ends)) None) }
+    ensures seen { IfOk result (λ k. (r : Reading) → value_of (seen r k) ≡ held r.mode (option_map (item_cast cast) (argued r.term s))) }
+{
+    let bound = Bound::Number(ends.0, ends.1);
+    let k = cast_value(alloc, bound, Origin::Symbol(s), cast)?;
+    Ok(k)
+}
+
 // ---- values
 
 fn set_item(alloc: Global, s: &SetValue) -> Result<Item, AllocError>

@@ -1,6 +1,6 @@
 // Elements of arrays.
 
-ghost use Rattle.std.specs.Prelude.{◌≡◌, ◌&&◌, ◌*◌, ◌+◌, IfOk, None, false, length, true};
+ghost use Rattle.std.specs.Prelude.{◌≡◌, ◌&&◌, ◌*◌, ◌+◌, ◌∷◌, [], IfOk, IfSome, MatchOption, None, false, length, true};
 ghost use Rattle.std.specs.List.{list_all};
 ghost use Rattle.std.specs.Option.{option_map};
 ghost use Rattle.mz_core.specs.Types.{plain_type};
@@ -20,17 +20,17 @@ ghost use Rattle.mz_eval_symbols.specs.Steps.{argued, item_cast};
 ghost use Rattle.mz_eval_symbols.specs.Taken.{cell_value, line_seen, ranges_in};
 ghost use Rattle.mz_eval_elements.specs.ElementCells.{element_value, typed_seen};
 ghost use Rattle.mz_eval_lines.specs.Told.{is_told};
-ghost use Rattle.mz_eval_elements.specs.StepsElements.{counted_seen};
+ghost use Rattle.mz_eval_elements.specs.StepsElements.{IsSureItem, IsSureItemOf, counted_seen};
 
-use crate::cells::{no_value, symbol_cell};
+use crate::cells::{no_value, number_cell, symbol_cell};
 use crate::indices::indices_of;
 use crate::listing::listed_line;
-use crate::places::row_element;
+use crate::places::{row_element, sure_symbol};
 use mz_arena::Arena;
 use mz_base::{Memory, Stop};
 use mz_core::{Base, TypeInst};
-use mz_eval_access::{access_bound, par_element};
-use mz_eval_cells::{Bound, Known, all_par, is_par};
+use mz_eval_access::{access_bound, number_place, par_element};
+use mz_eval_cells::{Bound, Known, Origins, VarItems, all_par, is_par};
 use mz_eval_lines::{are_told, is_told, of_kind};
 use mz_eval_symbols::{is_gone, symbol_base};
 use mz_symbol::{Run, Symbol};
@@ -292,7 +292,7 @@ fn is_scalar(t: &TypeInst) -> bool
 }
 
 /// The element of an array, which or of which an index is var.
-fn open_element(
+fn any_element(
     alloc: Global,
     run: &mut Run,
     t: &TypeInst,
@@ -310,6 +310,100 @@ fn open_element(
     let opt = is_option(t);
     let x = var_element(alloc, run, base, opt, a, at, &bound)?;
     Ok(x)
+}
+
+/// What stands at a place, from 0, of a line that surely is defined, and the base that it is recast to.
+fn sure_item_of(run: &Run, xs: &VarItems, n: u64) -> Option<(Symbol, Option<Base>)>
+    ensures { MatchOption result (Unit {0}) (IsSureItemOf run.now xs.now n) }
+{
+    match &xs.origins {
+        Origins::Line(line) => {
+            let s = sure_symbol(run, *line, n)?;
+            Some((s, xs.cast))
+        }
+        _ => None,
+    }
+}
+
+/// The same of an array.
+fn sure_item(run: &Run, a: &Known, n: u64) -> Option<(Symbol, Option<Base>)>
+    ensures { MatchOption result (Unit {0}) (IsSureItem run.now a.now n) }
+{
+    match a {
+        Known::Row(_, xs) => sure_item_of(run, xs, n),
+        _ => None,
+    }
+}
+
+/// The element at one index, where it is a number of an array that surely is defined, and the index is
+/// a par integer.
+fn number_element(
+    alloc: Global,
+    run: &Run,
+    t: &TypeInst,
+    a: &Known,
+    at: &[Known],
+    i: &Known,
+) -> Result<Option<Known>, AllocError>
+    requires one { at.now ≡ i.now ∷ [] }
+    requires some_var { (cells.is_par (cell_of a.now) && cells.all_par (cells_of at.now)) ≡ false }
+    requires scalar { no_dims (plain_type t.now).dims ≡ true }
+    ensures { IfOk result (λ o. IfSome o (λ k. (r : Reading) → Reads r run.now
+        → cells.typed r.mode false (plain_type t.now) (arrays.access_cell r.mode (plain_type t.now) (seen r a.now) (all_seen r at.now)) ≡ typed_seen (plain_type t.now) r k)) }
+{
+    if !is_par(i) {
+        return Ok(None);
+    }
+    let Some(p) = number_place(t, a, i) else {
+        return Ok(None);
+    };
+    let Some(y) = sure_item(run, a, p.0) else {
+        return Ok(None);
+    };
+    let k = number_cell(alloc, y.1, y.0, p.1)?;
+    Ok(Some(k))
+}
+
+/// The element of an array at one index, where that or the array is var.
+fn one_element(
+    alloc: Global,
+    run: &mut Run,
+    t: &TypeInst,
+    a: &Known,
+    at: &[Known],
+    i: &Known,
+) -> Result<Known, Stop>
+    requires one { at.now ≡ i.now ∷ [] }
+    requires some_var { (cells.is_par (cell_of a.now) && cells.all_par (cells_of at.now)) ≡ false }
+    requires scalar { no_dims (plain_type t.now).dims ≡ true }
+    ensures goes { GoesOn run.old run.new }
+    ensures means { Means (typed_seen (plain_type t.now)) result run.old run.new
+        (λ r. give (cells.typed r.mode false (plain_type t.now) (arrays.access_cell r.mode (plain_type t.now) (seen r a.now) (all_seen r at.now)))) }
+{
+    match number_element(alloc, &*run, t, a, at, i)? {
+        None => any_element(alloc, run, t, a, at),
+        Some(k) => Ok(k),
+    }
+}
+
+/// The element of an array, which or of which an index is var.
+fn open_element(
+    alloc: Global,
+    run: &mut Run,
+    t: &TypeInst,
+    a: &Known,
+    at: &[Known],
+) -> Result<Known, Stop>
+    requires some_var { (cells.is_par (cell_of a.now) && cells.all_par (cells_of at.now)) ≡ false }
+    requires scalar { no_dims (plain_type t.now).dims ≡ true }
+    ensures goes { GoesOn run.old run.new }
+    ensures means { Means (typed_seen (plain_type t.now)) result run.old run.new
+        (λ r. give (cells.typed r.mode false (plain_type t.now) (arrays.access_cell r.mode (plain_type t.now) (seen r a.now) (all_seen r at.now)))) }
+{
+    match at {
+        [i] => one_element(alloc, run, t, a, at, i),
+        _ => any_element(alloc, run, t, a, at),
+    }
 }
 
 /// The element of an array at these indices, of a node of this type, once the type is stamped on it.

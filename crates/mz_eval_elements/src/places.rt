@@ -41,7 +41,7 @@ fn may_fail(nodes: &Arena, d: Id) -> bool
 }
 
 /// The element at a place, from 0, of an array that is surely defined.
-fn sure_symbol(run: &Run, line: u64, n: u64) -> Option<Symbol>
+pub(crate) fn sure_symbol(run: &Run, line: u64, n: u64) -> Option<Symbol>
     ensures { MatchOption result (Unit {0}) (λ y. (r : Reading) → Reads r run.now → argued r.term y ≡ option_and_then (λ xs. slice_get xs n) (r.line line)) }
 {
     let Ok(found) = defined(run, line) else {

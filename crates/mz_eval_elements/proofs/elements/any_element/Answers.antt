@@ -3,7 +3,7 @@ use Rattle.mz_symbol.proofs.ConstantLaws.{out_value, out_state}
 use Rattle.mz_symbol_rows.proofs.RowLaws.{out_both}
 use Rattle.mz_eval_cells.specs.Views.{known_bound}
 use Rattle.mz_eval_elements.proofs.ElementLaws.{open_typed}
-use Rattle.mz_eval_elements.proofs.elements.open_element.Goals as goal
+use Rattle.mz_eval_elements.proofs.elements.any_element.Goals as goal
 
 pub returns-clause-means : goal.returns-clause-means
 returns-clause-means c r h =
