@@ -12,7 +12,7 @@ use Rattle.mz_meaning.specs.Runs.{State, Answer, Out, Stopped, give, spend, then
 use Rattle.mz_meaning.specs.Cells.{Cell, Env, typed}
 use Rattle.mz_meaning.specs.Contexts.{Context, within_links}
 use Rattle.mz_meaning.specs.Forms.{World, coerced_by, done}
-use Rattle.mz_meaning.specs.Evaluation.{eval, is_name}
+use Rattle.mz_meaning.specs.Evaluation.{eval}
 use Rattle.mz_eval.specs.Nodes.{node_stamped}
 use Rattle.mz_eval.proofs.OneLevel.{eval_more, finish}
 

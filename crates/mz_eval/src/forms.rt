@@ -117,13 +117,7 @@ fn slot_cell<'a>(level: &Level<'a>, e: &Core, slot: u64, scope: &'a Scope<'a>) -
 }
 
 // the work of such a name
-fn name_done(
-    level: &Level,
-    e: &Core,
-    k: &Known,
-    scope: &Scope,
-    run: &mut Run,
-) -> Result<(), Stop>
+fn name_done(level: &Level, e: &Core, k: &Known, scope: &Scope, run: &mut Run) -> Result<(), Stop>
     requires { IsNamed level.now scope.now e.now k.now }
     ensures goes { GoesOn run.old run.new }
     ensures means { Means (λ r _. seen r k.now) result run.old run.new (λ r. go_of r level.now (ctx_of level.now.ctx) (tree e.now) (scope_of r level.now scope.now)) }

@@ -13,10 +13,11 @@ use Rattle.mz_meaning.specs.Arrays.{ends_in, indices_in}
 use Rattle.mz_meaning.specs.Cells.{Cell, bounds_in, par_value, scalar_bound, value_of}
 use Rattle.mz_eval_cells.specs.declared.types.Bound.{Bound}
 use Rattle.mz_eval_cells.specs.Views.{known_bound}
+use Rattle.mz_eval_access.specs.Places.{IsPlaceOf, ReachesIn}
 use Rattle.mz_eval_access.specs.StepsPlaces.{steps_between}
 use Rattle.mz_eval_access.proofs.Reached.{one_reached}
 
-pub number_placed : (r : Range) (c : Cell) (n : ℤ) (p : ℕ) → c ≡ par_value (int n) → (r.0 ≤ℤ n) × (n ≤ℤ r.1) → p ≡ steps_between r.0 n → option_and_then (place_of (r ∷ [])) (indices_in (value_of c ∷ [])) ≡ Some p
+pub number_placed : (r : Range) (c : Cell) (n : ℤ) (p : ℕ) → c ≡ par_value (int n) → (r.0 ≤ℤ n) × (n ≤ℤ r.1) → p ≡ steps_between r.0 n → IsPlaceOf (r ∷ []) c p
 unfolding as_element
 number_placed r c n p e f s =
     let low = int_le_true r.0 n f.0 in
@@ -27,7 +28,7 @@ number_placed r c n p e f s =
     ∙ ap (λ b. if b then Some (offset_of r n * 1 + 0) else None) high
     ∙ ap Some (same ∙ sym (s ∙ ap (λ b. if b then nat_abs (n -ℤ r.0) else 0) low))
 
-pub number_reached : (r : Range) (c : Cell) (n : ℤ) (all : List Bound) (p : ℕ) (b : Bound) (e : Ends) → c ≡ par_value (int n) → (r.0 ≤ℤ n) × (n ≤ℤ r.1) → p ≡ steps_between r.0 n → slice_get all p ≡ Some b → e ≡ ends_in (known_bound b) → map ends_in (reached (r ∷ []) (ends_in (scalar_bound (bounds_in c)) ∷ []) (map known_bound all)) ≡ e ∷ []
+pub number_reached : (r : Range) (c : Cell) (n : ℤ) (all : List Bound) (p : ℕ) (b : Bound) (e : Ends) → c ≡ par_value (int n) → (r.0 ≤ℤ n) × (n ≤ℤ r.1) → p ≡ steps_between r.0 n → slice_get all p ≡ Some b → e ≡ ends_in (known_bound b) → ReachesIn (r ∷ []) (map known_bound all) c e
 unfolding bounds_of bound_of
 number_reached r c n all p b e i f s h k =
     ap (λ d. map ends_in (reached (r ∷ []) (ends_in (scalar_bound (bounds_in d)) ∷ []) (map known_bound all))) i

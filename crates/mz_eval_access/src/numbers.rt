@@ -1,16 +1,12 @@
 // Numbers that stand in a list at a par integer.
 
-ghost use Rattle.std.specs.Prelude.{◌≡◌, ◌≤ℤ◌, ◌∷◌, [], MatchOption, Some, map, true};
-ghost use Rattle.std.specs.Option.{option_and_then};
+ghost use Rattle.std.specs.Prelude.{◌≡◌, ◌≤ℤ◌, ◌∷◌, [], MatchOption, map, true};
 ghost use Rattle.mz_value.specs.Contents as values;
 ghost use Rattle.mz_core.specs.Types.{plain_type};
-ghost use Rattle.mz_index.specs.Places.{place_of};
 ghost use Rattle.mz_operations.specs.Bounds as bounds;
-ghost use Rattle.mz_meaning.specs.Arrays as arrays;
-ghost use Rattle.mz_meaning.specs.Cells as cells;
-ghost use Rattle.mz_meaning.specs.Cells.{par_value, value_of};
+ghost use Rattle.mz_meaning.specs.Cells.{par_value};
 ghost use Rattle.mz_eval_cells.specs.Views.{cell_of, known_bound};
-ghost use Rattle.mz_eval_access.specs.Places.{list_ranges, reached_bound};
+ghost use Rattle.mz_eval_access.specs.Places.{IsPlaceOf, ReachesIn, ReachesOne, list_ranges, reached_bound};
 ghost use Rattle.mz_eval_access.specs.StepsPlaces.{steps_between};
 
 use crate::accessing::{bound_nth, ends_in};
@@ -41,15 +37,10 @@ fn offset(r: (i64, i64), n: i64) -> u64
 }
 
 /// The place of an integer in a range, from 0, and the ends of the number that stands there.
-fn place_of_integer(
-    r: (i64, i64),
-    all: &[Bound],
-    i: &Known,
-    n: i64,
-) -> Option<(u64, (i64, i64))>
+fn place_of_integer(r: (i64, i64), all: &[Bound], i: &Known, n: i64) -> Option<(u64, (i64, i64))>
     requires { cell_of i.now ≡ par_value (values.int n) }
-    ensures place { MatchOption result (Unit {0}) (λ p. option_and_then (place_of (r ∷ [])) (arrays.indices_in (value_of (cell_of i.now) ∷ [])) ≡ Some p.0) }
-    ensures ends { MatchOption result (Unit {0}) (λ p. map arrays.ends_in (bounds.reached (r ∷ []) (arrays.ends_in (cells.scalar_bound (cells.bounds_in (cell_of i.now))) ∷ []) (map known_bound all.now)) ≡ p.1 ∷ []) }
+    ensures place { MatchOption result (Unit {0}) (λ p. IsPlaceOf (r ∷ []) (cell_of i.now) p.0) }
+    ensures ends { MatchOption result (Unit {0}) (λ p. ReachesIn (r ∷ []) (map known_bound all.now) (cell_of i.now) p.1) }
 {
     if !is_inside(r, n) {
         return None;
@@ -60,8 +51,8 @@ fn place_of_integer(
 }
 
 fn place_in_range(r: (i64, i64), all: &[Bound], i: &Known) -> Option<(u64, (i64, i64))>
-    ensures place { MatchOption result (Unit {0}) (λ p. option_and_then (place_of (r ∷ [])) (arrays.indices_in (value_of (cell_of i.now) ∷ [])) ≡ Some p.0) }
-    ensures ends { MatchOption result (Unit {0}) (λ p. map arrays.ends_in (bounds.reached (r ∷ []) (arrays.ends_in (cells.scalar_bound (cells.bounds_in (cell_of i.now))) ∷ []) (map known_bound all.now)) ≡ p.1 ∷ []) }
+    ensures place { MatchOption result (Unit {0}) (λ p. IsPlaceOf (r ∷ []) (cell_of i.now) p.0) }
+    ensures ends { MatchOption result (Unit {0}) (λ p. ReachesIn (r ∷ []) (map known_bound all.now) (cell_of i.now) p.1) }
 {
     match integer_of(i) {
         None => None,
@@ -71,8 +62,8 @@ fn place_in_range(r: (i64, i64), all: &[Bound], i: &Known) -> Option<(u64, (i64,
 
 /// The same in an array, which may have more dimensions than one.
 fn place_in_list(ranges: &[(i64, i64)], all: &[Bound], i: &Known) -> Option<(u64, (i64, i64))>
-    ensures place { MatchOption result (Unit {0}) (λ p. option_and_then (place_of ranges.now) (arrays.indices_in (value_of (cell_of i.now) ∷ [])) ≡ Some p.0) }
-    ensures ends { MatchOption result (Unit {0}) (λ p. map arrays.ends_in (bounds.reached ranges.now (arrays.ends_in (cells.scalar_bound (cells.bounds_in (cell_of i.now))) ∷ []) (map known_bound all.now)) ≡ p.1 ∷ []) }
+    ensures place { MatchOption result (Unit {0}) (λ p. IsPlaceOf ranges.now (cell_of i.now) p.0) }
+    ensures ends { MatchOption result (Unit {0}) (λ p. ReachesIn ranges.now (map known_bound all.now) (cell_of i.now) p.1) }
 {
     match ranges {
         [r] => place_in_range(*r, all, i),
@@ -81,8 +72,8 @@ fn place_in_list(ranges: &[(i64, i64)], all: &[Bound], i: &Known) -> Option<(u64
 }
 
 fn place_of_number(a: &Known, i: &Known) -> Option<(u64, (i64, i64))>
-    ensures place { MatchOption result (Unit {0}) (λ p. option_and_then (place_of (list_ranges a.now)) (arrays.indices_in (value_of (cell_of i.now) ∷ [])) ≡ Some p.0) }
-    ensures ends { MatchOption result (Unit {0}) (λ p. map arrays.ends_in (arrays.elements_reached (cells.bounds_in (cell_of a.now)) (arrays.ends_in (cells.scalar_bound (cells.bounds_in (cell_of i.now))) ∷ [])) ≡ p.1 ∷ []) }
+    ensures place { MatchOption result (Unit {0}) (λ p. IsPlaceOf (list_ranges a.now) (cell_of i.now) p.0) }
+    ensures ends { MatchOption result (Unit {0}) (λ p. ReachesOne (cell_of a.now) (cell_of i.now) p.1) }
 {
     match a {
         Known::Row(index, xs) => place_in_list(index.as_slice(), xs.bounds.as_slice(), i),
@@ -94,7 +85,7 @@ fn place_of_number(a: &Known, i: &Known) -> Option<(u64, (i64, i64))>
 /// None of other arrays, of other indices and of elements that are no numbers.
 #[tactic(auto, unfolding(mz_core::specs::Types::plain_type))]
 pub fn number_place(t: &TypeInst, a: &Known, i: &Known) -> Option<(u64, (i64, i64))>
-    ensures place { MatchOption result (Unit {0}) (λ p. option_and_then (place_of (list_ranges a.now)) (arrays.indices_in (value_of (cell_of i.now) ∷ [])) ≡ Some p.0) }
+    ensures place { MatchOption result (Unit {0}) (λ p. IsPlaceOf (list_ranges a.now) (cell_of i.now) p.0) }
     ensures bound { MatchOption result (Unit {0}) (λ p. reached_bound (plain_type t.now) (cell_of a.now) (cell_of i.now ∷ []) ≡ bounds.number p.1) }
 {
     if is_set_base(t.base) {

@@ -13,7 +13,7 @@ use Rattle.mz_core.specs.Paths.{path_links}
 use Rattle.mz_core.specs.Types.{PlainType}
 use Rattle.mz_operations.specs.Bounds.{bound_of, bounds_of}
 use Rattle.mz_meaning.specs.Runs.{Answer, Out, Run, State, Stopped, give, spend, then_do}
-use Rattle.mz_meaning.specs.Cells.{Blank, Cell, Given, Mode, held, is_par, par_value, value_of}
+use Rattle.mz_meaning.specs.Cells.{Blank, Cell, Given, Mode, held, par_value, value_of}
 use Rattle.mz_meaning.specs.Forms.{World, coerced_by}
 use Rattle.mz_symbol.specs.Readings.{Reading}
 use Rattle.mz_symbol.specs.Makes.{MeetsAt}

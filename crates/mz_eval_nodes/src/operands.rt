@@ -186,7 +186,11 @@ fn opened(o: &Operator, c: &Known) -> Option<i64>
 {
     match o.after {
         Some(_) => None,
-        None => if opens(o.step.right.as_slice()) { integer_in(c) } else { None },
+        None => if opens(o.step.right.as_slice()) {
+            integer_in(c)
+        } else {
+            None
+        },
     }
 }
 

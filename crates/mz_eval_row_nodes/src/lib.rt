@@ -3,4 +3,6 @@
 
 mod nodes;
 
-pub use nodes::{node_of_numbers, node_of_pars, node_of_two, untyped_all, untyped_one, untyped_two};
+pub use nodes::{
+    node_of_numbers, node_of_pars, node_of_two, untyped_all, untyped_one, untyped_two,
+};

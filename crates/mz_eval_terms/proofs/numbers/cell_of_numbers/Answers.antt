@@ -27,8 +27,8 @@ returns-clause-means c x y k r h =
     let first = held r.mode (value_of (x r)) in
     let second = held r.mode (value_of (y r)) in
     let e = ap (λ v. give (row_told r names (Scalar n.row) t (v ∷ second ∷ [])) s) (k.left r)
-      ∙ ap (λ v. give (row_told r names (Scalar n.row) t (operand_value r n.left ∷ v ∷ [])) s) (k.right r)
-      ∙ c.in_ok-s.ensures.means names r h in
+    ∙ ap (λ v. give (row_told r names (Scalar n.row) t (operand_value r n.left ∷ v ∷ [])) s) (k.right r)
+    ∙ c.in_ok-s.ensures.means names r h in
     ap (λ f. f s) (ends_told r.mode names (Scalar n.row) t c.args.at cs n.ends (k.ends r))
     ∙ ap (λ z. give (typed r.mode false t (Var (one z) (var_value r.mode names (Scalar n.row) t cs))) s) (sym c.number_bound-bound.ensures)
     ∙ out_both (ap (λ v. typed r.mode false t (Var b v)) (sym (two_values r.mode (exact_row names (Scalar n.row) t) (value_of (x r)) (value_of (y r))))
