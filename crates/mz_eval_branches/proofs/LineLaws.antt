@@ -69,17 +69,20 @@ goes_blank n old mid new ss e f g = goes_most (0 + 16 * length ss) (20 * n) old 
 pub goes_counted : (n m : ℕ) (old new : Run) → n ≡ m → GoesOnBy (20 * n) old new → GoesOnBy (20 * m) old new
 goes_counted n m old new e g = subst (λ k. GoesOnBy (20 * k) old new) e g
 
-pub goes_chosen : (n m : ℕ) (old new : Run) → n ≡ m → GoesOnBy (56 * n + 16) old new → GoesOnBy (56 * m + 16) old new
-goes_chosen n m old new e g = subst (λ k. GoesOnBy (56 * k + 16) old new) e g
+pub goes_chosen_alone : (n m : ℕ) (old new : Run) → n ≡ m → GoesOnBy (36 * n + 16) old new → GoesOnBy (52 * m + 16) old new
+goes_chosen_alone n m old new e f = goes_most (36 * n + 16) (52 * m + 16) old new (omega (arith, e)) f
 
-pub goes_blank_alone : (n : ℕ) (old new : Run) → GoesOnBy (20 * n) old new → GoesOnBy (76 * n + 16) old new
-goes_blank_alone n old new f = goes_most (20 * n) (76 * n + 16) old new (omega arith) f
+pub goes_chosen : (n m k : ℕ) (old mid new : Run) → n ≡ m → k ≡ n → GoesOnBy (36 * n + 16) old mid → GoesOnBy (16 * k) mid new → GoesOnBy (52 * m + 16) old new
+goes_chosen n m k old mid new e i f g = goes_most (36 * n + 16 + 16 * k) (52 * m + 16) old new (omega (arith, e, i)) (goes_both (36 * n + 16) (16 * k) old mid new f g)
 
-pub goes_blank_chosen : (n : ℕ) (old mid new : Run) → GoesOnBy (20 * n) old mid → GoesOnBy (56 * n + 16) mid new → GoesOnBy (76 * n + 16) old new
-goes_blank_chosen n old mid new f g = goes_most (20 * n + (56 * n + 16)) (76 * n + 16) old new (omega arith) (goes_both (20 * n) (56 * n + 16) old mid new f g)
+pub goes_blank_alone : (n : ℕ) (old new : Run) → GoesOnBy (20 * n) old new → GoesOnBy (72 * n + 16) old new
+goes_blank_alone n old new f = goes_most (20 * n) (72 * n + 16) old new (omega arith) f
 
-pub goes_both_there : (n m : ℕ) (old new : Run) → n ≡ m → GoesOnBy (56 * n + 16) old new → GoesOnBy (88 * m + 16) old new
-goes_both_there n m old new e f = goes_most (56 * n + 16) (88 * m + 16) old new (omega (arith, e)) f
+pub goes_blank_chosen : (n : ℕ) (old mid new : Run) → GoesOnBy (20 * n) old mid → GoesOnBy (52 * n + 16) mid new → GoesOnBy (72 * n + 16) old new
+goes_blank_chosen n old mid new f g = goes_most (20 * n + (52 * n + 16)) (72 * n + 16) old new (omega arith) (goes_both (20 * n) (52 * n + 16) old mid new f g)
 
-pub goes_one_there : (n m : ℕ) (old new : Run) → n ≡ m → GoesOnBy (76 * n + 16) old new → GoesOnBy (88 * m + 16) old new
-goes_one_there n m old new e f = goes_most (76 * n + 16) (88 * m + 16) old new (omega (arith, e)) f
+pub goes_both_there : (n m : ℕ) (old new : Run) → n ≡ m → GoesOnBy (52 * n + 16) old new → GoesOnBy (88 * m + 16) old new
+goes_both_there n m old new e f = goes_most (52 * n + 16) (88 * m + 16) old new (omega (arith, e)) f
+
+pub goes_one_there : (n m : ℕ) (old new : Run) → n ≡ m → GoesOnBy (72 * n + 16) old new → GoesOnBy (88 * m + 16) old new
+goes_one_there n m old new e f = goes_most (72 * n + 16) (88 * m + 16) old new (omega (arith, e)) f

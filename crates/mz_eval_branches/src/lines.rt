@@ -15,7 +15,7 @@ use mz_core::Base;
 use mz_eval_cells::{Known, length_of};
 use mz_eval_symbols::line_in;
 use mz_symbol::{Run, Symbol};
-use mz_symbol_branches::choose_lines;
+use mz_symbol_branches::choose_elements;
 use mz_symbol_lines::defined;
 use std::alloc::Global;
 
@@ -135,12 +135,13 @@ fn blank_line(alloc: Global, run: &mut Run, count: u64, other: u64) -> Result<u6
 
 /// The first of two arrays with so many elements under a condition, else the second.
 fn one_line(alloc: Global, run: &mut Run, id: Id, count: u64, p: u64, q: u64) -> Result<u64, Stop>
-    ensures goes { GoesOnBy (56 * count + 16) run.old run.new }
+    ensures goes { GoesOnBy (52 * count + 16) run.old run.new }
     ensures means { Means (λ r. r.line) result run.old run.new (λ r. give (chosen_line r id p q)) }
 {
     let found = defined(run, p)?;
     are_so_many(found.1, count)?;
-    let line = choose_lines(alloc, run, id, p, q)?;
+    let one = choose_elements(alloc, run, id, p, q)?;
+    let line = run.push_line(one.defined, one.items)?;
     Ok(line)
 }
 
@@ -154,7 +155,7 @@ fn of_both(
     p: u64,
     q: u64,
 ) -> Result<Option<u64>, Stop>
-    ensures goes { GoesOnBy (56 * count + 16) run.old run.new }
+    ensures goes { GoesOnBy (52 * count + 16) run.old run.new }
     ensures means { Means (option_seen like.now) result run.old run.new (λ r. give (one_value r id (line_seen like.now r p) (line_seen like.now r q))) }
 {
     let _ranges = like;
@@ -172,7 +173,7 @@ fn of_first(
     count: u64,
     p: u64,
 ) -> Result<Option<u64>, Stop>
-    ensures goes { GoesOnBy (76 * count + 16) run.old run.new }
+    ensures goes { GoesOnBy (72 * count + 16) run.old run.new }
     ensures means { Means (option_seen like.now) result run.old run.new (λ r. give (one_value r id (line_seen like.now r p) None)) }
 {
     let Ok(none) = blank_line(alloc, run, count, p) else {
@@ -192,7 +193,7 @@ fn of_second(
     count: u64,
     q: u64,
 ) -> Result<Option<u64>, Stop>
-    ensures goes { GoesOnBy (76 * count + 16) run.old run.new }
+    ensures goes { GoesOnBy (72 * count + 16) run.old run.new }
     ensures means { Means (option_seen like.now) result run.old run.new (λ r. give (one_value r id None (line_seen like.now r q))) }
 {
     let Ok(none) = blank_line(alloc, run, count, q) else {

@@ -1,4 +1,5 @@
 pub mod ChooseLaws
+pub mod StandingLaws
 pub mod ItemLaws
 pub mod LiftLaws
 pub mod LineLaws

@@ -11,10 +11,10 @@ use Rattle.mz_symbol.specs.Runs.{Run, ReadsNodes, IsRun}
 use Rattle.mz_symbol.specs.Readings.{Reading, Reads, line_in}
 use Rattle.mz_symbol_lines.specs.LineValues.{count_of}
 use Rattle.mz_symbol_branches.specs.ChosenValues.{chosen_line}
-use Rattle.mz_symbol_branches.specs.StepsChoose.{AreLifted, ArePicked}
+use Rattle.mz_symbol_branches.specs.Standing.{StandFor}
+use Rattle.mz_symbol_branches.specs.StepsChoose.{AreChosen}
 use Rattle.mz_symbol_branches.specs.StepsLines.{HasItems}
-use Rattle.mz_symbol_branches.proofs.LiftLaws.{lifted_elements, lifted_whole}
-use Rattle.mz_symbol_branches.proofs.ItemLaws.{AreAllLike, all_first, all_second, same_values, same_items}
+use Rattle.mz_symbol_branches.proofs.ItemLaws.{all_first, all_second, same_values, same_items}
 
 -- terms that obey a run's nodes are a reading's
 abbrev pub reading_of : (ℕ → Term) → Run → Reading
@@ -33,30 +33,49 @@ if_true x y z false h = ap (λ b. is_true (if b then y else z)) h
 abbrev value_where : Bool → Option (List Content) → Option (List Content)
 value_where b o = option_and_then (λ xs. if b then Some xs else None) o
 
-like_value : (t : ℕ → Term) (d e : ℕ) (ss ps : List Symbol) → is_true (t d) ≡ is_true (t e) → AreAllLike t ss ps → elements_value t d ss ≡ elements_value t e ps
-like_value t d e ss ps h w = ap (λ b. value_where b (all_there (map (symbol_value t) ss))) h ∙ ap (λ vs. value_where (is_true (t e)) (all_there vs)) (same_values t ss ps w)
+where_false : (o : Option (List Content)) → value_where false o ≡ None
+where_false None = refl
+where_false (Some xs) = refl
 
-picked_line : (t : ℕ → Term) (c d e id : ℕ) (ps qs ss : List Symbol) (b : Bool) → is_true (t c) ≡ b → if_term (t c) (t d) (t e) ≡ t id → ArePicked t c ps qs ss → (if b then elements_value t d ps else elements_value t e qs) ≡ elements_value t id ss
-picked_line t c d e id ps qs ss true h i w = sym (like_value t id d ss ps (ap is_true (sym i) ∙ if_true (t c) (t d) (t e) true h) (all_first t c ps qs ss h w))
-picked_line t c d e id ps qs ss false h i w = sym (like_value t id e ss qs (ap is_true (sym i) ∙ if_true (t c) (t d) (t e) false h) (all_second t c ps qs ss h w))
+-- elements that stand for others, of an array that is defined where the other one is
+pub stands_value : (t : ℕ → Term) (d e : ℕ) (ps ss : List Symbol) → is_true (t d) ≡ is_true (t e) → StandFor t ps ss → AreWhole t d ps → elements_value t d ps ≡ elements_value t e ss
+stands_value t d e ps ss h w k = by (is_true (t d)) refl ∙ ap (λ b. value_where b (all_there (map (symbol_value t) ss))) h
+  where
+    by : (b : Bool) → is_true (t d) ≡ b → value_where (is_true (t d)) (all_there (map (symbol_value t) ps)) ≡ value_where (is_true (t d)) (all_there (map (symbol_value t) ss))
+    by true i = ap (λ vs. value_where (is_true (t d)) (all_there vs)) (same_values t ps ss w (k i))
+    by false i =
+        ap (λ b. value_where b (all_there (map (symbol_value t) ps))) i
+        ∙ where_false (all_there (map (symbol_value t) ps))
+        ∙ sym (where_false (all_there (map (symbol_value t) ss)))
+        ∙ sym (ap (λ b. value_where b (all_there (map (symbol_value t) ss))) i)
+
+defined_first : (t : ℕ → Term) (c d e id : ℕ) → is_true (t c) ≡ true → if_term (t c) (t d) (t e) ≡ t id → is_true (t d) ≡ is_true (t id)
+defined_first t c d e id h i = sym (if_true (t c) (t d) (t e) true h) ∙ ap is_true i
+
+defined_second : (t : ℕ → Term) (c d e id : ℕ) → is_true (t c) ≡ false → if_term (t c) (t d) (t e) ≡ t id → is_true (t e) ≡ is_true (t id)
+defined_second t c d e id h i = sym (if_true (t c) (t d) (t e) false h) ∙ ap is_true i
+
+chosen_value : (t : ℕ → Term) (c d e id : ℕ) (ps qs ss : List Symbol) (b : Bool) → is_true (t c) ≡ b → if_term (t c) (t d) (t e) ≡ t id → AreWhole t d ps → AreWhole t e qs → AreChosen t c ps qs ss → (if b then elements_value t d ps else elements_value t e qs) ≡ elements_value t id ss
+chosen_value t c d e id ps qs ss true h i u v w = stands_value t d id ps ss (defined_first t c d e id h i) (all_first t c ps qs ss h w) u
+chosen_value t c d e id ps qs ss false h i u v w = stands_value t e id qs ss (defined_second t c d e id h i) (all_second t c ps qs ss h w) v
 
 line_is : (r : Reading) (s : Run) (k d : ℕ) (ps : List Symbol) → HasItems s k d ps → Reads r s → r.line k ≡ elements_value r.term d ps
 line_is r s k d ps h q = q.lines k h.line h.stands ∙ ap (λ i. elements_value r.term i h.line.items.items) h.defined ∙ ap (elements_value r.term d) h.items
 
-pub chosen_is : (r : Reading) (s : Run) (c p q d e id : ℕ) (ps qs xs ys ss : List Symbol) → HasItems s p d ps → HasItems s q e qs → Reads r s → AreLifted r.term ps xs → AreLifted r.term qs ys → if_term (r.term c) (r.term d) (r.term e) ≡ r.term id → ArePicked r.term c xs ys ss → chosen_line r c p q ≡ elements_value r.term id ss
-chosen_is r s c p q d e id ps qs xs ys ss h k z a b i w =
-    ap (λ v. if is_true (r.term c) then v else r.line q) (line_is r s p d ps h z ∙ lifted_elements r.term d ps xs a (h.whole r.term z.nodes))
-    ∙ ap (λ v. if is_true (r.term c) then elements_value r.term d xs else v) (line_is r s q e qs k z ∙ lifted_elements r.term e qs ys b (k.whole r.term z.nodes))
-    ∙ picked_line r.term c d e id xs ys ss (is_true (r.term c)) refl i w
+pub chosen_is : (r : Reading) (s : Run) (c p q d e id : ℕ) (ps qs ss : List Symbol) → HasItems s p d ps → HasItems s q e qs → Reads r s → if_term (r.term c) (r.term d) (r.term e) ≡ r.term id → AreChosen r.term c ps qs ss → chosen_line r c p q ≡ elements_value r.term id ss
+chosen_is r s c p q d e id ps qs ss h k z i w =
+    ap (λ v. if is_true (r.term c) then v else r.line q) (line_is r s p d ps h z)
+    ∙ ap (λ v. if is_true (r.term c) then elements_value r.term d ps else v) (line_is r s q e qs k z)
+    ∙ chosen_value r.term c d e id ps qs ss (is_true (r.term c)) refl i (h.whole r.term z.nodes) (k.whole r.term z.nodes) w
 
 -- ---- its elements have values
 
-picked_whole : (t : ℕ → Term) (c d e id : ℕ) (ps qs ss : List Symbol) (b : Bool) → is_true (t c) ≡ b → if_term (t c) (t d) (t e) ≡ t id → AreWhole t d ps → AreWhole t e qs → ArePicked t c ps qs ss → AreWhole t id ss
-picked_whole t c d e id ps qs ss true h i u v w = λ x. same_items t ss ps (all_first t c ps qs ss h w) (u (sym (if_true (t c) (t d) (t e) true h) ∙ ap is_true i ∙ x))
-picked_whole t c d e id ps qs ss false h i u v w = λ x. same_items t ss qs (all_second t c ps qs ss h w) (v (sym (if_true (t c) (t d) (t e) false h) ∙ ap is_true i ∙ x))
+whole_by : (t : ℕ → Term) (c d e id : ℕ) (ps qs ss : List Symbol) (b : Bool) → is_true (t c) ≡ b → if_term (t c) (t d) (t e) ≡ t id → AreWhole t d ps → AreWhole t e qs → AreChosen t c ps qs ss → AreWhole t id ss
+whole_by t c d e id ps qs ss true h i u v w = λ x. same_items t ps ss (all_first t c ps qs ss h w) (u (defined_first t c d e id h i ∙ x))
+whole_by t c d e id ps qs ss false h i u v w = λ x. same_items t qs ss (all_second t c ps qs ss h w) (v (defined_second t c d e id h i ∙ x))
 
-pub chosen_whole : (t : ℕ → Term) (s : Run) (c p q d e id : ℕ) (ps qs xs ys ss : List Symbol) → HasItems s p d ps → HasItems s q e qs → ReadsNodes t s.arena → AreLifted t ps xs → AreLifted t qs ys → if_term (t c) (t d) (t e) ≡ t id → ArePicked t c xs ys ss → AreWhole t id ss
-chosen_whole t s c p q d e id ps qs xs ys ss h k z a b i w = picked_whole t c d e id xs ys ss (is_true (t c)) refl i (lifted_whole t d ps xs a (h.whole t z)) (lifted_whole t e qs ys b (k.whole t z)) w
+pub chosen_whole : (t : ℕ → Term) (s : Run) (c p q d e id : ℕ) (ps qs ss : List Symbol) → HasItems s p d ps → HasItems s q e qs → ReadsNodes t s.arena → if_term (t c) (t d) (t e) ≡ t id → AreChosen t c ps qs ss → AreWhole t id ss
+chosen_whole t s c p q d e id ps qs ss h k z i w = whole_by t c d e id ps qs ss (is_true (t c)) refl i (h.whole t z) (k.whole t z) w
 
 -- ---- an array's elements
 

@@ -1,3 +1,4 @@
 pub mod ChosenValues
+pub mod Standing
 pub mod StepsChoose
 pub mod StepsLines

@@ -6,5 +6,6 @@ mod lifting;
 mod lines;
 mod single;
 
-pub use lines::choose_lines;
+pub use lifting::alike_items;
+pub use lines::{Elements, choose_elements};
 pub use single::{choose, if_node};

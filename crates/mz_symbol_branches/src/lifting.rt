@@ -1,14 +1,15 @@
-// Truth values as options, where the other array has options.
+// Truth values as options, where others are options.
 
-ghost use Rattle.std.specs.Prelude.{◌≡◌, ◌*◌, IfOk, None, length, slice_get, true};
+ghost use Rattle.std.specs.Prelude.{◌≡◌, ◌*◌, IfOk, None, length, true};
 ghost use Rattle.mz_core.specs.declared.types.Base.TheVariants as base;
 ghost use Rattle.mz_arena.specs.Values.{to_int_term};
 ghost use Rattle.mz_meaning.specs.Runs.{give};
 ghost use Rattle.mz_symbol.specs.Readings.{Reading, Reads};
 ghost use Rattle.mz_symbol.specs.Makes.{GoesOnBy, Means};
-ghost use Rattle.mz_symbol_branches.specs.StepsChoose.{ChoosesAll, Lifts, LiftsAll, LiftsAt, PushesLifted};
+ghost use Rattle.mz_symbol_branches.specs.Standing.{ReplacesAll};
+ghost use Rattle.mz_symbol_branches.specs.StepsChoose.{PushesLifted, Replaces, ReplacesAt};
 
-use crate::items::{item, picked_items};
+use crate::items::item;
 use mz_arena::{Id, Node, NodeKind};
 use mz_base::{Memory, Stop};
 use mz_core::Base;
@@ -39,22 +40,26 @@ fn is_bool(b: Base) -> bool
     }
 }
 
-/// Whether a truth value that is no option stands beside an option.
-fn stands_beside(p: Symbol, q: Symbol) -> bool
+fn is_truth(p: Symbol) -> bool
     ensures { result ≡ true → (p.base ≡ base.Bool) × (p.occurs ≡ None) }
 {
-    is_bool(p.base) && (p.occurs.is_none() && q.occurs.is_some())
+    is_bool(p.base) && p.occurs.is_none()
 }
 
-/// The first of two elements, as an option where it is a truth value and the other one is an option.
-#[tactic(auto, using(mz_symbol_rows::proofs::GoingOn::goes_both, mz_symbol_rows::proofs::GoingOn::goes_most, mz_symbol_lines::proofs::WalkLaws::goes_none, crate::proofs::LiftLaws::lifts_itself))]
-fn lifted(run: &mut Run, p: Symbol, q: Symbol) -> Result<Symbol, Memory>
-    ensures goes { GoesOnBy 4 run.old run.new }
-    ensures lifts { IfOk result (λ x. (r : Reading) → Reads r run.new → Lifts r run.old run.new p x) }
+/// Whether a truth value that is no option stands beside an option.
+pub(crate) fn stands_beside(p: Symbol, q: Symbol) -> bool
+    ensures { result ≡ true → (p.base ≡ base.Bool) × (p.occurs ≡ None) }
 {
-    if !stands_beside(p, q) {
-        return Ok(p);
-    }
+    is_truth(p) && q.occurs.is_some()
+}
+
+/// A truth value that is no option, as an option that is there.
+#[tactic(auto, using(mz_symbol_rows::proofs::GoingOn::goes_both))]
+pub(crate) fn as_option(run: &mut Run, p: Symbol) -> Result<Symbol, Memory>
+    requires { (p.base ≡ base.Bool) × (p.occurs ≡ None) }
+    ensures goes { GoesOnBy 4 run.old run.new }
+    ensures replaces { IfOk result (λ x. (r : Reading) → Reads r run.new → Replaces r run.old run.new p x) }
+{
     let Ok(term) = whole_node(run, p.term) else {
         return Err(Memory);
     };
@@ -68,77 +73,81 @@ fn lifted(run: &mut Run, p: Symbol, q: Symbol) -> Result<Symbol, Memory>
     })
 }
 
-/// The same of those at a place of both.
-fn lifted_at(run: &mut Run, ps: &[Symbol], qs: &[Symbol], i: u64) -> Result<Symbol, Memory>
+/// The same of an element, where it is a truth value that is no option.
+#[tactic(auto, using(mz_symbol_rows::proofs::GoingOn::goes_most, mz_symbol_lines::proofs::WalkLaws::goes_none, crate::proofs::StandingLaws::replaces_itself))]
+fn lifted(run: &mut Run, p: Symbol) -> Result<Symbol, Memory>
     ensures goes { GoesOnBy 4 run.old run.new }
-    ensures lifts { IfOk result (λ x. (r : Reading) → Reads r run.new → LiftsAt r run.old run.new ps.now i x) }
+    ensures replaces { IfOk result (λ x. (r : Reading) → Reads r run.new → Replaces r run.old run.new p x) }
 {
-    let Some(p) = item(ps, i) else {
+    if is_truth(p) {
+        return as_option(run, p);
+    }
+    Ok(p)
+}
+
+/// The same of that at a place.
+fn lifted_at(run: &mut Run, items: &[Symbol], i: u64) -> Result<Symbol, Memory>
+    ensures goes { GoesOnBy 4 run.old run.new }
+    ensures replaces { IfOk result (λ x. (r : Reading) → Reads r run.new → ReplacesAt r run.old run.new items.now i x) }
+{
+    let Some(p) = item(items, i) else {
         return Err(Memory);
     };
-    let Some(q) = item(qs, i) else {
-        return Err(Memory);
-    };
-    let one = lifted(run, p, q)?;
+    let one = lifted(run, p)?;
     Ok(one)
 }
 
 /// One element more.
 fn push_lifted(
     run: &mut Run,
-    ps: &[Symbol],
-    qs: &[Symbol],
+    items: &[Symbol],
     i: u64,
     mut all: Vec<Symbol>,
 ) -> Result<Vec<Symbol>, Memory>
     ensures goes { GoesOnBy 4 run.old run.new }
-    ensures pushes { IfOk result (λ zs. PushesLifted run.old run.new ps.now i all.items zs.items) }
+    ensures pushes { IfOk result (λ zs. PushesLifted run.old run.new items.now i all.items zs.items) }
 {
-    let one = lifted_at(run, ps, qs, i)?;
+    let one = lifted_at(run, items, i)?;
     all.push(one)?;
     Ok(all)
 }
 
-/// The elements of the first of two arrays with this many, each an option where it is a truth value
-/// and that of the second one is an option.
-pub(crate) fn lifted_items(
+/// These elements, of which there are so many, each an option where it is a truth value.
+fn lifted_items(
     alloc: Global,
     run: &mut Run,
-    ps: &[Symbol],
-    qs: &[Symbol],
+    items: &[Symbol],
     count: u64,
 ) -> Result<Vec<Symbol>, Memory>
-    requires { length ps.now ≡ count }
+    requires { length items.now ≡ count }
     ensures goes { GoesOnBy (4 * count) run.old run.new }
     ensures count { IfOk result (λ xs. length xs.items ≡ count) }
-    ensures lifts { IfOk result (λ xs. (r : Reading) → Reads r run.new → LiftsAll r run.old run.new ps.now xs.items) }
+    ensures replaces { IfOk result (λ xs. (r : Reading) → Reads r run.new → ReplacesAll r run.old run.new items.now xs.items) }
 {
     let mut all = Vec::new(alloc);
     for i in 0..count {
-        all = push_lifted(run, ps, qs, i, all)?;
+        all = push_lifted(run, items, i, all)?;
     }
     Ok(all)
 }
 
-/// The elements of two arrays with this many, each chosen by a condition; a truth value beside an
-/// option counts as one.
-#[tactic(auto, using(mz_symbol_rows::proofs::GoingOn::goes_both, mz_symbol_rows::proofs::GoingOn::goes_most, crate::proofs::LiftLaws::goes_first, crate::proofs::LiftLaws::goes_second, crate::proofs::LiftLaws::goes_third))]
-pub(crate) fn chosen_items(
-    alloc: Global,
-    run: &mut Run,
-    c: Id,
-    ps: &[Symbol],
-    qs: &[Symbol],
-    count: u64,
-) -> Result<Vec<Symbol>, Memory>
-    requires first { length ps.now ≡ count }
-    requires second { length qs.now ≡ count }
-    ensures goes { GoesOnBy (40 * count) run.old run.new }
-    ensures count { IfOk result (λ ss. length ss.items ≡ count) }
-    ensures chooses { IfOk result (λ ss. (r : Reading) → Reads r run.new → ChoosesAll r run.old run.new c ps.now qs.now ss.items) }
+// Whether one is an option.
+fn have_option(items: &[Symbol]) -> bool {
+    items.iter().any(|s| s.occurs.is_some())
+}
+
+/// These elements, which may be of two arrays: where one is an option, the truth values that are none
+/// become options that are there.
+#[tactic(auto, using(mz_symbol_rows::proofs::GoingOn::goes_most, mz_symbol_lines::proofs::WalkLaws::goes_none))]
+pub fn alike_items(alloc: Global, run: &mut Run, items: Vec<Symbol>) -> Result<Vec<Symbol>, Memory>
+    ensures goes { GoesOnBy (4 * length items.items) run.old run.new }
+    ensures count { IfOk result (λ xs. length xs.items ≡ length items.items) }
+    ensures replaces { IfOk result (λ xs. (r : Reading) → Reads r run.new → ReplacesAll r run.old run.new items.items xs.items) }
 {
-    let xs = lifted_items(alloc, run, ps, qs, count)?;
-    let ys = lifted_items(alloc, run, qs, ps, count)?;
-    let all = picked_items(alloc, run, c, &xs, &ys, count)?;
+    if !have_option(&items) {
+        return Ok(items);
+    }
+    let count = items.len() as u64;
+    let all = lifted_items(alloc, run, &items, count)?;
     Ok(all)
 }

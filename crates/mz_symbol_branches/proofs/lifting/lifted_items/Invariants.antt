@@ -2,4 +2,4 @@ use Rattle.mz_symbol_branches.specs.StepsChoose.{HasLifted}
 use Rattle.mz_symbol_branches.proofs.lifting.lifted_items.Given as goal
 
 abbrev pub invariant-loop-i : goal.invariant-loop-i
-invariant-loop-i l = HasLifted l.fn.run l.run l.ps l.i l.all.items
+invariant-loop-i l = HasLifted l.fn.run l.run l.items l.i l.all.items
