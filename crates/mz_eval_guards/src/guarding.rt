@@ -153,6 +153,7 @@ fn plain_kept(
     alloc: Global,
     run: &mut Run,
     base: Base,
+    opt: bool,
     bound: Bound,
     d: Id,
     v: &Rc<VarValue>,
@@ -162,7 +163,7 @@ fn plain_kept(
         Var (bounds.one (known_bound bound)) (held r.mode (only_if (is_true (r.term d)) (held r.mode (var_content r.term v.now.value)))))) }
 {
     let k = same_cell(v)?;
-    let Ok(s) = symbol_in(alloc, run, base, false, &k) else {
+    let Ok(s) = symbol_in(alloc, run, base, opt, &k) else {
         return Err(Memory);
     };
     let x = symbol_kept(alloc, run, bound, d, s)?;
@@ -205,6 +206,7 @@ fn whole_kept(
     alloc: Global,
     run: &mut Run,
     base: Base,
+    opt: bool,
     bound: Bound,
     d: Id,
     v: &Rc<VarValue>,
@@ -216,7 +218,7 @@ fn whole_kept(
     if is_untold(v) {
         untold_kept(alloc, run, bound, d, v)
     } else {
-        plain_kept(alloc, run, base, bound, d, v)
+        plain_kept(alloc, run, base, opt, bound, d, v)
     }
 }
 
@@ -226,6 +228,7 @@ fn var_kept(
     alloc: Global,
     run: &mut Run,
     base: Base,
+    opt: bool,
     d: Id,
     v: &Rc<VarValue>,
 ) -> Result<Known, Memory>
@@ -236,7 +239,7 @@ fn var_kept(
     let bound = share_bound(&v.bound)?;
     match truth_nodes(v) {
         Some(p) => partial_kept(alloc, run, bound, d, p.0, p.1),
-        None => whole_kept(alloc, run, base, bound, d, v),
+        None => whole_kept(alloc, run, base, opt, bound, d, v),
     }
 }
 
@@ -368,7 +371,14 @@ fn row_kept(
 
 /// A var cell, which has its value where a truth value is true.
 #[tactic(auto, using(crate::proofs::GuardingLaws::kept_open, crate::proofs::GuardingLaws::kept_unshaped, mz_symbol_rows::proofs::GoingOn::goes_most))]
-fn opened(alloc: Global, run: &mut Run, base: Base, d: Id, k: &Known) -> Result<Known, Memory>
+fn opened(
+    alloc: Global,
+    run: &mut Run,
+    base: Base,
+    opt: bool,
+    d: Id,
+    k: &Known,
+) -> Result<Known, Memory>
     ensures goes { GoesOnBy (28 + 36 * count_in k.now) run.old run.new }
     ensures cell { IfOk result (IsCell run.old run.new (λ r. kept_if r.mode (held_truth r.mode (is_true (r.term d))) (seen r k.now))) }
 {
@@ -376,9 +386,17 @@ fn opened(alloc: Global, run: &mut Run, base: Base, d: Id, k: &Known) -> Result<
         Known::Undefined => Err(Memory),
         Known::One(_) => Err(Memory),
         Known::Array(_, _) => Err(Memory),
-        Known::Var(v) => var_kept(alloc, run, base, d, v),
+        Known::Var(v) => var_kept(alloc, run, base, opt, d, v),
         Known::Row(index, xs) => row_kept(alloc, run, base, d, index, xs),
         Known::Unshaped(n) => Ok(Known::Unshaped(*n)),
+    }
+}
+
+// Whether values of this type are options of truth values: one that is none yet becomes one under a guard.
+fn is_truth_option(t: &TypeInst) -> bool {
+    match t.base {
+        Base::Bool => t.opt,
+        _ => false,
     }
 }
 
@@ -394,7 +412,7 @@ fn open_guarded(
     ensures cell { IfOk result (IsCell run.old run.new (λ r. kept_if r.mode (held_truth r.mode (is_true (r.term d))) (cells.to_var r.mode (plain_type t.now) (seen r k.now)))) }
 {
     let x = to_var(alloc, t, k)?;
-    let y = opened(alloc, run, t.base, d, &x)?;
+    let y = opened(alloc, run, t.base, is_truth_option(t), d, &x)?;
     Ok(y)
 }
 

@@ -116,15 +116,15 @@ count_size : (o : Option ℕ) (n : ℕ) → or_zero o ≤ unwrap_or o n
 count_size None n = omega arith
 count_size (Some k) n = omega arith
 
-both_paid : (c d n m : ℕ) → c ≤ n → d ≤ m → c < 2 ^ 60 → d < 2 ^ 60 → 36 * c + 36 * d + 6 ≤ 64 * (1 + min (2 ^ 62) (1 + (0 + n + m)))
+both_paid : (c d n m : ℕ) → c ≤ n → d ≤ m → c < 2 ^ 60 → d < 2 ^ 60 → 40 * c + 40 * d + 6 ≤ 64 * (1 + min (2 ^ 62) (1 + (0 + n + m)))
 both_paid c d n m h k p q = omega (arith, h, k, p, q)
 
 -- what a row spends pays for the elements of both arrays
-pub concat_pays : (a b : Known) → count_in a < 2 ^ 60 → count_in b < 2 ^ 60 → 36 * count_in a + 36 * count_in b + 6 ≤ 64 * (1 + row_cost (Made made.Concat) (cell_of a ∷ cell_of b ∷ []))
+pub concat_pays : (a b : Known) → count_in a < 2 ^ 60 → count_in b < 2 ^ 60 → 40 * count_in a + 40 * count_in b + 6 ≤ 64 * (1 + row_cost (Made made.Concat) (cell_of a ∷ cell_of b ∷ []))
 unfolding cost counts_from made_counts
 concat_pays a b p q = both_paid (count_in a) (count_in b) (size_of (cell_of a)) (size_of (cell_of b)) (count_size (length_of (cell_of a)) (own_size (cell_of a))) (count_size (length_of (cell_of b)) (own_size (cell_of b))) p q
 
-pub line_paid : (c d x y : ℕ) → x ≡ c → y ≡ d → 20 * c + 20 * d + (16 * x + 16 * y + 6) ≤ 36 * c + 36 * d + 6
+pub line_paid : (c d x y : ℕ) → x ≡ c → y ≡ d → 20 * c + 20 * d + (20 * x + 20 * y + 6) ≤ 40 * c + 40 * d + 6
 line_paid c d x y e f = omega (arith, e, f)
 
 -- nothing is made

@@ -93,7 +93,7 @@ fn sized(run: &Run, line: u64, k: &Known) -> Result<(), Memory>
 fn joined_line(alloc: Global, a: &Argument, b: &Argument, run: &mut Run) -> Result<u64, Stop>
     requires first { length (ranges_in a.now.cell) ≡ 1 }
     requires second { length (ranges_in b.now.cell) ≡ 1 }
-    ensures goes { GoesOnBy (36 * count_in a.now.cell + 36 * count_in b.now.cell + 6) run.old run.new }
+    ensures goes { GoesOnBy (40 * count_in a.now.cell + 40 * count_in b.now.cell + 6) run.old run.new }
     ensures means { (names : Names) (t : PlainType) → Means (line_as t) result run.old run.new
         (λ r. give (var_value r.mode names (Made made.Concat) t (seen r a.now.cell ∷ seen r b.now.cell ∷ []))) }
 {
@@ -188,7 +188,7 @@ fn joined_items(
 ) -> Result<Known, Stop>
     requires first { length (ranges_in a.now.cell) ≡ 1 }
     requires second { length (ranges_in b.now.cell) ≡ 1 }
-    ensures goes { GoesOnBy (36 * count_in a.now.cell + 36 * count_in b.now.cell + 6) run.old run.new }
+    ensures goes { GoesOnBy (40 * count_in a.now.cell + 40 * count_in b.now.cell + 6) run.old run.new }
     ensures means { (names : Names) (t : PlainType) → Means (stamped t) result run.old run.new
         (λ r. give (typed r.mode false t (Var (bounds.many ix.now.value.items (map known_bound all.now.value.items))
         (var_value r.mode names (Made made.Concat) t (seen r a.now.cell ∷ seen r b.now.cell ∷ []))))) }

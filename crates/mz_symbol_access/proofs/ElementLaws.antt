@@ -34,8 +34,10 @@ use Rattle.mz_symbol_lines.proofs.WalkLaws.{line_defined, line_fails}
 use Rattle.mz_symbol_access.specs.AccessValues.{access_value, at_node}
 use Rattle.mz_symbol_access.specs.StepsPlace.{whole, AreIndices, places_of, placed}
 use Rattle.mz_symbol_access.specs.StepsAlone.{is_among, IsBeyond, IsReached}
-use Rattle.mz_symbol_access.specs.StepsElement.{is_number, plain_term, there_term, occurs_at, option_place, option_term, IsFound, IsItemAt, IsOptionAt, IsPlainAt}
+use Rattle.mz_symbol_access.specs.StepsTruth.{truth_term}
+use Rattle.mz_symbol_access.specs.StepsElement.{is_number, plain_term, there_term, occurs_at, value_term, option_place, option_term, IsFound, IsItemAt, IsOptionAt, IsPlainAt}
 use Rattle.mz_symbol_access.proofs.PlaceLaws.{all_numbers, placed_is, indices_are}
+use Rattle.mz_symbol_access.proofs.TruthLaws.{HasTruths, guarded_true, guarded_false, truth_read, truth_nowhere}
 
 -- ---- the term at a place of a list
 
@@ -389,14 +391,6 @@ plain_values t b ss (Some p) h w = by (slice_get ss p) refl
 
 -- ---- what is no option
 
-guarded_true : (d x : Term) → is_true d ≡ true → guard_term d x ≡ x
-unfolding guard_term
-guarded_true d x h = ap (λ p. if p then x else None) h
-
-guarded_false : (d x : Term) → is_true d ≡ false → guard_term d x ≡ None
-unfolding guard_term
-guarded_false d x h = ap (λ p. if p then x else None) h
-
 true_is : (d x : Term) → and_term d x ≡ bit (is_true d && is_true x)
 unfolding and_term
 true_is d x = refl
@@ -502,27 +496,92 @@ plain_read r b ls d n place xs ix os f c o e =
     ∙ plain_defined b (r.term d) (value_term_at r.term f.items (placed ix os)) f.holds
     ∙ ap (at_node b false) (plain_values r.term b f.items (placed ix os) f.bases (subst (IsOccursList r.term f.items) o f.lists.occurs) ∙ sym (wanted r b ls d n xs (placed ix os) f))
 
--- an option by its place, or by none
-abbrev option_by : Reading → Base → Lists → Term → Option Content
-option_by r b ls at = option_value b (occurs_at r (access_term at (r.term ls.terms)) at ls.occurs) (access_term at (r.term ls.terms))
+-- a place of an array of truth values
+element_there : (ss : List Symbol) (p : ℕ) → suc p ≤ length ss → IsSome (slice_get ss p)
+element_there [] p h = absurd (omega (arith, h))
+element_there (s ∷ ss) zero h = refl
+element_there (s ∷ ss) (suc p) h = element_there ss p (omega (arith, h))
 
-option_read : (r : Reading) (b : Base) (ls : Lists) (d n place : ℕ) (xs : List Content) (ix : List Range) (os : List (Option ℤ)) → IsRead r b ls d n xs → is_number b ≡ true → count_of ix ≡ n → IsReached ix os (r.term place) → option_by r b ls (option_place r d place) ≡ at_some (λ k. slice_get xs k) (placed ix os)
+truth_there : (t : ℕ → Term) (ss : List Symbol) (p : ℕ) → HaveBase base.Bool ss → AreItems t ss → IsSome (slice_get ss p) → IsSome (value_by base.Bool (term_in (value_terms t ss) p))
+truth_there t ss p h w k = subst (λ x. IsSome (value_by base.Bool x)) (sym (term_at (λ s. t s.term) ss p)) (by (slice_get ss p) refl k)
+  where
+    by : (q : Option Symbol) → slice_get ss p ≡ q → IsSome q → IsSome (value_by base.Bool (of_element (λ s. t s.term) q))
+    by None e i = absurd (cc)
+    by (Some y) e i = subst (λ c. IsSome (value_by c (t y.term))) (base_at base.Bool ss p y h e) (item_at t ss p y w e).value
+
+is_before : (n p : ℕ) → is_among n (pos (suc p)) ≡ true → suc p ≤ n
+is_before n p h = by (int_le (pos 1) (pos (suc p))) refl h
+  where
+    by : (t : Bool) → int_le (pos 1) (pos (suc p)) ≡ t → (t && int_le (pos (suc p)) (pos n)) ≡ true → suc p ≤ n
+    by true e q = omega (arith, ints, q)
+    by false e q = absurd (cc)
+
+number_term : (x : Term) (m : ℤ) → as_number x ≡ Some m → x ≡ whole m
+number_term (Some (number n)) m e = let same : n ≡ m = cc in ap whole same
+number_term None m e = absurd (cc)
+number_term (Some (set s)) m e = absurd (cc)
+number_term (Some (numbers ns)) m e = absurd (cc)
+number_term (Some (sets ss)) m e = absurd (cc)
+number_term (Some empty) m e = absurd (cc)
+
+has_truths : (t : ℕ → Term) (ss : List Symbol) (x : Term) → HaveBase base.Bool ss → AreItems t ss → HasTruths (length ss) x (terms_list (value_terms t ss))
+has_truths t ss x h w = record {
+  there = λ m e k. subst (λ z. IsSome (value_by base.Bool (access_term z list))) (sym (number_term x m e)) (at m k);
+  beyond = λ m e k. beyond_read (value_terms t ss) x places (subst (IsBeyond (length (value_terms t ss))) (sym e) (subst (λ n. is_among n m ≡ false) (sym count) k));
+  nowhere = λ e. beyond_read (value_terms t ss) x places (subst (IsBeyond (length (value_terms t ss))) (sym e) tt);
+}
+  where
+    list : Term
+    list = terms_list (value_terms t ss)
+
+    places : HasPlaces (value_terms t ss)
+    places = values_places t base.Bool ss h w
+
+    count : length (value_terms t ss) ≡ length ss
+    count = length-map ss (λ s. t s.term)
+
+    at : (m : ℤ) → is_among (length ss) m ≡ true → IsSome (value_by base.Bool (access_term (whole m) list))
+    at (pos zero) k = absurd (cc)
+    at (negsuc i) k = absurd (cc)
+    at (pos (suc p)) k = subst (λ z. IsSome (value_by base.Bool z)) (sym (places p)) (truth_there t ss p h w (element_there ss p (is_before (length ss) p k)))
+
+value_read : (r : Reading) (b : Base) (ls : Lists) (d n m : ℕ) (xs : List Content) (x : Term) → IsRead r b ls d n xs → m ≡ n → value_by b (value_term b m None x (r.term ls.terms)) ≡ value_by b (access_term x (r.term ls.terms))
+value_read r base.Bool ls d n m xs x f e =
+    let list = f.lists.terms ∙ list_is r.term f.items in
+    ap (λ y. value_by base.Bool (truth_term m x y)) list
+    ∙ truth_read m x (terms_list (value_terms r.term f.items)) (subst (λ k. HasTruths k x (terms_list (value_terms r.term f.items))) (f.count ∙ sym e) (has_truths r.term f.items x f.bases f.are))
+    ∙ ap (λ y. value_by base.Bool (access_term x y)) (sym list)
+value_read r b ls d n m xs x f e = refl
+
+value_nowhere : (b : Base) (m : ℕ) (q : Option ℕ) (list : Term) → value_term b m q None list ≡ None
+value_nowhere b m (Some l) list = access_none list
+value_nowhere base.Bool m None list = truth_nowhere m list
+value_nowhere b m None list = access_none list
+
+-- an option by its place, or by none
+abbrev option_by : Reading → Base → ℕ → Lists → Term → Option Content
+option_by r b m ls at = option_value b (occurs_at r (value_term b m ls.occurs at (r.term ls.terms)) at ls.occurs) (value_term b m ls.occurs at (r.term ls.terms))
+
+option_read : (r : Reading) (b : Base) (ls : Lists) (d n place : ℕ) (xs : List Content) (ix : List Range) (os : List (Option ℤ)) → IsRead r b ls d n xs → is_number b ≡ true → count_of ix ≡ n → IsReached ix os (r.term place) → option_by r b (count_of ix) ls (option_place r d place) ≡ at_some (λ k. slice_get xs k) (placed ix os)
 option_read r b ls d n place xs ix os f m c e =
-    ap (option_by r b ls) (guarded_true (r.term d) (r.term place) f.holds)
-    ∙ ap (λ v. option_value b (occurs_at r v (r.term place) ls.occurs) v) (value_access r b ls d n xs ix os (r.term place) f c e)
+    ap (option_by r b (count_of ix) ls) (guarded_true (r.term d) (r.term place) f.holds)
     ∙ by ls.occurs f.lists.occurs
     ∙ sym (wanted r b ls d n xs (placed ix os) f)
   where
-    by : (q : Option ℕ) → IsOccursList r.term f.items q → option_value b (occurs_at r (value_term_at r.term f.items (placed ix os)) (r.term place) q) (value_term_at r.term f.items (placed ix os)) ≡ values_at r.term f.items (placed ix os)
-    by None p = plain_values r.term b f.items (placed ix os) f.bases p
+    access_is : access_term (r.term place) (r.term ls.terms) ≡ value_term_at r.term f.items (placed ix os)
+    access_is = value_access r b ls d n xs ix os (r.term place) f c e
+
+    by : (q : Option ℕ) → IsOccursList r.term f.items q → option_value b (occurs_at r (value_term b (count_of ix) q (r.term place) (r.term ls.terms)) (r.term place) q) (value_term b (count_of ix) q (r.term place) (r.term ls.terms)) ≡ values_at r.term f.items (placed ix os)
+    by None p = value_read r b ls d n (count_of ix) xs (r.term place) f c ∙ ap (value_by b) access_is ∙ plain_values r.term b f.items (placed ix os) f.bases p
     by (Some l) p =
-        ap (λ a. option_value b (there_term (value_term_at r.term f.items (placed ix os)) a) (value_term_at r.term f.items (placed ix os))) (occurs_access r b ls d n xs ix os (r.term place) l f c e p)
+        ap (λ v. option_value b (there_term v (access_term (r.term place) (r.term l))) v) access_is
+        ∙ ap (λ a. option_value b (there_term (value_term_at r.term f.items (placed ix os)) a) (value_term_at r.term f.items (placed ix os))) (occurs_access r b ls d n xs ix os (r.term place) l f c e p)
         ∙ option_values r.term b f.items (placed ix os) m f.bases f.are
 
-option_undefined : (r : Reading) (b : Base) (ls : Lists) (d place : ℕ) → is_true (r.term d) ≡ false → option_by r b ls (option_place r d place) ≡ None
-option_undefined r b ls d place h =
-    ap (option_by r b ls) (guarded_false (r.term d) (r.term place) h)
-    ∙ ap (λ v. option_value b (occurs_at r v None ls.occurs) v) (access_none (r.term ls.terms))
+option_undefined : (r : Reading) (b : Base) (m : ℕ) (ls : Lists) (d place : ℕ) → is_true (r.term d) ≡ false → option_by r b m ls (option_place r d place) ≡ None
+option_undefined r b m ls d place h =
+    ap (option_by r b m ls) (guarded_false (r.term d) (r.term place) h)
+    ∙ ap (λ v. option_value b (occurs_at r v None ls.occurs) v) (value_nowhere b m ls.occurs (r.term ls.terms))
     ∙ by ls.occurs
   where
     by : (q : Option ℕ) → option_value b (occurs_at r None None q) None ≡ None
@@ -563,37 +622,37 @@ node_option : (b : Base) (v : Option Content) → at_node b true v ≡ v
 node_option base.Bool v = refl
 node_option b v = refl
 
-option_held : (r : Reading) (s m new : Run) (b : Base) (ls : Lists) (ix : List Range) (is : List Symbol) (k d n place : ℕ) (y : Symbol) → IsPlaced r s b ls ix is k d n place → IsOptionAt r m new b d ls place y → held r.mode (at_node b true (access_value r ix k is)) ≡ symbol_seen r y
+option_held : (r : Reading) (s m new : Run) (b : Base) (ls : Lists) (ix : List Range) (is : List Symbol) (k d n place : ℕ) (y : Symbol) → IsPlaced r s b ls ix is k d n place → IsOptionAt r m new b (count_of ix) d ls place y → held r.mode (at_node b true (access_value r ix k is)) ≡ symbol_seen r y
 option_held r s m new b ls ix is k d n place y p w = held_by r.mode (at_node b true (access_value r ix k is)) (symbol_value r.term y) (λ g. node_option b (access_value r ix k is) ∙ by g (r.line k) refl)
   where
-    value : symbol_value r.term y ≡ option_by r b ls (option_place r d place)
+    value : symbol_value r.term y ≡ option_by r b (count_of ix) ls (option_place r d place)
     value =
         ap (λ c. value_at r.term c y.occurs y.term) w.base
         ∙ ap (λ q. value_at r.term b q y.term) w.occurs
         ∙ ap (λ x. option_value b x (r.term y.term)) (sym w.occurs_is)
-        ∙ ap (option_value b (occurs_at r (option_term r d place ls) (option_place r d place) ls.occurs)) (sym w.term_is)
+        ∙ ap (option_value b (occurs_at r (option_term r b (count_of ix) d place ls) (option_place r d place) ls.occurs)) (sym w.term_is)
 
     by : IsGiven r.mode → (o : Option (List Content)) → r.line k ≡ o → access_value r ix k is ≡ symbol_value r.term y
     by g None e =
         asked r ix k is None g e
-        ∙ sym (value ∙ option_undefined r b ls d place (line_fails r s k d n p.line p.reads e))
+        ∙ sym (value ∙ option_undefined r b (count_of ix) ls d place (line_fails r s k d n p.line p.reads e))
     by g (Some xs) e =
         asked r ix k is (Some xs) g e ∙ accessed_is r ix is xs g p.indices
         ∙ sym (value ∙ option_read r b ls d n place xs ix (places_of r is) (read_line r s b ls k d n xs p.lists p.line p.reads p.suits e) w.number p.count p.reached)
 
-item_held : (opt : Bool) (r : Reading) (s m new : Run) (b : Base) (ls : Lists) (ix : List Range) (is : List Symbol) (k d n place : ℕ) (y : Symbol) → IsPlaced r s b ls ix is k d n place → IsItemAt opt r m new b d ls place y → held r.mode (at_node b opt (access_value r ix k is)) ≡ symbol_seen r y
+item_held : (opt : Bool) (r : Reading) (s m new : Run) (b : Base) (ls : Lists) (ix : List Range) (is : List Symbol) (k d n place : ℕ) (y : Symbol) → IsPlaced r s b ls ix is k d n place → IsItemAt opt r m new b (count_of ix) d ls place y → held r.mode (at_node b opt (access_value r ix k is)) ≡ symbol_seen r y
 item_held true r s m new b ls ix is k d n place y p w = option_held r s m new b ls ix is k d n place y p w
 item_held false r s m new b ls ix is k d n place y p w = plain_held r s m new b ls ix is k d n place y p w
 
-item_same : (opt : Bool) (r : Reading) (old new : Run) (b : Base) (d : ℕ) (ls : Lists) (place : ℕ) (y : Symbol) → IsItemAt opt r old new b d ls place y → state_of r old ≡ state_of r new
-item_same true r old new b d ls place y w = w.same
-item_same false r old new b d ls place y w = w.same
+item_same : (opt : Bool) (r : Reading) (old new : Run) (b : Base) (n d : ℕ) (ls : Lists) (place : ℕ) (y : Symbol) → IsItemAt opt r old new b n d ls place y → state_of r old ≡ state_of r new
+item_same true r old new b n d ls place y w = w.same
+item_same false r old new b n d ls place y w = w.same
 
 pub found_held : (opt : Bool) (r : Reading) (s new : Run) (b : Base) (ls : Lists) (ix : List Range) (is : List Symbol) (k d n : ℕ) (y : Symbol) → HasLists s k ls → IsLineOf s k d n → Reads r s → ls.base ≡ b → count_of ix ≡ n → IsFound opt r s new ix is b d ls y → held r.mode (at_node b opt (access_value r ix k is)) ≡ symbol_seen r y
 found_held opt r s new b ls ix is k d n y h l q u c f = item_held opt r s f.mid new b ls ix is k d n f.place y (record { lists = h; line = l; reads = q; suits = u; count = c; indices = f.indices; reached = f.reached }) f.item
 
 pub found_same : (opt : Bool) (r : Reading) (old new : Run) (ix : List Range) (is : List Symbol) (b : Base) (d : ℕ) (ls : Lists) (y : Symbol) → IsFound opt r old new ix is b d ls y → state_of r old ≡ state_of r new
-found_same opt r old new ix is b d ls y f = f.same ∙ item_same opt r f.mid new b d ls f.place y f.item
+found_same opt r old new ix is b d ls y f = f.same ∙ item_same opt r f.mid new b (count_of ix) d ls f.place y f.item
 
 -- ---- an array without elements
 

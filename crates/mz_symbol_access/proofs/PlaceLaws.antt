@@ -18,7 +18,7 @@ use Rattle.mz_symbol.specs.Readings.{Reading, IsGiven, symbol_seen}
 use Rattle.mz_symbol.proofs.ConstantLaws.{out_value, out_state}
 use Rattle.mz_symbol_rows.proofs.RowLaws.{out_both}
 use Rattle.mz_symbol_lines.proofs.Given.{held_given}
-use Rattle.mz_symbol_access.specs.StepsPlace.{whole, is_index, IsIndex, AreIndices, step_of, offset_in, joined_term, places_of, placed, place_term}
+use Rattle.mz_symbol_access.specs.StepsPlace.{whole, is_index, AreIndices, step_of, offset_in, joined_term, places_of, placed, place_term}
 
 -- ---- one dimension more
 

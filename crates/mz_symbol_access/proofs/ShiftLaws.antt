@@ -7,7 +7,7 @@ use Rattle.mz_operations.specs.declared.row.Arith.TheVariants.{Add}
 use Rattle.mz_operations.specs.declared.row.Side.TheVariants.{Least, Greatest}
 use Rattle.mz_operations.specs.Views.{◌>>=◌}
 use Rattle.mz_operations.specs.Numbers.{computed, toward}
-use Rattle.mz_arena.specs.Values.{Term, number, set, as_number, is_true, bit, and_term, arith_term, comparison_term, cons_term, extreme_term, guard_term}
+use Rattle.mz_arena.specs.Values.{Term, number, as_number, is_true, bit, and_term, arith_term, comparison_term, cons_term, extreme_term, guard_term}
 use Rattle.mz_symbol_rows.proofs.RowLaws.{bit_true}
 use Rattle.mz_symbol.specs.Runs.{Run}
 use Rattle.mz_meaning.specs.Runs.{Out}

@@ -1,6 +1,7 @@
 // The element of a var array at a place.
 
-ghost use Rattle.std.specs.Prelude.{◌≡◌, IfOk, false, length, true};
+ghost use Rattle.std.specs.Prelude.{◌≡◌, IfOk, None, Some, false, length, true};
+ghost use Rattle.mz_index.specs.Places.{count_of};
 ghost use Rattle.mz_arena.specs.Values.{access_term, and_term, guard_term};
 ghost use Rattle.mz_meaning.specs.Cells.{held};
 ghost use Rattle.mz_meaning.specs.Runs.{give};
@@ -8,11 +9,12 @@ ghost use Rattle.mz_symbol.specs.Readings.{Reading, Reads, symbol_seen};
 ghost use Rattle.mz_symbol.specs.Makes.{GoesOnBy, Means};
 ghost use Rattle.mz_symbol_options.specs.StepsNodes.{symbol_of};
 ghost use Rattle.mz_symbol_access.specs.AccessValues.{access_charge, access_value, at_node, item_charge};
-ghost use Rattle.mz_symbol_access.specs.StepsElement.{is_number, occurs_at, plain_term, there_term, IsFound, IsItemAt, IsOptionAt, IsPlainAt};
+ghost use Rattle.mz_symbol_access.specs.StepsElement.{is_number, plain_term, there_term, value_term, IsFound, IsItemAt, IsOptionAt, IsOptionOf, IsPlainAt};
 
 use crate::nodes::made;
 use crate::nowhere::nowhere;
 use crate::reached::{has_count, reached_node};
+use crate::truth::truth_node;
 use mz_arena::{Id, NodeKind};
 use mz_base::{Memory, Stop};
 use mz_core::Base;
@@ -74,7 +76,7 @@ fn found_item(
     ensures found { IfOk result (λ s. (r : Reading) → Reads r run.new → IsFound opt r run.old run.new ranges.now indices.now base d lists s) }
 {
     let place = reached_node(run, ranges, indices)?;
-    let item = item_at(run, base, opt, d, lists, place)?;
+    let item = item_at(run, ranges, base, opt, d, lists, place)?;
     Ok(item)
 }
 
@@ -149,34 +151,99 @@ fn there_node(run: &mut Run, value: Id, place: Id, list: Id) -> Result<Id, Stop>
     made(run, NodeKind::Or, lost, occurs)
 }
 
-#[tactic(auto, using(mz_symbol_rows::proofs::GoingOn::goes_most))]
-fn occurs_node(run: &mut Run, value: Id, place: Id, list: Option<Id>) -> Result<Id, Stop>
-    ensures goes { GoesOnBy 42 run.old run.new }
-    ensures means { Means (λ r. r.term) result run.old run.new (λ r. give (occurs_at r (r.term value) (r.term place) list)) }
-{
-    match list {
-        None => run.truth_node(true),
-        Some(l) => there_node(run, value, place, l),
-    }
-}
-
 pub(crate) fn symbol(base: Base, occurs: Option<Id>, term: Id) -> Symbol
     ensures { result ≡ symbol_of base occurs term }
 {
     Symbol { base, occurs, term }
 }
 
+/// The value at a place of an array without options, as an option's value is.
+#[tactic(auto, using(mz_symbol_rows::proofs::GoingOn::goes_most))]
+fn value_node(
+    run: &mut Run,
+    ranges: &[(i64, i64)],
+    base: Base,
+    list: Id,
+    place: Id,
+) -> Result<Id, Stop>
+    ensures goes { GoesOnBy 54 run.old run.new }
+    ensures means { Means (λ r. r.term) result run.old run.new (λ r. give (value_term base (count_of ranges.now) None (r.term place) (r.term list))) }
+{
+    match base {
+        Base::Bool => truth_node(run, ranges, list, place),
+        _ => made(run, NodeKind::Access, place, list),
+    }
+}
+
+/// The element of an array without options, as an option.
+#[tactic(auto, using(mz_symbol_rows::proofs::GoingOn::goes_both, mz_symbol_rows::proofs::GoingOn::goes_most))]
+fn present(
+    run: &mut Run,
+    ranges: &[(i64, i64)],
+    base: Base,
+    list: Id,
+    place: Id,
+) -> Result<Symbol, Stop>
+    ensures goes { GoesOnBy 66 run.old run.new }
+    ensures option { IfOk result (λ s. (r : Reading) → Reads r run.new → IsOptionOf r run.old run.new base (count_of ranges.now) list None place s) }
+{
+    let term = value_node(run, ranges, base, list, place)?;
+    let there = run.truth_node(true)?;
+    Ok(symbol(base, Some(there), term))
+}
+
+/// The element of an array with options, of which a second list tells whether they are there.
+#[tactic(auto, using(mz_symbol_rows::proofs::GoingOn::goes_both, mz_symbol_rows::proofs::GoingOn::goes_most))]
+fn marked(
+    run: &mut Run,
+    ranges: &[(i64, i64)],
+    base: Base,
+    list: Id,
+    marks: Id,
+    place: Id,
+) -> Result<Symbol, Stop>
+    ensures goes { GoesOnBy 66 run.old run.new }
+    ensures option { IfOk result (λ s. (r : Reading) → Reads r run.new → IsOptionOf r run.old run.new base (count_of ranges.now) list (Some marks) place s) }
+{
+    let _dimensions = ranges.len();
+    let term = made(run, NodeKind::Access, place, list)?;
+    let there = there_node(run, term, place, marks)?;
+    Ok(symbol(base, Some(there), term))
+}
+
+fn option_of(
+    run: &mut Run,
+    ranges: &[(i64, i64)],
+    base: Base,
+    lists: Lists,
+    place: Id,
+) -> Result<Symbol, Stop>
+    ensures goes { GoesOnBy 66 run.old run.new }
+    ensures option { IfOk result (λ s. (r : Reading) → Reads r run.new → IsOptionOf r run.old run.new base (count_of ranges.now) lists.terms lists.occurs place s) }
+{
+    match lists.occurs {
+        None => present(run, ranges, base, lists.terms, place),
+        Some(marks) => marked(run, ranges, base, lists.terms, marks, place),
+    }
+}
+
 /// The element as an option of a number.
 #[tactic(auto, using(mz_symbol_rows::proofs::GoingOn::goes_both, mz_symbol_rows::proofs::GoingOn::goes_most))]
-fn option_at(run: &mut Run, base: Base, d: Id, lists: Lists, place: Id) -> Result<Symbol, Stop>
+fn option_at(
+    run: &mut Run,
+    ranges: &[(i64, i64)],
+    base: Base,
+    d: Id,
+    lists: Lists,
+    place: Id,
+) -> Result<Symbol, Stop>
     requires { is_number base ≡ true }
     ensures goes { GoesOnBy 74 run.old run.new }
-    ensures option { IfOk result (λ s. (r : Reading) → Reads r run.new → IsOptionAt r run.old run.new base d lists place s) }
+    ensures option { IfOk result (λ s. (r : Reading) → Reads r run.new → IsOptionAt r run.old run.new base (count_of ranges.now) d lists place s) }
 {
     let at = made(run, NodeKind::Guard, d, place)?;
-    let term = made(run, NodeKind::Access, at, lists.terms)?;
-    let there = occurs_node(run, term, at, lists.occurs)?;
-    Ok(symbol(base, Some(there), term))
+    let option = option_of(run, ranges, base, lists, at)?;
+    Ok(option)
 }
 
 /// The element as what is no option.
@@ -197,6 +264,7 @@ fn plain_at(run: &mut Run, base: Base, d: Id, lists: Lists, place: Id) -> Result
 /// The element at a place.
 fn item_at(
     run: &mut Run,
+    ranges: &[(i64, i64)],
     base: Base,
     opt: bool,
     d: Id,
@@ -204,13 +272,13 @@ fn item_at(
     place: Id,
 ) -> Result<Symbol, Memory>
     ensures goes { GoesOnBy (item_charge opt) run.old run.new }
-    ensures item { IfOk result (λ s. (r : Reading) → Reads r run.new → IsItemAt opt r run.old run.new base d lists place s) }
+    ensures item { IfOk result (λ s. (r : Reading) → Reads r run.new → IsItemAt opt r run.old run.new base (count_of ranges.now) d lists place s) }
 {
     if opt {
         if !is_number(base) {
             return Err(Memory);
         }
-        match option_at(run, base, d, lists, place) {
+        match option_at(run, ranges, base, d, lists, place) {
             Ok(option) => Ok(option),
             Err(_) => Err(Memory),
         }

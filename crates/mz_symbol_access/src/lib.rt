@@ -8,6 +8,7 @@ mod nowhere;
 mod place;
 mod reached;
 mod shift;
+mod truth;
 
 pub use alone::alone_node;
 pub use element::access;

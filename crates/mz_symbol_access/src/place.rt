@@ -30,7 +30,7 @@ pub(crate) fn is_index(s: Symbol) -> bool
 }
 
 /// How many places ranges have.
-fn size_node(run: &mut Run, ranges: &[(i64, i64)]) -> Result<Id, Stop>
+pub(crate) fn size_node(run: &mut Run, ranges: &[(i64, i64)]) -> Result<Id, Stop>
     ensures goes { GoesOnBy 0 run.old run.new }
     ensures means { Means (λ r. r.term) result run.old run.new (λ _. give (Some (number (pos (count_of ranges.now))))) }
 {

@@ -1,4 +1,4 @@
-// The branches of an `if` under var conditions: single values, and arrays element by element.
+// The branches of an `if` under var conditions: single values, and arrays element by element; and the truth values of lists with options.
 #![tactic(auto)]
 
 mod items;

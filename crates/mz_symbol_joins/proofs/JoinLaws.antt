@@ -99,9 +99,9 @@ count_is : (s : Run) (k : ℕ) (o : Option Line) (ss : List Symbol) → option_m
 count_is s k None ss e = absurd (cc)
 count_is s k (Some l) ss e = ap (λ (xs : List Symbol). length xs) (some_same ss l.items.items (sym e))
 
-sums : (a b c n m : ℕ) → a ≡ b + c → b ≡ n → c ≡ m → 6 + 16 * a ≤ 16 * n + 16 * m + 6
-sums a b c n m e f g = omega (arith, e, f, g)
+sums : (a b c n m e : ℕ) → a ≡ b + c → b ≡ n → c ≡ m → e ≡ a → 6 + 4 * a + 16 * e ≤ 20 * n + 20 * m + 6
+sums a b c n m e f g h i = omega (arith, f, g, h, i)
 
-pub joined_cost : (s : Run) (x y : ℕ) (ps qs all : List Symbol) → option_map (λ l. l.items.items) (slice_get s.lines x) ≡ Some ps → option_map (λ l. l.items.items) (slice_get s.lines y) ≡ Some qs → all ≡ ps ++ qs → 6 + 16 * length all ≤ 16 * count_of (slice_get s.lines x) + 16 * count_of (slice_get s.lines y) + 6
-joined_cost s x y ps qs all f g i =
-    sums (length all) (length ps) (length qs) (count_of (slice_get s.lines x)) (count_of (slice_get s.lines y)) (ap (λ (xs : List Symbol). length xs) i ∙ length-append ps qs) (count_is s x (slice_get s.lines x) ps f) (count_is s y (slice_get s.lines y) qs g)
+pub joined_cost : (s : Run) (x y : ℕ) (ps qs items all : List Symbol) → option_map (λ l. l.items.items) (slice_get s.lines x) ≡ Some ps → option_map (λ l. l.items.items) (slice_get s.lines y) ≡ Some qs → items ≡ ps ++ qs → length all ≡ length items → 6 + 4 * length items + 16 * length all ≤ 20 * count_of (slice_get s.lines x) + 20 * count_of (slice_get s.lines y) + 6
+joined_cost s x y ps qs items all f g i e =
+    sums (length items) (length ps) (length qs) (count_of (slice_get s.lines x)) (count_of (slice_get s.lines y)) (length all) (ap (λ (xs : List Symbol). length xs) i ∙ length-append ps qs) (count_is s x (slice_get s.lines x) ps f) (count_is s y (slice_get s.lines y) qs g) e

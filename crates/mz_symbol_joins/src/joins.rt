@@ -12,6 +12,7 @@ ghost use Rattle.mz_symbol_joins.specs.StepsJoins.{AreJoined};
 use mz_arena::{Id, Node, NodeKind};
 use mz_base::{Memory, Stop};
 use mz_symbol::{Run, Symbol};
+use mz_symbol_branches::alike_items;
 use mz_symbol_lines::defined;
 use std::alloc::{AllocError, Global};
 
@@ -61,16 +62,19 @@ fn and_node(run: &mut Run, a: Id, b: Id) -> Result<Id, Stop>
 /// The elements of an array and then those of another, as a new array, which is defined where both
 /// are.
 ///
-/// What the array and its lists may cost the caller's work has to pay for. Out of memory too where
-/// there is no such array.
+/// Of truth values beside options each is an option. What the array and its lists may cost the
+/// caller's work has to pay for. Out of memory too where there is no such array.
 pub fn join(alloc: Global, run: &mut Run, x: u64, y: u64) -> Result<u64, Stop>
-    ensures goes { GoesOnBy (16 * count_of (slice_get run.old.lines x) + 16 * count_of (slice_get run.old.lines y) + 6) run.old run.new }
+    ensures goes { GoesOnBy (20 * count_of (slice_get run.old.lines x) + 20 * count_of (slice_get run.old.lines y) + 6) run.old run.new }
     ensures means { Means (λ r. r.line) result run.old run.new (λ r. give (joined_line r x y)) }
 {
     let p = defined(run, x)?;
     let q = defined(run, y)?;
-    let all = joined_items(alloc, run, x, y)?;
+    let items = joined_items(alloc, run, x, y)?;
     let Ok(d) = and_node(run, p.0, q.0) else {
+        return Err(Stop::Memory);
+    };
+    let Ok(all) = alike_items(alloc, run, items) else {
         return Err(Stop::Memory);
     };
     let line = run.push_line(d, all)?;

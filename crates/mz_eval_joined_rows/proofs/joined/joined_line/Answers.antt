@@ -14,9 +14,9 @@ returns-clause-goes c =
     let s = c.line_in-2.new.run in
     let x = count_of (slice_get s.lines c.in_ok-x.x) in
     let y = count_of (slice_get s.lines c.in-Ok.y) in
-    goes_most (20 * n + 20 * m + (16 * x + 16 * y + 6)) (36 * n + 36 * m + 6) c.args.run.now c.join.new.run
+    goes_most (20 * n + 20 * m + (20 * x + 20 * y + 6)) (40 * n + 40 * m + 6) c.args.run.now c.join.new.run
     (line_paid n m x y c.in_ok-sized.ensures c.in_ok-sized-2.ensures)
-    (goes_both (20 * n + 20 * m) (16 * x + 16 * y + 6) c.args.run.now s c.join.new.run
+    (goes_both (20 * n + 20 * m) (20 * x + 20 * y + 6) c.args.run.now s c.join.new.run
     (goes_both (20 * n) (20 * m) c.args.run.now c.line_in.new.run s c.in_ok-x.ensures.goes c.in-Ok.ensures.goes)
     c.in_ok-line.ensures.goes)
 

@@ -15,7 +15,7 @@ use Rattle.mz_eval_joined_rows.proofs.joined.joined_row.Goals as goal
 
 pub returns-clause-goes : goal.returns-clause-goes
 returns-clause-goes c =
-    goes_most (36 * count_in c.args.a.now.cell + 36 * count_in c.args.b.now.cell + 6) (64 * (1 + row_cost (Made made.Concat) (cell_of c.args.a.now.cell ∷ cell_of c.args.b.now.cell ∷ []))) c.args.run.now c.joined_items.new.run
+    goes_most (40 * count_in c.args.a.now.cell + 40 * count_in c.args.b.now.cell + 6) (64 * (1 + row_cost (Made made.Concat) (cell_of c.args.a.now.cell ∷ cell_of c.args.b.now.cell ∷ []))) c.args.run.now c.joined_items.new.run
     (concat_pays c.args.a.now.cell c.args.b.now.cell (subst (λ n. n < 2 ^ 60) c.count_in.ensures (c.is_few.ensures c.if-not-is_few.false)) (subst (λ n. n < 2 ^ 60) c.count_in-2.ensures (c.is_few-2.ensures c.if-not-is_few-2.false)))
     c.joined_items.ensures.goes
 
