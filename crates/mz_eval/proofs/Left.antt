@@ -25,7 +25,7 @@ count_same : (r q : Reading) (e : Elements) (i : ℕ) (last : Option ℤ) → le
 count_same r q source.Nothing i last = refl
 count_same r q (source.Numbers of m s) i last = mapped_alike (member_in r of m) (member_in q of m) (numbers_left (drop i s.now) last)
 count_same r q (source.Values xs) i last = refl
-count_same r q (source.Places b xs) i last = mapped_alike (place_in r xs.now) (place_in q xs.now) _
+count_same r q (source.Places b o xs) i last = mapped_alike (place_in r xs.now) (place_in q xs.now) _
 
 turns_same : (r q : Reading) (t : Turns) → length (turns_left r t) ≡ length (turns_left q t)
 turns_same r q t = count_same r q t.elements.now t.place t.last

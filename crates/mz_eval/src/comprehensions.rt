@@ -129,7 +129,7 @@ fn eval_generator(
     };
     let c = eval_expression(&outside, &g.set, scope, run)?;
     let made = add_set(level.alloc, run, made, occurs, &c)?;
-    let elements = elements_in(level.alloc, run, base_of(&g.set), &c)?;
+    let elements = elements_in(level.alloc, run, base_of(&g.set), g.set.ty.opt, &c)?;
     let generator = Generator {
         elements: &elements,
         cond: &g.cond,

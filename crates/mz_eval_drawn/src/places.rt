@@ -112,11 +112,11 @@ fn symbol_cell(
     Ok(Known::Var(held))
 }
 
-/// The type of an element, of which a guard asks the base alone.
-fn element_type(alloc: Global, base: Base) -> TypeInst {
+/// The type of an element, of which a guard asks the base and whether it is an option alone.
+fn element_type(alloc: Global, base: Base, opt: bool) -> TypeInst {
     TypeInst {
         var: true,
-        opt: false,
+        opt,
         base,
         dims: Vec::new(alloc),
     }
@@ -126,6 +126,7 @@ fn line_place(
     alloc: Global,
     run: &mut Run,
     base: Base,
+    opt: bool,
     cast: Option<Base>,
     line: u64,
     n: usize,
@@ -140,7 +141,7 @@ fn line_place(
         return Err(Memory);
     };
     let k = symbol_cell(alloc, bound, cast, s)?;
-    let t = element_type(alloc, base);
+    let t = element_type(alloc, base, opt);
     let x = guarded(alloc, run, &t, Guard::Open(found.0), k)?;
     Ok(x)
 }
@@ -156,11 +157,13 @@ fn no_place(alloc: Global, cast: Option<Base>, bound: Bound) -> Result<Known, Al
     Ok(k)
 }
 
-/// The element of a var array at a place, from 0, whose type has this base, with these bounds.
+/// The element of a var array at a place, from 0, whose type has this base, an option or not, with
+/// these bounds.
 pub fn place(
     alloc: Global,
     run: &mut Run,
     base: Base,
+    opt: bool,
     xs: &VarItems,
     n: usize,
     bound: Bound,
@@ -177,6 +180,6 @@ pub fn place(
             let k = value_place(alloc, xs.cast, items.as_slice(), n, bound)?;
             Ok(k)
         }
-        Origins::Line(line) => line_place(alloc, run, base, xs.cast, *line, n, bound),
+        Origins::Line(line) => line_place(alloc, run, base, opt, xs.cast, *line, n, bound),
     }
 }

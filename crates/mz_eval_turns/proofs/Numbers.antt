@@ -19,7 +19,7 @@ pub all_elements : (r : Reading) (e : Elements) → elements_left r e 0 None ≡
 all_elements r source.Nothing = refl
 all_elements r (source.Numbers of m s) = ap (map (member_in r of m)) (none_given s.now)
 all_elements r (source.Values xs) = refl
-all_elements r (source.Places b xs) = refl
+all_elements r (source.Places b o xs) = refl
 
 -- ---- the integers above one
 

@@ -66,7 +66,7 @@ abbrev pub elements_of : Reading → Elements → List comps.Element
 elements_of r source.Nothing = []
 elements_of r (source.Numbers of m s) = map (member_in r of m) (elements s.now)
 elements_of r (source.Values xs) = map value_element xs.now
-elements_of r (source.Places b xs) = map (place_in r xs.now) (enumerate_from 0 (map known_bound xs.now.bounds.value.items))
+elements_of r (source.Places b o xs) = map (place_in r xs.now) (enumerate_from 0 (map known_bound xs.now.bounds.value.items))
 
 -- ---- the elements of a generator that are left
 
@@ -92,7 +92,7 @@ abbrev pub elements_left : Reading → Elements → ℕ → Option ℤ → List 
 elements_left r source.Nothing i last = []
 elements_left r (source.Numbers of m s) i last = map (member_in r of m) (numbers_left (drop i s.now) last)
 elements_left r (source.Values xs) i last = map value_element (drop i xs.now)
-elements_left r (source.Places b xs) i last = map (place_in r xs.now) (enumerate_from i (map known_bound (drop i xs.now.bounds.value.items)))
+elements_left r (source.Places b o xs) i last = map (place_in r xs.now) (enumerate_from i (map known_bound (drop i xs.now.bounds.value.items)))
 
 abbrev pub turns_left : Reading → Turns → List comps.Element
 turns_left r t = elements_left r t.elements.now t.place t.last

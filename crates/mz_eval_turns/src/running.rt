@@ -117,16 +117,16 @@ fn var_elements<'a>(
 
 // ---- var arrays
 
-fn row_elements(base: Base, xs: &VarItems) -> Elements<'_>
+fn row_elements(base: Base, opt: bool, xs: &VarItems) -> Elements<'_>
     ensures { (r : Reading) → elements_of r result ≡ map (place_in r xs.now) (enumerate_from 0 (map known_bound xs.now.bounds.value.items)) }
 {
-    Elements::Places(base, xs)
+    Elements::Places(base, opt, xs)
 }
 
 // ---- cells
 
 /// What a generator over this cell runs over, whose type has this base: a set's elements, ascending,
-/// of a var set over those that it may have; or an array's elements.
+/// of a var set over those that it may have; or an array's elements, options or not.
 ///
 /// The symbol of a var set is made here, and what it may cost is drawn: 8. Out of memory too where
 /// `symbol_in` is.
@@ -134,6 +134,7 @@ pub fn elements_in<'a>(
     alloc: Global,
     run: &mut Run,
     base: Base,
+    opt: bool,
     k: &'a Known,
 ) -> Result<Elements<'a>, Stop>
     ensures goes { GoesOn run.old run.new }
@@ -144,7 +145,7 @@ pub fn elements_in<'a>(
         Known::One(i) => Ok(item_elements(base, i)),
         Known::Array(_, items) => Ok(array_elements(items.as_slice())),
         Known::Var(v) => var_elements(alloc, run, base, v),
-        Known::Row(_, xs) => Ok(row_elements(base, xs)),
+        Known::Row(_, xs) => Ok(row_elements(base, opt, xs)),
         Known::Unshaped(_) => Ok(Elements::Nothing),
     }
 }

@@ -181,6 +181,7 @@ fn place_turn(
     alloc: Global,
     run: &mut Run,
     base: Base,
+    opt: bool,
     xs: &VarItems,
     n: usize,
     b: &Bound,
@@ -189,7 +190,7 @@ fn place_turn(
     ensures turn { IfOk result (IsTurn run.old run.new (λ r. place_in r xs.now (n, known_bound b.now))) }
 {
     let bound = share_bound(b)?;
-    let cell = place(alloc, run, base, xs, n, bound)?;
+    let cell = place(alloc, run, base, opt, xs, n, bound)?;
     Ok(Turn {
         cell,
         presence: Presence::Always,
@@ -200,6 +201,7 @@ fn next_place(
     alloc: Global,
     run: &mut Run,
     base: Base,
+    opt: bool,
     xs: &VarItems,
     bounds: &[Bound],
     index: &mut usize,
@@ -212,7 +214,7 @@ fn next_place(
         return Ok(None);
     }
     let n = *index;
-    let x = place_turn(alloc, run, base, xs, n, &bounds[n])?;
+    let x = place_turn(alloc, run, base, opt, xs, n, &bounds[n])?;
     *index += 1;
     Ok(Some(x))
 }
@@ -236,8 +238,8 @@ pub fn next_turn(alloc: Global, run: &mut Run, t: &mut Turns) -> Result<Option<T
             let x = next_value(alloc, all, &mut t.place)?;
             Ok(x)
         }
-        Elements::Places(base, xs) => {
-            next_place(alloc, run, *base, xs, &xs.bounds, &mut t.place)
+        Elements::Places(base, opt, xs) => {
+            next_place(alloc, run, *base, *opt, xs, &xs.bounds, &mut t.place)
         }
     }
 }

@@ -42,8 +42,8 @@ pub enum Elements<'a> {
     Numbers(Option<u64>, Members, &'a RangeSet),
     /// The elements of a par array.
     Values(&'a [Value]),
-    /// The elements of a var array, whose type has this base.
-    Places(Base, &'a VarItems),
+    /// The elements of a var array, whose type has this base, options or not.
+    Places(Base, bool, &'a VarItems),
 }
 
 /// The elements of a generator that are left: those from a place on, of numbers those after the last
