@@ -1,7 +1,7 @@
 // The arguments of a call, as a line of the input writes them.
 
 use mz_builtin_arguments::{union, up_to};
-use mz_builtin_arrays::set_value;
+use mz_builtin_values::set_value;
 use mz_value::{ArrayValue, RangeSet, TextValue, Value};
 use std::alloc::{AllocError, Global};
 use std::mem;

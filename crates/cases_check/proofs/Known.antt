@@ -12,9 +12,9 @@ use Rattle.mz_scope_names.specs.Occurrences.{in_item}
 use Rattle.mz_scope_names.specs.StepsWalk.{items_of}
 use Rattle.mz_scope_names.proofs.Spots.{item_named}
 use Rattle.mz_include.specs.Views.{AreKnown}
-use Rattle.mz_data_names.specs.Named.{IsGivenWithin}
-use Rattle.mz_data_names.proofs.Staying.{stays}
-use Rattle.mz_scope_faults.specs.Tests.{AreNamed}
+use Rattle.mz_tree.specs.Named.{IsGivenWithin}
+use Rattle.mz_tree.proofs.Staying.{stays}
+use Rattle.mz_scope.specs.Tests.{AreNamed}
 use Rattle.mz_scope.proofs.Naming.{all_named}
 use Rattle.mz_analysis.proofs.Items.{IsKnown, all_known}
 

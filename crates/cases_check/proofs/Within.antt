@@ -13,8 +13,8 @@ use Rattle.mz_tree.specs.Kinds.{IsSpot, OfTree, OfDeclaration, OfGoal, OfItem}
 use Rattle.mz_tree.proofs.Later.{item_later}
 use Rattle.mz_tree.proofs.Collected.{all_flat}
 use Rattle.mz_scope_names.specs.Given.{identifier, with_identifier, identifiers, cases_in}
-use Rattle.mz_scope_uses.specs.Sketches.{decl_sketch}
-use Rattle.mz_data_names.specs.Named.{names_in, names_in_all, IsGivenWithin}
+use Rattle.mz_scope_names.specs.Sketches.{decl_sketch}
+use Rattle.mz_tree.specs.Named.{names_in, names_in_all, IsGivenWithin}
 use Rattle.mz_scope_order.specs.Parts.{decls_of, decl_at, functions_of, constraint_in, output_in, goal_in, goal_of, enum_in, enums_of, cases_at, given_cases}
 use Rattle.mz_scope_order.specs.Scoped.{ScopedTree, IsScoped}
 use Rattle.mz_scope.proofs.Turned.{all_counted}

@@ -4,7 +4,7 @@ ghost use Rattle.std.specs.Prelude.{◌≤◌, length, map, IfOk, All};
 ghost use Rattle.mz_base.specs.Names.{Grows};
 ghost use Rattle.mz_base.specs.declared.limit.TheConstants.{FILE_LIMIT};
 ghost use Rattle.mz_tree.specs.Data.{given};
-ghost use Rattle.mz_data_names.specs.Named.{IsGivenWithin};
+ghost use Rattle.mz_tree.specs.Named.{IsGivenWithin};
 
 use cases::bytes_of;
 use mz_base::{FILE_LIMIT, Names, Span, Stop};

@@ -1,15 +1,15 @@
 // The model of a case: the expression is that of its last constraint, and the written type that of the result of its last function.
 
 ghost use Rattle.std.specs.Prelude.{List, ℕ};
-ghost use Rattle.mz_data.specs.WithData.{AreKnownWithData};
+ghost use Rattle.mz_include.specs.WithData.{AreKnownWithData};
 
 use crate::typing;
 use crate::typing::Kind;
 use cases::{Page, bytes_of};
 use mz_analysis::scoped_model;
 use mz_base::{Memory, Names};
-use mz_data::{SourcesWithData, gather_with_data};
 use mz_include::GatherEnd;
+use mz_include::with_data::{SourcesWithData, gather_with_data};
 use mz_io::MemFiles;
 use std::alloc::Global;
 

@@ -2,7 +2,7 @@
 
 ghost use Rattle.std.specs.Prelude.{length, map, All};
 ghost use Rattle.mz_tree.specs.Data.{given};
-ghost use Rattle.mz_data_names.specs.Named.{IsGivenWithin};
+ghost use Rattle.mz_tree.specs.Named.{IsGivenWithin};
 ghost use Rattle.mz_include.specs.Views.{AreKnown};
 
 use crate::given::all_data;

@@ -10,10 +10,10 @@ use Rattle.fz_program.specs.declared.row_name.RowName.TheVariants.{IntLe, IntTim
 use Rattle.fz_program.specs.Arguments.{Argument}
 use Rattle.fz_program.specs.Table.{line}
 use Rattle.fz_program.specs.Flat.{are_arguments, is_argument, is_plain, is_constant, same_kind, kind_of_domain, place_count, is_within, IsSome, IsWellFormedRow, Variable, ArrayItem, Program}
-use Rattle.fz_build_domains.specs.Inputs.{is_sum}
-use Rattle.fz_build_domains.specs.Bounds.{AreInputs, result_domain, domain_by, form_of}
+use Rattle.fz_build.specs.Inputs.{is_sum}
+use Rattle.fz_build.specs.Bounds.{AreInputs, result_domain, domain_by, form_of}
 use Rattle.fz_build.specs.Build.{MayDeclare, MayAdd, constraint, empty}
-use Rattle.fz_build.specs.Results.{MayDefine}
+use Rattle.fz_build.specs.Asked.{MayDefine}
 use Rattle.mz_operations.specs.Bounds.{arith_ends}
 use Rattle.mz_operations.specs.Sets.{end_of}
 use Rattle.cases_flat.specs.Steps.{factors, operands, with_order, with_x, with_xs, x, xs}

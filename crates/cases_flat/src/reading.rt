@@ -3,11 +3,11 @@
 
 use crate::written::print_written;
 use cases::Page;
-use fz_program_check::well_formed;
+use fz_items::Miss;
+use fz_program::well_formed;
 use fz_text::read;
 use fz_text_read::read_program;
 use mz_base::{Memory, Stop};
-use soln_reader_items::Miss;
 use std::alloc::Global;
 
 /// Why a text isn't read.

@@ -1,8 +1,7 @@
 // Programs that aren't well formed, and that no text is read to.
 
 use cases::Page;
-use fz_program::{Arg, FzArray, FzGoal, FzName, FzProgram, FzRow, RowName};
-use fz_program_check::well_formed;
+use fz_program::{Arg, FzArray, FzGoal, FzName, FzProgram, FzRow, RowName, well_formed};
 use mz_base::Memory;
 use std::alloc::{AllocError, Global};
 

@@ -1,8 +1,7 @@
 // How a program is written, where it is well formed.
 
 use cases::Page;
-use fz_program::FzProgram;
-use fz_program_check::well_formed;
+use fz_program::{FzProgram, well_formed};
 use fz_text::write;
 use mz_base::Memory;
 use mz_io::MemSink;

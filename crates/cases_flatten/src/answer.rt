@@ -2,11 +2,10 @@
 
 use crate::draft::Draft;
 use cases::Page;
+use cases_instances::{are_named, is_instance};
 use cases_solver::print_solutions;
 use flat::flatten;
-use flat_check::{are_named, is_instance};
-use fz_program::FzProgram;
-use fz_program_check::well_formed;
+use fz_program::{FzProgram, well_formed};
 use fz_text::write;
 use mz_arena::Instance;
 use mz_base::{Memory, Names};

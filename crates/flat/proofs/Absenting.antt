@@ -32,7 +32,7 @@ use Rattle.mz_arena.specs.Instances.{VarCell, ModelVar, var_cell, model_var}
 use Rattle.mz_arena.proofs.Folds.{get-below}
 use Rattle.mz_arena.proofs.Growing.{const_extent}
 use Rattle.mz_arena.proofs.Kept.{variable_extent_of}
-use Rattle.mz_arena_laws.proofs.Terms as laws
+use Rattle.mz_arena.proofs.Terms as laws
 use Rattle.mz_instance.specs.Parts as instance
 use Rattle.mz_instance.specs.Parts.{Sort, Whole, Truth, Subset, Part, is_subset_sort, sort_of, base_of, truths, truth_mark, occurrence, value_part}
 use Rattle.mz_instance.specs.Instance.{IsTruthOver}
@@ -46,7 +46,7 @@ use Rattle.mz_partial.proofs.Asked.{comparison_bounds, connective_bounds, whole_
 use Rattle.flat_root.specs.Keeps.{AllTrue}
 use Rattle.flat_root.specs.Totals.{IsRoot, AreRoots}
 use Rattle.flat_root.proofs.Keeping.{fewer_domains}
-use Rattle.flat_front.proofs.Stepping.{next_item, no_item, cells_from, vars_from}
+use Rattle.flat.proofs.Stepping.{next_item, no_item, cells_from, vars_from}
 use Rattle.flat.specs.Absent.{has_truths, IsValueNode, IsBitWhere, IsLeastNode, IsOption, IsOptionWhere, AreOptions, AreAllOptions, AreCellRoots, AddsCellRoots, all_cells, AreDefaultRoots}
 
 -- ---- nodes

@@ -18,8 +18,8 @@ use Rattle.flat_reif.proofs.Steps.{spreads_same}
 use Rattle.flat_root.specs.Keeps.{Keeps, IsReadyState, Leads}
 use Rattle.flat_root.proofs.Keeping.{fewer_domains, keeps_spread, keeps_twice, keeps_where}
 use Rattle.flat_root.proofs.Rooting.{posted_leads}
-use Rattle.flat_front.proofs.Labels.{all_append}
-use Rattle.flat_front.proofs.Stepping.{next_item, no_item, cells_from, vars_from}
+use Rattle.flat.proofs.Labels.{all_append}
+use Rattle.flat.proofs.Stepping.{next_item, no_item, cells_from, vars_from}
 use Rattle.flat.specs.Cleared.{HasSome, HaveSome, AreCleared, IsBound, AreBound, value_parts, all_value_parts}
 use Rattle.flat.proofs.Reading.{read_values, meets_read}
 

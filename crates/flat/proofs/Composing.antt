@@ -25,7 +25,7 @@ use Rattle.fz_program.specs.Values.{Values}
 use Rattle.fz_program.specs.Flat.{Variable, Program, FlatSolves, WellFormed, is_plain, is_goal, is_variable_of}
 use Rattle.fz_build.specs.Build.{with_goal}
 use Rattle.flat_meaning.specs.Faithful.{Faithful}
-use Rattle.fz_emission.specs.Front.{AreNamed}
+use Rattle.flat_meaning.specs.Front.{AreNamed}
 use Rattle.mz_partial.specs.declared.part.Part.{Part as MemoPart}
 use Rattle.mz_partial.specs.Totals.{AreParts as MemoParts}
 use Rattle.flat_reif.specs.Roots.{begun}
@@ -35,7 +35,7 @@ use Rattle.flat_root.specs.Totals.{IsRoot, AreRoots}
 use Rattle.flat_root.specs.Objectives.{IsWholeRoot, HasValueAt, HasObjective}
 use Rattle.flat_root.proofs.Keeping.{keeps_spread, keeps_twice, keeps_where}
 use Rattle.flat_reif.proofs.Steps.{spreads_same}
-use Rattle.flat_front.specs.Fronts.{AreFrontOf, MayHaveFront, IsFronted}
+use Rattle.flat.specs.Fronts.{AreFrontOf, MayHaveFront, IsFronted}
 use Rattle.flat.specs.Absent.{IsOption, IsOptionWhere, AreOptions, AreAllOptions, AddsCellRoots, all_cells, AreDefaultRoots}
 use Rattle.flat.specs.Cleared.{HasSome, HaveSome, AreCleared, IsBound, AreBound, value_parts, all_value_parts}
 use Rattle.flat.specs.Flattening.{HasGoal, IsGoalAt, GoalStands, IsGoalRoot, IsAimed, IsHeld, IsFlattened}

@@ -6,13 +6,13 @@ use Rattle.mz_arena.specs.Entries.{Entry, at, is_local}
 use Rattle.mz_arena.specs.Numbering.{local_ids, local_ids_from}
 use Rattle.fz_program.specs.Arguments.{Plain, var, int, bool, set, nested, Argument, one, array}
 use Rattle.fz_program.specs.Flat.{Variable, Row, Program}
-use Rattle.fz_build_domains.specs.Inputs.{is_sum, argument_in, argument_at, elements_in, elements_at}
+use Rattle.fz_build.specs.Inputs.{is_sum, argument_in, argument_at, elements_in, elements_at}
 use Rattle.fz_build.specs.Build.{IsOver, IsArgumentOver, AreOver, args_by, args_with, sum_with, defining, constraint, defined_variable, introduced_variable, with_row, with_variable, with_defined}
 use Rattle.fz_build.specs.History as history
 use Rattle.fz_build.specs.History.{IsFront, IsOfModel, Made, begins, adds_row, adds_defined, adds_choice, is_place, definitions_of, HasDefinition, HaveDefinitions, IsMadeOf}
 use Rattle.fz_build.proofs.Lists.{each_from}
-use Rattle.fz_emission.specs.Defined as emission
-use Rattle.fz_emission.specs.Defined.{is_defining, IsUpTo, IsArgumentUpTo, IsDefinedBy, DefinedOnce}
+use Rattle.flat_meaning.specs.Defined as emission
+use Rattle.flat_meaning.specs.Defined.{is_defining, IsUpTo, IsArgumentUpTo, IsDefinedBy, DefinedOnce}
 use Rattle.flat_meaning.specs.Faithful as meaning
 use Rattle.flat_reif.specs.States.{one_choice, given_choices}
 

@@ -28,9 +28,9 @@ use Rattle.fz_program.specs.Values as values
 use Rattle.fz_program.specs.Values.{Value, Values}
 use Rattle.fz_program.specs.Flat as flat
 use Rattle.fz_program.specs.Flat.{Variable, IsInDomain}
-use Rattle.fz_emission.specs.Front.{written_set, domain_by, cell_variables, variables_from, front_variables}
+use Rattle.flat_meaning.specs.Front.{written_set, domain_by, cell_variables, variables_from, front_variables}
 use Rattle.flat_meaning.specs.Faithful.{value_by, front_values}
-use Rattle.flat_front.proofs.Declarable.{written_same}
+use Rattle.flat.proofs.Declarable.{written_same}
 use Rattle.flat_reif.specs.States.{written}
 
 -- ---- sets

@@ -40,17 +40,17 @@ use Rattle.fz_build.specs.Build.{with_goal}
 use Rattle.fz_build.specs.History.{IsFront, IsOfModel, Made, begins, IsMadeOf}
 use Rattle.fz_build.proofs.Histories.{made_of}
 use Rattle.fz_build.proofs.Values.{domains_length}
-use Rattle.fz_emission.specs.Front.{domain_by, cell_variables, variables_from, front_variables}
-use Rattle.fz_emission.specs.Defined.{DefinedOnce}
-use Rattle.fz_emission.specs.Goals.{objective_of, IsGoalOf}
+use Rattle.flat_meaning.specs.Front.{domain_by, cell_variables, variables_from, front_variables}
+use Rattle.flat_meaning.specs.Defined.{DefinedOnce}
+use Rattle.flat_meaning.specs.Goals.{objective_of, IsGoalOf}
 use Rattle.flat_meaning.specs.Faithful.{Faithful, IsReading, IsMet, value_by, front_values, front_of}
 use Rattle.flat_reif_rows.specs.Standing.{seen}
 use Rattle.flat_reif_rows.proofs.Sorts.{of_integer, sort_value}
 use Rattle.flat_reif.specs.States.{State, IsState, Meets, own_value, written, number_domain, free_domain, one_choice, given_choices}
 use Rattle.flat_reif.specs.Lists.{HasArg, HasFront, is_front}
 use Rattle.flat_root.specs.Keeps.{Keeps, IsReadyState, AllTrue, HasChoices}
-use Rattle.flat_front.proofs.Labels.{all_append}
-use Rattle.flat_front.specs.Fronts.{IsFronted, IsOfPart, front_program}
+use Rattle.flat.proofs.Labels.{all_append}
+use Rattle.flat.specs.Fronts.{IsFronted, IsOfPart, front_program}
 use Rattle.flat.specs.Absent.{AreDefaultRoots}
 use Rattle.flat.specs.Cleared.{HasSome, HaveSome}
 use Rattle.flat.specs.Flattening.{HasGoal, IsGoalAt, GoalStands, IsHeld, IsFlattened}

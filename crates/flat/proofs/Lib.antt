@@ -5,3 +5,9 @@ pub mod Joining
 pub mod Clearing
 pub mod Absenting
 pub mod Composing
+pub mod Tags
+pub mod Labels
+pub mod Declarable
+pub mod Addable
+pub mod Stepping
+pub mod Fronting

@@ -19,7 +19,7 @@ use Rattle.flat_reif_rows.specs.Standing.{seen}
 use Rattle.flat_reif.specs.States.{State, Meets}
 use Rattle.flat_root.specs.Keeps.{Keeps, IsReadyState, AllTrue, HasChoices}
 use Rattle.flat_root.specs.Objectives.{IsWholeRoot, HasValueAt}
-use Rattle.flat_front.specs.Fronts.{IsFronted}
+use Rattle.flat.specs.Fronts.{IsFronted}
 use Rattle.flat.specs.Absent.{AreDefaultRoots}
 use Rattle.flat.specs.Cleared.{HaveSome}
 

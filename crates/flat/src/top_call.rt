@@ -3,14 +3,14 @@
 ghost use Rattle.std.specs.Prelude.{IfOk};
 ghost use Rattle.mz_arena.specs.Instances.{instance};
 ghost use Rattle.mz_instance.specs.Instance.{IsInstance};
-ghost use Rattle.fz_emission.specs.Front.{AreNamed};
+ghost use Rattle.flat_meaning.specs.Front.{AreNamed};
 ghost use Rattle.fz_program.specs.Flat.{program};
 ghost use Rattle.flat_meaning.specs.Faithful.{Faithful};
 
 use crate::absent::fix_absent;
 use crate::cleared::clear_vars;
+use crate::declare_front;
 use crate::goal::post_goal;
-use flat_front::declare_front;
 use flat_reif::Flat;
 use flat_root::post_roots;
 use fz_program::FzProgram;

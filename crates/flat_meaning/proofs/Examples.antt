@@ -28,8 +28,8 @@ use Rattle.fz_program.specs.Names.{Name}
 use Rattle.fz_program.specs.Values.{Value, Values, number, set, number_in}
 use Rattle.fz_program.specs.Table.{line}
 use Rattle.fz_program.specs.Flat.{AreDistinct, labels, WellFormed, FlatSolves, kind_of_domain, same_kind, is_constant, is_plain, is_argument, are_arguments, is_set, weight, is_within, place_count}
-use Rattle.fz_emission.specs.Sample.{table, made, program}
-use Rattle.fz_emission.proofs.Examples.{defined_once}
+use Rattle.flat_meaning.specs.Sample.{table, made, program}
+use Rattle.flat_meaning.proofs.ReadingExamples.{defined_once}
 use Rattle.flat_meaning.specs.Faithful.{IsReading, IsMet, Faithful}
 
 -- ---- the program is well formed

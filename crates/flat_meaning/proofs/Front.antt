@@ -12,9 +12,9 @@ use Rattle.mz_instance.specs.Parts.{Sort, Whole, Truth, Subset, Part, occurrence
 use Rattle.mz_instance.specs.Instance.{IsInstance, IsModelVar, AreModelVars, IsCounted}
 use Rattle.fz_program.specs.Names.{Name}
 use Rattle.fz_program.specs.Flat.{Program, Variable, ArrayItem, AreDistinct, labels_of, array_labels}
-use Rattle.fz_emission.specs.Front.{domain_by, front_variable, occurrence_name, value_name, occurrence_label, value_label, cell_variables, variables_from, front_variables, value_place, value_places, occurrence_places, var_arrays, front_arrays}
-use Rattle.fz_emission.specs.Reading.{is_of_sort, is_shown, shown_place, item_named, is_sort_at, where_of_sort, shown_item, CellPlaces, Layout, Alone, Rows, value_alone, with_occurrence, both_places, paired, both_items, layout_by}
-use Rattle.fz_emission.proofs.Found.{variables_found, items_found}
+use Rattle.flat_meaning.specs.Front.{domain_by, front_variable, occurrence_name, value_name, occurrence_label, value_label, cell_variables, variables_from, front_variables, value_place, value_places, occurrence_places, var_arrays, front_arrays}
+use Rattle.flat_meaning.specs.Reading.{is_of_sort, is_shown, shown_place, item_named, is_sort_at, where_of_sort, shown_item, CellPlaces, Layout, Alone, Rows, value_alone, with_occurrence, both_places, paired, both_items, layout_by}
+use Rattle.flat_meaning.proofs.Found.{variables_found, items_found}
 use Rattle.flat_meaning.specs.Faithful.{Faithful}
 use Rattle.flat_meaning.specs.Found.{cell_places, places_from, layout_from, domain_at, AreDomains, AreFound}
 

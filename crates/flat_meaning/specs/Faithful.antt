@@ -9,9 +9,9 @@ use Rattle.mz_instance.specs.Solved.{FitsArena, Holds, Defaults}
 use Rattle.fz_program.specs.Names.{Name}
 use Rattle.fz_program.specs.Values.{Value, Values, number, set}
 use Rattle.fz_program.specs.Flat.{Program, Variable, WellFormed, FlatSolves}
-use Rattle.fz_emission.specs.Front.{introduced_name, front_variables, front_arrays}
-use Rattle.fz_emission.specs.Defined.{DefinedOnce}
-use Rattle.fz_emission.specs.Goals.{IsGoalOf, objective_of}
+use Rattle.flat_meaning.specs.Front.{introduced_name, front_variables, front_arrays}
+use Rattle.flat_meaning.specs.Defined.{DefinedOnce}
+use Rattle.flat_meaning.specs.Goals.{IsGoalOf, objective_of}
 
 -- ---- introduced variables, whose names are numbered
 

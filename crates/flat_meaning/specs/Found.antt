@@ -9,8 +9,8 @@ use Rattle.mz_instance.specs.Instance.{IsInstance}
 use Rattle.fz_program.specs.Names.{Name}
 use Rattle.fz_program.specs.declared.program.Domain.{Domain}
 use Rattle.fz_program.specs.Flat.{Variable, Program}
-use Rattle.fz_emission.specs.Front.{domain_by, value_place}
-use Rattle.fz_emission.specs.Reading.{CellPlaces, Layout, Alone, Rows, value_alone, with_occurrence, layout_by}
+use Rattle.flat_meaning.specs.Front.{domain_by, value_place}
+use Rattle.flat_meaning.specs.Reading.{CellPlaces, Layout, Alone, Rows, value_alone, with_occurrence, layout_by}
 use Rattle.flat_meaning.specs.Faithful.{Faithful}
 
 -- of a cell whose first part has the number k

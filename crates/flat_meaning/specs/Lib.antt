@@ -1,2 +1,9 @@
 pub mod Faithful
 pub mod Found
+pub mod Solutions
+pub mod Front
+pub mod Reading
+pub mod Defined
+pub mod Goals
+pub mod Laws
+pub mod Sample

@@ -12,14 +12,14 @@ use Rattle.mz_arena.specs.Values.{access_term}
 use Rattle.mz_arena.specs.Terms.{term, kind_term}
 use Rattle.mz_arena.specs.Extents.{Known, whole, truth, subset, wholes, truths, subsets, empty, as_single, as_wholes, as_subsets, is_truths, before_extent, cons_extent, extent, kind_extent}
 use Rattle.mz_arena.specs.InBounds.{AreInDomains}
-use Rattle.mz_arena_laws.proofs.Terms as laws
+use Rattle.mz_arena.proofs.Terms as laws
 use Rattle.mz_partial.specs.Totals.{IsTotal}
 use Rattle.fz_program.specs.declared.row_name.RowName.{RowName}
 use Rattle.fz_program.specs.declared.row_name.Kind.TheVariants.{Int}
 use Rattle.fz_program.specs.Arguments.{Plain}
 use Rattle.fz_program.specs.Values.{Values}
 use Rattle.fz_program.specs.Flat.{Variable, Program, plain_value}
-use Rattle.fz_build_domains.specs.Bounds.{ends_of}
+use Rattle.fz_build.specs.Bounds.{ends_of}
 use Rattle.flat_reif_rows.specs.Standing.{seen, LiesWithin, Suits, extent_over}
 use Rattle.flat_reif_rows.specs.Elements.{AllWhole, AllSubset, AllTruth, AreElements, element_row, Reaches, AreAccessed, HasElement, MakesAccess, list_term}
 use Rattle.flat_reif_rows.proofs.Sorts.{OfWhole, whole_of}

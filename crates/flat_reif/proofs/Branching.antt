@@ -9,7 +9,7 @@ use Rattle.mz_arena.specs.Values as terms
 use Rattle.mz_arena.specs.Terms.{kind_term, term}
 use Rattle.mz_arena.specs.Extents.{Known, whole, truth, subset, wholes, truths, subsets, empty, as_whole, as_truth, as_subset, as_single, branch_extent, if_extent, extent}
 use Rattle.mz_arena.specs.InBounds.{AreInDomains}
-use Rattle.mz_arena_laws.proofs.Terms as laws
+use Rattle.mz_arena.proofs.Terms as laws
 use Rattle.mz_partial.specs.Totals.{IsTotal}
 use Rattle.fz_program.specs.declared.row_name.RowName.{RowName}
 use Rattle.fz_program.specs.declared.row_name.Kind.TheVariants.{Bool as Truth}

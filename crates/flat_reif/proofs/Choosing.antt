@@ -27,7 +27,7 @@ use Rattle.fz_program.specs.declared.row_name.Kind.TheVariants.{Int, Bool as Tru
 use Rattle.fz_program.specs.Arguments.{Plain, var, one, array, Argument, plain_of}
 use Rattle.fz_program.specs.Values as values
 use Rattle.fz_program.specs.Flat.{Variable, Program, IsInDomain, same_kind, kind_of_domain}
-use Rattle.fz_build_domains.specs.Bounds.{ends_of, upper_of}
+use Rattle.fz_build.specs.Bounds.{ends_of, upper_of}
 use Rattle.fz_build.specs.Build.{with_variable, introduced_variable}
 use Rattle.fz_build.specs.Growth.{HasDomain, Declares}
 use Rattle.fz_build.specs.History.{Made, adds_choice}

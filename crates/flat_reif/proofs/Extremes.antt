@@ -30,7 +30,7 @@ use Rattle.flat_reif.proofs.Steps.{Stands}
 use Rattle.flat_reif.proofs.Nodes.{term_here, extent_here}
 use Rattle.flat_reif.proofs.Given.{gives_at}
 use Rattle.flat_reif.proofs.Nodes.{same_stands, total_value}
-use Rattle.mz_arena_laws.proofs.Terms as laws
+use Rattle.mz_arena.proofs.Terms as laws
 use Rattle.flat_reif.proofs.Fixed.{int_suits}
 use Rattle.flat_reif.proofs.Gathering.{list_value, list_taken}
 

@@ -18,7 +18,7 @@ use Rattle.mz_arena.specs.Values.{Term, guard_term, is_true}
 use Rattle.mz_arena.specs.Terms.{term, kind_term}
 use Rattle.mz_arena.specs.Extents.{Known, whole, truth, subset, wholes, truths, subsets, empty, as_truth, as_single, extent, kind_extent, in_limit, is_bit, bool_extent, guard_extent, guarded_extent}
 use Rattle.mz_arena.specs.Arenas.{IsSetConst}
-use Rattle.mz_arena_laws.proofs.Terms as laws
+use Rattle.mz_arena.proofs.Terms as laws
 use Rattle.mz_partial.specs.Totals.{IsTotal}
 use Rattle.fz_program.specs.declared.row_name.Kind.TheVariants.{Int, Bool as Truth, Set}
 use Rattle.fz_program.specs.Arguments.{Plain, bool, int, set}

@@ -16,7 +16,7 @@ use Rattle.mz_arena.specs.Values.{Term, Val, not_term, to_int_term}
 use Rattle.mz_arena.specs.Terms.{term, kind_term}
 use Rattle.mz_arena.specs.Extents.{Known, whole, truth, subset, wholes, truths, subsets, empty, as_truth, open_truth, ends_in, sort_of, not_extent, to_int_extent, extent}
 use Rattle.mz_arena.specs.InBounds.{Lies}
-use Rattle.mz_arena_laws.proofs.Terms as laws
+use Rattle.mz_arena.proofs.Terms as laws
 use Rattle.fz_program.specs.declared.program.Arg.{Arg}
 use Rattle.fz_program.specs.declared.row_name.RowName.{RowName}
 use Rattle.fz_program.specs.declared.row_name.Kind.TheVariants.{Int, Bool as Truth}
@@ -28,7 +28,7 @@ use Rattle.flat_reif_rows.specs.Standing.{seen, LiesWithin, Suits, of_kind, exte
 use Rattle.flat_reif_rows.specs.NodeRows.{row_of_one, row_of_two}
 use Rattle.flat_reif_rows.specs.Laws.{is_own}
 use Rattle.flat_reif_rows.proofs.Truths.{truth_within}
-use Rattle.flat_reif_folds.specs.Folds.{truth_in, IsSame, IsNegated, IsCounted, IsFoldOfOne}
+use Rattle.flat_reif_rows.specs.Folds.{truth_in, IsSame, IsNegated, IsCounted, IsFoldOfOne}
 use Rattle.flat_reif.specs.States.{State, IsState, put_at}
 use Rattle.flat_reif.specs.Lists.{IsReady, Gives}
 use Rattle.flat_reif.specs.Unmet.{IsFixed}

@@ -12,7 +12,7 @@ use Rattle.mz_arena.proofs.Folds.{get-below}
 use Rattle.fz_program.specs.declared.program.Arg.{Arg}
 use Rattle.fz_program.specs.Arguments.{Plain, plain, plains}
 use Rattle.fz_program.specs.Values.{Values}
-use Rattle.fz_build_domains.proofs.Copies.{pushed_plains}
+use Rattle.fz_build.proofs.Copies.{pushed_plains}
 use Rattle.flat_reif_rows.specs.Standing.{seen}
 use Rattle.flat_reif_rows.specs.Elements.{list_term}
 use Rattle.flat_reif_rows.proofs.Chains.{plain_taken, all_in_turn}

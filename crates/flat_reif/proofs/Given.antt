@@ -16,7 +16,7 @@ use Rattle.flat_reif_rows.specs.NodeRows.{row_of_one, row_of_two, HasDivisor}
 use Rattle.flat_reif_rows.specs.Laws.{is_own}
 use Rattle.flat_reif_rows.specs.Making.{AreOperands, Makes}
 use Rattle.mz_interval.specs.Ends.{Ends}
-use Rattle.fz_build_domains.specs.Bounds.{ends_of}
+use Rattle.fz_build.specs.Bounds.{ends_of}
 use Rattle.flat_reif.specs.NodeKinds.{divides}
 use Rattle.flat_reif.specs.States.{State, IsState, Flattened, put_at}
 use Rattle.flat_reif.specs.Lists.{IsNode, ListArgs, nil, cons, HasArg, IsGiven, IsReady, Gives}

@@ -10,7 +10,7 @@ use Rattle.mz_interval.specs.Interval.{ends}
 use Rattle.mz_operations.specs.declared.row.Arith.{Arith}
 use Rattle.mz_operations.specs.declared.row.Arith.TheVariants as arith_row
 use Rattle.mz_operations.specs.Numbers.{computed}
-use Rattle.mz_operations_laws.specs.Monotone.{MayDivide}
+use Rattle.mz_operations.specs.Monotone.{MayDivide}
 use Rattle.mz_operations.specs.Bounds as bounds
 use Rattle.mz_operations.specs.Views.{◌>>=◌}
 use Rattle.mz_arena.specs.declared.node.Node.{Node}
@@ -25,7 +25,7 @@ use Rattle.mz_arena.specs.Terms.{term, kind_term}
 use Rattle.mz_arena.specs.Extents.{Known, whole, truth, subset, wholes, truths, subsets, empty, as_whole, as_list, ends_in, sort_of, arith_bounds, arith_extent, access_extent, element_extent, extent, kind_extent}
 use Rattle.mz_arena.specs.InBounds.{AreInDomains, HasSets}
 use Rattle.mz_arena.proofs.Folds.{get-below}
-use Rattle.mz_arena_laws.proofs.Terms as laws
+use Rattle.mz_arena.proofs.Terms as laws
 use Rattle.mz_partial.specs.Totals.{IsOpen, Counts}
 use Rattle.fz_program.specs.declared.row_name.RowName.{RowName}
 use Rattle.fz_program.specs.declared.row_name.Kind.TheVariants.{Int, Bool as Truth, Set}
@@ -36,7 +36,7 @@ use Rattle.fz_program.specs.Values.{Value, Values, number_in}
 use Rattle.fz_program.specs.Flat.{Variable, plain_value}
 use Rattle.fz_build.specs.Build.{IsOver}
 use Rattle.fz_build.specs.Growth.{EndsEnclose}
-use Rattle.fz_build_domains.specs.Bounds.{ends_of}
+use Rattle.fz_build.specs.Bounds.{ends_of}
 use Rattle.flat_reif_rows.specs.Standing.{seen, LiesWithin, IsPartOf, Suits, of_kind, extent_over}
 use Rattle.flat_reif_rows.specs.NodeRows.{row_of_two, HasDivisor}
 use Rattle.flat_reif_rows.specs.Elements.{Reaches, ReachesNone, list_term, element_row}

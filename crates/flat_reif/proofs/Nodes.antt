@@ -10,7 +10,7 @@ use Rattle.mz_arena.specs.Terms.{term, node_term}
 use Rattle.mz_arena.specs.Extents.{Known, extent, extents, node_extent}
 use Rattle.mz_arena.specs.InBounds.{AreInDomains, AreInBounds}
 use Rattle.mz_arena.proofs.Folds.{unroll}
-use Rattle.mz_arena_laws.proofs.Terms as laws
+use Rattle.mz_arena.proofs.Terms as laws
 use Rattle.mz_partial.specs.Totals.{IsTotal}
 use Rattle.mz_partial.proofs.Standing.{total_some}
 use Rattle.fz_program.specs.Arguments.{Plain}

@@ -18,7 +18,7 @@ use Rattle.fz_program.specs.Values.{Value, Values}
 use Rattle.fz_program.specs.Flat.{Variable, Program, FlatSolves, is_plain, plain_value}
 use Rattle.fz_build.specs.Growth.{Grows}
 use Rattle.fz_build.proofs.Values.{domains_length}
-use Rattle.fz_build_domains.specs.Bounds.{ends_of}
+use Rattle.fz_build.specs.Bounds.{ends_of}
 use Rattle.flat_reif_rows.specs.Standing.{seen, LiesWithin, Suits, AllSuit, extent_over, term_over}
 use Rattle.flat_reif_rows.specs.NodeRows.{sum_inputs}
 use Rattle.flat_reif_rows.specs.Making.{AreOperands, Gives, GoesOnMade, HasValue, Makes, MayGive}

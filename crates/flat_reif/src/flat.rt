@@ -7,7 +7,7 @@ ghost use Rattle.mz_partial.specs.Totals.{AreParts};
 ghost use Rattle.fz_program.specs.Flat.{WellFormed, array_item, is_goal, program, variable};
 ghost use Rattle.fz_build.specs.Build.{MayAdd, MayDeclare, with_array, with_goal};
 ghost use Rattle.mz_arena.specs.Extents.{as_single, extent};
-ghost use Rattle.fz_build_domains.specs.Bounds.{ends_of};
+ghost use Rattle.fz_build.specs.Bounds.{ends_of};
 ghost use Rattle.flat_reif_rows.specs.Branches.{branch_row};
 ghost use Rattle.flat_reif_rows.specs.Elements.{Reaches, element_row};
 ghost use Rattle.fz_program.specs.Arguments.{plain, plains};
@@ -25,10 +25,10 @@ use crate::constant::{
 use crate::domain::free_domain;
 use crate::needed::Needed;
 use crate::table::{copied, divides, is_local, place_of, put, row_of_element};
-use flat_reif_folds::{Fold, fold_of_one, fold_of_two};
 use flat_reif_rows::{
-    defined, made_of_access, made_of_branches, made_of_extreme, made_of_one, made_of_sum,
-    made_of_two, may_divide, may_reach, post_false, post_test, post_true, row_of_one, row_of_two,
+    Fold, defined, fold_of_one, fold_of_two, made_of_access, made_of_branches, made_of_extreme,
+    made_of_one, made_of_sum, made_of_two, may_divide, may_reach, post_false, post_test, post_true,
+    row_of_one, row_of_two,
 };
 use fz_build::Build;
 use fz_program::{Arg, FzArray, FzGoal, FzProgram, FzVar, RowName};

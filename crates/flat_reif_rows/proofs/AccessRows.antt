@@ -12,13 +12,13 @@ use Rattle.mz_operations.specs.Laws.{IsSet, IsPart, AreSets}
 use Rattle.mz_operations.proofs.Arithmetic.{hull_encloses}
 use Rattle.mz_operations.proofs.SetMembers.{union_set, union_members}
 use Rattle.mz_operations.proofs.SetBounds.{union_encloses, part_part}
-use Rattle.mz_operations_laws.specs.Monotone.{IsWithin}
-use Rattle.mz_operations_laws.proofs.Numbers.{hull_within, ends_within as within_ends, low_end, high_end}
+use Rattle.mz_operations.specs.Monotone.{IsWithin}
+use Rattle.mz_operations.proofs.Numbers.{hull_within, ends_within as within_ends, low_end, high_end}
 use Rattle.mz_arena.specs.declared.node.NodeKind.TheVariants as kinds
 use Rattle.mz_arena.specs.Values as terms
 use Rattle.mz_arena.specs.Extents.{Known, whole, wholes, truth, truths, subset, subsets, empty, reached, skipped, access_extent}
-use Rattle.mz_arena_laws.proofs.Lists.{reached_at}
-use Rattle.mz_arena_laws.proofs.Sets.{reached_sets}
+use Rattle.mz_arena.proofs.BoundsOfLists.{reached_at}
+use Rattle.mz_arena.proofs.Sets.{reached_sets}
 use Rattle.fz_program.specs.declared.program.Domain.{Domain}
 use Rattle.fz_program.specs.declared.program.Domain.TheVariants.{Bool as Truths, Ints as Integers, SetOf}
 use Rattle.fz_program.specs.declared.row_name.RowName.{RowName}
@@ -30,10 +30,10 @@ use Rattle.fz_program.specs.Values as values
 use Rattle.fz_program.specs.Values.{Value, Values, number_in, set_in}
 use Rattle.fz_program.specs.Table.{line}
 use Rattle.fz_program.specs.Flat.{Variable, Program, AreInDomains, IsSome as HasSome, plain_value, argument_value, same_kind, kind_of_domain, is_plain, is_argument, are_arguments}
-use Rattle.fz_build_domains.specs.Inputs.{is_sum}
-use Rattle.fz_build_domains.specs.Results.{result_given}
-use Rattle.fz_build_domains.specs.Bounds.{AreInputs, result_domain, form_of, domain_by, ends_of, upper_of, domain_upper, hull_reached, union_reached}
-use Rattle.fz_build_domains.specs.Bounds as domains
+use Rattle.fz_build.specs.Inputs.{is_sum}
+use Rattle.fz_build.specs.Results.{result_given}
+use Rattle.fz_build.specs.Bounds.{AreInputs, result_domain, form_of, domain_by, ends_of, upper_of, domain_upper, hull_reached, union_reached}
+use Rattle.fz_build.specs.Bounds as domains
 use Rattle.fz_build.specs.Growth.{HasDomain, AreKept}
 use Rattle.flat_reif_rows.specs.Standing.{seen_maybe, LiesWithin, IsPartOf, Suits, extent_over}
 use Rattle.flat_reif_rows.specs.Elements.{AllWhole, AllTruth, AllSubset, AreElements, element_row, element_inputs, Reaches, access_over}

@@ -5,7 +5,7 @@ use Rattle.mz_arena.specs.Extents.{whole}
 use Rattle.fz_program.specs.declared.row_name.RowName.{RowName}
 use Rattle.fz_program.specs.Arguments.{Plain, Argument, one, plain_of}
 use Rattle.fz_program.specs.Flat.{Program, argument_value}
-use Rattle.fz_build_domains.specs.Results.{result_given}
+use Rattle.fz_build.specs.Results.{result_given}
 use Rattle.flat_reif_rows.specs.Standing.{seen_maybe}
 use Rattle.flat_reif_rows.specs.Elements.{AreAccessed, element_inputs, HasElement, MakesAccess, is_fixed, chosen_row}
 use Rattle.flat_reif_rows.specs.Making.{MayGive, GivesSome, Gives}

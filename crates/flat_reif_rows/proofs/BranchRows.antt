@@ -23,7 +23,7 @@ use Rattle.fz_program.specs.Values as values
 use Rattle.fz_program.specs.Values.{Value, Values, number_in, set_in}
 use Rattle.fz_program.specs.Flat.{Variable, Program, FlatSolves, AreInDomains, plain_value, is_plain, is_constant, same_kind}
 use Rattle.fz_build.specs.Growth.{AreKept, Grows}
-use Rattle.fz_build_domains.specs.Bounds.{ends_of}
+use Rattle.fz_build.specs.Bounds.{ends_of}
 use Rattle.flat_reif_rows.specs.Standing.{seen, LiesWithin, IsPartOf, Suits, of_kind, extent_over, term_over}
 use Rattle.flat_reif_rows.specs.Making.{AreOperands, HasValue, Makes}
 use Rattle.flat_reif_rows.specs.Elements.{AllWhole, AllTruth, AllSubset, AreElements, Reaches, AreAccessed, list_term, access_over, HasElement, MakesAccess}

@@ -9,8 +9,8 @@ use Rattle.fz_program.specs.Values as values
 use Rattle.fz_program.specs.Values.{Value, Values, number_in, set_in}
 use Rattle.fz_program.specs.Table.{line}
 use Rattle.fz_program.specs.Flat.{plain_value, argument_value}
-use Rattle.fz_build_domains.specs.Inputs.{is_sum}
-use Rattle.fz_build_domains.specs.Results.{result_given}
+use Rattle.fz_build.specs.Inputs.{is_sum}
+use Rattle.fz_build.specs.Results.{result_given}
 use Rattle.flat_reif_rows.specs.Standing.{seen, seen_maybe}
 use Rattle.flat_reif_rows.specs.Elements.{list_term, access_over, element_inputs}
 

@@ -9,8 +9,8 @@ use Rattle.mz_operations.specs.declared.row.Side.{Side}
 use Rattle.mz_operations.specs.declared.row.Side.TheVariants.{Least, Greatest}
 use Rattle.mz_operations.specs.Numbers.{toward, computed}
 use Rattle.mz_operations.specs.Bounds.{arith_ends, toward_ends, extreme_from, extreme_ends}
-use Rattle.mz_operations_laws.specs.Monotone.{IsWithin, MayDivide}
-use Rattle.mz_operations_laws.proofs.Numbers.{arith_is_monotone}
+use Rattle.mz_operations.specs.Monotone.{IsWithin, MayDivide}
+use Rattle.mz_operations.proofs.Numbers.{arith_is_monotone}
 use Rattle.mz_arena.specs.Values as terms
 use Rattle.mz_arena.specs.Extents.{whole}
 use Rattle.mz_arena.specs.Values.{extreme_number, extreme_value, extreme_term, cons_term}
@@ -22,11 +22,11 @@ use Rattle.fz_program.specs.Values.{Value, Values, number_in}
 use Rattle.fz_program.specs.Table.{line}
 use Rattle.fz_program.specs.Flat.{Variable, Program, FlatSolves, plain_value, argument_value, is_plain, is_argument}
 use Rattle.fz_build.specs.Growth.{AreKept, Grows}
-use Rattle.fz_build.specs.Results.{is_linear_row}
-use Rattle.fz_build_domains.specs.Inputs.{is_sum}
-use Rattle.fz_build_domains.specs.Results.{result_given}
-use Rattle.fz_build_domains.specs.Bounds.{AreInputs, result_domain, form_of, domain_by, ends_of, arith_by}
-use Rattle.fz_build_domains.specs.Bounds as domains
+use Rattle.fz_build.specs.Asked.{is_linear_row}
+use Rattle.fz_build.specs.Inputs.{is_sum}
+use Rattle.fz_build.specs.Results.{result_given}
+use Rattle.fz_build.specs.Bounds.{AreInputs, result_domain, form_of, domain_by, ends_of, arith_by}
+use Rattle.fz_build.specs.Bounds as domains
 use Rattle.flat_reif_rows.specs.Standing.{seen, LiesWithin}
 use Rattle.flat_reif_rows.specs.Making.{MayGive, GivesSome, Gives}
 use Rattle.flat_reif_rows.specs.Elements.{AllWhole, list_term}

@@ -14,9 +14,9 @@ use Rattle.fz_program.specs.Arguments.{Plain, bool, int, set, var, nested, Argum
 use Rattle.fz_program.specs.Values.{ArgumentValue}
 use Rattle.fz_program.specs.Table.{line}
 use Rattle.fz_program.specs.Flat.{Variable, Program, argument_value, is_plain, is_constant, is_argument}
-use Rattle.fz_build_domains.specs.Inputs.{is_sum}
-use Rattle.fz_build_domains.specs.Results.{result_given}
-use Rattle.fz_build_domains.specs.Bounds.{result_domain, form_of}
+use Rattle.fz_build.specs.Inputs.{is_sum}
+use Rattle.fz_build.specs.Results.{result_given}
+use Rattle.fz_build.specs.Bounds.{result_domain, form_of}
 use Rattle.flat_reif_rows.specs.Standing.{LiesWithin}
 use Rattle.flat_reif_rows.specs.Making.{MayGive, GivesSome, Gives}
 use Rattle.flat_reif_rows.specs.Elements.{AreElements, element_row, element_inputs, fixed_row, is_fixed, chosen_row}

@@ -9,10 +9,10 @@ use Rattle.fz_program.specs.declared.row_name.RowName.{RowName}
 use Rattle.fz_program.specs.Arguments.{Plain, Argument, one, array, plain_of}
 use Rattle.fz_program.specs.Values.{Value, Values}
 use Rattle.fz_program.specs.Flat.{Variable, Program, FlatSolves, AreInDomains, IsSome as HasSome, argument_value}
-use Rattle.fz_build_domains.specs.Results.{result_given}
-use Rattle.fz_build_domains.specs.Bounds.{result_domain, HoldsResults}
+use Rattle.fz_build.specs.Results.{result_given}
+use Rattle.fz_build.specs.Bounds.{result_domain, HoldsResults}
 use Rattle.fz_build.specs.Build.{IsOver, IsArgumentOver}
-use Rattle.fz_build.specs.Results.{MayDefine}
+use Rattle.fz_build.specs.Asked.{MayDefine}
 use Rattle.fz_build.specs.Growth.{Grows, HasDomain, HasResult, Defines, IsAdded}
 use Rattle.fz_build.specs.History.{Made, adds_defined}
 use Rattle.fz_build.proofs.Definable.{may_define}

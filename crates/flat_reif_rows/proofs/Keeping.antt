@@ -8,7 +8,7 @@ use Rattle.fz_program.specs.declared.row_name.Kind.{Kind}
 use Rattle.fz_program.specs.declared.row_name.Kind.TheVariants.{Int, Bool as Truth, Set}
 use Rattle.fz_program.specs.Arguments.{Plain, bool, int, set, var, nested}
 use Rattle.fz_program.specs.Flat.{Variable, is_kind, is_plain}
-use Rattle.fz_build_domains.specs.Bounds.{ends_of, upper_of, variable_ends, variable_upper}
+use Rattle.fz_build.specs.Bounds.{ends_of, upper_of, variable_ends, variable_upper}
 use Rattle.fz_build.specs.Growth.{AreKept}
 use Rattle.flat_reif_rows.specs.Standing.{LiesWithin, IsPartOf, Suits, AllSuit}
 

@@ -7,7 +7,7 @@ use Rattle.mz_arena.specs.declared.node.NodeKind.TheVariants as kinds
 use Rattle.fz_program.specs.declared.row_name.RowName.{RowName}
 use Rattle.fz_program.specs.declared.row_name.RowName.TheVariants as rows
 use Rattle.fz_program.specs.Arguments.{Plain, one}
-use Rattle.fz_build_domains.specs.Bounds.{ends_of}
+use Rattle.fz_build.specs.Bounds.{ends_of}
 use Rattle.flat_reif_rows.specs.NodeRows.{row_of_one, row_of_two, inputs_of_two, HasDivisor}
 use Rattle.flat_reif_rows.proofs.Sorts.{of_integer, of_truth, of_set}
 use Rattle.flat_reif_rows.proofs.Given.{RowFits, Always}

@@ -25,3 +25,4 @@ pub mod Exchanging
 pub mod Truths
 pub mod ConstantBranches
 pub mod WorkedRows
+pub mod Folded

@@ -16,9 +16,9 @@ use Rattle.mz_operations.specs.declared.row.Sign.TheVariants as sign_row
 use Rattle.mz_operations.specs.Bounds.{arith_ends, sign_ends, toward_ends, card_ends}
 use Rattle.mz_operations.specs.Numbers.{computed, toward}
 use Rattle.mz_operations.specs.Views.{◌>>=◌}
-use Rattle.mz_operations_laws.specs.Monotone.{IsWithin, MayDivide}
-use Rattle.mz_operations_laws.proofs.Numbers.{arith_is_monotone, sign_is_monotone}
-use Rattle.mz_operations_laws.proofs.Sets.{card_is_monotone}
+use Rattle.mz_operations.specs.Monotone.{IsWithin, MayDivide}
+use Rattle.mz_operations.proofs.Numbers.{arith_is_monotone, sign_is_monotone}
+use Rattle.mz_operations.proofs.Sets.{card_is_monotone}
 use Rattle.mz_arena.specs.declared.node.NodeKind.{NodeKind}
 use Rattle.mz_arena.specs.declared.node.NodeKind.TheVariants as kinds
 use Rattle.mz_arena.specs.Values as terms
@@ -36,11 +36,11 @@ use Rattle.fz_program.specs.Values as values
 use Rattle.fz_program.specs.Values.{Value, Values}
 use Rattle.fz_program.specs.Table.{line}
 use Rattle.fz_program.specs.Flat.{Variable, Program, AreInDomains, IsSome as HasSome, argument_value, same_kind, kind_of_domain, is_plain, is_argument, are_arguments}
-use Rattle.fz_build_domains.specs.Inputs.{is_sum}
-use Rattle.fz_build_domains.specs.Results.{result_given}
-use Rattle.fz_build_domains.specs.Bounds.{AreInputs, result_domain, form_of, domain_by, ends_of, upper_of, domain_ends, arith_by, magnitude_by}
-use Rattle.fz_build_domains.specs.Bounds as domains
-use Rattle.fz_build.specs.Results.{is_linear_row}
+use Rattle.fz_build.specs.Inputs.{is_sum}
+use Rattle.fz_build.specs.Results.{result_given}
+use Rattle.fz_build.specs.Bounds.{AreInputs, result_domain, form_of, domain_by, ends_of, upper_of, domain_ends, arith_by, magnitude_by}
+use Rattle.fz_build.specs.Bounds as domains
+use Rattle.fz_build.specs.Asked.{is_linear_row}
 use Rattle.fz_build.specs.Growth.{HasDomain}
 use Rattle.flat_reif_rows.specs.Standing.{seen, seen_maybe, LiesWithin, IsPartOf, Suits, AllSuit, of_kind, extent_over, term_over}
 use Rattle.flat_reif_rows.specs.Making.{MayGive}

@@ -5,7 +5,7 @@ use Rattle.mz_arena.specs.Extents.{Known, whole, truth, subset, wholes, truths, 
 use Rattle.fz_program.specs.declared.row_name.RowName.{RowName}
 use Rattle.fz_program.specs.Arguments.{Plain, Argument, one, array, plain_of}
 use Rattle.fz_program.specs.Flat.{Variable, Program}
-use Rattle.fz_build_domains.specs.Bounds.{ends_of}
+use Rattle.fz_build.specs.Bounds.{ends_of}
 use Rattle.flat_reif_rows.specs.Standing.{Suits, AllSuit}
 use Rattle.flat_reif_rows.specs.NodeRows.{row_of_one, row_of_two, inputs_of_two, HasDivisor}
 use Rattle.flat_reif_rows.specs.Making.{MayGive, Gives, AreOperands, Makes}

@@ -21,10 +21,10 @@ use Rattle.fz_program.specs.Values as values
 use Rattle.fz_program.specs.Values.{Value, Values}
 use Rattle.fz_program.specs.Table.{line}
 use Rattle.fz_program.specs.Flat.{Variable, Program, AreInDomains, argument_value, same_kind, kind_of_domain, is_plain, is_argument, are_arguments}
-use Rattle.fz_build_domains.specs.Inputs.{is_sum}
-use Rattle.fz_build_domains.specs.Results.{result_given}
-use Rattle.fz_build_domains.specs.Bounds.{AreInputs, result_domain, form_of, domain_by, ends_of, upper_of, domain_ends, domain_upper}
-use Rattle.fz_build_domains.specs.Bounds as domains
+use Rattle.fz_build.specs.Inputs.{is_sum}
+use Rattle.fz_build.specs.Results.{result_given}
+use Rattle.fz_build.specs.Bounds.{AreInputs, result_domain, form_of, domain_by, ends_of, upper_of, domain_ends, domain_upper}
+use Rattle.fz_build.specs.Bounds as domains
 use Rattle.fz_build.specs.Growth.{HasDomain}
 use Rattle.flat_reif_rows.specs.Standing.{seen, seen_maybe, LiesWithin, Suits, AllSuit, of_kind, extent_over, term_over}
 use Rattle.flat_reif_rows.specs.Making.{MayGive}

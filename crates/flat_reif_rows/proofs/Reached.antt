@@ -6,10 +6,10 @@ use Rattle.mz_value.specs.Ranges.{Range}
 use Rattle.mz_value.proofs.Comparisons.{int_le_true}
 use Rattle.mz_interval.specs.Ends.{Ends, Encloses, hull_of}
 use Rattle.mz_operations.specs.Sets.{union, is_within}
-use Rattle.mz_operations_laws.specs.Monotone.{IsWithin}
+use Rattle.mz_operations.specs.Monotone.{IsWithin}
 use Rattle.fz_program.specs.Arguments.{Plain}
 use Rattle.fz_program.specs.Flat.{Variable}
-use Rattle.fz_build_domains.specs.Bounds.{ends_of, upper_of, joined, hull_with, hull_reached, union_with, union_reached}
+use Rattle.fz_build.specs.Bounds.{ends_of, upper_of, joined, hull_with, hull_reached, union_with, union_reached}
 use Rattle.flat_reif_rows.specs.Elements.{Reaches}
 
 -- ---- what holds of all hulls that are made of elements that are reached

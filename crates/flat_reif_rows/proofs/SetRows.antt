@@ -6,14 +6,14 @@ use Rattle.mz_operations.specs.Laws.{IsSet, IsPart}
 use Rattle.mz_operations.specs.declared.row.SetOp.{SetOp}
 use Rattle.mz_operations.specs.declared.row.SetOp.TheVariants.{Union, Intersect, Diff, Symdiff}
 use Rattle.mz_operations.specs.Views.{◌>>=◌}
-use Rattle.mz_operations_laws.proofs.Sets.{set_is_monotone}
+use Rattle.mz_operations.proofs.Sets.{set_is_monotone}
 use Rattle.mz_arena.specs.declared.node.NodeKind.{NodeKind}
 use Rattle.mz_arena.specs.declared.node.NodeKind.TheVariants as kinds
 use Rattle.mz_arena.specs.Values as terms
 use Rattle.mz_arena.specs.Values.{set_term}
 use Rattle.mz_arena.specs.Terms.{kind_term}
 use Rattle.mz_arena.specs.Extents.{Known, subset, as_subset, set_extent}
-use Rattle.mz_arena_laws.proofs.Sets.{upper_set}
+use Rattle.mz_arena.proofs.Sets.{upper_set}
 use Rattle.fz_program.specs.declared.program.Domain.{Domain}
 use Rattle.fz_program.specs.declared.program.Domain.TheVariants.{SetOf}
 use Rattle.fz_program.specs.declared.row_name.RowName.{RowName}
@@ -24,10 +24,10 @@ use Rattle.fz_program.specs.Values as values
 use Rattle.fz_program.specs.Values.{Value, Values}
 use Rattle.fz_program.specs.Table.{line}
 use Rattle.fz_program.specs.Flat.{Variable, Program, AreInDomains, argument_value, same_kind, kind_of_domain, is_plain, is_argument}
-use Rattle.fz_build_domains.specs.Inputs.{is_sum}
-use Rattle.fz_build_domains.specs.Results.{result_given}
-use Rattle.fz_build_domains.specs.Bounds.{AreInputs, result_domain, form_of, domain_by, upper_of, domain_upper}
-use Rattle.fz_build.specs.Results.{is_linear_row}
+use Rattle.fz_build.specs.Inputs.{is_sum}
+use Rattle.fz_build.specs.Results.{result_given}
+use Rattle.fz_build.specs.Bounds.{AreInputs, result_domain, form_of, domain_by, upper_of, domain_upper}
+use Rattle.fz_build.specs.Asked.{is_linear_row}
 use Rattle.fz_build.specs.Growth.{HasDomain}
 use Rattle.flat_reif_rows.specs.Standing.{seen, seen_maybe, IsPartOf, Suits, AllSuit, of_kind, extent_over, term_over}
 use Rattle.flat_reif_rows.specs.Making.{MayGive}

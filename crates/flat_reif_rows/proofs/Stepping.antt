@@ -13,7 +13,7 @@ use Rattle.fz_program.specs.Values.{Values}
 use Rattle.fz_program.specs.Flat.{Variable, Program, FlatSolves}
 use Rattle.fz_build.specs.Growth.{Grows}
 use Rattle.fz_build.proofs.Values.{domains_length}
-use Rattle.fz_build_domains.proofs.Copies.{pushed_plains}
+use Rattle.fz_build.proofs.Copies.{pushed_plains}
 use Rattle.flat_reif_rows.specs.Standing.{seen, LiesWithin}
 use Rattle.flat_reif_rows.specs.Making.{MayGive, Gives}
 use Rattle.flat_reif_rows.specs.Elements.{AllWhole}

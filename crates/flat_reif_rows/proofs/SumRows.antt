@@ -26,10 +26,10 @@ use Rattle.fz_program.specs.Values as values
 use Rattle.fz_program.specs.Values.{Value, Values, linear}
 use Rattle.fz_program.specs.Table.{line}
 use Rattle.fz_program.specs.Flat.{Variable, Program, AreInDomains, IsSome as HasSome, argument_value, is_constant, is_plain, same_kind, is_argument, are_arguments, end_magnitude, domain_magnitude, magnitude_at, magnitude, weight, most, is_within}
-use Rattle.fz_build_domains.specs.Inputs.{is_sum}
-use Rattle.fz_build_domains.specs.Results.{result_given}
-use Rattle.fz_build_domains.specs.Bounds.{AreInputs, result_domain, form_of, domain_by, ends_of, domain_ends, variable_ends, plus, times, sum_ends, negative, excess_ends}
-use Rattle.fz_build_domains.specs.Bounds as domains
+use Rattle.fz_build.specs.Inputs.{is_sum}
+use Rattle.fz_build.specs.Results.{result_given}
+use Rattle.fz_build.specs.Bounds.{AreInputs, result_domain, form_of, domain_by, ends_of, domain_ends, variable_ends, plus, times, sum_ends, negative, excess_ends}
+use Rattle.fz_build.specs.Bounds as domains
 use Rattle.fz_build.specs.Build.{args_with, defined_variable}
 use Rattle.fz_build.specs.Growth.{AreKept, HasDomain}
 use Rattle.fz_build.proofs.Lists.{get_more, get_last}

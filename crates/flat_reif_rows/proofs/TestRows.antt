@@ -17,7 +17,7 @@ use Rattle.fz_program.specs.Values as values
 use Rattle.fz_program.specs.Values.{Value, Values, ArgumentValue}
 use Rattle.fz_program.specs.Table.{Meaning, tests, gives, line, Holds, answer_of}
 use Rattle.fz_program.specs.Flat.{Variable, RowHolds, AreInDomains, number_of_truth, plain_value, argument_value, is_plain, is_constant, same_kind, is_argument, are_arguments, is_within, IsWellFormedRow}
-use Rattle.fz_build_domains.specs.Results.{is_giving}
+use Rattle.fz_build.specs.Results.{is_giving}
 use Rattle.fz_build.specs.Build.{constraint}
 use Rattle.flat_reif_rows.specs.Standing.{seen, AllSuit, of_kind, extent_over, term_over}
 use Rattle.flat_reif_rows.specs.RootRows.{test_of, is_clause_kind, test_inputs_by, test_inputs, truth_row}

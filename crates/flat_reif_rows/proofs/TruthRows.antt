@@ -23,10 +23,10 @@ use Rattle.fz_program.specs.Values as values
 use Rattle.fz_program.specs.Values.{Value, Values, ArgumentValue}
 use Rattle.fz_program.specs.Table.{line}
 use Rattle.fz_program.specs.Flat.{Variable, Program, AreInDomains, plain_value, argument_value, is_kind, same_kind, kind_of_domain, is_plain, is_argument, are_arguments}
-use Rattle.fz_build_domains.specs.Inputs.{is_sum}
-use Rattle.fz_build_domains.specs.Results.{result_given}
-use Rattle.fz_build_domains.specs.Bounds.{AreInputs, result_domain, form_of, domain_by, ends_of, upper_of, domain_ends, domain_upper, variable_ends, variable_upper}
-use Rattle.fz_build.specs.Results.{is_linear_row}
+use Rattle.fz_build.specs.Inputs.{is_sum}
+use Rattle.fz_build.specs.Results.{result_given}
+use Rattle.fz_build.specs.Bounds.{AreInputs, result_domain, form_of, domain_by, ends_of, upper_of, domain_ends, domain_upper, variable_ends, variable_upper}
+use Rattle.fz_build.specs.Asked.{is_linear_row}
 use Rattle.fz_build.specs.Growth.{HasDomain}
 use Rattle.flat_reif_rows.specs.Standing.{seen, seen_maybe, Suits, AllSuit, of_kind, extent_over, term_over}
 use Rattle.flat_reif_rows.specs.NodeRows.{is_joined, inputs_by, inputs_of_two}

@@ -9,7 +9,7 @@ use Rattle.fz_program.specs.declared.program.Domain.TheVariants.{Bool as Truths,
 use Rattle.fz_program.specs.declared.row_name.Kind.TheVariants.{Bool as Truth}
 use Rattle.fz_program.specs.Arguments.{Plain, bool, int, set, var, nested}
 use Rattle.fz_program.specs.Flat.{Variable, same_kind, kind_of_domain, is_kind, is_constant, is_plain}
-use Rattle.fz_build_domains.specs.Bounds.{ends_of, variable_ends, domain_ends}
+use Rattle.fz_build.specs.Bounds.{ends_of, variable_ends, domain_ends}
 use Rattle.flat_reif_rows.specs.Standing.{LiesWithin}
 
 truth_domain : (d : Domain) (v : Variable) → v.domain ≡ d → same_kind Truth (kind_of_domain d) ≡ true → variable_ends (Some v) ≡ bounds.truth

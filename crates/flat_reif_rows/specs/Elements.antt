@@ -15,7 +15,7 @@ use Rattle.fz_program.specs.Values.{Values}
 use Rattle.fz_program.specs.Flat.{Variable, Program, FlatSolves, is_plain, plain_value}
 use Rattle.fz_build.specs.Build.{IsOver}
 use Rattle.fz_build.specs.Growth.{Grows}
-use Rattle.fz_build_domains.specs.Bounds.{ends_of}
+use Rattle.fz_build.specs.Bounds.{ends_of}
 use Rattle.flat_reif_rows.specs.Standing.{seen, LiesWithin, IsPartOf, Suits, of_kind, extent_over}
 use Rattle.flat_reif_rows.specs.Making.{GoesOnMade}
 

@@ -6,3 +6,4 @@ pub mod Elements
 pub mod Branches
 pub mod Extremes
 pub mod Laws
+pub mod Folds

@@ -8,10 +8,10 @@ use Rattle.fz_program.specs.declared.row_name.RowName.{RowName}
 use Rattle.fz_program.specs.Arguments.{Plain, Argument}
 use Rattle.fz_program.specs.Values.{Value, Values}
 use Rattle.fz_program.specs.Flat.{Variable, Program, FlatSolves, IsSome as HasSome, argument_value, plain_value, is_within}
-use Rattle.fz_build_domains.specs.Results.{result_given}
-use Rattle.fz_build_domains.specs.Bounds.{AreInputs, result_domain}
+use Rattle.fz_build.specs.Results.{result_given}
+use Rattle.fz_build.specs.Bounds.{AreInputs, result_domain}
 use Rattle.fz_build.specs.Build.{IsOver, args_with, defined_variable}
-use Rattle.fz_build.specs.Results.{is_linear_row}
+use Rattle.fz_build.specs.Asked.{is_linear_row}
 use Rattle.fz_build.specs.Growth.{Grows, HasDomain}
 use Rattle.fz_build.specs.History.{Made}
 use Rattle.flat_reif_rows.specs.Standing.{seen, Suits, AllSuit, extent_over, term_over}

@@ -1,7 +1,7 @@
 -- The rows that give nodes from their children's arguments.
 use Rattle.std.specs.Prelude.{◌≡◌, ℤ, pos, List, [], ◌∷◌, Bool, true, false, Option, Some, None}
 use Rattle.mz_interval.specs.Ends.{Ends}
-use Rattle.mz_operations_laws.specs.Monotone.{MayDivide}
+use Rattle.mz_operations.specs.Monotone.{MayDivide}
 use Rattle.mz_arena.specs.declared.node.NodeKind.{NodeKind}
 use Rattle.mz_arena.specs.declared.node.NodeKind.TheVariants as kinds
 use Rattle.fz_program.specs.declared.row_name.RowName.{RowName}

@@ -15,7 +15,7 @@ use Rattle.fz_program.specs.Arguments.{Plain}
 use Rattle.fz_program.specs.Values as values
 use Rattle.fz_program.specs.Values.{Value, Values}
 use Rattle.fz_program.specs.Flat.{Variable, is_plain, plain_value}
-use Rattle.fz_build_domains.specs.Bounds.{ends_of, upper_of}
+use Rattle.fz_build.specs.Bounds.{ends_of, upper_of}
 
 -- ---- values
 

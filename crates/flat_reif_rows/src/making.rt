@@ -3,7 +3,7 @@
 ghost use Rattle.std.specs.Prelude.{◌≡◌, ◌∷◌, [], IfOk, OnErr, map, Some, true};
 ghost use Rattle.mz_arena.specs.declared.node.NodeKind.TheVariants.{Add, Mul};
 ghost use Rattle.fz_program.specs.Arguments.{argument, int, plain};
-ghost use Rattle.fz_build_domains.specs.Bounds.{ends_of};
+ghost use Rattle.fz_build.specs.Bounds.{ends_of};
 ghost use Rattle.flat_reif_rows.specs.NodeRows.{HasDivisor, inputs_by, inputs_of_two, multiple_inputs, row_of_one, row_of_two, sum_inputs};
 ghost use Rattle.flat_reif_rows.specs.Making.{AreOperands, Gives, Makes, MayGive};
 

@@ -1,9 +1,9 @@
 // Whether operands have values for which a node is defined, by their ranges.
 
 ghost use Rattle.std.specs.Prelude.{◌≡◌, ◌<◌, ◌^◌, pos, true, false};
-ghost use Rattle.mz_operations_laws.specs.Monotone.{MayDivide};
+ghost use Rattle.mz_operations.specs.Monotone.{MayDivide};
 ghost use Rattle.fz_program.specs.Arguments.{plain};
-ghost use Rattle.fz_build_domains.specs.Bounds.{ends_of};
+ghost use Rattle.fz_build.specs.Bounds.{ends_of};
 ghost use Rattle.fz_build.specs.Growth.{EndsEnclose};
 ghost use Rattle.flat_reif_rows.specs.Elements.{Reaches, ReachesNone};
 

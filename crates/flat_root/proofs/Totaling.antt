@@ -7,7 +7,7 @@ use Rattle.mz_arena.specs.Values.{Term, Val, bit, is_true}
 use Rattle.mz_arena.specs.Terms.{term}
 use Rattle.mz_arena.specs.Extents.{Known, as_truth, extent}
 use Rattle.mz_arena.specs.Arenas.{Extends}
-use Rattle.mz_arena_laws.proofs.Terms as laws
+use Rattle.mz_arena.proofs.Terms as laws
 use Rattle.mz_partial.specs.declared.memo.Pair.{Pair}
 use Rattle.mz_partial.specs.Totals.{only, IsTruth}
 use Rattle.mz_partial.proofs.Standing.{extent_in, total_later}

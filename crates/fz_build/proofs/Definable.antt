@@ -13,11 +13,11 @@ use Rattle.fz_program.specs.declared.row_name.Kind.TheVariants.{Int, Bool as Tru
 use Rattle.fz_program.specs.Arguments.{Plain, var, int, Argument, one, array}
 use Rattle.fz_program.specs.Table.{line}
 use Rattle.fz_program.specs.Flat.{Variable, Program, IsSome, is_kind, same_kind, kind_of_domain, is_constant, is_plain, is_one_of, is_argument, are_arguments, is_variable, has_variable, is_definition, is_within}
-use Rattle.fz_build_domains.specs.Inputs.{is_sum, argument_at, elements_at}
-use Rattle.fz_build_domains.specs.Bounds.{AreInputs, input_kinds, result_domain}
-use Rattle.fz_build_domains.proofs.ResultKinds.{giving, last_kind, sum_kind}
+use Rattle.fz_build.specs.Inputs.{is_sum, argument_at, elements_at}
+use Rattle.fz_build.specs.Bounds.{AreInputs, input_kinds, result_domain}
+use Rattle.fz_build.proofs.ResultKinds.{giving, last_kind, sum_kind}
 use Rattle.fz_build.specs.Build.{args_by, args_with, coefficients_with, sum_with, defined_variable}
-use Rattle.fz_build.specs.Results.{MayDefine, is_array_kind, begin_linear, is_linear_row}
+use Rattle.fz_build.specs.Asked.{MayDefine, is_array_kind, begin_linear, is_linear_row}
 use Rattle.fz_build.proofs.Lists.{get_last, all_from, all_append}
 use Rattle.fz_build.proofs.Wider.{argument_wider, arguments_over, or_left, or_right, plain_wider}
 

@@ -11,11 +11,11 @@ use Rattle.fz_program.specs.Values as values
 use Rattle.fz_program.specs.Values.{Value, Values, ArgumentValue, number_in, linear}
 use Rattle.fz_program.specs.Table.{Line, line, Holds, result_of, sum_equals, sum_at}
 use Rattle.fz_program.specs.Flat.{Variable, Row, Program, plain_value, argument_value, RowHolds, IsInDomain, FlatSolves, is_variable_of, same_kind, kind_of_domain, are_arguments, is_within, IsWellFormedRow}
-use Rattle.fz_build_domains.specs.Inputs.{argument_at, elements_at, is_sum}
-use Rattle.fz_build_domains.specs.Results.{is_giving, has_result, result_by, result_given}
-use Rattle.fz_build_domains.proofs.InputValues.{value_is, values_are}
+use Rattle.fz_build.specs.Inputs.{argument_at, elements_at, is_sum}
+use Rattle.fz_build.specs.Results.{is_giving, has_result, result_by, result_given}
+use Rattle.fz_build.proofs.InputValues.{value_is, values_are}
 use Rattle.fz_build.specs.Build.{sum_with, args_by, args_with, defining, defined_variable, with_variable, with_defined}
-use Rattle.fz_build.specs.Results.{MayDefine}
+use Rattle.fz_build.specs.Asked.{MayDefine}
 use Rattle.fz_build.specs.Growth.{GoesOn, HasResult, Declares, Posts, Defines}
 use Rattle.fz_build.proofs.Lists.{at_last}
 use Rattle.fz_build.proofs.Values.{all_given_over, domains_length, gives_last, last_given}

@@ -13,7 +13,7 @@ use Rattle.fz_program.specs.Arguments.{Argument}
 use Rattle.fz_program.specs.Flat.{Variable, ArrayItem, Row, Program, WellFormed, IsWellFormedVariable, IsWellFormedArray, IsWellFormedRow, IsOfSet, IsSome, variable, array_item, row, is_goal}
 use Rattle.fz_build.specs.Naming.{IsNamed, introduced_name, number_after, next_number}
 use Rattle.fz_build.specs.Build.{items, with_variable, with_array, with_row, with_goal, with_defined, defined_variable, introduced_variable, defining, args_with, IsBuilt, MayDeclare, MayAdd}
-use Rattle.fz_build.specs.Results.{MayDefine}
+use Rattle.fz_build.specs.Asked.{MayDefine}
 use Rattle.fz_build.proofs.Lists.{each_push}
 use Rattle.fz_build.proofs.FreshNames.{is_name, fresh, named_push, next_push, next_most, distinct_variable, distinct_array}
 use Rattle.fz_build.proofs.Wider.{rows_wider, arrays_wider}

@@ -12,7 +12,7 @@ use Rattle.fz_program.specs.Values.{Value, Values}
 use Rattle.fz_program.specs.Flat.{Variable, Row, Program, FlatSolves, IsWellFormedRow, is_variable, has_variable, is_definition}
 use Rattle.fz_build.specs.Naming.{introduced_name, number_after, next_from, next_number}
 use Rattle.fz_build.specs.Build.{IsOver, IsArgumentOver, AreOver, constraint, defined_variable, defining, introduced_variable, with_row, with_variable, with_defined}
-use Rattle.fz_build.specs.Results.{MayDefine}
+use Rattle.fz_build.specs.Asked.{MayDefine}
 use Rattle.fz_build.specs.History.{IsOfModel, IsFront, Made, begins, adds_row, adds_defined, adds_choice, is_place, definitions_of, IsDefinedOnce, HasDefinition, HaveDefinitions, IsIntroduced, AreIntroduced, choices_in, IsMadeOf, free_values}
 use Rattle.fz_build.proofs.Lists.{each_push}
 use Rattle.fz_build.proofs.Wider.{row_over, rows_wider}

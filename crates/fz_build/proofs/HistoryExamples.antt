@@ -8,7 +8,7 @@ use Rattle.fz_program.specs.Table.{line}
 use Rattle.fz_program.specs.Flat.{Variable, Row}
 use Rattle.fz_build.specs.Naming.{introduced_name}
 use Rattle.fz_build.specs.Build.{constraint, defining}
-use Rattle.fz_build.specs.Results.{is_linear_row}
+use Rattle.fz_build.specs.Asked.{is_linear_row}
 use Rattle.fz_build.specs.History.{choices_in, definitions_of, free_values}
 
 abbrev model : Variable

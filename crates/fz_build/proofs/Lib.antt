@@ -9,3 +9,10 @@ pub mod Defined
 pub mod Histories
 pub mod Definable
 pub mod HistoryExamples
+pub mod Copies
+pub mod InputValues
+pub mod Forms
+pub mod Enclosed
+pub mod Held
+pub mod Made
+pub mod ResultKinds

@@ -16,7 +16,7 @@ use Rattle.fz_program.specs.Values as values
 use Rattle.fz_program.specs.Values.{Value, Values, number_in, linear}
 use Rattle.fz_program.specs.Table.{line, sum_equals, sum_at}
 use Rattle.fz_program.specs.Flat.{Variable, plain_value, argument_value, kind_of_domain, same_kind, is_variable_of, is_plain, is_constant, is_argument, are_arguments, is_one_of, is_within, is_linear, weight, magnitude, most, IsInDomain}
-use Rattle.fz_build_domains.specs.Inputs.{is_sum, argument_at, elements_at}
+use Rattle.fz_build.specs.Inputs.{is_sum, argument_at, elements_at}
 use Rattle.fz_build.specs.Build.{sum_with}
 
 pub linear_push : (bs ys : List ℤ) (a y : ℤ) → length bs ≡ length ys → linear (bs ++ a ∷ []) (ys ++ y ∷ []) ≡ linear bs ys +ℤ (a *ℤ y)

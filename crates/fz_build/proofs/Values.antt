@@ -8,7 +8,7 @@ use Rattle.fz_program.specs.Values as values
 use Rattle.fz_program.specs.Values.{Value, Values, ArgumentValue, value_in, value_at}
 use Rattle.fz_program.specs.Table.{Meaning, tests, gives, line, Holds, result_of}
 use Rattle.fz_program.specs.Flat.{Variable, Row, plain_value, argument_value, RowHolds, IsInDomain, AreInDomains, IsWellFormedRow}
-use Rattle.fz_build_domains.specs.Results.{is_giving}
+use Rattle.fz_build.specs.Results.{is_giving}
 use Rattle.fz_build.specs.Build.{IsOver, IsArgumentOver, AreOver}
 use Rattle.fz_build.proofs.Lists.{at_wider, at_last, map_same}
 use Rattle.fz_build.proofs.Wider.{row_over}

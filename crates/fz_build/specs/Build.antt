@@ -10,7 +10,7 @@ use Rattle.fz_program.specs.declared.program.FzRow.{FzRow}
 use Rattle.fz_program.specs.declared.row_name.RowName.{RowName}
 use Rattle.fz_program.specs.Arguments.{Plain, bool, int, set, var, nested, Argument, one, array}
 use Rattle.fz_program.specs.Flat.{Variable, ArrayItem, Row, Program, labels, IsWellFormedVariable, IsWellFormedArray, WellFormed, variable, array_item, row}
-use Rattle.fz_build_domains.specs.Inputs.{is_sum, argument_at, elements_at}
+use Rattle.fz_build.specs.Inputs.{is_sum, argument_at, elements_at}
 use Rattle.fz_build.specs.Naming.{introduced_name, IsNamed, AreNamed, next_number}
 
 -- ---- programs with one item more

@@ -7,8 +7,8 @@ use Rattle.fz_program.specs.Arguments.{Plain, var, Argument, plain_of}
 use Rattle.fz_program.specs.Values.{Value, Values, number_in}
 use Rattle.fz_program.specs.Flat.{Variable, Row, Program, AreInDomains, FlatSolves, RowHolds, IsInDomain, plain_value, argument_value}
 use Rattle.fz_build.specs.Build.{IsArgumentOver, with_defined}
-use Rattle.fz_build_domains.specs.Results.{result_given}
-use Rattle.fz_build_domains.specs.Bounds.{ends_of}
+use Rattle.fz_build.specs.Results.{result_given}
+use Rattle.fz_build.specs.Bounds.{ends_of}
 
 -- ---- variables
 

@@ -8,7 +8,7 @@ use Rattle.fz_program.specs.Values.{Values}
 use Rattle.fz_program.specs.Flat.{Variable, Row, Program, IsWellFormedRow}
 use Rattle.fz_build.specs.Naming.{introduced_name}
 use Rattle.fz_build.specs.Build.{AreOver, constraint, defining, introduced_variable, with_row, with_variable, with_defined}
-use Rattle.fz_build.specs.Results.{MayDefine}
+use Rattle.fz_build.specs.Asked.{MayDefine}
 
 -- ---- the steps
 

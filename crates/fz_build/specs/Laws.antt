@@ -5,9 +5,9 @@ use Rattle.fz_program.specs.declared.row_name.RowName.{RowName}
 use Rattle.fz_program.specs.Arguments.{Argument}
 use Rattle.fz_program.specs.Values.{Values}
 use Rattle.fz_program.specs.Flat.{Program, FlatSolves, IsSome, is_within}
-use Rattle.fz_build_domains.specs.Bounds.{AreInputs, result_domain}
+use Rattle.fz_build.specs.Bounds.{AreInputs, result_domain}
 use Rattle.fz_build.specs.Build.{args_with, defined_variable}
-use Rattle.fz_build.specs.Results.{MayDefine, is_linear_row}
+use Rattle.fz_build.specs.Asked.{MayDefine, is_linear_row}
 use Rattle.fz_build.specs.History.{IsFront, Made, IsMadeOf, free_values}
 
 -- each introduced variable has one definition, but for the choices

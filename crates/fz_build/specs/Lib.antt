@@ -1,6 +1,9 @@
 pub mod Naming
 pub mod Build
-pub mod Results
+pub mod Asked
 pub mod Growth
 pub mod History
 pub mod Laws
+pub mod Inputs
+pub mod Results
+pub mod Bounds

@@ -1,40 +1,22 @@
--- What `define` asks of a row and its inputs.
-use Rattle.std.specs.Prelude.{◌≡◌, List, length, Bool, true, false, not, ◌&&◌, ◌++◌, ◌∷◌, []}
-use Rattle.fz_program.specs.declared.program.Domain.{Domain}
+-- What a row's inputs give.
+use Rattle.std.specs.Prelude.{◌-ℤ◌, List, Bool, true, false, ◌||◌, Option, Some}
 use Rattle.fz_program.specs.declared.row_name.RowName.{RowName}
-use Rattle.fz_program.specs.declared.row_name.Kind.{Kind}
-use Rattle.fz_program.specs.declared.row_name.Kind.TheVariants.{Int, Bool as Truth, Set, ConstInt, Ints, Bools, Sets, ConstInts, ConstBools, ConstSets}
-use Rattle.fz_program.specs.Arguments.{Argument}
-use Rattle.fz_program.specs.Table.{line}
-use Rattle.fz_program.specs.Flat.{Program, IsSome, IsWellFormedRow}
-use Rattle.fz_build_domains.specs.Results.{has_result}
-use Rattle.fz_build.specs.Build.{AreOver, defined_variable, defining}
+use Rattle.fz_program.specs.Values.{Value, number, ArgumentValue, number_at}
+use Rattle.fz_program.specs.Table.{Meaning, tests, gives, line, result_of, sum_at}
+use Rattle.fz_build.specs.Inputs.{is_sum}
 
--- a row with a result, inputs over the variables so far, a domain with a value, and a row that is well formed with the new variable
-pub record MayDefine (p : Program) (name : RowName) (inputs : List Argument) (domain : Domain) : Type 0 where
-  pub result : has_result name ≡ true
-  pub over : AreOver (length p.vars) inputs
-  pub some : IsSome domain
-  pub row : IsWellFormedRow (p.vars ++ defined_variable p domain ∷ []) (defining name inputs (length p.vars))
+abbrev pub is_giving : Meaning → Bool
+is_giving (tests test) = false
+is_giving (gives result) = true
 
--- ---- linear rows
+-- a row with a result
+abbrev pub has_result : RowName → Bool
+has_result name = is_sum name || is_giving (line name).meaning
 
-abbrev pub is_array_kind : Kind → Bool
-is_array_kind Int = false
-is_array_kind Truth = false
-is_array_kind Set = false
-is_array_kind ConstInt = false
-is_array_kind Ints = true
-is_array_kind Bools = true
-is_array_kind Sets = true
-is_array_kind ConstInts = true
-is_array_kind ConstBools = true
-is_array_kind ConstSets = true
+-- of a sum, what it passes its constant by
+abbrev pub result_by : Bool → Meaning → List ArgumentValue → Option Value
+result_by true m xs = Some (number (sum_at xs -ℤ number_at xs 2))
+result_by false m xs = result_of m xs
 
-abbrev pub begin_linear : List Kind → Bool
-begin_linear (a ∷ b ∷ c ∷ more) = is_array_kind a && (is_array_kind b && not (is_array_kind c))
-begin_linear _ = false
-
--- a row that takes two arrays and then no array: its sum must stay within 64 bits
-abbrev pub is_linear_row : RowName → Bool
-is_linear_row name = begin_linear (line name).kinds
+abbrev pub result_given : RowName → List ArgumentValue → Option Value
+result_given name xs = result_by (is_sum name) (line name).meaning xs

@@ -3,15 +3,15 @@
 ghost use Rattle.std.specs.Prelude.{◌≡◌, ◌∷◌, ◌++◌, [], IfOk, OnOk, OnErr, map, length, string_bytes, true, false, Some, IsSome as IsThere};
 ghost use Rattle.fz_program.specs.Arguments.{argument, one, plain, var as variable_at};
 ghost use Rattle.fz_program.specs.Flat.{IsOfSet, IsSome, IsWellFormedRow, WellFormed, array_item, is_goal, program, row, variable};
-ghost use Rattle.fz_build_domains.specs.Bounds.{AreInputs, HoldsResults, ends_of, result_domain};
+ghost use Rattle.fz_build.specs.Bounds.{AreInputs, HoldsResults, ends_of, result_domain};
 ghost use Rattle.fz_build.specs.Build.{MayAdd, MayDeclare, constraint, empty, introduced_variable, with_array, with_goal, with_row, with_variable};
 ghost use Rattle.fz_build.specs.Naming.{introduced_name, next_number};
-ghost use Rattle.fz_build.specs.Results.{MayDefine};
+ghost use Rattle.fz_build.specs.Asked.{MayDefine};
 ghost use Rattle.fz_build.specs.Growth.{Declares, Defines, EndsEnclose, IsAdded, Posts};
 
 use crate::naming::{introduced_name, number_after};
 use crate::result_row::args_with;
-use fz_build_domains::{copied_all, ends_of, result_domain};
+use crate::{copied_all, ends_of, result_domain};
 use fz_program::{Arg, Domain, FzArray, FzGoal, FzName, FzProgram, FzRow, FzVar, RowName};
 use mz_base::Memory;
 use std::alloc::Global;

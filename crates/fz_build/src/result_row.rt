@@ -2,16 +2,16 @@
 
 ghost use Rattle.std.specs.Prelude.{◌≡◌, IfOk, map};
 ghost use Rattle.fz_program.specs.Arguments.{argument};
-ghost use Rattle.fz_build_domains.specs.Inputs.{is_sum};
+ghost use Rattle.fz_build.specs.Inputs.{is_sum};
 ghost use Rattle.fz_build.specs.Build.{args_with, coefficients_with, sum_with};
 
-use fz_build_domains::{copied_at, elements_at, with_element, with_last};
+use crate::{copied_at, elements_at, with_element, with_last};
 use fz_program::{Arg, RowName};
 use mz_base::Memory;
 use std::alloc::Global;
 
 // Whether the result of a row is a term of its sum.
-#[tactic(auto, unfolding(fz_build_domains::specs::Inputs::is_sum))]
+#[tactic(auto, unfolding(crate::specs::Inputs::is_sum))]
 pub(crate) fn is_sum(name: RowName) -> bool
     ensures { result ≡ is_sum name }
 {

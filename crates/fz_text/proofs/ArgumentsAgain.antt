@@ -8,15 +8,15 @@ use Rattle.std.proofs.lemmas.Bool.{false≢true, and_parts}
 use Rattle.std.proofs.lemmas.Slice.Eq.{bytes_eq-Decides}
 use Rattle.mz_base.specs.Words.{is_identifier, is_keyword, is_word}
 use Rattle.mz_value.specs.Ranges.{Range, IsInLimit}
-use Rattle.soln_reader_items.specs.Bytes.{first_byte, is_digit, is_letter, is_name_byte}
+use Rattle.fz_items.specs.Bytes.{first_byte, is_digit, is_letter, is_name_byte}
 use Rattle.fz_program.specs.Names.{Name}
 use Rattle.fz_program.specs.Arguments.{Plain, bool, int, set as set_of, var, nested, Argument, one, array, plain_of}
 use Rattle.fz_program.specs.Flat.{AreDistinct, IsSet}
-use Rattle.soln_reader_items.specs.Items.{interval as interval_set}
+use Rattle.fz_items.specs.Items.{interval as interval_set}
 use Rattle.fz_text_read.specs.Tokens.{behind}
 use Rattle.fz_text_read.specs.Lists.{closed_at}
 use Rattle.fz_text_read.specs.Arguments.{argument_at, array_at, braces_set_at, interval_set_at, number_or_interval_at, number_or_set_at, place_at, place_of, plain_at, word_at, word_of}
-use Rattle.fz_text_spell.specs.Spelling.{argument_text, array_text, commas, elements, interval, label_at, numbers, plain_text, set}
+use Rattle.fz_text.specs.Spelling.{argument_text, array_text, commas, elements, interval, label_at, numbers, plain_text, set}
 use Rattle.fz_text.proofs.Prefixes.{first_is, name_again, not_behind, number_again, other_byte, word_is}
 use Rattle.fz_text.proofs.PartsAgain.{Again, none_again, pieces, some_again, is_stop, stop_is_no_digit, stop_is_no_dot, stop_is_no_name_byte}
 use Rattle.fz_text.proofs.SetsAgain.{brace, braces_again, braces_text, dots, empty_text, from_again, interval_parts, is_set_byte, no_brace, number_first, one_in_limit, one_range, set_first, zero_in_limit}

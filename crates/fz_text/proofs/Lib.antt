@@ -6,3 +6,8 @@ pub mod WellFormedTexts
 pub mod LinesAgain
 pub mod NamesOnce
 pub mod ProgramAgain
+pub mod Lists
+pub mod Sets
+pub mod Appends
+pub mod Commas
+pub mod SpellingExamples

@@ -7,7 +7,7 @@ use Rattle.std.proofs.lemmas.Bool.{false≢true, and_parts}
 use Rattle.mz_base.specs.Words.{is_word}
 use Rattle.mz_interval.specs.Ends.{Ends}
 use Rattle.mz_value.specs.Ranges.{Range, AreCanonical, AreInLimit, IsInLimit}
-use Rattle.soln_reader_items.specs.Bytes.{first_byte, is_digit, is_letter, is_name_byte}
+use Rattle.fz_items.specs.Bytes.{first_byte, is_digit, is_letter, is_name_byte}
 use Rattle.fz_program.specs.declared.row_name.Kind.TheVariants.{Int}
 use Rattle.fz_program.specs.declared.program.Domain.{Domain}
 use Rattle.fz_program.specs.declared.program.Domain.TheVariants.{Bool as Truths, Ints, SetOf}
@@ -23,7 +23,7 @@ use Rattle.fz_text_read.specs.Tokens.{behind, range_at}
 use Rattle.fz_text_read.specs.Lists.{filled_at, closed_at}
 use Rattle.fz_text_read.specs.Arguments.{argument_at, place_at}
 use Rattle.fz_text_read.specs.Lines.{array_item_at, array_name_at, defined_at, definition_at, domain_at, from_colon, goal_at, integers_at, is_no_colon, mark_at, marked_at, objective_at, optimum_at, row_at, row_name_at, row_named, satisfy_at, set_of_at, undefined_at, variable_at}
-use Rattle.fz_text_spell.specs.Spelling.{argument_list, argument_text, commas, definition, domain_text, element_by, element_of, element_text, goal_line, hull, hull_text, interval, label_at, mark, set}
+use Rattle.fz_text.specs.Spelling.{argument_list, argument_text, commas, definition, domain_text, element_by, element_of, element_text, goal_line, hull, hull_text, interval, label_at, mark, set}
 use Rattle.fz_text.proofs.Prefixes.{all_append, decimal_has_no_colon, drop_prefix, first_is, other_byte, name_again, not_behind, run_is, signed_has_no_colon, word_is}
 use Rattle.fz_text.proofs.PartsAgain.{Again, either, filled_again, none_again, pieces, some_again, stop_is_no_digit, stop_is_no_name_byte}
 use Rattle.fz_text.proofs.SetsAgain.{is_set_byte, one_in_limit, range_again, set_again, set_first, zero_in_limit}

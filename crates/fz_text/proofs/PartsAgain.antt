@@ -3,12 +3,12 @@ use Rattle.std.proofs.Common.{◌≡◌, ℕ, zero, suc, ◌<◌, ◌≤◌, Lis
 use Rattle.std.specs.Prelude.{◌||◌, nat_eq}
 use Rattle.std.specs.List.{AllByRecursion}
 use Rattle.std.proofs.lemmas.Bool.{false≢true, eqb-true}
-use Rattle.soln_reader_items.specs.Bytes.{first_byte, is_digit, is_name_byte}
-use Rattle.soln_reader_items.specs.Items.{Read}
+use Rattle.fz_items.specs.Bytes.{first_byte, is_digit, is_name_byte}
+use Rattle.fz_items.specs.Items.{Read}
 use Rattle.fz_text_read.specs.Tokens.{behind}
 use Rattle.fz_text_read.specs.Lists.{parts_at, filled_at, closed_at}
 use Rattle.fz_text_read.proofs.PartLoops.{last_at, more_at}
-use Rattle.fz_text_spell.specs.Spelling.{commas}
+use Rattle.fz_text.specs.Spelling.{commas}
 use Rattle.fz_text.proofs.Prefixes.{not_behind}
 
 -- a parenthesis, a bracket or a brace that closes

@@ -9,8 +9,8 @@ use Rattle.std.proofs.lemmas.Nat.{div-add-mod'}
 use Rattle.std.proofs.lemmas.Fmt.{decimal_by_steps}
 use Rattle.mz_value.specs.Ranges.{IsInLimit}
 use Rattle.mz_base.specs.Words.{is_word}
-use Rattle.soln_reader_items.specs.Bytes.{is_digit, is_letter, is_name_byte, first_byte}
-use Rattle.soln_reader_items.specs.Items.{digits_at, number_from, past}
+use Rattle.fz_items.specs.Bytes.{is_digit, is_letter, is_name_byte, first_byte}
+use Rattle.fz_items.specs.Items.{digits_at, number_from, past}
 use Rattle.fz_text_read.specs.Lines.{is_no_colon}
 use Rattle.fz_text_read.specs.Tokens.{behind, number_at, natural_at, negative_at, name_at}
 

@@ -5,7 +5,7 @@ use Rattle.std.specs.Prelude.{Option}
 use Rattle.std.specs.List.{AllByRecursion}
 use Rattle.std.proofs.lemmas.Option.{none-some, same_Some}
 use Rattle.mz_base.specs.Words.{is_identifier}
-use Rattle.soln_reader_items.specs.Items.{◌>>=◌, Read}
+use Rattle.fz_items.specs.Items.{◌>>=◌, Read}
 use Rattle.fz_program.specs.declared.program.FzGoal.{FzGoal}
 use Rattle.fz_program.specs.declared.program.FzGoal.TheVariants.{Satisfy, Minimize, Maximize}
 use Rattle.fz_program.specs.Names.{Name}
@@ -15,7 +15,7 @@ use Rattle.fz_text_read.specs.Tables.{are_new, named_items}
 use Rattle.fz_text_read.specs.Lines.{Body, array_item_at, body_at, every_at, lines_at, named_at, program_at, row_at, variable_at, with_variables}
 use Rattle.fz_text_read.proofs.LineLoops.{more_at, stop_at}
 use Rattle.fz_text_read.proofs.NameLoops.{named_unit, new_append}
-use Rattle.fz_text_spell.specs.Spelling.{Spells, array_line, goal_line, row_line, spelling, variable_line}
+use Rattle.fz_text.specs.Spelling.{Spells, array_line, goal_line, row_line, spelling, variable_line}
 use Rattle.fz_text.specs.Reading.{IsOnly, SpellsNone}
 use Rattle.fz_text.proofs.ArgumentsAgain.{AreNames}
 use Rattle.fz_text.proofs.LinesAgain.{array_line_again, goal_again, inside_array, inside_row, inside_variable, row_again, variable_again}

@@ -7,13 +7,13 @@ use Rattle.std.specs.Fmt.{digits, decimal, signed_decimal}
 use Rattle.std.proofs.lemmas.Int.{ints}
 use Rattle.mz_value.specs.Ranges.{Range, AreCanonical, AreInLimit, Has, IsIn, IsInLimit, IsSetOf, least, greatest}
 use Rattle.mz_value.proofs.Comparisons.{int_le_true, int_lt_false}
-use Rattle.soln_reader_items.specs.Bytes.{first_byte, is_digit}
-use Rattle.soln_reader_items.specs.Items.{interval as interval_set, is_in_limit, listed}
-use Rattle.soln_reader_items.proofs.SetLemmas.{listed_is}
+use Rattle.fz_items.specs.Bytes.{first_byte, is_digit}
+use Rattle.fz_items.specs.Items.{interval as interval_set, is_in_limit, listed}
+use Rattle.fz_items.proofs.SetLemmas.{listed_is}
 use Rattle.fz_text_read.specs.Tokens.{behind, number_at, range_at, interval_at, interval_from}
 use Rattle.fz_text_read.specs.Lists.{braces_at, filled_at, set_at}
-use Rattle.fz_text_spell.specs.Spelling.{braces, commas, elements, interval, numbers, numbers_from, set}
-use Rattle.fz_text_spell.proofs.Commas.{after_first, join_is}
+use Rattle.fz_text.specs.Spelling.{braces, commas, elements, interval, numbers, numbers_from, set}
+use Rattle.fz_text.proofs.Commas.{after_first, join_is}
 use Rattle.fz_text.proofs.Prefixes.{all_append, below_past, is_wide, first_digit, not_behind, number_again, numeral, other_byte}
 use Rattle.fz_text.proofs.PartsAgain.{Again, filled_again, stop_is_no_digit}
 

@@ -4,7 +4,7 @@ use Rattle.mz_base.specs.declared.fault.Fault.{Fault}
 use Rattle.mz_base.specs.declared.kind.Kind.TheVariants.{Syntax}
 use Rattle.mz_base.specs.Faults.{fault_at, start_of}
 use Rattle.fz_program.specs.Flat.{Program}
-use Rattle.fz_text_spell.specs.Spelling.{Spells}
+use Rattle.fz_text.specs.Spelling.{Spells}
 
 -- the bytes spell no program
 abbrev pub SpellsNone : List ℕ → Type 0

@@ -6,14 +6,13 @@ ghost use Rattle.mz_base.specs.declared.kind.Kind.TheVariants.{Syntax};
 ghost use Rattle.fz_program.specs.Flat.{AreParts, program};
 ghost use Rattle.fz_text_read.specs.Lines.{program_at};
 ghost use Rattle.fz_text.specs.Reading.{IsOnly, IsUnspelled};
-ghost use Rattle.fz_text_spell.specs.Spelling.{Spells, spelling};
+ghost use Rattle.fz_text.specs.Spelling.{Spells, spelling};
 
-use fz_program::FzProgram;
-use fz_program_check::are_parts;
+use crate::text;
+use fz_items::Miss;
+use fz_program::{FzProgram, are_parts};
 use fz_text_read::read_program;
-use fz_text_spell::text;
 use mz_base::{Fault, Kind, Span, Stop};
-use soln_reader_items::Miss;
 use std::alloc::{AllocError, Global};
 
 /// The program that the bytes spell. A refusal of kind `Syntax` at the first byte comes exactly where

@@ -1,11 +1,11 @@
 // How a FlatZinc program is written to a sink.
 
 ghost use Rattle.fz_program.specs.Flat.{WellFormed, program};
-ghost use Rattle.fz_text_spell.specs.Spelling.{spelling};
+ghost use Rattle.fz_text.specs.Spelling.{spelling};
 ghost use Rattle.fz_text.specs.Writing.{Writes, WriteCounts};
 
+use crate::text;
 use fz_program::FzProgram;
-use fz_text_spell::text;
 use mz_io::{Sent, Sink};
 use std::alloc::Global;
 

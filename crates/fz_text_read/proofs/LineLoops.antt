@@ -2,7 +2,7 @@
 -- turns that are left, is what all is read to.
 use Rattle.std.proofs.Common.{◌≡◌, ℕ, zero, suc, ◌+◌, ◌-◌, ◌<◌, ◌≤◌, List, [], ◌∷◌, ◌++◌, length, refl, sym, ap, ◌∙◌, arith, Some, None, append_assoc}
 use Rattle.std.proofs.lemmas.List.{append-nil}
-use Rattle.soln_reader_items.specs.Items.{Read, ◌>>=◌}
+use Rattle.fz_items.specs.Items.{Read, ◌>>=◌}
 use Rattle.fz_text_read.specs.Tokens.{behind}
 use Rattle.fz_text_read.specs.Lines.{lines_at, add_first}
 use Rattle.fz_text_read.proofs.PartLoops.{with_prefix, begins}

@@ -3,10 +3,10 @@ use Rattle.std.proofs.Common.{◌≡◌, ℕ, ◌+◌, ◌<◌, ◌≤◌, List,
 use Rattle.std.specs.Prelude.{◌&&◌, Ok, Err, Option}
 use Rattle.std.proofs.lemmas.Bool.{false≢true}
 use Rattle.std.proofs.lemmas.List.{append-nil, drop_all, take_all, take_more}
-use Rattle.soln_reader_items.proofs.Loops.{cut}
-use Rattle.soln_reader_items.specs.declared.miss.Miss.{Miss}
-use Rattle.soln_reader_items.specs.declared.miss.Miss.TheVariants.{Unfit, Memory}
-use Rattle.soln_reader_items.specs.Gives.{Gives}
+use Rattle.fz_items.proofs.Loops.{cut}
+use Rattle.fz_items.specs.declared.miss.Miss.{Miss}
+use Rattle.fz_items.specs.declared.miss.Miss.TheVariants.{Unfit, Memory}
+use Rattle.fz_items.specs.Gives.{Gives}
 use Rattle.fz_program.specs.Names.{Name}
 use Rattle.fz_text_read.specs.Tables.{are_new, is_among, with_text, Adds, Named}
 

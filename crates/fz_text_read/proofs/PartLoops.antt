@@ -2,7 +2,7 @@
 -- that are left, is what all is read to.
 use Rattle.std.proofs.Common.{◌≡◌, ℕ, zero, suc, ◌+◌, ◌-◌, ◌<◌, ◌≤◌, List, [], ◌∷◌, ◌++◌, length, refl, sym, ap, ◌∙◌, arith, Some, None, append_assoc}
 use Rattle.std.specs.Prelude.{codes}
-use Rattle.soln_reader_items.specs.Items.{Read, ◌>>=◌}
+use Rattle.fz_items.specs.Items.{Read, ◌>>=◌}
 use Rattle.fz_text_read.specs.Tokens.{behind}
 use Rattle.fz_text_read.specs.Lists.{parts_at, with_first}
 

@@ -1,7 +1,7 @@
 -- What texts are read to.
 use Rattle.std.proofs.Common.{◌≡◌, List, [], ◌∷◌, true, Some, None, codes, refl}
 use Rattle.std.specs.Prelude.{pos, negsuc}
-use Rattle.soln_reader_items.specs.Items.{digits_at}
+use Rattle.fz_items.specs.Items.{digits_at}
 use Rattle.fz_program.specs.declared.program.FzGoal.TheVariants.{Satisfy}
 use Rattle.fz_program.specs.Names.{Name}
 use Rattle.fz_program.specs.Arguments.{bool, int, var, one, array}

@@ -2,8 +2,8 @@
 use Rattle.std.specs.Prelude.{ℕ, ℤ, List, map, true, false, Option, Some, codes, position, if◌then◌else◌}
 use Rattle.std.specs.Option.{option_map}
 use Rattle.std.specs.Str.{bytes_eq}
-use Rattle.soln_reader_items.specs.Bytes.{is_letter, first_byte}
-use Rattle.soln_reader_items.specs.Items.{◌>>=◌, Read, choose}
+use Rattle.fz_items.specs.Bytes.{is_letter, first_byte}
+use Rattle.fz_items.specs.Items.{◌>>=◌, Read, choose}
 use Rattle.fz_program.specs.Names.{Name}
 use Rattle.fz_program.specs.Arguments.{bool, int, set, var, Argument, one, array, plain_of}
 use Rattle.fz_text_read.specs.Tokens.{behind, number_at, name_at, interval_from}

@@ -2,7 +2,7 @@
 use Rattle.std.specs.Prelude.{ℕ, zero, suc, List, [], ◌∷◌, length, drop, find, Bool, true, false, not, nat_eq, Option, Some, None, codes, if◌then◌else◌}
 use Rattle.std.specs.List.{prefix_len}
 use Rattle.std.specs.Str.{bytes_eq}
-use Rattle.soln_reader_items.specs.Items.{◌>>=◌, Read, choose}
+use Rattle.fz_items.specs.Items.{◌>>=◌, Read, choose}
 use Rattle.fz_program.specs.Names.{Name}
 use Rattle.fz_program.specs.Table.{line}
 use Rattle.fz_program.specs.Flat.{Variable, ArrayItem, Row, Program}

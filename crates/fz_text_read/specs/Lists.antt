@@ -1,7 +1,7 @@
 -- Lists of parts with commas between them, and sets in braces.
 use Rattle.std.specs.Prelude.{ℕ, zero, suc, List, [], ◌∷◌, length, Some, None, codes}
 use Rattle.mz_value.specs.Ranges.{Range}
-use Rattle.soln_reader_items.specs.Items.{◌>>=◌, Read, choose, listed}
+use Rattle.fz_items.specs.Items.{◌>>=◌, Read, choose, listed}
 use Rattle.fz_text_read.specs.Tokens.{behind, number_at, interval_at}
 
 abbrev pub with_first : {A : Type 0} → A → List A × List ℕ → List A × List ℕ

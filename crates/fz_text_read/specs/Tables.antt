@@ -2,8 +2,8 @@
 use Rattle.std.specs.Prelude.{◌≡◌, List, [], ◌∷◌, ◌++◌, Bool, true, false, ◌&&◌, not, Option, Some, None, Result, Ok, Err, if◌then◌else◌}
 use Rattle.std.specs.List.{list_any}
 use Rattle.std.specs.Str.{bytes_eq}
-use Rattle.soln_reader_items.specs.declared.miss.Miss.{Miss}
-use Rattle.soln_reader_items.specs.declared.miss.Miss.TheVariants.{Unfit, Memory}
+use Rattle.fz_items.specs.declared.miss.Miss.{Miss}
+use Rattle.fz_items.specs.declared.miss.Miss.TheVariants.{Unfit, Memory}
 use Rattle.fz_program.specs.Names.{Name}
 use Rattle.fz_program.specs.Flat.{Variable, ArrayItem, labels_of, array_labels}
 

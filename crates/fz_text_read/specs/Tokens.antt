@@ -4,8 +4,8 @@
 use Rattle.std.specs.Prelude.{ℕ, ℤ, pos, neg_ℤ, List, Option, Some, codes}
 use Rattle.std.specs.List.{prefix_len}
 use Rattle.mz_value.specs.Ranges.{Range}
-use Rattle.soln_reader_items.specs.Bytes.{is_name_byte}
-use Rattle.soln_reader_items.specs.Items.{◌>>=◌, Read, choose, without, digits_at, name_of, interval}
+use Rattle.fz_items.specs.Bytes.{is_name_byte}
+use Rattle.fz_items.specs.Items.{◌>>=◌, Read, choose, without, digits_at, name_of, interval}
 
 -- the bytes after a text
 unfoldable pub behind : List ℕ → List ℕ → Option (List ℕ)

@@ -2,8 +2,8 @@
 
 ghost use Rattle.std.specs.Prelude.{◌≡◌, codes, map};
 ghost use Rattle.fz_text_read.specs.Lists.{filled_at};
-ghost use Rattle.soln_reader_items.specs.Bytes.{first_byte, is_letter as letter};
-ghost use Rattle.soln_reader_items.specs.Gives.{Gives, with_rest};
+ghost use Rattle.fz_items.specs.Bytes.{first_byte, is_letter as letter};
+ghost use Rattle.fz_items.specs.Gives.{Gives, with_rest};
 ghost use Rattle.fz_program.specs.Arguments.{argument};
 ghost use Rattle.fz_text_read.specs.Arguments.{
   argument_at,
@@ -22,8 +22,8 @@ use crate::list::{braces, interval_from};
 use crate::name_table::NameTable;
 use crate::parts::{Part, closed, filled};
 use crate::token::{behind, is_letter, name, number};
+use fz_items::Miss;
 use fz_program::Arg;
-use soln_reader_items::Miss;
 use std::alloc::Global;
 
 /// A truth value, or a variable by its name.

@@ -2,7 +2,7 @@
 
 ghost use Rattle.std.specs.Prelude.{◌≡◌, ◌≤◌, codes, length};
 ghost use Rattle.std.specs.List.{prefix_len};
-ghost use Rattle.soln_reader_items.specs.Gives.{Gives, with_rest};
+ghost use Rattle.fz_items.specs.Gives.{Gives, with_rest};
 ghost use Rattle.fz_text_read.specs.Lists.{closed_at};
 ghost use Rattle.fz_text_read.specs.Arguments.{place_at};
 ghost use Rattle.fz_text_read.specs.Lines.{array_name_at, from_colon, is_no_colon};
@@ -12,8 +12,8 @@ use crate::list::index;
 use crate::name_table::NameTable;
 use crate::parts::{Part, closed};
 use crate::token::{expect, label, name};
+use fz_items::Miss;
 use fz_program::FzArray;
-use soln_reader_items::Miss;
 use std::alloc::Global;
 
 /// How many bytes stand before the first colon.

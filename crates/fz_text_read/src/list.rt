@@ -3,15 +3,15 @@
 ghost use Rattle.std.specs.Prelude.{◌≡◌, IsTrue, codes, All};
 ghost use Rattle.std.specs.List.{list_all};
 ghost use Rattle.mz_value.specs.Ranges.{IsInLimit};
-ghost use Rattle.soln_reader_items.specs.Gives.{Gives, with_rest};
-ghost use Rattle.soln_reader_items.specs.Items.{interval, is_in_limit, listed};
+ghost use Rattle.fz_items.specs.Gives.{Gives, with_rest};
+ghost use Rattle.fz_items.specs.Items.{interval, is_in_limit, listed};
 ghost use Rattle.fz_text_read.specs.Tokens.{interval_at, interval_from, number_at, range_at};
 ghost use Rattle.fz_text_read.specs.Lists.{braces_at, filled_at, set_at};
 
 use crate::parts::{Part, filled};
 use crate::token::{behind, expect, number, range};
+use fz_items::Miss;
 use mz_value::{GREATEST, LEAST, RangeSet};
-use soln_reader_items::Miss;
 use std::alloc::Global;
 
 fn is_in_limit(n: i64) -> bool

@@ -2,13 +2,13 @@
 
 ghost use Rattle.std.specs.Prelude.{◌≡◌, [], map, not, position, IfOk};
 ghost use Rattle.std.specs.Str.{bytes_eq};
-ghost use Rattle.soln_reader_items.specs.Gives.{Gives};
+ghost use Rattle.fz_items.specs.Gives.{Gives};
 ghost use Rattle.fz_program.specs.Flat.{array_item, array_labels, labels_of, variable};
 ghost use Rattle.fz_text_read.specs.Tables.{Adds, Named, is_among, named_items, named_variables, with_text};
 
+use fz_items::Miss;
 use fz_program::{FzArray, FzVar};
 use indexmap::IndexSet;
-use soln_reader_items::Miss;
 use std::alloc::{AllocError, Global};
 use std::marker::Model;
 

@@ -1,19 +1,19 @@
 // Lists of parts with commas between them, and lines that begin with the same text, whatever a part is.
 
 ghost use Rattle.std.specs.Prelude.{map};
-ghost use Rattle.soln_reader_items.specs.Gives.{Gives, with_rest};
+ghost use Rattle.fz_items.specs.Gives.{Gives, with_rest};
 ghost use Rattle.fz_text_read.specs.Lists.{all_at, closed_at, filled_at};
 ghost use Rattle.fz_text_read.specs.Lines.{every_at};
 
 use crate::token::{behind, expect};
-use soln_reader_items::Miss;
+use fz_items::Miss;
 use std::alloc::Global;
 
 /// What reads one part.
 pub(crate) trait Part<'a> {
     ghost use Rattle.std.specs.Prelude.{List, ℕ};
-    ghost use Rattle.soln_reader_items.specs.Gives.{Gives, with_rest};
-    ghost use Rattle.soln_reader_items.specs.Items.{Read};
+    ghost use Rattle.fz_items.specs.Gives.{Gives, with_rest};
+    ghost use Rattle.fz_items.specs.Items.{Read};
 
     type Item: Drop;
 

@@ -1,7 +1,7 @@
 // A whole program.
 
 ghost use Rattle.std.specs.Prelude.{map};
-ghost use Rattle.soln_reader_items.specs.Gives.{Gives};
+ghost use Rattle.fz_items.specs.Gives.{Gives};
 ghost use Rattle.fz_program.specs.Flat.{program, variable};
 ghost use Rattle.fz_text_read.specs.Lines.{body_at, named_at, program_at};
 ghost use Rattle.fz_text_read.specs.Views.{body_of};
@@ -11,8 +11,8 @@ use crate::name_table::{NameTable, names_once, table_of};
 use crate::parts::lines;
 use crate::row_line::{RowLine, goal};
 use crate::variable_line::VariableLine;
+use fz_items::Miss;
 use fz_program::{FzArray, FzGoal, FzProgram, FzRow, FzVar};
-use soln_reader_items::Miss;
 use std::alloc::Global;
 
 /// What follows the variables.

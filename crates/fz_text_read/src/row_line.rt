@@ -2,7 +2,7 @@
 
 ghost use Rattle.std.specs.Prelude.{◌≡◌, find};
 ghost use Rattle.std.specs.Str.{bytes_eq};
-ghost use Rattle.soln_reader_items.specs.Gives.{Gives, with_rest};
+ghost use Rattle.fz_items.specs.Gives.{Gives, with_rest};
 ghost use Rattle.fz_program.specs.Table.{line};
 ghost use Rattle.fz_program.specs.declared.program.FzGoal.TheVariants.{Maximize, Minimize};
 ghost use Rattle.fz_text_read.specs.Lines.{
@@ -21,9 +21,8 @@ use crate::argument::{all_arguments, place};
 use crate::name_table::NameTable;
 use crate::parts::Part;
 use crate::token::{behind, expect, name};
-use fz_program::{FzGoal, FzRow, RowName};
-use fz_program_check::name_of;
-use soln_reader_items::Miss;
+use fz_items::Miss;
+use fz_program::{FzGoal, FzRow, RowName, name_of};
 use std::alloc::Global;
 
 /// All constraints.

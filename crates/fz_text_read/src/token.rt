@@ -3,13 +3,13 @@
 ghost use Rattle.std.specs.Prelude.{◌≡◌, ◌≤◌, length, IfOk, Some, string_bytes};
 ghost use Rattle.std.specs.Option.{option_map};
 ghost use Rattle.std.specs.List.{prefix_len};
-ghost use Rattle.soln_reader_items.specs.Bytes.{is_digit, is_letter, is_name_byte};
-ghost use Rattle.soln_reader_items.specs.Gives.{Gives, with_rest};
-ghost use Rattle.soln_reader_items.specs.Items.{digits_at, number_from, past};
+ghost use Rattle.fz_items.specs.Bytes.{is_digit, is_letter, is_name_byte};
+ghost use Rattle.fz_items.specs.Gives.{Gives, with_rest};
+ghost use Rattle.fz_items.specs.Items.{digits_at, number_from, past};
 ghost use Rattle.fz_text_read.specs.Tokens.{behind, name_at, natural_at, negative_at, number_at, range_at};
 
+use fz_items::Miss;
 use fz_program::FzName;
-use soln_reader_items::Miss;
 use std::alloc::Global;
 use std::str::from_utf8;
 
@@ -85,7 +85,7 @@ fn number_of(digits: &[u8]) -> u64
     n
 }
 
-#[tactic(auto, unfolding(soln_reader_items::specs::Items::digits_at))]
+#[tactic(auto, unfolding(fz_items::specs::Items::digits_at))]
 fn digits(bytes: &[u8]) -> Result<(u64, &[u8]), Miss>
     ensures reads { Gives (with_rest (λ n. n)) result (digits_at bytes.now) }
     ensures most { IfOk result (λ r. r.0 ≤ past) }

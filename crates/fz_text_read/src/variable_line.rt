@@ -1,7 +1,7 @@
 // The lines of variables.
 
 ghost use Rattle.std.specs.Prelude.{◌≡◌};
-ghost use Rattle.soln_reader_items.specs.Gives.{Gives, with_rest};
+ghost use Rattle.fz_items.specs.Gives.{Gives, with_rest};
 ghost use Rattle.fz_program.specs.Flat.{variable};
 ghost use Rattle.fz_text_read.specs.Lines.{
   defined_mark,
@@ -17,8 +17,8 @@ ghost use Rattle.fz_text_read.specs.Lines.{
 use crate::list::set;
 use crate::parts::Part;
 use crate::token::{behind, expect, label as named, name};
+use fz_items::Miss;
 use fz_program::{Domain, FzVar};
-use soln_reader_items::Miss;
 use std::alloc::Global;
 
 #[tactic(auto, unfolding(crate::specs::Lines::set_of_at))]

@@ -15,9 +15,9 @@ use Rattle.glob_nodes.specs.Says.{num}
 use Rattle.glob_nodes.specs.Arguments.{array_of}
 use Rattle.glob_nodes.specs.Rows.{row_cost}
 use Rattle.glob_nodes.proofs.Rows.{found, ints_are, at_first, at_second, at_third, three_found}
-use Rattle.glob_lists.proofs.Seen.{both, both_first, both_second, all_seen, zip_seen}
-use Rattle.glob_lists.proofs.Several.{same_three}
-use Rattle.glob_lists.proofs.Squares.{below_square, square_grows, product_below, zip_short}
+use Rattle.glob_nodes.proofs.Seen.{both, both_first, both_second, all_seen, zip_seen}
+use Rattle.glob_nodes.proofs.Several.{same_three}
+use Rattle.glob_nodes.proofs.Squares.{below_square, square_grows, product_below, zip_short}
 use Rattle.glob_count.specs.Senses.{is_count}
 use Rattle.glob_count.proofs.Meanings.{occurs_told}
 

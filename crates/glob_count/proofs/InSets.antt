@@ -24,10 +24,10 @@ use Rattle.glob_nodes.specs.Arguments.{array_of, array_value, number_value, elem
 use Rattle.glob_nodes.specs.Rows.{IsRow, row_cost}
 use Rattle.glob_nodes.proofs.Rows.{found, ints_are, int_is, at_first, at_second, at_third, three_found, array_found, number_found, row_by}
 use Rattle.glob_nodes.proofs.Telling.{says_then}
-use Rattle.glob_lists.specs.Sets.{set_value}
-use Rattle.glob_lists.proofs.Seen.{count_seen}
-use Rattle.glob_lists.proofs.SetNodes.{set_is, set_found}
-use Rattle.glob_lists.proofs.Several.{same_three}
+use Rattle.glob_nodes.specs.Sets.{set_value}
+use Rattle.glob_nodes.proofs.Seen.{count_seen}
+use Rattle.glob_nodes.proofs.SetNodes.{set_is, set_found}
+use Rattle.glob_nodes.proofs.Several.{same_three}
 
 pub among_cost : {A : Type 0} (xs : List A) → 14 * length xs + 6 + 30 ≤ 56 * row_cost global.Among (1 ∷ length xs ∷ 0 ∷ [])
 unfolding line_of

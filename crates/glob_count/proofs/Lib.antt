@@ -5,3 +5,7 @@ pub mod Functions
 pub mod Covering
 pub mod InSets
 pub mod Sliding
+pub mod Alone
+pub mod Counted
+pub mod Members
+pub mod WindowLists

@@ -22,10 +22,10 @@ use Rattle.glob_nodes.specs.Arguments.{array_of}
 use Rattle.glob_nodes.specs.Rows.{row_cost}
 use Rattle.glob_nodes.proofs.Rows.{found, ints_are, int_is, at_first, at_second, at_third}
 use Rattle.glob_nodes.proofs.Telling.{drop_at, goes_more, grows}
-use Rattle.glob_lists.specs.Numbers.{IsNumber, plus}
-use Rattle.glob_lists.proofs.Seen.{both_same, head_there, tail_there}
-use Rattle.glob_lists.proofs.Several.{at_fourth, same_four}
-use Rattle.glob_lists.proofs.Squares.{below_square}
+use Rattle.glob_nodes.specs.Numbers.{IsNumber, plus}
+use Rattle.glob_nodes.proofs.Seen.{both_same, head_there, tail_there}
+use Rattle.glob_nodes.proofs.Several.{at_fourth, same_four}
+use Rattle.glob_nodes.proofs.Squares.{below_square}
 use Rattle.glob_count.specs.Windows.{count_value, left_sum, sum_in, sum_fits, SumOnward}
 
 -- ---- the cost

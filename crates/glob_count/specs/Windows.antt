@@ -7,7 +7,7 @@ use Rattle.mz_symbol.specs.Readings.{Reading, Reads, state_of}
 use Rattle.mz_symbol.specs.Makes.{GoesOnBy}
 use Rattle.glob_nodes.specs.declared.nodes.Compare.TheVariants.{AtMost}
 use Rattle.glob_nodes.specs.Says.{compares, num}
-use Rattle.glob_lists.specs.Numbers.{plus}
+use Rattle.glob_nodes.specs.Numbers.{plus}
 
 -- a par count as an argument
 abbrev pub count_value : ℕ → Option Content

@@ -12,8 +12,7 @@ ghost use Rattle.glob_nodes.specs.Says.{Says, Tells};
 ghost use Rattle.glob_count.specs.Senses.{is_count};
 
 use crate::occurrences::occurs;
-use glob_lists::{Test, all_pass, zipped};
-use glob_nodes::{Join, Numbers, joined, where_arrays};
+use glob_nodes::{Join, Numbers, Test, all_pass, joined, where_arrays, zipped};
 use mz_arena::Id;
 use mz_base::Memory;
 use mz_globals::Relation;

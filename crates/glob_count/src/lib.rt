@@ -1,9 +1,10 @@
-// The terms of the globals of counting.
+// The globals of counting: what they and the globals of sets say of their arguments, and their terms.
 #![tactic(auto)]
 
 mod covers;
 mod memberships;
 mod occurrences;
+pub mod of_values;
 mod values;
 mod windows;
 

@@ -9,10 +9,11 @@ ghost use Rattle.glob_nodes.specs.declared.nodes.Compare.TheVariants as compare;
 ghost use Rattle.glob_nodes.specs.Arguments.{IsWhole, array_value, number_value};
 ghost use Rattle.glob_nodes.specs.Rows.{IsRow, row_cost};
 ghost use Rattle.glob_nodes.specs.Says.{Says, compares, num};
-ghost use Rattle.glob_lists.specs.Sets.{set_value};
+ghost use Rattle.glob_nodes.specs.Sets.{set_value};
 
-use glob_lists::{lies_in, where_set};
-use glob_nodes::{Compare, Numbers, Relation, compared, counted, where_number_array};
+use glob_nodes::{
+    Compare, Numbers, Relation, compared, counted, lies_in, where_number_array, where_set,
+};
 use mz_arena::Id;
 use mz_base::Memory;
 use mz_symbol::Run;

@@ -11,11 +11,12 @@ ghost use Rattle.glob_nodes.specs.declared.nodes.Compare.TheVariants as compare;
 ghost use Rattle.glob_nodes.specs.Arguments.{IsWhole, array_value, number_value};
 ghost use Rattle.glob_nodes.specs.Rows.{IsRow, row_cost};
 ghost use Rattle.glob_nodes.specs.Says.{Says, Tells, compares, num};
-ghost use Rattle.glob_lists.specs.Numbers.{IsNumber};
+ghost use Rattle.glob_nodes.specs.Numbers.{IsNumber};
 ghost use Rattle.glob_count.specs.Windows.{count_value, sum_fits, sum_in};
 
-use glob_lists::{constant, plus};
-use glob_nodes::{Compare, Join, Numbers, compared, joined, truth, where_numbers_array};
+use glob_nodes::{
+    Compare, Join, Numbers, compared, constant, joined, plus, truth, where_numbers_array,
+};
 use mz_arena::Id;
 use mz_base::Memory;
 use mz_symbol::Run;

@@ -20,11 +20,11 @@ use Rattle.glob_nodes.specs.Says.{compares, num}
 use Rattle.glob_nodes.specs.Arguments.{array_of}
 use Rattle.glob_nodes.specs.Rows.{row_cost}
 use Rattle.glob_nodes.proofs.Rows.{found, at_first, at_second}
-use Rattle.glob_lists.specs.Places.{indexed, known, AreNumbered}
-use Rattle.glob_lists.proofs.Indexing.{all_numbered, all_like, place_seen, numbered_seen, index_seen, element_seen, within_seen}
-use Rattle.glob_lists.proofs.Seen.{all_seen, both_same}
-use Rattle.glob_lists.proofs.Several.{same_two, placed, placed_of, placed_are, two_placed, AreElements}
-use Rattle.glob_lists.proofs.Squares.{below_square, product_below}
+use Rattle.glob_nodes.specs.Places.{indexed, known, AreNumbered}
+use Rattle.glob_nodes.proofs.Indexing.{all_numbered, all_like, place_seen, numbered_seen, index_seen, element_seen, within_seen}
+use Rattle.glob_nodes.proofs.Seen.{all_seen, both_same}
+use Rattle.glob_nodes.proofs.Several.{same_two, placed, placed_of, placed_are, two_placed, AreElements}
+use Rattle.glob_nodes.proofs.Squares.{below_square, product_below}
 use Rattle.glob_graph.specs.Senses.{are_two_way, holds_indices, are_in_ranges, lead_back, are_inverse}
 
 stretched : (b a : ℕ) → (24 * b + 6) * a ≡ 24 * (b * a) + 6 * a

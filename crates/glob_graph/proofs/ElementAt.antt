@@ -23,10 +23,10 @@ use Rattle.glob_nodes.specs.Says.{compares, num}
 use Rattle.glob_nodes.specs.Arguments.{array_of}
 use Rattle.glob_nodes.specs.Rows.{row_cost}
 use Rattle.glob_nodes.proofs.Rows.{found, int_is, at_first, at_second, at_third}
-use Rattle.glob_lists.specs.Places.{Place, indexed, known, AreNumbered}
-use Rattle.glob_lists.proofs.Indexing.{place_seen, numbered_seen, index_seen, element_seen}
-use Rattle.glob_lists.proofs.Seen.{any_seen, both_same}
-use Rattle.glob_lists.proofs.Several.{same_three, placed, placed_of, placed_are, AreElements}
+use Rattle.glob_nodes.specs.Places.{Place, indexed, known, AreNumbered}
+use Rattle.glob_nodes.proofs.Indexing.{place_seen, numbered_seen, index_seen, element_seen}
+use Rattle.glob_nodes.proofs.Seen.{any_seen, both_same}
+use Rattle.glob_nodes.proofs.Several.{same_three, placed, placed_of, placed_are, AreElements}
 use Rattle.glob_graph.specs.Senses.{is_place}
 
 pub element_cost : {A : Type 0} (xs : List A) → 24 * length xs + 30 ≤ 56 * row_cost global.Element (1 ∷ length xs ∷ 1 ∷ [])

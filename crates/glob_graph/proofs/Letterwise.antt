@@ -35,13 +35,13 @@ use Rattle.glob_nodes.specs.Says.{Gives, Says, Tells, compares, num}
 use Rattle.glob_nodes.specs.StepsNodes.{meaning_over}
 use Rattle.glob_nodes.proofs.Rows.{array_found, at_first, at_second, at_third, found, int_is, ints_are, row_by}
 use Rattle.glob_nodes.proofs.Telling.{drop_all, drop_before, goes_more}
-use Rattle.glob_lists.specs.Numbers.{IsNumber, plus, product}
-use Rattle.glob_lists.specs.Sets.{set_value}
-use Rattle.glob_lists.proofs.Indexing.{within_seen}
-use Rattle.glob_lists.proofs.Nodes.{sum_is}
-use Rattle.glob_lists.proofs.Seen.{head_there, tail_there}
-use Rattle.glob_lists.proofs.SetNodes.{set_is}
-use Rattle.glob_lists.proofs.Several.{at_fourth, same_three, same_four}
+use Rattle.glob_nodes.specs.Numbers.{IsNumber, plus, product}
+use Rattle.glob_nodes.specs.Sets.{set_value}
+use Rattle.glob_nodes.proofs.Indexing.{within_seen}
+use Rattle.glob_nodes.proofs.IntegerNodes.{sum_is}
+use Rattle.glob_nodes.proofs.Seen.{head_there, tail_there}
+use Rattle.glob_nodes.proofs.SetNodes.{set_is}
+use Rattle.glob_nodes.proofs.Several.{at_fourth, same_three, same_four}
 use Rattle.glob_graph.specs.declared.automata.Automaton.{Automaton}
 use Rattle.glob_graph.specs.Tables.{table_value}
 use Rattle.glob_graph.specs.Walks.{values_list}

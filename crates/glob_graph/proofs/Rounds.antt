@@ -31,10 +31,10 @@ use Rattle.glob_nodes.specs.Rows.{IsRow, row_cost}
 use Rattle.glob_nodes.specs.Says.{Gives, Says, Tells, compares, num, pair_count}
 use Rattle.glob_nodes.specs.StepsNodes.{meaning_over}
 use Rattle.glob_nodes.proofs.Rows.{found, array_found, at_first, pairs_map, row_by}
-use Rattle.glob_lists.specs.Numbers.{IsNumber}
-use Rattle.glob_lists.proofs.Seen.{head_there, tail_there}
-use Rattle.glob_lists.proofs.Several.{placed_are, placed_of}
-use Rattle.glob_lists.proofs.Squares.{pairs_below}
+use Rattle.glob_nodes.specs.Numbers.{IsNumber}
+use Rattle.glob_nodes.proofs.Seen.{head_there, tail_there}
+use Rattle.glob_nodes.proofs.Several.{placed_are, placed_of}
+use Rattle.glob_nodes.proofs.Squares.{pairs_below}
 use Rattle.glob_graph.specs.Walks.{range_of, with_items, values_list, from, onto, IsWalkOf, IsElement, IsNext, IsWalked, IsRound}
 
 -- ---- the list of the elements

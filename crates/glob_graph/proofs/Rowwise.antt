@@ -25,8 +25,8 @@ use Rattle.glob_nodes.specs.Arguments.{array_of, array_value, elements, numbers_
 use Rattle.glob_nodes.specs.Rows.{IsRow, row_cost}
 use Rattle.glob_nodes.proofs.Rows.{found, ints_are, at_first, at_second, one_found, array_found, row_by}
 use Rattle.glob_nodes.proofs.Telling.{says_then, tail_is}
-use Rattle.glob_lists.proofs.Seen.{both_same, either_same, head_there, tail_there}
-use Rattle.glob_lists.proofs.Several.{same_two}
+use Rattle.glob_nodes.proofs.Seen.{both_same, either_same, head_there, tail_there}
+use Rattle.glob_nodes.proofs.Several.{same_two}
 use Rattle.glob_graph.specs.declared.tables.Rows.{Rows}
 use Rattle.glob_graph.specs.Tables.{table_value, is_row, row_at, steps, is_among}
 

@@ -11,8 +11,8 @@ use Rattle.mz_symbol.specs.Readings.{Reading, Reads, state_of}
 use Rattle.mz_symbol.specs.Makes.{GoesOnBy}
 use Rattle.glob_nodes.specs.declared.nodes.Compare.TheVariants.{AtMost}
 use Rattle.glob_nodes.specs.Says.{num, compares}
-use Rattle.glob_lists.specs.Numbers.{plus}
-use Rattle.glob_lists.specs.Places.{lies_within}
+use Rattle.glob_nodes.specs.Numbers.{plus}
+use Rattle.glob_nodes.specs.Places.{lies_within}
 use Rattle.glob_graph.specs.declared.automata.Automaton.{Automaton}
 use Rattle.glob_graph.specs.Walks.{values_list}
 

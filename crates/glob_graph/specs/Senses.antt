@@ -7,7 +7,7 @@ use Rattle.mz_symbol.specs.Readings.{Reading}
 use Rattle.glob_nodes.specs.declared.arguments.Numbers.{Numbers}
 use Rattle.glob_nodes.specs.declared.nodes.Compare.TheVariants.{Equal}
 use Rattle.glob_nodes.specs.Says.{num, compares}
-use Rattle.glob_lists.specs.Places.{Place, lies_within, known}
+use Rattle.glob_nodes.specs.Places.{Place, lies_within, known}
 
 -- the one place leads to the other exactly where the other leads back
 abbrev pub are_two_way : Reading → Place → Place → Bool

@@ -14,15 +14,17 @@ ghost use Rattle.glob_nodes.specs.declared.nodes.Compare.TheVariants as compare;
 ghost use Rattle.glob_nodes.specs.Arguments.{IsWhole, array_value};
 ghost use Rattle.glob_nodes.specs.Rows.{IsRow, row_cost};
 ghost use Rattle.glob_nodes.specs.Says.{Gives, Says, Tells, compares, num};
-ghost use Rattle.glob_lists.specs.Numbers.{IsNumber, plus};
-ghost use Rattle.glob_lists.specs.Sets.{set_value};
+ghost use Rattle.glob_nodes.specs.Numbers.{IsNumber, plus};
+ghost use Rattle.glob_nodes.specs.Sets.{set_value};
 ghost use Rattle.glob_graph.specs.Tables.{table_value};
 ghost use Rattle.glob_graph.specs.Walks.{values_list};
 ghost use Rattle.glob_graph.specs.Automata.{IsAccepted, IsLastState, IsNear, IsNextState, IsPlace, as_state, first_state, is_final, is_letter, row_of, steps_of};
 
 use crate::tables::Rows;
-use glob_lists::{Test, all_pass, constant, lies_in, plus, product};
-use glob_nodes::{Compare, Join, Numbers, compared, extreme, joined, made, number, truth};
+use glob_nodes::{
+    Compare, Join, Numbers, Test, all_pass, compared, constant, extreme, joined, lies_in, made,
+    number, plus, product, truth,
+};
 use mz_arena::{Id, Node, NodeKind};
 use mz_base::Memory;
 use mz_operations::Side;

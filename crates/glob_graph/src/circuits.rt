@@ -10,11 +10,12 @@ ghost use Rattle.glob_nodes.specs.declared.nodes.Compare.TheVariants as compare;
 ghost use Rattle.glob_nodes.specs.Arguments.{IsWhole, array_value};
 ghost use Rattle.glob_nodes.specs.Rows.{IsRow, row_cost};
 ghost use Rattle.glob_nodes.specs.Says.{Says, Tells, compares, num, pair_count};
-ghost use Rattle.glob_lists.specs.Numbers.{IsNumber};
+ghost use Rattle.glob_nodes.specs.Numbers.{IsNumber};
 ghost use Rattle.glob_graph.specs.Walks.{IsNext, IsRound, IsWalked, range_of};
 
-use glob_lists::constant;
-use glob_nodes::{Compare, Compared, Join, Numbers, compared, each_two, joined, list_of, made};
+use glob_nodes::{
+    Compare, Compared, Join, Numbers, compared, constant, each_two, joined, list_of, made,
+};
 use mz_arena::{Id, NodeKind};
 use mz_base::Memory;
 use mz_index::length_of;

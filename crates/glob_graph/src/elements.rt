@@ -9,11 +9,12 @@ ghost use Rattle.mz_symbol.specs.Makes.{GoesOnBy};
 ghost use Rattle.glob_nodes.specs.Arguments.{IsWhole, array_value, number_value};
 ghost use Rattle.glob_nodes.specs.Rows.{IsRow, row_cost};
 ghost use Rattle.glob_nodes.specs.Says.{Says, Tells};
-ghost use Rattle.glob_lists.specs.Places.{indexed, known};
+ghost use Rattle.glob_nodes.specs.Places.{indexed, known};
 ghost use Rattle.glob_graph.specs.Senses.{is_place};
 
-use glob_lists::{Test, places_of, some_pass};
-use glob_nodes::{Compare, Join, Numbers, compared, joined, where_numbers_array};
+use glob_nodes::{
+    Compare, Join, Numbers, Test, compared, joined, places_of, some_pass, where_numbers_array,
+};
 use mz_arena::Id;
 use mz_base::Memory;
 use mz_symbol::Run;
@@ -45,7 +46,7 @@ struct IsPlace {
 }
 
 impl Test<(Id, Id)> for IsPlace {
-    ghost use Rattle.glob_lists.specs.Places.{indexed};
+    ghost use Rattle.glob_nodes.specs.Places.{indexed};
     ghost use Rattle.glob_graph.specs.Senses.{is_place};
 
     ghost holds = { λ c x r. is_place r c.i c.y (indexed r x) };

@@ -8,11 +8,12 @@ ghost use Rattle.mz_symbol.specs.Makes.{GoesOnBy};
 ghost use Rattle.glob_nodes.specs.Arguments.{IsWhole, array_value};
 ghost use Rattle.glob_nodes.specs.Rows.{IsRow, row_cost};
 ghost use Rattle.glob_nodes.specs.Says.{Says, Tells};
-ghost use Rattle.glob_lists.specs.Places.{indexed};
+ghost use Rattle.glob_nodes.specs.Places.{indexed};
 ghost use Rattle.glob_graph.specs.Senses.{are_in_ranges, are_inverse, are_two_way, holds_indices, lead_back};
 
-use glob_lists::{Test, all_pass, are_indices, places_of};
-use glob_nodes::{Compare, Join, Numbers, compared, joined, where_arrays};
+use glob_nodes::{
+    Compare, Join, Numbers, Test, all_pass, are_indices, compared, joined, places_of, where_arrays,
+};
 use mz_arena::Id;
 use mz_base::Memory;
 use mz_symbol::Run;
@@ -88,7 +89,7 @@ struct LeadsBack<'a> {
 impl<'a> Test<(Id, Id)> for LeadsBack<'a> {
     ghost use Rattle.std.specs.Prelude.{◌*◌, length};
     ghost use Rattle.std.specs.List.{list_all};
-    ghost use Rattle.glob_lists.specs.Places.{indexed};
+    ghost use Rattle.glob_nodes.specs.Places.{indexed};
     ghost use Rattle.glob_graph.specs.Senses.{are_two_way};
 
     ghost holds = { λ c x r. list_all (λ q. are_two_way r (indexed r x) (indexed r q)) c.others.now };
@@ -116,7 +117,7 @@ struct TwoWay<'a> {
 }
 
 impl<'a> Test<(Id, Id)> for TwoWay<'a> {
-    ghost use Rattle.glob_lists.specs.Places.{indexed};
+    ghost use Rattle.glob_nodes.specs.Places.{indexed};
     ghost use Rattle.glob_graph.specs.Senses.{are_two_way};
 
     ghost holds = { λ c x r. are_two_way r (indexed r c.p.now) (indexed r x) };

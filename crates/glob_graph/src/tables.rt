@@ -12,8 +12,9 @@ ghost use Rattle.glob_nodes.specs.Rows.{IsRow, row_cost};
 ghost use Rattle.glob_nodes.specs.Says.{Says, Tells, compares, num};
 ghost use Rattle.glob_graph.specs.Tables.{is_among, is_row, row_at, steps, table_value};
 
-use glob_lists::{Test, all_pass, constant, some_pass, zipped};
-use glob_nodes::{Compare, Join, Numbers, compared, joined, truth};
+use glob_nodes::{
+    Compare, Join, Numbers, Test, all_pass, compared, constant, joined, some_pass, truth, zipped,
+};
 use mz_arena::Id;
 use mz_base::Memory;
 use mz_symbol::Run;

@@ -4,3 +4,10 @@ pub mod Counting
 pub mod Values
 pub mod Rows
 pub mod KnownLaws
+pub mod IntegerNodes
+pub mod Seen
+pub mod SideBySide
+pub mod Indexing
+pub mod Several
+pub mod SetNodes
+pub mod Squares

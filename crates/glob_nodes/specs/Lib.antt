@@ -4,3 +4,8 @@ pub mod StepsEach
 pub mod Arguments
 pub mod Rows
 pub mod StepsKnown
+pub mod Numbers
+pub mod StepsSums
+pub mod Places
+pub mod Sets
+pub mod Several

@@ -2,3 +2,8 @@ pub mod Costs
 pub mod Lines
 pub mod Meanings
 pub mod Sorted
+pub mod Each
+pub mod Numbered
+pub mod Orders
+pub mod Sums
+pub mod Zips

@@ -15,8 +15,8 @@ use Rattle.glob_nodes.specs.Says.{compares, num}
 use Rattle.glob_nodes.specs.Arguments.{array_of}
 use Rattle.glob_nodes.specs.Rows.{row_cost}
 use Rattle.glob_nodes.proofs.Rows.{found, steps_there}
-use Rattle.glob_lists.proofs.Seen.{all_seen, both_same, count_seen}
-use Rattle.glob_lists.proofs.Squares.{below_square}
+use Rattle.glob_nodes.proofs.Seen.{all_seen, both_same, count_seen}
+use Rattle.glob_nodes.proofs.Squares.{below_square}
 use Rattle.glob_order.specs.Senses.{times, is_as_often, are_as_often, sorted, sort_room}
 use Rattle.glob_order.proofs.Lines.{two_arrays}
 

@@ -1,9 +1,10 @@
-// The terms of the globals of order.
+// The globals of order: what they say of their arguments, and their terms.
 #![tactic(auto)]
 
 mod alike;
 mod extremes;
 mod lexical;
+pub mod of_values;
 mod preceding;
 mod relations;
 mod sorting;

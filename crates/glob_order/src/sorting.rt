@@ -10,9 +10,9 @@ ghost use Rattle.glob_nodes.specs.Rows.{IsRow, row_cost};
 ghost use Rattle.glob_nodes.specs.Says.{Tells};
 ghost use Rattle.glob_order.specs.Senses.{are_as_often, both_room, is_as_often, often_room, sort_room, sorted};
 
-use glob_lists::{Test, all_pass};
 use glob_nodes::{
-    Compare, Compared, Join, Numbers, compared, counted, each_next, joined, where_arrays,
+    Compare, Compared, Join, Numbers, Test, all_pass, compared, counted, each_next, joined,
+    where_arrays,
 };
 use mz_arena::Id;
 use mz_base::Memory;

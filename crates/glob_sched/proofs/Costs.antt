@@ -4,7 +4,7 @@ use Rattle.mz_globals.specs.declared.global.Global.TheVariants as global
 use Rattle.mz_globals.specs.Table.{line_of}
 use Rattle.glob_nodes.specs.Says.{pair_count}
 use Rattle.glob_nodes.specs.Rows.{row_cost}
-use Rattle.glob_lists.proofs.Squares.{below_square, square_grows, product_below, pairs_below, zip_short, zip_other}
+use Rattle.glob_nodes.proofs.Squares.{below_square, square_grows, product_below, pairs_below, zip_short, zip_other}
 
 of_pairs : (p m : ℕ) → p ≤ m * m → 56 * p + 12 ≤ 56 * (1 + m * m)
 of_pairs p m h = omega (arith, h)

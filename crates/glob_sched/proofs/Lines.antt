@@ -12,7 +12,7 @@ use Rattle.mz_globals.specs.Scheduling as scheduling
 use Rattle.mz_globals.specs.Table.{line_of, truth}
 use Rattle.glob_nodes.specs.Arguments.{array_of}
 use Rattle.glob_nodes.proofs.Rows.{found, ints_are, int_is, at_first, at_second, at_third}
-use Rattle.glob_lists.proofs.Several.{at_fourth, same_two, same_three, same_four, placed, placed_of, placed_are}
+use Rattle.glob_nodes.proofs.Several.{at_fourth, same_two, same_three, same_four, placed, placed_of, placed_are}
 
 -- ---- two arrays side by side
 

@@ -11,11 +11,11 @@ use Rattle.mz_globals.specs.Scheduling.{Task}
 use Rattle.mz_symbol.specs.Readings.{Reading}
 use Rattle.glob_nodes.specs.declared.nodes.Compare.TheVariants.{Equal, AtMost}
 use Rattle.glob_nodes.specs.Says.{num, compares}
-use Rattle.glob_lists.specs.Numbers.{added}
-use Rattle.glob_lists.proofs.Seen.{both, both_first, both_second, both_same, either_same, all_seen, pairs_seen, added_seen, zip_seen}
-use Rattle.glob_lists.specs.Places.{lies_within, known}
-use Rattle.glob_lists.proofs.Indexing.{place_seen, numbered_seen, index_seen, element_seen}
-use Rattle.glob_lists.proofs.Several.{placed}
+use Rattle.glob_nodes.specs.Numbers.{added}
+use Rattle.glob_nodes.proofs.Seen.{both, both_first, both_second, both_same, either_same, all_seen, pairs_seen, added_seen, zip_seen}
+use Rattle.glob_nodes.specs.Places.{lies_within, known}
+use Rattle.glob_nodes.proofs.Indexing.{place_seen, numbered_seen, index_seen, element_seen}
+use Rattle.glob_nodes.proofs.Several.{placed}
 use Rattle.glob_sched.specs.Senses.{one_after, are_apart, is_idle, are_apart_or_idle, are_boxes_apart, taken, taken_at, start_fits, is_enough, weight, weight_in, bin_fits, all_bins_fit, all_in_bins, has_load, are_loads}
 
 abbrev pub task_seen : Reading → ℕ × ℕ → Option Task

@@ -1,1 +1,2 @@
 pub mod Senses
+pub mod Machines

@@ -8,8 +8,8 @@ use Rattle.mz_symbol.specs.Readings.{Reading}
 use Rattle.glob_nodes.specs.declared.arguments.Numbers.{Numbers}
 use Rattle.glob_nodes.specs.declared.nodes.Compare.TheVariants.{Equal, AtMost, Less}
 use Rattle.glob_nodes.specs.Says.{num, compares}
-use Rattle.glob_lists.specs.Numbers.{plus, product, added}
-use Rattle.glob_lists.specs.Places.{Place, lies_within, known}
+use Rattle.glob_nodes.specs.Numbers.{plus, product, added}
+use Rattle.glob_nodes.specs.Places.{Place, lies_within, known}
 
 -- ---- tasks, each as the nodes of its start and its duration
 

@@ -9,12 +9,11 @@ ghost use Rattle.mz_symbol.specs.Makes.{GoesOnBy};
 ghost use Rattle.glob_nodes.specs.Arguments.{IsWhole, array_value};
 ghost use Rattle.glob_nodes.specs.Rows.{IsRow, row_cost};
 ghost use Rattle.glob_nodes.specs.Says.{Says, Tells, pair_count};
-ghost use Rattle.glob_lists.specs.Several.{all_defined, arrays, sizes};
+ghost use Rattle.glob_nodes.specs.Several.{all_defined, arrays, sizes};
 ghost use Rattle.glob_sched.specs.Senses.{are_apart, are_apart_or_idle, are_boxes_apart, boxes_in};
 
 use crate::relations::{Apart, ApartOrIdle, BoxesApart};
-use glob_lists::zipped;
-use glob_nodes::{Numbers, each_two, where_arrays};
+use glob_nodes::{Numbers, each_two, where_arrays, zipped};
 use mz_arena::Id;
 use mz_base::Memory;
 use mz_symbol::Run;

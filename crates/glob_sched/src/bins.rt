@@ -9,12 +9,14 @@ ghost use Rattle.glob_nodes.specs.declared.nodes.Compare.TheVariants as compare;
 ghost use Rattle.glob_nodes.specs.Arguments.{IsWhole, array_value, number_value};
 ghost use Rattle.glob_nodes.specs.Rows.{IsRow, row_cost};
 ghost use Rattle.glob_nodes.specs.Says.{Says, Tells, compares, num};
-ghost use Rattle.glob_lists.specs.Numbers.{IsNumber, added};
+ghost use Rattle.glob_nodes.specs.Numbers.{IsNumber, added};
 ghost use Rattle.glob_sched.specs.Senses.{all_bins_fit, weight, weight_in};
 
 use crate::resources::is_positive;
-use glob_lists::{Part, Test, all_pass, one_if, product, summed, zipped};
-use glob_nodes::{Compare, Join, Numbers, compared, joined, where_arrays, where_defined};
+use glob_nodes::{
+    Compare, Join, Numbers, Part, Test, all_pass, compared, joined, one_if, product, summed,
+    where_arrays, where_defined, zipped,
+};
 use mz_arena::Id;
 use mz_base::Memory;
 use mz_symbol::Run;

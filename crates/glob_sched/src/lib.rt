@@ -1,9 +1,10 @@
-// The terms of the globals of scheduling and packing.
+// The globals of scheduling and packing: what they, tables, automata and graphs say of their arguments, and their terms.
 #![tactic(auto)]
 
 mod apart;
 mod bins;
 mod loads;
+pub mod of_values;
 mod relations;
 mod resources;
 

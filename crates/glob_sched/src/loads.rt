@@ -11,14 +11,16 @@ ghost use Rattle.glob_nodes.specs.declared.nodes.Compare.TheVariants as compare;
 ghost use Rattle.glob_nodes.specs.Arguments.{IsWhole, array_value};
 ghost use Rattle.glob_nodes.specs.Rows.{IsRow, row_cost};
 ghost use Rattle.glob_nodes.specs.Says.{Says, Tells, compares, num};
-ghost use Rattle.glob_lists.specs.Numbers.{added};
-ghost use Rattle.glob_lists.specs.Places.{known};
-ghost use Rattle.glob_lists.specs.Several.{all_defined};
+ghost use Rattle.glob_nodes.specs.Numbers.{added};
+ghost use Rattle.glob_nodes.specs.Places.{known};
+ghost use Rattle.glob_nodes.specs.Several.{all_defined};
 ghost use Rattle.glob_sched.specs.Senses.{all_in_bins, are_loads, has_load, load_room, weight_in};
 
 use crate::bins::load;
-use glob_lists::{Test, all_pass, is_index, places_of, zipped};
-use glob_nodes::{Compare, Join, Numbers, compared, joined, where_arrays};
+use glob_nodes::{
+    Compare, Join, Numbers, Test, all_pass, compared, is_index, joined, places_of, where_arrays,
+    zipped,
+};
 use mz_arena::Id;
 use mz_base::Memory;
 use mz_symbol::Run;
@@ -90,7 +92,7 @@ struct InBin<'a> {
 
 impl<'a> Test<(Id, Id)> for InBin<'a> {
     ghost use Rattle.glob_nodes.specs.Says.{num};
-    ghost use Rattle.glob_lists.specs.Places.{lies_within};
+    ghost use Rattle.glob_nodes.specs.Places.{lies_within};
 
     ghost holds = { λ c x r. lies_within (c.loads.now.first, c.loads.now.last) (num r x.0) };
 
@@ -124,7 +126,7 @@ struct HasLoad<'a> {
 
 impl<'a> Test<(Id, Id)> for HasLoad<'a> {
     ghost use Rattle.std.specs.Prelude.{◌+◌, ◌*◌, length};
-    ghost use Rattle.glob_lists.specs.Places.{indexed};
+    ghost use Rattle.glob_nodes.specs.Places.{indexed};
     ghost use Rattle.glob_sched.specs.Senses.{has_load};
 
     ghost holds = { λ c x r. has_load r c.things.now (indexed r x) };

@@ -4,11 +4,10 @@ ghost use Rattle.std.specs.Prelude.{◌≡◌, IfOk};
 ghost use Rattle.mz_symbol.specs.Makes.{GoesOnBy};
 ghost use Rattle.glob_nodes.specs.declared.nodes.Compare.TheVariants as compare;
 ghost use Rattle.glob_nodes.specs.Says.{Says, compares, num};
-ghost use Rattle.glob_lists.specs.Numbers.{plus};
+ghost use Rattle.glob_nodes.specs.Numbers.{plus};
 ghost use Rattle.glob_sched.specs.Senses.{are_apart, are_apart_or_idle, are_boxes_apart, is_idle};
 
-use glob_lists::plus;
-use glob_nodes::{Compare, Join, Relation, compared, joined, number};
+use glob_nodes::{Compare, Join, Relation, compared, joined, number, plus};
 use mz_arena::Id;
 use mz_base::Memory;
 use mz_symbol::Run;

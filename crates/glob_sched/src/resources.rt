@@ -9,12 +9,14 @@ ghost use Rattle.glob_nodes.specs.declared.nodes.Compare.TheVariants as compare;
 ghost use Rattle.glob_nodes.specs.Arguments.{IsWhole, array_value, number_value};
 ghost use Rattle.glob_nodes.specs.Rows.{IsRow, row_cost};
 ghost use Rattle.glob_nodes.specs.Says.{Says, Tells, compares, num};
-ghost use Rattle.glob_lists.specs.Numbers.{IsNumber, added, plus};
-ghost use Rattle.glob_lists.specs.Several.{all_defined};
+ghost use Rattle.glob_nodes.specs.Numbers.{IsNumber, added, plus};
+ghost use Rattle.glob_nodes.specs.Several.{all_defined};
 ghost use Rattle.glob_sched.specs.Senses.{is_enough, runs_at, taken, taken_at, used_room, uses_in};
 
-use glob_lists::{Part, Test, all_pass, one_if, plus, product, summed, zipped};
-use glob_nodes::{Compare, Join, Numbers, compared, joined, number, where_arrays, where_defined};
+use glob_nodes::{
+    Compare, Join, Numbers, Part, Test, all_pass, compared, joined, number, one_if, plus, product,
+    summed, where_arrays, where_defined, zipped,
+};
 use mz_arena::Id;
 use mz_base::Memory;
 use mz_symbol::Run;

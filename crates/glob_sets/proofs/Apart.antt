@@ -25,8 +25,8 @@ use Rattle.glob_nodes.specs.Says.{Gives, Says, Tells, pair_count}
 use Rattle.glob_nodes.specs.StepsNodes.{meaning_over}
 use Rattle.glob_nodes.proofs.Rows.{found, at_first, one_found, row_by}
 use Rattle.glob_nodes.proofs.Saying.{says_by}
-use Rattle.glob_lists.proofs.Seen.{pairs_seen}
-use Rattle.glob_lists.proofs.Squares.{pairs_within}
+use Rattle.glob_nodes.proofs.Seen.{pairs_seen}
+use Rattle.glob_nodes.proofs.Squares.{pairs_within}
 use Rattle.glob_sets.specs.Arrays.{array_by, elements_by, elements_in, sets_value, AreSets, IsSet}
 use Rattle.glob_sets.specs.Senses.{are_apart, all_apart}
 use Rattle.glob_sets.proofs.AtPlaces.{elements_are, sets_read}

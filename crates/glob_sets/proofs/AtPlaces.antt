@@ -10,7 +10,7 @@ use Rattle.mz_operations.specs.Views.{as_set as set_in}
 use Rattle.mz_globals.specs.Reading.{Placed, each, elements_at, first_range, placed_at}
 use Rattle.mz_globals.specs.Table.{truth}
 use Rattle.glob_nodes.proofs.Rows.{found}
-use Rattle.glob_lists.proofs.Several.{same_two}
+use Rattle.glob_nodes.proofs.Several.{same_two}
 use Rattle.glob_sets.specs.Arrays.{array_by}
 
 -- a value that is made of something is read as it

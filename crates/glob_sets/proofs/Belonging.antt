@@ -30,11 +30,11 @@ use Rattle.glob_nodes.specs.StepsNodes.{meaning_over}
 use Rattle.glob_nodes.proofs.Rows.{found, at_first, at_second, array_found, row_by}
 use Rattle.glob_nodes.proofs.Saying.{says_by}
 use Rattle.glob_nodes.proofs.Telling.{says_then}
-use Rattle.glob_lists.specs.Places.{Place, indexed, known, AreNumbered}
-use Rattle.glob_lists.proofs.Indexing.{all_numbered, all_like, within_seen}
-use Rattle.glob_lists.proofs.Seen.{all_seen, both, both_first, both_second, both_same, cons_same, head_there, tail_there}
-use Rattle.glob_lists.proofs.Several.{same_two}
-use Rattle.glob_lists.proofs.Squares.{below_square, product_below}
+use Rattle.glob_nodes.specs.Places.{Place, indexed, known, AreNumbered}
+use Rattle.glob_nodes.proofs.Indexing.{all_numbered, all_like, within_seen}
+use Rattle.glob_nodes.proofs.Seen.{all_seen, both, both_first, both_second, both_same, cons_same, head_there, tail_there}
+use Rattle.glob_nodes.proofs.Several.{same_two}
+use Rattle.glob_nodes.proofs.Squares.{below_square, product_below}
 use Rattle.glob_sets.specs.Arrays.{array_by, elements_by, elements_in, sets_value, AreSets}
 use Rattle.glob_sets.specs.Senses.{all_belong, are_channel, belong, have_indices, is_part, lies_among, name_indices}
 use Rattle.glob_sets.proofs.AtPlaces.{arrays_found, ints_read, placed, placed_are, placed_of, sets_read}

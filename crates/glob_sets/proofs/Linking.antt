@@ -26,11 +26,11 @@ use Rattle.glob_nodes.specs.Rows.{IsRow, row_cost}
 use Rattle.glob_nodes.specs.Says.{Says, Tells}
 use Rattle.glob_nodes.proofs.Rows.{found, at_first, at_second, row_by}
 use Rattle.glob_nodes.proofs.Telling.{says_then}
-use Rattle.glob_lists.specs.Places.{known}
-use Rattle.glob_lists.specs.Sets.{set_value}
-use Rattle.glob_lists.proofs.Seen.{all_seen, both_first, both_second, both_same}
-use Rattle.glob_lists.proofs.SetNodes.{set_is, set_found}
-use Rattle.glob_lists.proofs.Several.{same_two}
+use Rattle.glob_nodes.specs.Places.{known}
+use Rattle.glob_nodes.specs.Sets.{set_value}
+use Rattle.glob_nodes.proofs.Seen.{all_seen, both_first, both_second, both_same}
+use Rattle.glob_nodes.proofs.SetNodes.{set_is, set_found}
+use Rattle.glob_nodes.proofs.Several.{same_two}
 use Rattle.glob_sets.specs.Arrays.{array_by, elements_by, elements_in, truth_of, truths_value, AreTruths}
 use Rattle.glob_sets.specs.Senses.{all_linked, are_linked, is_linked, lies_among}
 use Rattle.glob_sets.proofs.AtPlaces.{array_found_of, bools_read, placed, placed_are, placed_of}

@@ -26,13 +26,13 @@ use Rattle.glob_nodes.specs.Says.{Gives, Says, Tells, pair_count}
 use Rattle.glob_nodes.specs.StepsNodes.{meaning_over}
 use Rattle.glob_nodes.proofs.Rows.{found, at_first, at_second, row_by, two_found}
 use Rattle.glob_nodes.proofs.Telling.{goes_more, drop_all}
-use Rattle.glob_lists.specs.Sets.{set_value}
-use Rattle.glob_lists.proofs.Indexing.{next_of}
-use Rattle.glob_lists.proofs.Nodes.{stays}
-use Rattle.glob_lists.proofs.Seen.{both_same, head_there, tail_there}
-use Rattle.glob_lists.proofs.SetNodes.{set_is, set_found}
-use Rattle.glob_lists.proofs.Several.{same_two}
-use Rattle.glob_lists.proofs.Squares.{below_square, pairs_within}
+use Rattle.glob_nodes.specs.Sets.{set_value}
+use Rattle.glob_nodes.proofs.Indexing.{next_of}
+use Rattle.glob_nodes.proofs.IntegerNodes.{stays}
+use Rattle.glob_nodes.proofs.Seen.{both_same, head_there, tail_there}
+use Rattle.glob_nodes.proofs.SetNodes.{set_is, set_found}
+use Rattle.glob_nodes.proofs.Several.{same_two}
+use Rattle.glob_nodes.proofs.Squares.{below_square, pairs_within}
 use Rattle.glob_sets.specs.Arrays.{array_by, elements_by, elements_in, sets_value, AreSets, IsSet}
 use Rattle.glob_sets.specs.Senses.{all_apart, make_up, united_from, UnitedSoFar}
 use Rattle.glob_sets.proofs.Apart.{apart_told, both_sets, same_square}

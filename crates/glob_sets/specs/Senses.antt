@@ -13,7 +13,7 @@ use Rattle.mz_symbol.specs.Makes.{GoesOnBy}
 use Rattle.glob_nodes.specs.declared.arguments.Numbers.{Numbers}
 use Rattle.glob_nodes.specs.declared.nodes.Compare.TheVariants.{Equal}
 use Rattle.glob_nodes.specs.Says.{compares, num}
-use Rattle.glob_lists.specs.Places.{Place, known, lies_within}
+use Rattle.glob_nodes.specs.Places.{Place, known, lies_within}
 
 -- two sets whose intersection is the one that `none` is
 abbrev pub are_apart : Reading → ℕ → ℕ → ℕ → Bool

@@ -8,13 +8,15 @@ ghost use Rattle.mz_symbol.specs.Makes.{GoesOnBy};
 ghost use Rattle.glob_nodes.specs.Arguments.{IsWhole, array_value};
 ghost use Rattle.glob_nodes.specs.Rows.{IsRow, row_cost};
 ghost use Rattle.glob_nodes.specs.Says.{Says, Tells};
-ghost use Rattle.glob_lists.specs.Places.{indexed};
+ghost use Rattle.glob_nodes.specs.Places.{indexed};
 ghost use Rattle.glob_sets.specs.Arrays.{AreSets, sets_value};
 ghost use Rattle.glob_sets.specs.Senses.{all_belong, are_channel, belong, have_indices, name_indices};
 
 use crate::indices::have_indices;
-use glob_lists::{Test, all_pass, are_indices, lies_in, places_of};
-use glob_nodes::{Compare, Join, Numbers, compared, joined, where_arrays};
+use glob_nodes::{
+    Compare, Join, Numbers, Test, all_pass, are_indices, compared, joined, lies_in, places_of,
+    where_arrays,
+};
 use mz_arena::Id;
 use mz_base::Memory;
 use mz_symbol::Run;
@@ -90,7 +92,7 @@ struct BelongsToEach<'a> {
 impl<'a> Test<(Id, Id)> for BelongsToEach<'a> {
     ghost use Rattle.std.specs.Prelude.{◌*◌, length};
     ghost use Rattle.std.specs.List.{list_all};
-    ghost use Rattle.glob_lists.specs.Places.{indexed};
+    ghost use Rattle.glob_nodes.specs.Places.{indexed};
     ghost use Rattle.glob_sets.specs.Senses.{belong};
 
     ghost holds = { λ c x r. list_all (λ q. belong r (indexed r x) (indexed r q)) c.sets.now };
@@ -118,7 +120,7 @@ struct BelongsTo<'a> {
 }
 
 impl<'a> Test<(Id, Id)> for BelongsTo<'a> {
-    ghost use Rattle.glob_lists.specs.Places.{indexed};
+    ghost use Rattle.glob_nodes.specs.Places.{indexed};
     ghost use Rattle.glob_sets.specs.Senses.{belong};
 
     ghost holds = { λ c x r. belong r (indexed r c.p.now) (indexed r x) };

@@ -9,8 +9,7 @@ ghost use Rattle.mz_symbol.specs.Makes.{GoesOnBy};
 ghost use Rattle.glob_nodes.specs.Says.{Gives, Says, Tells};
 ghost use Rattle.glob_sets.specs.Senses.{have_indices, is_part, lies_among};
 
-use glob_lists::{Test, all_pass};
-use glob_nodes::{Numbers, made};
+use glob_nodes::{Numbers, Test, all_pass, made};
 use mz_arena::{Id, NodeKind};
 use mz_base::Memory;
 use mz_symbol::Run;
@@ -79,7 +78,7 @@ fn is_part(run: &mut Run, s: Id, of: Id) -> Result<Id, Memory>
 }
 
 /// The node of the set of an array's indices.
-#[tactic(auto, using(glob_lists::proofs::Nodes::stays))]
+#[tactic(auto, using(glob_nodes::proofs::IntegerNodes::stays))]
 fn index_node(alloc: Global, run: &mut Run, xs: &Numbers) -> Result<Id, Memory>
     ensures goes { GoesOnBy 0 run.old run.new }
     ensures gives { IfOk result (Gives run.old run.new (λ _. Some (terms.set (range_of xs.now.first xs.now.last)))) }

@@ -8,14 +8,13 @@ ghost use Rattle.mz_arena.specs.Values.{as_set, is_true};
 ghost use Rattle.mz_symbol.specs.Makes.{GoesOnBy};
 ghost use Rattle.glob_nodes.specs.Rows.{IsRow, row_cost};
 ghost use Rattle.glob_nodes.specs.Says.{Says, Tells};
-ghost use Rattle.glob_lists.specs.Places.{indexed};
-ghost use Rattle.glob_lists.specs.Sets.{set_value};
+ghost use Rattle.glob_nodes.specs.Places.{indexed};
+ghost use Rattle.glob_nodes.specs.Sets.{set_value};
 ghost use Rattle.glob_sets.specs.Arrays.{AreTruths, truths_value};
 ghost use Rattle.glob_sets.specs.Senses.{all_linked, are_linked, is_linked};
 
 use crate::indices::lies_among;
-use glob_lists::{Test, all_pass, lies_in, places_of, where_set};
-use glob_nodes::{Join, Numbers, joined};
+use glob_nodes::{Join, Numbers, Test, all_pass, joined, lies_in, places_of, where_set};
 use mz_arena::Id;
 use mz_base::Memory;
 use mz_symbol::Run;
@@ -77,7 +76,7 @@ struct IsLinked {
 }
 
 impl Test<(Id, Id)> for IsLinked {
-    ghost use Rattle.glob_lists.specs.Places.{indexed};
+    ghost use Rattle.glob_nodes.specs.Places.{indexed};
     ghost use Rattle.glob_sets.specs.Senses.{is_linked};
 
     ghost holds = { λ c x r. is_linked r c.s (indexed r x) };

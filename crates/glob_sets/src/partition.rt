@@ -8,13 +8,12 @@ ghost use Rattle.mz_arena.specs.Values.{as_set, holds, is_true};
 ghost use Rattle.mz_symbol.specs.Makes.{GoesOnBy};
 ghost use Rattle.glob_nodes.specs.Rows.{IsRow, row_cost};
 ghost use Rattle.glob_nodes.specs.Says.{Gives, Says, Tells, pair_count};
-ghost use Rattle.glob_lists.specs.Sets.{set_value};
+ghost use Rattle.glob_nodes.specs.Sets.{set_value};
 ghost use Rattle.glob_sets.specs.Arrays.{AreSets, IsSet, sets_value};
 ghost use Rattle.glob_sets.specs.Senses.{make_up, united_from};
 
 use crate::disjoint::{all_apart, equal};
-use glob_lists::where_set;
-use glob_nodes::{Join, Numbers, joined, made};
+use glob_nodes::{Join, Numbers, joined, made, where_set};
 use mz_arena::{Id, NodeKind};
 use mz_base::Memory;
 use mz_symbol::Run;

@@ -13,9 +13,9 @@ use Rattle.mz_tree.specs.Tree as source
 use Rattle.mz_tree.specs.Tree.{Name}
 use Rattle.mz_scope_names.specs.Sets.{holds, with_name}
 use Rattle.mz_scope_names.proofs.Holding.{holds_added}
-use Rattle.mz_scope_uses.specs.declared.name_use.NameUse.{NameUse}
-use Rattle.mz_scope_uses.specs.declared.name_use.NameUse.TheVariants.{Mention, Call}
-use Rattle.mz_scope_uses.specs.Uses.{mention, with_bound, with_gens, with_lets, in_tree, in_shape, in_maybe, in_trees, in_links, in_rows, in_branches, in_part, in_parts, in_generator, in_gens, in_let, in_lets, in_written, in_based, in_dims, in_bases}
+use Rattle.mz_scope_names.specs.declared.name_use.NameUse.{NameUse}
+use Rattle.mz_scope_names.specs.declared.name_use.NameUse.TheVariants.{Mention, Call}
+use Rattle.mz_scope_names.specs.Uses.{mention, with_bound, with_gens, with_lets, in_tree, in_shape, in_maybe, in_trees, in_links, in_rows, in_branches, in_part, in_parts, in_generator, in_gens, in_let, in_lets, in_written, in_based, in_dims, in_bases}
 use Rattle.mz_check_meaning.specs.declared.meaning.Meaning.{Meaning}
 use Rattle.mz_check_meaning.specs.declared.meaning.Meaning.TheVariants as meaning
 use Rattle.mz_check_meaning.specs.Tests.{Test, ◌>>=◌, loop, one_more, each, maybe_some}

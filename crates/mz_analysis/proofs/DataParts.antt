@@ -17,10 +17,10 @@ use Rattle.mz_scope_names.specs.Roles.{occurs}
 use Rattle.mz_scope_names.specs.Occurrences.{of_case}
 use Rattle.mz_scope_names.specs.Given.{with_identifier, identifiers, cases_in, enum_of, listed, in_given}
 use Rattle.mz_scope_names.specs.Sets.{holds}
-use Rattle.mz_data_names.specs.Named.{names_in, names_in_all}
+use Rattle.mz_tree.specs.Named.{names_in, names_in_all}
 use Rattle.mz_scope_order.specs.Parts.{cases_at, given_cases, unless, given_of}
 use Rattle.mz_scope.proofs.Parting.{or_none}
-use Rattle.mz_data.specs.WithData.{IsGivenKnown}
+use Rattle.mz_include.specs.WithData.{IsGivenKnown}
 use Rattle.mz_analysis.specs.Known.{OfGiven}
 
 -- an item whose names are of a table, and whose places are in this many files

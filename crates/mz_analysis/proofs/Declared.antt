@@ -21,7 +21,7 @@ use Rattle.mz_check_meaning.specs.Checks.{numbered, untyped, Sections, sections,
 use Rattle.mz_check_data.specs.WithData.{AreNumbered, with_value, with_values, checked_given, checked_with_data}
 use Rattle.mz_check_data.proofs.Parted.{parted}
 use Rattle.mz_check_meaning.proofs.Giving.{AllBy, all_indexed, all_mapped, Gives, gives_then, gives_after}
-use Rattle.mz_check_laws.proofs.Programs.{all_hold, numbered_from}
+use Rattle.mz_analysis.proofs.ParPrograms.{all_hold, numbered_from}
 use Rattle.mz_check.proofs.Assembling.{EachGives, each_given}
 use Rattle.mz_check.proofs.Contexts.{checked_numbered}
 use Rattle.mz_include.specs.Naming.{File}

@@ -17,10 +17,10 @@ use Rattle.mz_tree.proofs.Collected.{all_flat}
 use Rattle.mz_scope_names.specs.declared.occurrence.Occurrence.{Occurrence}
 use Rattle.mz_scope_names.specs.Occurrences.{in_item}
 use Rattle.mz_scope_names.specs.Given.{occurrences}
-use Rattle.mz_scope_uses.specs.Sketches.{decl_sketch, function_sketch}
+use Rattle.mz_scope_names.specs.Sketches.{decl_sketch, function_sketch}
 use Rattle.mz_scope_order.specs.Parts.{decls_of, functions_of, decl_at, function_at}
 use Rattle.mz_scope_order.specs.Scoped.{IsCyclic, at_decl, at_function}
-use Rattle.mz_scope_faults.specs.Tests.{first, first_after, is_reserved, is_repeated, is_misfit, first_unknown_of, first_missing_of, solve_in, solve_fault, or_refused, refusal}
+use Rattle.mz_scope.specs.Tests.{first, first_after, is_reserved, is_repeated, is_misfit, first_unknown_of, first_missing_of, solve_in, solve_fault, or_refused, refusal}
 use Rattle.mz_analysis.specs.Known.{OfFunction, OfGiven}
 use Rattle.mz_scope_names.proofs.Spots.{item_placed}
 use Rattle.mz_analysis.proofs.Parts as parts

@@ -15,13 +15,13 @@ use Rattle.mz_scope_names.specs.Given.{occurrences}
 use Rattle.mz_scope_names.specs.Occurrences.{in_item}
 use Rattle.mz_scope_names.specs.StepsWalk as code
 use Rattle.mz_scope_names.proofs.Spots.{item_named}
-use Rattle.mz_data_names.specs.Named.{IsGivenWithin}
-use Rattle.mz_scope_faults.specs.Tests as tests
-use Rattle.mz_scope_faults.specs.Tests.{AreNamed, known_in, solve_in, refusal, refusal_of}
+use Rattle.mz_tree.specs.Named.{IsGivenWithin}
+use Rattle.mz_scope.specs.Tests as tests
+use Rattle.mz_scope.specs.Tests.{AreNamed, known_in, solve_in, refusal, refusal_of}
 use Rattle.mz_scope.proofs.Naming.{all_named}
 use Rattle.mz_include.specs.Trees.{IsItemOf}
 use Rattle.mz_include.specs.Views.{file, IsFileOf, AreKnown}
-use Rattle.mz_data.specs.WithData.{IsGivenKnown}
+use Rattle.mz_include.specs.WithData.{IsGivenKnown}
 use Rattle.mz_analysis.specs.Analysis.{items_of, end_of, name_fault}
 
 pub items_are : (table : List (List ℕ)) (fs : List SourceFile) → code.items_of fs ≡ items_of (map (file table) fs)

@@ -17,3 +17,15 @@ pub mod Stopping
 pub mod Tested
 pub mod Types
 pub mod Verdicts
+pub mod ParNodes
+pub mod Sound
+pub mod ParPrograms
+pub mod Laws
+pub mod Examples
+pub mod Levels
+pub mod OneProgram
+pub mod PlaceNodes
+pub mod Typed
+pub mod Data
+pub mod Models
+pub mod PlacePrograms

@@ -8,10 +8,10 @@ use Rattle.mz_core.specs.Tree.{DeclaredType}
 use Rattle.mz_tree.specs.Tree as source
 use Rattle.mz_tree.specs.Tree.{Name, Declaration}
 use Rattle.mz_tree.specs.Items.{FunctionTree}
-use Rattle.mz_scope_uses.specs.declared.name_use.NameUse.{NameUse}
-use Rattle.mz_scope_uses.specs.declared.name_use.NameUse.TheVariants.{Mention, Call}
-use Rattle.mz_scope_uses.specs.Uses.{in_tree}
-use Rattle.mz_scope_uses.specs.Sketches.{decl_sketch, function_sketch, has_parameters}
+use Rattle.mz_scope_names.specs.declared.name_use.NameUse.{NameUse}
+use Rattle.mz_scope_names.specs.declared.name_use.NameUse.TheVariants.{Mention, Call}
+use Rattle.mz_scope_names.specs.Uses.{in_tree}
+use Rattle.mz_scope_names.specs.Sketches.{decl_sketch, function_sketch, has_parameters}
 use Rattle.mz_scope_order.specs.Dependencies.{sketch_at, meant_by, IsUsed, RefersTo}
 use Rattle.mz_scope_order.specs.Parts.{EnumTree, name_of, decl_at, function_at}
 use Rattle.mz_scope_order.specs.Scoped.{ScopedTree}

@@ -10,9 +10,9 @@ use Rattle.mz_tree.specs.Tree.{Name, Declaration, Written}
 use Rattle.mz_tree.specs.Items.{FunctionTree}
 use Rattle.mz_graph.proofs.Membership.{same_or_not}
 use Rattle.mz_scope_names.specs.Sets.{with_name}
-use Rattle.mz_scope_uses.specs.declared.name_use.NameUse.{NameUse}
-use Rattle.mz_scope_uses.specs.Uses.{in_written}
-use Rattle.mz_scope_uses.specs.Sketches.{decl_sketch, function_sketch, in_parameters, with_parameters}
+use Rattle.mz_scope_names.specs.declared.name_use.NameUse.{NameUse}
+use Rattle.mz_scope_names.specs.Uses.{in_written}
+use Rattle.mz_scope_names.specs.Sketches.{decl_sketch, function_sketch, in_parameters, with_parameters}
 use Rattle.mz_scope_order.specs.Parts.{decl_at, function_at}
 use Rattle.mz_scope_order.specs.Scoped.{ScopedTree}
 use Rattle.mz_scope_order.specs.Subjects.{Subject, of_decl, of_function, IsAmong, AreTyped, types_in, ComeAfterNeeds}

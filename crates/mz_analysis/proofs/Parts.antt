@@ -11,7 +11,7 @@ use Rattle.mz_tree.specs.Items.{GoalTree, ItemTree, include, declare, assign, co
 use Rattle.mz_tree.specs.Data.{Given}
 use Rattle.mz_tree.specs.Kinds.{IsSpot, OfTree, OfMaybe, OfDeclaration, OfGoal, OfItem}
 use Rattle.mz_tree.proofs.Collected.{all_flat}
-use Rattle.mz_scope_uses.specs.Sketches.{decl_sketch}
+use Rattle.mz_scope_names.specs.Sketches.{decl_sketch}
 use Rattle.mz_scope_order.specs.Parts.{value_in, assigned, or_assigned, filled, declared_in, decls_of, function_in, functions_of, constraint_in, output_in, goal_in, goal_of, enum_in, enums_of, all_cases, given_of, place_of, decl_at}
 use Rattle.mz_scope_order.specs.Scoped.{ScopedTree, IsScoped}
 use Rattle.mz_scope.proofs.Turned.{all_counted}

@@ -12,7 +12,7 @@ use Rattle.mz_tree.specs.Data.{Given}
 use Rattle.mz_scope_names.specs.declared.occurrence.Occurrence.{Occurrence}
 use Rattle.mz_scope_names.specs.Given.{occurrences}
 use Rattle.mz_scope_order.specs.Scoped.{IsCyclic, at_decl, at_function}
-use Rattle.mz_scope_faults.specs.Tests.{known_in, solve_in, or_refused, refusal, first_unknown_of, first_missing_of, first, first_after, is_reserved, is_repeated, solve_fault, is_misfit}
+use Rattle.mz_scope.specs.Tests.{known_in, solve_in, or_refused, refusal, first_unknown_of, first_missing_of, first, first_after, is_reserved, is_repeated, solve_fault, is_misfit}
 use Rattle.mz_include.specs.Naming.{File}
 use Rattle.mz_analysis.specs.Analysis.{items_of, end_of, IsOfTests, IsIllNamed, by_a_test, by_a_cycle}
 

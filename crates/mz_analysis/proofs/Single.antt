@@ -11,7 +11,7 @@ use Rattle.mz_graph.specs.Graph.{IsIn}
 use Rattle.mz_graph.specs.Order.{IsFirstLeft}
 use Rattle.mz_graph.proofs.OneOrder.{one_order}
 use Rattle.mz_scope_order.specs.Parts.{decls_of, functions_of, constraint_in, output_in, goal_of, enums_of, given_of, place_of, decl_at, function_at}
-use Rattle.mz_scope_uses.specs.Sketches.{Sketch}
+use Rattle.mz_scope_names.specs.Sketches.{Sketch}
 use Rattle.mz_scope_order.specs.Dependencies.{IsStuckAt, IsBackAt}
 use Rattle.mz_scope_order.specs.Scoped.{ScopedTree, decl_sketches, function_sketches, IsScoped, IsCyclic, at_decl, at_function}
 use Rattle.mz_include.specs.Naming.{File}
@@ -20,7 +20,7 @@ use Rattle.mz_core.specs.Program.{PlainProgram}
 use Rattle.mz_check_meaning.specs.Tests.{Test}
 use Rattle.mz_check_meaning.specs.Checks.{Sections, IsProgramOf}
 use Rattle.mz_check_data.specs.WithData.{ChecksWithData, IsRefusedWithData, checked_with_data}
-use Rattle.mz_check_laws.proofs.OneProgram.{less_or_not, one_program}
+use Rattle.mz_analysis.proofs.OneProgram.{less_or_not, one_program}
 use Rattle.mz_check.proofs.Contexts.{checked_numbered}
 use Rattle.mz_analysis.specs.Analysis.{items_of, IsScopedModel, IsIllNamed, by_a_test, by_a_cycle, IsTypedModel, IsIllTyped, IsRefused, by_names, by_types, HasTypedModel}
 

@@ -19,7 +19,7 @@ use Rattle.mz_scope_names.specs.Roles.{occurs}
 use Rattle.mz_scope_names.specs.Given.{occurrences, in_given, enum_of}
 use Rattle.mz_scope_names.specs.Occurrences.{in_item, in_top, in_written, in_maybe, value_of, is_par}
 use Rattle.mz_scope_names.specs.Sets.{holds}
-use Rattle.mz_scope_faults.specs.Tests.{first, first_after, is_reserved, is_repeated, or_refused, solve_fault, solve_in, known_in, refusal_after_solves, refusal}
+use Rattle.mz_scope.specs.Tests.{first, first_after, is_reserved, is_repeated, or_refused, solve_fault, solve_in, known_in, refusal_after_solves, refusal}
 use Rattle.mz_scope_order.specs.Parts.{filled, declared_in, decls_of, name_of, decl_at}
 use Rattle.mz_scope_order.specs.Scoped.{ScopedTree, IsScoped}
 use Rattle.mz_core.specs.Program.{PlainProgram}

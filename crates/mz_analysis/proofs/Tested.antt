@@ -16,10 +16,10 @@ use Rattle.mz_scope_names.specs.StepsWalk as code
 use Rattle.mz_scope_order.specs.declared.scoped.Scoped.{Scoped}
 use Rattle.mz_scope_order.specs.Scoped.{scoped_tree, IsScoped, IsCyclic}
 use Rattle.mz_scope.specs.Scope as scope
-use Rattle.mz_scope_faults.specs.Tests as tests
-use Rattle.mz_scope_faults.specs.Tests.{known_in, solve_in, refusal_of}
+use Rattle.mz_scope.specs.Tests as tests
+use Rattle.mz_scope.specs.Tests.{known_in, solve_in, refusal_of}
 use Rattle.mz_include.specs.Views.{file, IsFileOf, AreKnown}
-use Rattle.mz_data.specs.WithData.{IsGivenKnown}
+use Rattle.mz_include.specs.WithData.{IsGivenKnown}
 use Rattle.mz_analysis.specs.Analysis.{IsScopedModel, IsIllNamed, by_a_test, by_a_cycle}
 use Rattle.mz_analysis.specs.Known.{IsWithin, OfGiven}
 use Rattle.mz_analysis.proofs.Items.{items_are, fault_is, all_among}

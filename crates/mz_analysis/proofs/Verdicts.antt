@@ -11,9 +11,9 @@ use Rattle.mz_tree.specs.Tree as source
 use Rattle.mz_tree.specs.Tree.{Declaration}
 use Rattle.mz_tree.specs.Items as item
 use Rattle.mz_tree.specs.Items.{FunctionTree, GoalTree}
-use Rattle.mz_scope_uses.specs.declared.name_use.NameUse.{NameUse}
-use Rattle.mz_scope_uses.specs.Uses.{in_tree}
-use Rattle.mz_scope_uses.specs.Sketches.{decl_sketch, function_sketch}
+use Rattle.mz_scope_names.specs.declared.name_use.NameUse.{NameUse}
+use Rattle.mz_scope_names.specs.Uses.{in_tree}
+use Rattle.mz_scope_names.specs.Sketches.{decl_sketch, function_sketch}
 use Rattle.mz_scope_order.specs.Parts.{place_of, decl_at, function_at}
 use Rattle.mz_scope_order.specs.Scoped.{ScopedTree}
 use Rattle.mz_scope_order.specs.Subjects.{Subject, of_decl, of_function, IsTypeOrder}

@@ -14,11 +14,11 @@ use Rattle.mz_core.specs.Program.{PlainProgram}
 use Rattle.mz_core.specs.Tree.{Decl}
 use Rattle.mz_meaning.specs.Walk.{ordered}
 use Rattle.mz_check_data.specs.WithData.{ChecksWithData, IsRefusedWithData}
-use Rattle.mz_scope_faults.specs.Tests.{known_in, solve_in, refusal, first, first_after}
+use Rattle.mz_scope.specs.Tests.{known_in, solve_in, refusal, first, first_after}
 use Rattle.mz_include.specs.Naming.{File}
 use Rattle.mz_include.specs.Views.{file, AreKnown}
-use Rattle.mz_data.specs.declared.gathering.SourcesWithData.{SourcesWithData}
-use Rattle.mz_data.specs.WithData.{IsGivenKnown}
+use Rattle.mz_include.specs.declared.with_data.gathering.SourcesWithData.{SourcesWithData}
+use Rattle.mz_include.specs.WithData.{IsGivenKnown}
 
 -- the items of a model's files, in the order of the text
 abbrev pub items_of : List File → List ItemTree

@@ -5,7 +5,7 @@ use Rattle.mz_tree.specs.Tree.{Name}
 use Rattle.mz_tree.specs.Items.{FunctionTree}
 use Rattle.mz_tree.specs.Kinds.{IsSpot, OfTree, OfDeclaration, OfWritten, OfGoal}
 use Rattle.mz_tree.specs.Data.{Given}
-use Rattle.mz_data_names.specs.Named.{names_in}
+use Rattle.mz_tree.specs.Named.{names_in}
 use Rattle.mz_scope_order.specs.Parts.{EnumTree}
 use Rattle.mz_scope_order.specs.Scoped.{ScopedTree}
 

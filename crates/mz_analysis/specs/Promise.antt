@@ -5,7 +5,7 @@ use Rattle.mz_base.specs.Names.{text_of}
 use Rattle.mz_base.specs.Words.{is_identifier}
 use Rattle.mz_io.specs.Files.{Texts}
 use Rattle.mz_tree.specs.Data.{Given}
-use Rattle.mz_scope_faults.specs.Tests.{begins_reserved}
+use Rattle.mz_scope.specs.Tests.{begins_reserved}
 use Rattle.mz_include.specs.Naming.{File}
 use Rattle.mz_include.specs.Sources.{IsSources}
 use Rattle.mz_scope_order.specs.Scoped.{ScopedTree, AreDistinct}

@@ -6,7 +6,7 @@ ghost use Rattle.mz_include.specs.Views.{file};
 ghost use Rattle.mz_analysis.specs.Analysis.{own_name, data_name, file_name, IsRead, files_read};
 
 use mz_base::Name;
-use mz_data::SourcesWithData;
+use mz_include::with_data::SourcesWithData;
 use mz_tree::SourceFile;
 
 /// The name of the model's own file.

@@ -8,7 +8,7 @@ ghost use Rattle.mz_analysis.specs.Analysis.{IsScopedModel, IsIllNamed, IsRead, 
 ghost use Rattle.mz_analysis.specs.Known.{IsWithin};
 
 use mz_base::{Names, Stop};
-use mz_data::SourcesWithData;
+use mz_include::with_data::SourcesWithData;
 use mz_scope::scope;
 use mz_scope_order::Scoped;
 use std::alloc::Global;

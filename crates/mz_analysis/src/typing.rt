@@ -9,7 +9,7 @@ use crate::scoping::scoped_model;
 use mz_base::{Names, Stop};
 use mz_check::check;
 use mz_core::Program;
-use mz_data::SourcesWithData;
+use mz_include::with_data::SourcesWithData;
 use std::alloc::Global;
 
 /// The typed program of a model's files with the items of its data, by the table of their names.

@@ -11,3 +11,9 @@ pub mod Put
 mod TermExamples
 mod BoundExamples
 pub mod FreeTerms
+pub mod Sets
+pub mod Families
+pub mod BoundsOfLists
+pub mod ByKind
+pub mod Terms
+pub mod Accesses

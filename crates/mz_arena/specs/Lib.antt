@@ -11,3 +11,4 @@ pub mod InBounds
 pub mod StepsAsked
 pub mod FreeNodes
 pub mod Instances
+pub mod Accesses

@@ -1,9 +1,10 @@
-// Terms over variables: nodes with numbers, shared by all that speak of them, each with its meaning and its bounds.
+// Terms over variables: nodes with numbers, shared by all that speak of them, each with its meaning and its bounds; and laws of bounds.
 #![tactic(auto)]
 
 mod access;
 mod arena;
 mod asked;
+mod bounds_law;
 mod choice;
 mod instance;
 mod law;
@@ -17,6 +18,7 @@ mod table;
 mod truth;
 
 pub use arena::Arena;
+pub use bounds_law::{accesses_are_monotone, terms_lie_in_bounds};
 pub use instance::{
     Instance, InstanceGoal, ModelVar, ParValue, VarCell, terms_are_told_by_free_nodes,
 };

@@ -10,8 +10,7 @@ ghost use Rattle.mz_builtin_apply.specs.Applied.{Answers, IsApplied, is_applied}
 use crate::faults::{is_mismatched, negative};
 use crate::limits::{limited_scalar, limited_value};
 use mz_base::{Fault, Kind, Span, Stop};
-use mz_builtin_arrays::{bounding, made};
-use mz_builtin_scalars::scalar;
+use mz_builtin_values::{bounding, made, scalar};
 use mz_operations::{BoundingRow, MadeRow, Row};
 use mz_value::Value;
 use std::alloc::Global;

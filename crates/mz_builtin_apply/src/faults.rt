@@ -7,7 +7,7 @@ ghost use Rattle.mz_operations.specs.Answers as answers;
 ghost use Rattle.mz_builtin_apply.specs.Applied.{is_applied};
 
 use mz_builtin_arguments::{bool_at, int_at, items_at};
-use mz_builtin_arrays::{fits, shape};
+use mz_builtin_values::{fits, shape};
 use mz_operations::{MadeRow, Row, ScalarRow};
 use mz_value::Value;
 use std::alloc::{AllocError, Global};

@@ -3,14 +3,14 @@
 ghost use Rattle.std.specs.Prelude.{◌≡◌, Some};
 ghost use Rattle.std.specs.Option.{option_map};
 ghost use Rattle.mz_value.specs.Contents.{content, int};
-ghost use Rattle.mz_builtin_scalars.specs.Scalars.{scalar_content};
+ghost use Rattle.mz_builtin_values.specs.Scalars.{scalar_content};
 ghost use Rattle.mz_operations.specs.Answers.{limited};
 ghost use Rattle.mz_builtin_apply.specs.Applied.{Answers};
 ghost use Rattle.mz_builtin_apply.specs.StepsLimits.{unless_outside};
 
 use mz_base::{Fault, Kind, Span, Stop};
 use mz_builtin_arguments::{as_int, is_number};
-use mz_builtin_scalars::Scalar;
+use mz_builtin_values::Scalar;
 use mz_value::Value;
 
 /// A computed integer, where it lies in the limit.

@@ -21,9 +21,10 @@ ghost use Rattle.mz_check.specs.StepsParts.{IsNamedValue, value_by, value_in, bo
 use mz_base::{Memory, Span, Stop};
 use mz_check_context::{Context, Scope, param_type, type_in};
 use mz_check_exprs::check as check_expression;
-use mz_check_forms::{condition, dims_of, fitted, is_scalar, mismatch, typed_as};
+use mz_check_forms::{
+    condition, dims_of, fitted, is_scalar, mismatch, place_of, type_of, typed_as,
+};
 use mz_core::{Base, Core, CoreDecl, CoreGoal, TypeInst, copy_type, make_type};
-use mz_core_nodes::{place_of, type_of};
 use mz_scope_order::ScopedDecl;
 use mz_tree::{Expr, Function, Goal};
 use std::alloc::Global;

@@ -17,10 +17,9 @@ use crate::rows::with_rows;
 use mz_base::{Memory, Name, Span, Stop};
 use mz_builtin::fitting;
 use mz_check_context::Context;
-use mz_check_forms::all_coerced;
+use mz_check_forms::{all_coerced, make_builtin, make_call, type_of};
 use mz_check_meaning::Callee;
 use mz_core::{Core, Signature, TypeInst, copy_type};
-use mz_core_nodes::{make_builtin, make_call, type_of};
 use std::alloc::Global;
 
 fn called_node(span: Span, ty: TypeInst, callee: Callee, args: Vec<Core>) -> Core

@@ -18,10 +18,9 @@ use crate::integers::{integer_candidate, is_one_var, row_between};
 use crate::operators::operator_name;
 use crate::pairs::Candidate;
 use mz_base::{Memory, Span, Stop};
-use mz_check_forms::{coercions_to, scalar};
+use mz_check_forms::{coercions_to, make_chain, make_step, scalar, type_of};
 use mz_check_meaning::Callee;
 use mz_core::{Base, Coercion, Core, CoreStep, Signature, TypeInst, copy_type};
-use mz_core_nodes::{make_chain, make_step, type_of};
 use mz_tree::{BinOp, PlacedOp};
 use std::alloc::Global;
 

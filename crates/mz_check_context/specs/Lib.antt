@@ -4,3 +4,4 @@ pub mod Extending
 pub mod Headings
 pub mod Known
 pub mod Nodes
+pub mod Views

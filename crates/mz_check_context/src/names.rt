@@ -15,9 +15,9 @@ use crate::context::Context;
 use crate::heading::type_in;
 use crate::scope::Scope;
 use mz_base::{Fault, Kind, Memory, Name, Span, Stop};
+use mz_check_forms::{make_call, make_case, make_enum_set, make_slot};
 use mz_check_meaning::Meaning;
 use mz_core::{Base, Core, TypeInst, copy_type, make_type};
-use mz_core_nodes::{make_call, make_case, make_enum_set, make_slot};
 use std::alloc::Global;
 
 /// A declared type, par where values of declarations are known.

@@ -17,10 +17,11 @@ ghost use Rattle.mz_check_data.specs.StepsArrays.{set_of};
 use mz_base::{Kind, Span, Stop};
 use mz_check_calls::row_node;
 use mz_check_context::Context;
-use mz_check_forms::{refusal, scalar, set_literal};
+use mz_check_forms::{
+    make_absent, make_bool, make_case, make_enum_set, make_int, refusal, scalar, set_literal,
+};
 use mz_check_meaning::Meaning;
 use mz_core::{Base, Core, TypeInst};
-use mz_core_nodes::{make_absent, make_bool, make_case, make_enum_set, make_int};
 use mz_tree::Datum;
 use std::alloc::Global;
 

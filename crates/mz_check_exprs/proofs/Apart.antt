@@ -5,7 +5,7 @@ use Rattle.std.proofs.lemmas.List.{map-append}
 use Rattle.mz_base.specs.declared.fault.Span.{Span}
 use Rattle.mz_tree.specs.Tree.{Name, Declaration}
 use Rattle.mz_tree.specs.Items.{FunctionTree}
-use Rattle.mz_scope_uses.specs.Sketches.{has_parameters}
+use Rattle.mz_scope_names.specs.Sketches.{has_parameters}
 use Rattle.mz_scope_order.specs.Parts.{EnumTree, name_of}
 use Rattle.mz_scope_order.specs.Scoped.{ScopedTree, shared_names, enum_names, name_unless, bare_name}
 use Rattle.mz_check_meaning.specs.declared.meaning.Meaning.{Meaning}

@@ -21,8 +21,8 @@ use Rattle.mz_check_meaning.specs.Calls.{applied}
 use Rattle.mz_check_meaning.specs.Forms.{parts, row_parts, call_of, Declared, let_next}
 use Rattle.mz_check_meaning.specs.Typing.{check}
 use Rattle.mz_check_forms.proofs.Passing.{each_stops}
-use Rattle.mz_check_binders.specs.declared.local.TypedItem.{TypedItem}
-use Rattle.mz_check_binders.specs.Views.{typed_item}
+use Rattle.mz_check_context.specs.declared.local.TypedItem.{TypedItem}
+use Rattle.mz_check_context.specs.Views.{typed_item}
 use Rattle.mz_check_exprs.specs.StepsForms.{expression, form_layer, item_layer, local_next}
 use Rattle.mz_check_exprs.specs.Views.{declared_in}
 use Rattle.mz_check_exprs.proofs.Layers.{local_is}

@@ -4,7 +4,7 @@ use Rattle.std.specs.Prelude.{All}
 use Rattle.std.specs.List.{flat_map, enumerate_from}
 use Rattle.std.proofs.lemmas.List.Elements.{All-nil, All-cons}
 use Rattle.mz_tree.specs.Items.{FunctionTree}
-use Rattle.mz_scope_uses.specs.Sketches.{has_parameters}
+use Rattle.mz_scope_names.specs.Sketches.{has_parameters}
 use Rattle.mz_scope_order.specs.Scoped.{ScopedTree}
 use Rattle.mz_check_meaning.specs.Checks.{numbered, applied_name, with_parameters}
 use Rattle.mz_check_exprs.specs.NamedModels.{IsNamedFunction, AreNamed}

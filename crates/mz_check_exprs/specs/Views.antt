@@ -5,9 +5,9 @@ use Rattle.mz_core.specs.TreeViews.{tree}
 use Rattle.mz_check_meaning.specs.Models.{Env}
 use Rattle.mz_check_meaning.specs.Comprehensions.{Bound}
 use Rattle.mz_check_meaning.specs.Forms.{Branched, Generated, Declared}
-use Rattle.mz_check_binders.specs.declared.generator.TypedGen.{TypedGen}
-use Rattle.mz_check_binders.specs.declared.local.TypedItem.{TypedItem}
-use Rattle.mz_check_binders.specs.Views.{typed_gen, typed_item}
+use Rattle.mz_check_context.specs.declared.generator.TypedGen.{TypedGen}
+use Rattle.mz_check_context.specs.declared.local.TypedItem.{TypedItem}
+use Rattle.mz_check_context.specs.Views.{typed_gen, typed_item}
 
 abbrev pub bound : List ℕ → Env → Bound
 bound slots env = record { slots = slots; env = env }

@@ -10,15 +10,13 @@ ghost use Rattle.mz_check_meaning.specs.Comprehensions.{bind_next, bind_names};
 ghost use Rattle.mz_check_meaning.specs.Lets.{new_name, decl_of};
 ghost use Rattle.mz_check_meaning.specs.Passes.{Passes};
 ghost use Rattle.mz_check_context.specs.Extending.{Extends};
-ghost use Rattle.mz_check_binders.specs.Views.{typed_item};
+ghost use Rattle.mz_check_context.specs.Views.{typed_item};
 ghost use Rattle.mz_check_exprs.specs.Views.{bound, declared_in};
 
 use mz_base::{Kind, Memory, Name, Span, Stop};
-use mz_check_binders::TypedItem;
-use mz_check_context::Scope;
-use mz_check_forms::refusal;
+use mz_check_context::{Scope, TypedItem};
+use mz_check_forms::{make_declaration, refusal};
 use mz_core::{Core, CoreType, TypeInst, copy_type};
-use mz_core_nodes::make_declaration;
 use std::alloc::Global;
 
 /// Tests that a name is new since a slot was the next. DuplicateName at it, where it isn't.

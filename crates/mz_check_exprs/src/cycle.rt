@@ -10,7 +10,7 @@ ghost use Rattle.mz_check_meaning.specs.Forms.{parts, branch_next, from_left_of,
 ghost use Rattle.mz_check_meaning.specs.Passes.{Passes};
 ghost use Rattle.mz_check_context.specs.Known.{known};
 ghost use Rattle.mz_check_context.specs.Extending.{Extends};
-ghost use Rattle.mz_check_binders.specs.Views.{typed_base};
+ghost use Rattle.mz_check_context.specs.Views.{typed_base};
 ghost use Rattle.mz_check_exprs.specs.Naming.{IsNamed, IsNamedExpression, IsNamedPiece, IsNamedGen, IsNamedBase, IsNamedWritten, IsNamedDecl, IsNamedItem, IsNamedForm, IsNamedCallee};
 ghost use Rattle.mz_check_exprs.specs.StepsForms.{expression, operand_by, branch_by, piece_layer, piece_by, gen_by, base_layer, base_by, type_by, local_next, item_layer, item_by, form_layer, accessed_by, gen_after};
 ghost use Rattle.mz_check_exprs.specs.Views.{generated, declared_in, branched};
@@ -21,14 +21,15 @@ use crate::laws::form_is_named;
 use crate::texts::{group_right, prefixed, shown, texted};
 use crate::written::absent_type;
 use mz_base::{Kind, Span, Stop};
-use mz_check_binders::{TypedBase, TypedGen, TypedItem, declared, running_type};
 use mz_check_calls::{Chained, Operand, appended, applied};
-use mz_check_context::{Context, Scope, bare_call, named};
+use mz_check_context::{
+    Context, Scope, TypedBase, TypedGen, TypedItem, bare_call, declared, named, running_type,
+};
 use mz_check_forms::{
-    accessed, decided, fitted, listed, refusal, scalar, set_literal, tabled, var_of,
+    accessed, decided, fitted, listed, make_absent, make_bool, make_int, make_text, refusal,
+    scalar, set_literal, tabled, var_of,
 };
 use mz_core::{Base, Core, CoreType};
-use mz_core_nodes::{make_absent, make_bool, make_int, make_text};
 use mz_tree::{Decl, Expr, Form, Gen, LetItem, PlacedOp, TextPart, TypeBase, TypeText};
 use std::alloc::Global;
 

@@ -10,13 +10,12 @@ ghost use Rattle.mz_check_meaning.specs.Passes.{Passes};
 ghost use Rattle.mz_check_calls.specs.Views.{chained};
 ghost use Rattle.mz_check_context.specs.Known.{known};
 ghost use Rattle.mz_check_context.specs.Extending.{Extends};
-ghost use Rattle.mz_check_binders.specs.Views.{typed_gen, typed_item};
+ghost use Rattle.mz_check_context.specs.Views.{typed_gen, typed_item};
 ghost use Rattle.mz_check_exprs.specs.StepsForms.{called_over};
 
 use mz_base::{Name, Span, Stop};
-use mz_check_binders::{TypedGen, TypedItem, comprehended, let_node};
 use mz_check_calls::{Chained, applied, chain_node};
-use mz_check_context::{Context, Scope};
+use mz_check_context::{Context, Scope, TypedGen, TypedItem, comprehended, let_node};
 use mz_core::Core;
 use std::alloc::Global;
 

@@ -19,9 +19,8 @@ ghost use Rattle.mz_check_exprs.specs.StepsHeadings.{parameters, param_by};
 use crate::check_written;
 use mz_base::{Kind, Memory, Name, Span, Stop};
 use mz_check_context::{Context, Heading, Scope};
-use mz_check_forms::refusal;
+use mz_check_forms::{make_declaration, refusal};
 use mz_core::{CoreDecl, CoreType, copy_type};
-use mz_core_nodes::make_declaration;
 use mz_tree::{Decl, Function};
 use std::alloc::Global;
 

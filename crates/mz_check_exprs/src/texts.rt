@@ -13,9 +13,8 @@ ghost use Rattle.mz_check_exprs.specs.StepsForms.{operand_by};
 
 use mz_base::{Kind, Memory, Span, Stop};
 use mz_check_calls::{Operand, appended, groups_right, prefix_name, row_node};
-use mz_check_forms::refusal;
+use mz_check_forms::{place_of, refusal};
 use mz_core::Core;
-use mz_core_nodes::place_of;
 use mz_tree::{BinOp, Expr, PlacedOp, UnOp};
 use std::alloc::Global;
 

@@ -10,9 +10,9 @@ use crate::kinds::{
     dims_of, element_of, is_scalar, is_set_type, made_var, mismatch, refusal, typed_as,
 };
 use crate::literals::some_var;
+use crate::{make_access, place_of, type_of};
 use mz_base::{Kind, Span, Stop};
 use mz_core::{Base, Core, Ix};
-use mz_core_nodes::{make_access, place_of, type_of};
 use std::alloc::Global;
 
 /// The base of an index of this type.

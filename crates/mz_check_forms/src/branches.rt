@@ -17,9 +17,9 @@ use crate::coerce::{allowed_at, coerced, condition, each_to};
 use crate::joins::{join_next, rest_join};
 use crate::kinds::{made_var, mismatch, scalar, typed_as, var_of};
 use crate::literals::some_var;
+use crate::{make_if, place_of, type_of};
 use mz_base::{Memory, Span, Stop};
 use mz_core::{Base, Core, TypeInst, below, copy_type};
-use mz_core_nodes::{make_if, place_of, type_of};
 use std::alloc::Global;
 
 /// Each condition, coerced to a Boolean. TypeMismatch at the first that is none.

@@ -9,9 +9,9 @@ ghost use Rattle.mz_check_meaning.specs.Arrays.{each_to};
 ghost use Rattle.mz_check_meaning.specs.Passes.{Passes};
 
 use crate::kinds::{is_allowed, mismatch, typed_as};
+use crate::{make_coercion, place_of, type_of};
 use mz_base::{Memory, Span, Stop};
 use mz_core::{Base, Coercion, Core, TypeInst, below, coercions, copy_type};
-use mz_core_nodes::{make_coercion, place_of, type_of};
 use std::alloc::Global;
 
 /// The expression under these coercions, one round the other, each at this place.

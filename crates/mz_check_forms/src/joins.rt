@@ -10,9 +10,9 @@ ghost use Rattle.mz_check_meaning.specs.Arrays.{join_next, element_next, element
 ghost use Rattle.mz_check_meaning.specs.Passes.{Passes};
 
 use crate::kinds::{is_scalar, mismatch, scalar, typed_as};
+use crate::{place_of, type_of};
 use mz_base::Stop;
 use mz_core::{Base, Core, TypeInst, below, copy_type, join_types};
-use mz_core_nodes::{place_of, type_of};
 use std::alloc::Global;
 
 /// Whether the first type is the join of the two. Takes no memory.

@@ -8,9 +8,9 @@ ghost use Rattle.mz_core.specs.Types.{plain_type, is_allowed, is_set, is_text};
 ghost use Rattle.mz_core.specs.TreeViews.{tree};
 ghost use Rattle.mz_check_meaning.specs.Coerced.{scalar, as_var, element_of, list_of, table_of, made_var, is_scalar, is_set_type};
 
+use crate::type_of;
 use mz_base::{Fault, Kind, Memory, Span, Stop};
 use mz_core::{Base, Core, Ix, TypeInst};
-use mz_core_nodes::type_of;
 use std::alloc::Global;
 
 /// A refusal of this kind.

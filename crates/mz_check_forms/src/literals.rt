@@ -10,9 +10,9 @@ ghost use Rattle.mz_core.specs.Types.{plain_type};
 use crate::coerce::each_to;
 use crate::joins::{elements_join, members_join, rows_join};
 use crate::kinds::{base_of, list_of, refusal, scalar, table_of, var_of};
+use crate::{make_array, make_rows, make_set, type_of};
 use mz_base::{Kind, Memory, Span, Stop};
 use mz_core::{Base, Core, TypeInst};
-use mz_core_nodes::{make_array, make_rows, make_set, type_of};
 use std::alloc::Global;
 
 /// `[..]` with its typed elements.

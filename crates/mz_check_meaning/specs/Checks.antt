@@ -11,7 +11,7 @@ use Rattle.mz_tree.specs.Tree as source
 use Rattle.mz_tree.specs.Tree.{Name, Declaration}
 use Rattle.mz_tree.specs.Items as item
 use Rattle.mz_tree.specs.Items.{FunctionTree, GoalTree}
-use Rattle.mz_scope_uses.specs.Sketches.{has_parameters}
+use Rattle.mz_scope_names.specs.Sketches.{has_parameters}
 use Rattle.mz_scope_order.specs.Parts.{EnumTree, name_of, place_of, function_at}
 use Rattle.mz_scope_order.specs.Scoped.{ScopedTree}
 use Rattle.mz_scope_order.specs.Subjects.{Subject}

@@ -10,10 +10,10 @@ use Rattle.mz_lexer.specs.declared.token.Token.{Token}
 use Rattle.mz_base.specs.Faults.{IfRefused}
 use Rattle.mz_tree.specs.declared.data.Data.{Data}
 use Rattle.mz_tree.specs.Data.{given}
-use Rattle.mz_grammar_rules.specs.Tokens.{tok_at}
-use Rattle.mz_grammar_rules.specs.Reading.{Read}
-use Rattle.mz_grammar_rules.specs.Promise.{kind_of, reason_of, Stops, Answers}
-use Rattle.mz_grammar_rules.proofs.Laws
+use Rattle.mz_grammar.specs.Tokens.{tok_at}
+use Rattle.mz_grammar.specs.RulesReading.{Read}
+use Rattle.mz_grammar.specs.RulesPromise.{kind_of, reason_of, Stops, Answers}
+use Rattle.mz_grammar.proofs.Laws
 use Rattle.mz_grammar.specs.Data.{Place, Value, rule, rank, width, reads, dimensions_of, file}
 use Rattle.mz_grammar.proofs.DataFacts.{low, falls}
 use Rattle.mz_grammar.proofs.DataFaults.{is_syntax}

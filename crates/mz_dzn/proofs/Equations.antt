@@ -7,12 +7,12 @@ use Rattle.mz_lexer.specs.declared.token.Symbol.{Symbol}
 use Rattle.mz_lexer.specs.declared.token.Symbol.TheVariants.{SLParen, SRParen, SLBrack, SLBrace, SRBrace, SRBrack, SLRows, SRRows, SBar, SComma, SSemi, SDots, SEq, SMinus, SAbsent}
 use Rattle.mz_tree.specs.Tree.{Name}
 use Rattle.mz_tree.specs.Data as pure
-use Rattle.mz_grammar_rules.specs.Tokens.{tok_at, behind, place}
-use Rattle.mz_grammar_rules.specs.Look.{is_sym}
-use Rattle.mz_grammar_rules.specs.Rules.{syntax, too_deep}
-use Rattle.mz_grammar_rules.specs.Reading.{Read, Reader, Stuck, stuck, ◌>>=◌, on, open_at, mapped, with_prefix, listed, step}
-use Rattle.mz_grammar_rules.proofs.Laws
-use Rattle.mz_grammar_rules.proofs.Steps.{grouped, same_then, same_if}
+use Rattle.mz_grammar.specs.Tokens.{tok_at, behind, place}
+use Rattle.mz_grammar.specs.Look.{is_sym}
+use Rattle.mz_grammar.specs.Rules.{syntax, too_deep}
+use Rattle.mz_grammar.specs.RulesReading.{Read, Reader, Stuck, stuck, ◌>>=◌, on, open_at, mapped, with_prefix, listed, step}
+use Rattle.mz_grammar.proofs.Laws
+use Rattle.mz_grammar.proofs.Steps.{grouped, same_then, same_if}
 use Rattle.mz_grammar.specs.Tests.{ident_of, is_end, ends_row}
 use Rattle.mz_grammar.specs.Data.{Dimensions, Place, Placed, rule, rank, width, reads, file, item, datum, named, sized, index_sets, plains, rows, row, plain, range, set, bounds, ones, one, literal_of, negated_of}
 use Rattle.mz_grammar.proofs.DataFacts.{low, falls}

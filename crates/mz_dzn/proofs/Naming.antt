@@ -8,7 +8,7 @@ use Rattle.mz_lexer.specs.Views.{HasName}
 use Rattle.mz_tree.specs.Tree.{Name}
 use Rattle.mz_tree.specs.Data.{Given}
 use Rattle.mz_grammar.specs.Data.{Dimensions}
-use Rattle.mz_data_names.specs.Named.{IsGivenWithin}
+use Rattle.mz_tree.specs.Named.{IsGivenWithin}
 use Rattle.mz_grammar_ebnf.specs.DataSyntax.{DerivesFile}
 use Rattle.mz_grammar_ebnf.specs.TokenParts.{OfGiven}
 use Rattle.mz_grammar_ebnf.proofs.Holds.{OfToken, known_name, data_items_hold}

@@ -10,11 +10,11 @@ use Rattle.mz_base.specs.Names.{Grows}
 use Rattle.mz_lexer.specs.declared.token.Token.{Token}
 use Rattle.mz_lexer.specs.Views.{HasName}
 use Rattle.mz_tree.specs.Data.{Given}
-use Rattle.mz_grammar_rules.specs.Tokens.{place_or}
-use Rattle.mz_grammar_rules.specs.Rules.{syntax}
-use Rattle.mz_grammar_rules.specs.Reading.{Read, stuck}
-use Rattle.mz_grammar_rules.specs.Promise.{IsUnfit, IsLongestPrefix}
-use Rattle.mz_grammar_rules.proofs.Laws as Laws
+use Rattle.mz_grammar.specs.Tokens.{place_or}
+use Rattle.mz_grammar.specs.Rules.{syntax}
+use Rattle.mz_grammar.specs.RulesReading.{Read, stuck}
+use Rattle.mz_grammar.specs.RulesPromise.{IsUnfit, IsLongestPrefix}
+use Rattle.mz_grammar.proofs.Laws as Laws
 use Rattle.mz_grammar.specs.Data.{rule, rank, width, reads, dimensions_of, file}
 use Rattle.mz_grammar.proofs.DataFacts.{low, falls}
 use Rattle.mz_grammar.proofs.DataViable.{answers}

@@ -11,11 +11,11 @@ use Rattle.mz_lexer.specs.declared.token.Symbol.TheVariants.{SLBrack, SLRows, SE
 use Rattle.mz_lexer.specs.Views.{IsNamed, HasName}
 use Rattle.mz_tree.specs.Tree.{Name}
 use Rattle.mz_tree.specs.Data.{Given}
-use Rattle.mz_grammar_rules.specs.Tokens.{tok_at, behind, place}
-use Rattle.mz_grammar_rules.specs.Look.{is_sym, is_symbol}
-use Rattle.mz_grammar_rules.specs.Rules.{syntax}
-use Rattle.mz_grammar_rules.specs.Reading.{Read, stuck, ◌>>=◌, on, mapped, with_prefix, step}
-use Rattle.mz_grammar_rules.proofs.Steps.{same_if, same_on}
+use Rattle.mz_grammar.specs.Tokens.{tok_at, behind, place}
+use Rattle.mz_grammar.specs.Look.{is_sym, is_symbol}
+use Rattle.mz_grammar.specs.Rules.{syntax}
+use Rattle.mz_grammar.specs.RulesReading.{Read, stuck, ◌>>=◌, on, mapped, with_prefix, step}
+use Rattle.mz_grammar.proofs.Steps.{same_if, same_on}
 use Rattle.mz_grammar.specs.Tests.{ident_in, ident_of, is_end}
 use Rattle.mz_grammar.specs.Data.{Dimensions, Placed, rule, dimensions_in, dimensions_of, reads, file, item, datum, named}
 use Rattle.mz_dzn.proofs.Equations.{by_rule, datum_reads, item_reads}

@@ -7,8 +7,8 @@ use Rattle.mz_base.specs.declared.kind.Kind.TheVariants.{Syntax}
 use Rattle.mz_base.specs.Faults.{fault_at}
 use Rattle.mz_lexer.specs.declared.token.Token.{Token}
 use Rattle.mz_tree.specs.Data.{Given}
-use Rattle.mz_grammar_rules.specs.Rules.{syntax}
-use Rattle.mz_grammar_rules.specs.Promise.{IsWithin, IsUnfit}
+use Rattle.mz_grammar.specs.Rules.{syntax}
+use Rattle.mz_grammar.specs.RulesPromise.{IsWithin, IsUnfit}
 use Rattle.mz_grammar.specs.Data.{rule, dimensions_of, file}
 use Rattle.mz_grammar_ebnf.specs.DataSyntax.{DerivesFile}
 

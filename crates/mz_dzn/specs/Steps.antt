@@ -4,10 +4,10 @@ use Rattle.mz_lexer.specs.declared.token.Symbol.{Symbol}
 use Rattle.mz_lexer.specs.declared.token.Symbol.TheVariants.{SLBrack, SComma, SSemi}
 use Rattle.mz_tree.specs.Data as pure
 use Rattle.mz_tree.specs.Data.{values, lines}
-use Rattle.mz_grammar_rules.specs.Tokens.{tok_at, behind, place}
-use Rattle.mz_grammar_rules.specs.Look.{is_sym}
-use Rattle.mz_grammar_rules.specs.Rules.{syntax}
-use Rattle.mz_grammar_rules.specs.Reading.{Reader, stuck, open_at, mapped}
+use Rattle.mz_grammar.specs.Tokens.{tok_at, behind, place}
+use Rattle.mz_grammar.specs.Look.{is_sym}
+use Rattle.mz_grammar.specs.Rules.{syntax}
+use Rattle.mz_grammar.specs.RulesReading.{Reader, stuck, open_at, mapped}
 use Rattle.mz_grammar.specs.Tests.{is_end, ends_row}
 use Rattle.mz_grammar.specs.Data.{Placed, reads, plains, rows, ones}
 

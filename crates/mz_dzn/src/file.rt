@@ -1,15 +1,15 @@
 // The items of a data file.
 
 ghost use Rattle.std.specs.Prelude.{◌≡◌, ◌<◌, ℕ, [], length, map, OnOk, IfOk, IfErr, All};
-ghost use Rattle.mz_grammar_rules.specs.Reads.{Passes, Reads};
+ghost use Rattle.mz_grammar.specs.Reads.{Passes, Reads};
 ghost use Rattle.mz_base.specs.Faults.{IfRefused};
 ghost use Rattle.mz_base.specs.declared.limit.TheConstants.{OPEN_LIMIT};
 ghost use Rattle.mz_tree.specs.Data.{value, given};
-ghost use Rattle.mz_grammar_rules.specs.Promise.{Gives, Answers};
-ghost use Rattle.mz_grammar_rules.specs.Tokens.{place};
+ghost use Rattle.mz_grammar.specs.RulesPromise.{Gives, Answers};
+ghost use Rattle.mz_grammar.specs.Tokens.{place};
 ghost use Rattle.mz_grammar.specs.Data.{rule, reads, dimensions_of, file, item, datum, named, sized};
 ghost use Rattle.mz_lexer.specs.Views.{HasName};
-ghost use Rattle.mz_data_names.specs.Named.{IsGivenWithin};
+ghost use Rattle.mz_tree.specs.Named.{IsGivenWithin};
 ghost use Rattle.mz_grammar_ebnf.specs.DataSyntax.{DerivesFile};
 ghost use Rattle.mz_dzn.specs.DataFile.{IsGivenIn, IsNoDataFile};
 ghost use Rattle.mz_dzn.specs.Steps.{array_at, table_at, brackets_at};
@@ -20,7 +20,7 @@ use crate::step::file_goes_on;
 use crate::value::{plain, range_from};
 use crate::word::ident_of;
 use mz_base::{Kind, Name, Names, Span, Stop};
-use mz_grammar_rules::{Cursor, is_sym};
+use mz_grammar::{Cursor, is_sym};
 use mz_lexer::{Symbol, Token};
 use mz_tree::{
     Data, DataItem, Datum, make_array_datum, make_array_nd_datum, make_ident_datum, make_rows_datum,
@@ -133,7 +133,7 @@ fn item(alloc: Global, cur: &mut Cursor<'_>, names: &Names) -> Result<DataItem, 
 }
 
 /// All items, up to the end of the file.
-#[tactic(auto, using(crate::proofs::Equations::file_reads, mz_grammar_rules::proofs::Steps::prefix_push, std::proofs::lemmas::List::map_push, mz_grammar_rules::proofs::Steps::nothing_behind, mz_grammar_rules::proofs::Steps::no_prefix))]
+#[tactic(auto, using(crate::proofs::Equations::file_reads, mz_grammar::proofs::Steps::prefix_push, std::proofs::lemmas::List::map_push, mz_grammar::proofs::Steps::nothing_behind, mz_grammar::proofs::Steps::no_prefix))]
 fn file(alloc: Global, cur: &mut Cursor<'_>, names: &Names) -> Result<Vec<DataItem>, Stop>
     ensures reads { Gives (λ v. map given v.items) cur.new.end cur.new.rest.now result (reads (file (dimensions_of names.now)) cur.old.room cur.old.rest.now) }
     ensures whole { OnOk result (cur.new.rest.now ≡ []) }

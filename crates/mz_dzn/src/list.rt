@@ -2,19 +2,19 @@
 
 ghost use Rattle.std.specs.Prelude.{map};
 ghost use Rattle.mz_tree.specs.Data.{value};
-ghost use Rattle.mz_grammar_rules.specs.Reads.{Passes, Reads};
+ghost use Rattle.mz_grammar.specs.Reads.{Passes, Reads};
 ghost use Rattle.mz_grammar.specs.Data.{reads, plains, rows, row, ones, index_sets};
 
 use crate::step::{goes_on, row_goes_on, skip_comma};
 use crate::value::{index_set, one, plain};
 use mz_base::Stop;
-use mz_grammar_rules::{Cursor, is_sym};
+use mz_grammar::{Cursor, is_sym};
 use mz_lexer::Symbol;
 use mz_tree::Datum;
 use std::alloc::Global;
 
 /// The elements of a set, up to and with the `}`.
-#[tactic(auto, using(crate::proofs::Equations::ones_reads, mz_grammar_rules::proofs::Steps::prefix_push, std::proofs::lemmas::List::map_push, mz_grammar_rules::proofs::Steps::nothing_behind, mz_grammar_rules::proofs::Steps::no_prefix))]
+#[tactic(auto, using(crate::proofs::Equations::ones_reads, mz_grammar::proofs::Steps::prefix_push, std::proofs::lemmas::List::map_push, mz_grammar::proofs::Steps::nothing_behind, mz_grammar::proofs::Steps::no_prefix))]
 pub fn ones(alloc: Global, cur: &mut Cursor<'_>) -> Result<Vec<Datum>, Stop>
     ensures { Reads (λ v. map value v.items) (reads ones) cur.old cur.new result }
 {
@@ -31,7 +31,7 @@ pub fn ones(alloc: Global, cur: &mut Cursor<'_>) -> Result<Vec<Datum>, Stop>
 }
 
 /// The elements of an array, up to and with the `]`.
-#[tactic(auto, using(crate::proofs::Equations::plains_reads, mz_grammar_rules::proofs::Steps::prefix_push, std::proofs::lemmas::List::map_push, mz_grammar_rules::proofs::Steps::nothing_behind, mz_grammar_rules::proofs::Steps::no_prefix))]
+#[tactic(auto, using(crate::proofs::Equations::plains_reads, mz_grammar::proofs::Steps::prefix_push, std::proofs::lemmas::List::map_push, mz_grammar::proofs::Steps::nothing_behind, mz_grammar::proofs::Steps::no_prefix))]
 pub fn plains(alloc: Global, cur: &mut Cursor<'_>) -> Result<Vec<Datum>, Stop>
     ensures { Reads (λ v. map value v.items) (reads plains) cur.old cur.new result }
 {
@@ -48,7 +48,7 @@ pub fn plains(alloc: Global, cur: &mut Cursor<'_>) -> Result<Vec<Datum>, Stop>
 }
 
 /// The cells of a row, before the `|` or `|]` after it.
-#[tactic(auto, using(crate::proofs::Equations::row_reads, mz_grammar_rules::proofs::Steps::prefix_push, std::proofs::lemmas::List::map_push, mz_grammar_rules::proofs::Steps::nothing_behind, mz_grammar_rules::proofs::Steps::no_prefix))]
+#[tactic(auto, using(crate::proofs::Equations::row_reads, mz_grammar::proofs::Steps::prefix_push, std::proofs::lemmas::List::map_push, mz_grammar::proofs::Steps::nothing_behind, mz_grammar::proofs::Steps::no_prefix))]
 fn row(alloc: Global, cur: &mut Cursor<'_>) -> Result<Vec<Datum>, Stop>
     ensures { Reads (λ v. map value v.items) (reads row) cur.old cur.new result }
 {
@@ -63,7 +63,7 @@ fn row(alloc: Global, cur: &mut Cursor<'_>) -> Result<Vec<Datum>, Stop>
 }
 
 /// The rows of a table, up to and with the `|]`.
-#[tactic(auto, using(crate::proofs::Equations::rows_reads, mz_grammar_rules::proofs::Steps::prefix_push, std::proofs::lemmas::List::map_push, mz_grammar_rules::proofs::Steps::nothing_behind, mz_grammar_rules::proofs::Steps::no_prefix))]
+#[tactic(auto, using(crate::proofs::Equations::rows_reads, mz_grammar::proofs::Steps::prefix_push, std::proofs::lemmas::List::map_push, mz_grammar::proofs::Steps::nothing_behind, mz_grammar::proofs::Steps::no_prefix))]
 pub fn rows(alloc: Global, cur: &mut Cursor<'_>) -> Result<Vec<Vec<Datum>>, Stop>
     ensures { Reads (λ v. map (λ l. map value l.items) v.items) (reads rows) cur.old cur.new result }
 {
@@ -80,7 +80,7 @@ pub fn rows(alloc: Global, cur: &mut Cursor<'_>) -> Result<Vec<Vec<Datum>>, Stop
 }
 
 /// The index sets of an array, this many, each with the comma after it; and one comma more, where it stands there.
-#[tactic(auto, using(crate::proofs::Equations::index_sets_more, crate::proofs::Equations::index_sets_none, mz_grammar_rules::proofs::Steps::prefix_push, std::proofs::lemmas::List::map_push, mz_grammar_rules::proofs::Steps::nothing_behind, mz_grammar_rules::proofs::Steps::no_prefix))]
+#[tactic(auto, using(crate::proofs::Equations::index_sets_more, crate::proofs::Equations::index_sets_none, mz_grammar::proofs::Steps::prefix_push, std::proofs::lemmas::List::map_push, mz_grammar::proofs::Steps::nothing_behind, mz_grammar::proofs::Steps::no_prefix))]
 pub fn index_sets(alloc: Global, cur: &mut Cursor<'_>, dimensions: u8) -> Result<Vec<Datum>, Stop>
     ensures { Passes (λ v. map value v.items) (reads (index_sets dimensions)) cur.old cur.new result }
 {

@@ -1,15 +1,15 @@
 // What follows an element of a list.
 
 ghost use Rattle.std.specs.Prelude.{◌≡◌, ◌≤◌, ◌<◌, length, false, [], OnOk, IfOk, if◌then◌else◌};
-ghost use Rattle.mz_grammar_rules.specs.Promise.{Gives};
-ghost use Rattle.mz_grammar_rules.specs.Tokens.{tok_at, behind};
-ghost use Rattle.mz_grammar_rules.specs.Look.{is_sym};
+ghost use Rattle.mz_grammar.specs.RulesPromise.{Gives};
+ghost use Rattle.mz_grammar.specs.Tokens.{tok_at, behind};
+ghost use Rattle.mz_grammar.specs.Look.{is_sym};
 ghost use Rattle.mz_lexer.specs.declared.token.Symbol.TheVariants.{SComma};
 ghost use Rattle.mz_dzn.specs.Steps.{goes_on_at, row_goes_on_at, file_goes_on_at};
 
 use crate::word::ends_row;
 use mz_base::Stop;
-use mz_grammar_rules::{Cursor, is_sym};
+use mz_grammar::{Cursor, is_sym};
 use mz_lexer::Symbol;
 
 /// What follows an element: true after a separator, false after the closing symbol.

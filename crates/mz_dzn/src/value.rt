@@ -1,17 +1,17 @@
 // Values that no list but a set's stands in.
 
 ghost use Rattle.std.specs.Prelude.{◌≡◌, ◌≤◌, ◌<◌, length, OnOk};
-ghost use Rattle.mz_grammar_rules.specs.Reads.{Reads};
+ghost use Rattle.mz_grammar.specs.Reads.{Reads};
 ghost use Rattle.mz_tree.specs.Data.{value, is_name};
-ghost use Rattle.mz_grammar_rules.specs.Promise.{Gives};
-ghost use Rattle.mz_grammar_rules.specs.Tokens.{place};
+ghost use Rattle.mz_grammar.specs.RulesPromise.{Gives};
+ghost use Rattle.mz_grammar.specs.Tokens.{place};
 ghost use Rattle.mz_dzn.specs.Steps.{braces_at};
 ghost use Rattle.mz_grammar.specs.Data.{reads, plain, range, set, bounds, one};
 
 use crate::list::ones;
 use crate::word::{literal_of, negated_of};
 use mz_base::Stop;
-use mz_grammar_rules::{Cursor, is_sym};
+use mz_grammar::{Cursor, is_sym};
 use mz_lexer::Symbol;
 use mz_tree::{Datum, make_absent_datum, make_int_datum, make_range_datum, make_set_datum};
 use std::alloc::Global;

@@ -21,7 +21,7 @@ pub fn ident_of(tok: Option<Tok>) -> Option<Name>
 }
 
 /// Whether a row of a table ends before this token.
-#[tactic(auto, unfolding(mz_grammar_rules::specs::Look::symbol_number))]
+#[tactic(auto, unfolding(mz_grammar::specs::Look::symbol_number))]
 pub fn ends_row(tok: Option<Tok>) -> bool
     ensures { result ≡ ends_row tok }
 {

@@ -12,11 +12,11 @@ use Rattle.mz_symbol.specs.Runs.{Run}
 use Rattle.mz_symbol.specs.Makes.{MeetsAt}
 use Rattle.mz_symbol.specs.Readings.{Reading, bare, blank}
 use Rattle.mz_symbol.proofs.ReadingLaws.{bare_reads}
-use Rattle.mz_eval_turns.specs.declared.types.Elements.{Elements}
-use Rattle.mz_eval_turns.specs.declared.types.Elements.TheVariants as source
-use Rattle.mz_eval_turns.specs.declared.types.Turn.{Turn}
-use Rattle.mz_eval_turns.specs.declared.types.Turns.{Turns}
-use Rattle.mz_eval_turns.specs.Views.{GivesNext, IsNextTurn, elements_left, member_in, numbers_left, place_in, turn_in, turns_left}
+use Rattle.mz_eval_comprehensions.specs.declared.types.Elements.{Elements}
+use Rattle.mz_eval_comprehensions.specs.declared.types.Elements.TheVariants as source
+use Rattle.mz_eval_comprehensions.specs.declared.types.Turn.{Turn}
+use Rattle.mz_eval_comprehensions.specs.declared.types.Turns.{Turns}
+use Rattle.mz_eval_comprehensions.specs.Views.{GivesNext, IsNextTurn, elements_left, member_in, numbers_left, place_in, turn_in, turns_left}
 
 mapped_alike : {A B : Type 0} (f g : A → B) (xs : List A) → length (map f xs) ≡ length (map g xs)
 mapped_alike f g xs = length-map xs f ∙ sym (length-map xs g)

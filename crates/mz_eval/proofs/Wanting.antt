@@ -11,8 +11,8 @@ use Rattle.mz_eval_cells.specs.declared.types.Known.TheVariants as known
 use Rattle.mz_eval_cells.specs.Meets.{Tells}
 use Rattle.mz_eval_cells.specs.Views.{cell_of, seen}
 use Rattle.mz_eval_cells.proofs.Seeing.{set_seen}
-use Rattle.mz_eval_domains.specs.declared.want.Want.{Want}
-use Rattle.mz_eval_domains.specs.Wants.{wanted}
+use Rattle.mz_eval_declared.specs.declared.want.Want.{Want}
+use Rattle.mz_eval_declared.specs.Wants.{wanted}
 
 pub want_seen : (r : Reading) (k : Known) (w : arrays.Want) → w ≡ arrays.want_of (set_in (cell_of k)) → w ≡ arrays.want_of (set_in (seen r k))
 want_seen r k w e = e ∙ ap arrays.want_of (sym (set_seen r k))

@@ -8,7 +8,7 @@ use Rattle.mz_meaning.specs.Runs.{Run, ◌>>◌, spend}
 use Rattle.mz_meaning.specs.Cells.{Env, bind}
 use Rattle.mz_meaning.specs.Forms.{World}
 use Rattle.mz_meaning.specs.Comprehensions.{Rest, Made, Presence, Element, added, both_occur, where_, names, generators}
-use Rattle.mz_eval_turns.specs.Views.{elements_of}
+use Rattle.mz_eval_comprehensions.specs.Views.{elements_of}
 use Rattle.mz_symbol.specs.Readings.{Reading}
 use Rattle.mz_eval_scopes.specs.Seen.{ctx_of}
 use Rattle.mz_eval.specs.declared.types.Level.{Level}

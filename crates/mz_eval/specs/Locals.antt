@@ -10,8 +10,8 @@ use Rattle.mz_meaning.specs.Arrays as arrays
 use Rattle.mz_meaning.specs.Arrays.{declared_count}
 use Rattle.mz_meaning.specs.Forms.{World}
 use Rattle.mz_meaning.specs.Lets.{given_value, free_local}
-use Rattle.mz_eval_domains.specs.declared.want.Want.{Want}
-use Rattle.mz_eval_domains.specs.Wants.{wanted, wants_of}
+use Rattle.mz_eval_declared.specs.declared.want.Want.{Want}
+use Rattle.mz_eval_declared.specs.Wants.{wanted, wants_of}
 use Rattle.mz_eval_scopes.specs.declared.types.Scope.{Scope}
 use Rattle.mz_symbol.specs.Readings.{Reading}
 use Rattle.mz_eval.specs.declared.types.Level.{Level}

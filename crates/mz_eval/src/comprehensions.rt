@@ -8,8 +8,8 @@ ghost use Rattle.mz_meaning.specs.Comprehensions.{comprehension};
 ghost use Rattle.mz_symbol.specs.Makes.{GoesOn, Means};
 ghost use Rattle.mz_symbol.specs.Readings.{blank};
 ghost use Rattle.mz_eval_cells.specs.Views.{seen};
-ghost use Rattle.mz_eval_presences.specs.Presences.{presence_seen};
-ghost use Rattle.mz_eval_turns.specs.Views.{IsNextTurn, made_in, made_whole, turn_in, turns_left};
+ghost use Rattle.mz_eval_comprehensions.specs.Presences.{presence_seen};
+ghost use Rattle.mz_eval_comprehensions.specs.Views.{IsNextTurn, made_in, made_whole, turn_in, turns_left};
 ghost use Rattle.mz_eval.specs.Levels.{world_in, scope_of, at_node};
 ghost use Rattle.mz_eval.specs.Comprehensions.{from_head, from_generators, from_condition, from_own_condition, from_names, from_value};
 
@@ -21,13 +21,13 @@ use mz_base::{Memory, Stop};
 use mz_core::{Core, CoreGen};
 use mz_eval_cells::Known;
 use mz_eval_chains::base_of;
-use mz_eval_nodes::elsewhere;
-use mz_eval_presences::Presence;
-use mz_eval_scopes::{Scope, done};
-use mz_eval_turns::{
+use mz_eval_comprehensions::presences::Presence;
+use mz_eval_comprehensions::{
     Made, Turn, Turns, add_element, add_set, all_turns, both_occur, comprehended, elements_in,
     next_turn, nothing_made, occurs_where,
 };
+use mz_eval_nodes::elsewhere;
+use mz_eval_scopes::{Scope, done};
 use mz_symbol::Run;
 use std::alloc::Global;
 

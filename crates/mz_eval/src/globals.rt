@@ -6,7 +6,7 @@ ghost use Rattle.mz_core.specs.Types.{plain_type};
 ghost use Rattle.mz_meaning.specs.Forms.{global_by, parts};
 ghost use Rattle.mz_symbol.specs.Makes.{GoesOn, Means};
 ghost use Rattle.mz_eval_cells.specs.Views.{all_seen};
-ghost use Rattle.mz_eval_terms.specs.NodeRows.{stamped};
+ghost use Rattle.mz_eval_row_symbols.specs.NodeRows.{stamped};
 ghost use Rattle.mz_eval.specs.Levels.{at_node, world_in};
 ghost use Rattle.mz_eval.specs.Nodes.{typed_by};
 ghost use Rattle.mz_eval.specs.Rows.{with_global};

@@ -13,7 +13,7 @@ ghost use Rattle.mz_eval_guards.specs.Guards.{guard_seen};
 ghost use Rattle.mz_meaning.specs.Lets.{want, index_want, index_wants, contiguous, names_in, declared, let_item, let_of};
 ghost use Rattle.mz_symbol.specs.Readings.{Reading};
 ghost use Rattle.mz_eval_cells.specs.Meets.{Tells};
-ghost use Rattle.mz_eval_domains.specs.Wants.{wanted, wants_of};
+ghost use Rattle.mz_eval_declared.specs.Wants.{wanted, wants_of};
 ghost use Rattle.mz_eval_declared.specs.Locals.{local_in};
 ghost use Rattle.mz_eval_names.specs.Names.{names_seen};
 ghost use Rattle.mz_symbol.specs.Makes.{GoesOn, Means};
@@ -29,7 +29,7 @@ use mz_base::{Fault, Kind, Span, Stop};
 use mz_core::{Core, CoreDecl, CoreItem};
 use mz_eval_cells::{Known, undefined};
 use mz_eval_chains::place_of;
-use mz_eval_domains::{Want, index_want, want_of};
+use mz_eval_declared::{Want, index_want, want_of};
 use mz_eval_guards::Guard;
 use mz_eval_names::{
     Names, chosen_in, constrained, counted, declared_weight, guarded_in, kept_by, nothing_bound,

@@ -2,9 +2,9 @@
 
 use mz_base::Span;
 use mz_core::{Core, CoreFunction, CoreGen};
+use mz_eval_comprehensions::Elements;
 use mz_eval_guards::Guard;
 use mz_eval_scopes::{Context, Scope, World};
-use mz_eval_turns::Elements;
 use std::alloc::Global;
 
 /// An evaluation at one level of nesting and in one place: its memory, its world, how many levels are

@@ -1,5 +1,10 @@
-pub mod Branches
-pub mod Lines
+pub mod BranchBounds
+pub mod ValueLists
 pub mod Numbered
 pub mod Sequence
 pub mod Tables
+pub mod BranchLaws
+pub mod KindLaws
+pub mod GatheredCells
+pub mod Seeing
+pub mod Missing

@@ -19,7 +19,7 @@ use Rattle.mz_operations.proofs.SetMembers.{union_set, union_members, union_is}
 use Rattle.mz_meaning.specs.Cells.{Cell, par_value_of, Par}
 use Rattle.mz_meaning.specs.Coerced.{enum_in}
 use Rattle.mz_meaning.specs.Arrays.{number_in, with_number, set_from, set_cell}
-use Rattle.mz_eval_arrays.specs.StepsLines.{values_from, numbers_in, unions}
+use Rattle.mz_eval_arrays.specs.StepsJoining.{values_from, numbers_in, unions}
 
 -- ---- the definition, number by number
 

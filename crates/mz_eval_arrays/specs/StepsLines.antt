@@ -1,22 +1,18 @@
--- Mirror of src/joining.rt and src/numbering.rt; private clauses only.
-use Rattle.std.specs.Prelude.{ℤ, List, [], ◌∷◌, ◌++◌, map, Option, Some, None}
-use Rattle.std.specs.Option.{option_and_then}
-use Rattle.mz_value.specs.Ranges.{Range, range_of}
-use Rattle.mz_operations.specs.Sets.{union}
-use Rattle.mz_meaning.specs.Arrays.{number_in}
-use Rattle.mz_meaning.specs.Cells.{Cell, par_value_of}
+-- Mirror of src/; private clauses only.
+use Rattle.std.specs.Prelude.{◌≡◌, List, [], ◌∷◌, ◌++◌, map, Option}
+use Rattle.mz_value.specs.Contents.{Content}
+use Rattle.mz_symbol.specs.declared.types.Symbol.{Symbol}
+use Rattle.mz_symbol.specs.Runs.{Run}
+use Rattle.mz_symbol.specs.Readings.{Reading, state_of}
+use Rattle.mz_eval_cells.specs.declared.types.Known.{Known}
+use Rattle.mz_eval_symbols.specs.Taken.{cell_value}
 
--- what is there so far and all further ones, where each is there
-unfoldable pub values_from : {A : Type 0} → List A → List (Option A) → Option (List A)
-values_from acc [] = Some acc
-values_from acc (None ∷ vs) = None
-values_from acc (Some x ∷ vs) = values_from (acc ++ x ∷ []) vs
+-- symbols of these cells, in order, whose values are seen so
+pub record AreSymbols (see : Reading → Symbol → Option Content) (r : Reading) (old new : Run) (ks : List Known) (ss : List Symbol) : Type 0 where
+  pub same : state_of r old ≡ state_of r new
+  pub values : map (cell_value r) ks ≡ map (see r) ss
 
--- the number that each cell is, as an element of a set
-abbrev pub numbers_in : List Cell → List (Option ℤ)
-numbers_in cs = map (λ c. option_and_then number_in (par_value_of c)) cs
-
--- the union of a set and of the sets of one number each
-unfoldable pub unions : List Range → List ℤ → List Range
-unions s [] = s
-unions s (n ∷ ns) = unions (union s (range_of n n)) ns
+-- the symbol of one cell more
+pub record OneSymbol (see : Reading → Symbol → Option Content) (r : Reading) (old new : Run) (k : Known) (ss ts : List Symbol) : Type 0 where
+  pub same : state_of r old ≡ state_of r new
+  pub values : map (see r) ts ≡ map (see r) ss ++ cell_value r k ∷ []

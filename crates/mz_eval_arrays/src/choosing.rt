@@ -68,7 +68,7 @@ fn open_bounds(
 }
 
 /// The bounds of all branches that have some.
-#[tactic(auto, using(crate::proofs::Branches::all_bounds_last))]
+#[tactic(auto, using(crate::proofs::BranchBounds::all_bounds_last))]
 fn all_bounds(
     alloc: Global,
     t: &TypeInst,

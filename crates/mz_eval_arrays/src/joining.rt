@@ -6,13 +6,13 @@ ghost use Rattle.mz_value.specs.Contents.{content};
 ghost use Rattle.mz_meaning.specs.Arrays as arrays;
 ghost use Rattle.mz_meaning.specs.Cells.{bounds_in, scalar_bound, value_of};
 ghost use Rattle.mz_eval_cells.specs.Views.{cells_of, known_bound};
-ghost use Rattle.mz_eval_arrays.specs.StepsLines.{values_from};
+ghost use Rattle.mz_eval_arrays.specs.StepsJoining.{values_from};
 
 use mz_eval_cells::{Bound, Known, copied_value, scalar_bound};
 use mz_value::Value;
 use std::alloc::{AllocError, Global};
 
-#[tactic(auto, unfolding(crate::specs::StepsLines::values_from))]
+#[tactic(auto, unfolding(crate::specs::StepsJoining::values_from))]
 fn values_of(alloc: Global, cells: &[Known]) -> Result<Option<Vec<Value>>, AllocError>
     ensures { IfOk result (λ v. option_map (λ xs. map content xs.items) v ≡ values_from [] (map value_of (cells_of cells.now))) }
 {
@@ -27,7 +27,7 @@ fn values_of(alloc: Global, cells: &[Known]) -> Result<Option<Vec<Value>>, Alloc
 }
 
 /// The cells' values, where each has one.
-#[tactic(auto, using(crate::proofs::Lines::all_from_nothing))]
+#[tactic(auto, using(crate::proofs::ValueLists::all_from_nothing))]
 pub(crate) fn all_values(alloc: Global, cells: &[Known]) -> Result<Option<Vec<Value>>, AllocError>
     ensures { IfOk result (λ v. option_map (λ xs. map content xs.items) v ≡ arrays.all_there (map value_of (cells_of cells.now))) }
 {

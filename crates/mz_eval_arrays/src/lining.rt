@@ -13,7 +13,7 @@ ghost use Rattle.mz_operations.specs.Arrays.{line};
 ghost use Rattle.mz_operations.specs.RowBounds.{line_of};
 ghost use Rattle.mz_eval_cells.specs.Views.{cell_of, cells_of};
 ghost use Rattle.mz_eval_arrays.specs.Gathered.{gathered};
-ghost use Rattle.mz_eval_arrays.specs.StepsLines.{numbers_in, unions, values_from};
+ghost use Rattle.mz_eval_arrays.specs.StepsJoining.{numbers_in, unions, values_from};
 
 use crate::gathering::Gathered;
 use crate::joining::{all_values, cell_bounds, from_one};

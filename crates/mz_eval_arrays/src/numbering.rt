@@ -7,7 +7,7 @@ ghost use Rattle.mz_interval.specs.Ends as ends;
 ghost use Rattle.mz_meaning.specs.Arrays.{number_in};
 ghost use Rattle.mz_meaning.specs.Cells.{par_value, par_value_of};
 ghost use Rattle.mz_eval_cells.specs.Views.{cell_of, cells_of, item_content};
-ghost use Rattle.mz_eval_arrays.specs.StepsLines.{numbers_in, unions, values_from};
+ghost use Rattle.mz_eval_arrays.specs.StepsJoining.{numbers_in, unions, values_from};
 
 use mz_builtin_arguments::is_number;
 use mz_eval_cells::{Item, Known};
@@ -53,7 +53,7 @@ fn number_of_cell(k: &Known) -> Option<i64>
 }
 
 /// The numbers of values, where each is an integer, a truth value or a case.
-#[tactic(auto, unfolding(crate::specs::StepsLines::values_from))]
+#[tactic(auto, unfolding(crate::specs::StepsJoining::values_from))]
 pub(crate) fn numbers_of_values(
     alloc: Global,
     items: &[Value],
@@ -71,7 +71,7 @@ pub(crate) fn numbers_of_values(
 }
 
 /// The numbers of cells, where each is par, defined, and an integer, a truth value or a case.
-#[tactic(auto, unfolding(crate::specs::StepsLines::values_from))]
+#[tactic(auto, unfolding(crate::specs::StepsJoining::values_from))]
 pub(crate) fn numbers_of_cells(
     alloc: Global,
     cells: &[Known],

@@ -4,3 +4,4 @@ pub mod LineLaws
 pub mod NoValues
 pub mod Settling
 pub mod TruthLaws
+pub mod TableLaws

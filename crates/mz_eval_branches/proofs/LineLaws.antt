@@ -14,10 +14,10 @@ use Rattle.mz_symbol.specs.Runs.{Run}
 use Rattle.mz_symbol.specs.Readings.{Reading}
 use Rattle.mz_symbol.specs.Makes.{GoesOnBy}
 use Rattle.mz_symbol_rows.proofs.GoingOn.{goes_both, goes_most}
-use Rattle.mz_symbol_branches.specs.ChosenValues.{chosen_line}
+use Rattle.mz_symbol_access.specs.ChosenValues.{chosen_line}
 use Rattle.mz_eval_cells.specs.declared.types.Known.{Known}
 use Rattle.mz_eval_symbols.specs.Taken.{line_seen, ranges_in}
-use Rattle.mz_eval_lines.specs.StepsBranches.{one_value}
+use Rattle.mz_eval_arrays.specs.StepsBranches.{one_value}
 use Rattle.mz_eval_branches.proofs.NoValues.{held_none}
 
 -- ---- index ranges

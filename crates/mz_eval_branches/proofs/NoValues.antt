@@ -18,7 +18,7 @@ use Rattle.mz_eval_cells.specs.declared.types.Origins.TheVariants as origins
 use Rattle.mz_eval_cells.specs.Views.{array_of, cast_by, cell_of, known_bound, origin_value, origins_value, seen}
 use Rattle.mz_eval_symbols.specs.Taken.{cell_value}
 use Rattle.mz_eval_arrays.specs.Gathered.{pairs_by}
-use Rattle.mz_eval_lines.specs.StepsBranches.{branches_value, with_value}
+use Rattle.mz_eval_arrays.specs.StepsBranches.{branches_value, with_value}
 use Rattle.mz_eval_branches.specs.BranchLines.{has_no_value, is_nothing, is_untold}
 
 pub held_none : (m : Mode) → held m None ≡ None

@@ -14,8 +14,8 @@ use Rattle.mz_symbol.specs.Makes.{GoesOnBy}
 use Rattle.mz_symbol_rows.specs.RowValues.{argument, as_argument, truth_of}
 use Rattle.mz_symbol_rows.proofs.GoingOn.{goes_both, goes_most}
 use Rattle.mz_eval_cells.specs.Views.{truth_by}
-use Rattle.mz_eval_lines.specs.StepsBranches.{one_value}
-use Rattle.mz_eval_lines.proofs.BranchLaws.{truth_argument}
+use Rattle.mz_eval_arrays.specs.StepsBranches.{one_value}
+use Rattle.mz_eval_arrays.proofs.BranchLaws.{truth_argument}
 use Rattle.mz_eval_branches.specs.Truths.{IsNodeOf, truth_seen}
 use Rattle.mz_eval_branches.proofs.NoValues.{held_none}
 

@@ -1,3 +1,4 @@
 pub mod BranchLines
 pub mod StepsConditions
 pub mod Truths
+pub mod TableCells

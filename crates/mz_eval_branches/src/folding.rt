@@ -4,14 +4,14 @@ ghost use Rattle.std.specs.Prelude.{◌≡◌, ◌*◌, ◌+◌, ◌<◌, ◌∷
 ghost use Rattle.mz_meaning.specs.Runs.{give};
 ghost use Rattle.mz_symbol.specs.Makes.{GoesOnBy, Means};
 ghost use Rattle.mz_eval_symbols.specs.Taken.{count_in};
-ghost use Rattle.mz_eval_lines.specs.StepsBranches.{branch_value, branches_value};
+ghost use Rattle.mz_eval_arrays.specs.StepsBranches.{branch_value, branches_value};
 ghost use Rattle.mz_eval_branches.specs.BranchLines.{branch_charge, fold_charge, option_seen};
 
 use crate::lines::{count_in, one_option, ranged_line};
 use mz_base::Stop;
 use mz_core::Base;
+use mz_eval_arrays::condition;
 use mz_eval_cells::Known;
-use mz_eval_lines::condition;
 use mz_symbol::Run;
 use std::alloc::Global;
 

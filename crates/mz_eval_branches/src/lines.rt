@@ -3,9 +3,9 @@
 ghost use Rattle.std.specs.Prelude.{◌≡◌, ◌*◌, ◌+◌, IfOk, None, length, true};
 ghost use Rattle.mz_meaning.specs.Runs.{give};
 ghost use Rattle.mz_symbol.specs.Makes.{GoesOnBy, Means};
-ghost use Rattle.mz_symbol_branches.specs.ChosenValues.{chosen_line};
+ghost use Rattle.mz_symbol_access.specs.ChosenValues.{chosen_line};
 ghost use Rattle.mz_eval_symbols.specs.Taken.{cell_value, count_in, line_seen, ranges_in};
-ghost use Rattle.mz_eval_lines.specs.StepsBranches.{one_value};
+ghost use Rattle.mz_eval_arrays.specs.StepsBranches.{one_value};
 ghost use Rattle.mz_eval_branches.specs.BranchLines.{option_seen};
 
 use crate::undefined::has_no_value;
@@ -15,8 +15,8 @@ use mz_core::Base;
 use mz_eval_cells::{Known, length_of};
 use mz_eval_symbols::line_in;
 use mz_symbol::{Run, Symbol};
-use mz_symbol_branches::choose_elements;
-use mz_symbol_lines::defined;
+use mz_symbol_access::choose_elements;
+use mz_symbol_arrays::lines::defined;
 use std::alloc::Global;
 
 fn same_ranges(a: &[(i64, i64)], b: &[(i64, i64)]) -> bool

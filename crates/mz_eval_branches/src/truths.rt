@@ -4,7 +4,7 @@ ghost use Rattle.std.specs.Prelude.{◌*◌, ◌+◌, [], IfOk, None, length};
 ghost use Rattle.mz_meaning.specs.Runs.{give};
 ghost use Rattle.mz_symbol.specs.Makes.{GoesOn, GoesOnBy, Means};
 ghost use Rattle.mz_eval_symbols.specs.Taken.{cell_value};
-ghost use Rattle.mz_eval_lines.specs.StepsBranches.{branch_value, branches_value, one_value};
+ghost use Rattle.mz_eval_arrays.specs.StepsBranches.{branch_value, branches_value, one_value};
 ghost use Rattle.mz_eval_branches.specs.Truths.{IsNodeOf, truth_seen};
 
 use crate::folding::{is_none, split};
@@ -12,11 +12,11 @@ use crate::undefined::has_no_value;
 use mz_arena::Id;
 use mz_base::{Memory, Stop};
 use mz_core::Base;
+use mz_eval_arrays::condition;
 use mz_eval_cells::Known;
-use mz_eval_lines::condition;
 use mz_eval_symbols::symbol_in;
 use mz_symbol::{Run, Symbol};
-use mz_symbol_branches::if_node;
+use mz_symbol_access::if_node;
 use std::alloc::Global;
 
 // ---- one branch

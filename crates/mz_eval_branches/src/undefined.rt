@@ -4,7 +4,7 @@ ghost use Rattle.std.specs.Prelude.{◌≡◌, IfOk, None, true};
 ghost use Rattle.std.specs.List.{list_all};
 ghost use Rattle.mz_symbol.specs.Readings.{Reading};
 ghost use Rattle.mz_eval_cells.specs.Views.{cell_of, seen};
-ghost use Rattle.mz_eval_lines.specs.StepsBranches.{branches_value, with_value};
+ghost use Rattle.mz_eval_arrays.specs.StepsBranches.{branches_value, with_value};
 ghost use Rattle.mz_eval_branches.specs.BranchLines.{has_no_value, is_nothing, is_untold};
 
 use mz_base::Memory;

@@ -16,7 +16,7 @@ use crate::reading::set_in;
 use crate::recasting::recast_cell;
 use crate::sealing::to_var;
 use crate::types::Known;
-use mz_builtin_arrays::{made, set_value};
+use mz_builtin_values::{made, set_value};
 use mz_core::{Base, Coercion, TypeInst};
 use mz_operations::MadeRow;
 use mz_value::RangeSet;

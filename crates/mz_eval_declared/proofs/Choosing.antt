@@ -16,7 +16,7 @@ use Rattle.mz_symbol_rows.specs.RowValues.{argument, as_argument}
 use Rattle.mz_symbol_rows.proofs.RowLaws.{argument_kept}
 use Rattle.mz_eval_cells.specs.declared.types.Known.{Known}
 use Rattle.mz_eval_cells.specs.Views.{seen}
-use Rattle.mz_eval_declared.proofs.Suiting.{local_out}
+use Rattle.mz_eval_declared.proofs.SuitingLaws.{local_out}
 
 -- the bounds of a cell that is no array
 abbrev pub bound_in : Cell → bounds.Bound

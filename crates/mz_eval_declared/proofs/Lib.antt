@@ -1,4 +1,9 @@
-pub mod Suiting
+pub mod SuitingLaws
 pub mod Choosing
 pub mod Taking
 pub mod Lined
+pub mod Ranging
+pub mod Locals
+pub mod Told
+pub mod Sizes
+pub mod Seeing

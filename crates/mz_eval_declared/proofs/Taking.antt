@@ -9,7 +9,7 @@ use Rattle.mz_symbol.specs.Makes.{GoesOnBy}
 use Rattle.mz_symbol.proofs.ConstantLaws.{out_state}
 use Rattle.mz_symbol_rows.proofs.GoingOn.{goes_both, goes_most}
 use Rattle.mz_eval_declared.specs.StepsTaking.{Takes}
-use Rattle.mz_eval_declared.proofs.Suiting.{goes_none}
+use Rattle.mz_eval_declared.proofs.SuitingLaws.{goes_none}
 
 no_more : {A : Type 0} (xs : List A) → xs ++ [] ≡ xs
 no_more [] = refl

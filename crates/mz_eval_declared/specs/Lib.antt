@@ -1,2 +1,4 @@
 pub mod Locals
 pub mod StepsTaking
+pub mod Wants
+pub mod Steps

@@ -11,17 +11,17 @@ ghost use Rattle.mz_meaning.specs.Lets as lets;
 ghost use Rattle.mz_symbol.specs.Makes.{GoesOnBy};
 ghost use Rattle.mz_symbol.specs.Readings.{Reading};
 ghost use Rattle.mz_eval_cells.specs.Views.{known_bound};
-ghost use Rattle.mz_eval_domains.specs.Wants.{wanted};
+ghost use Rattle.mz_eval_declared.specs.Wants.{wanted};
 ghost use Rattle.mz_eval_declared.specs.Locals.{IsLocal, local_in};
 
+use crate::{Want, chosen};
 use mz_base::Memory;
 use mz_core::{Base, TypeInst};
 use mz_eval_cells::{Bound, Known, scalar_bound, var_value};
-use mz_eval_domains::{Want, chosen};
 use mz_eval_guards::{Guard, surely, unsure};
 use mz_eval_symbols::cell_of_symbol;
 use mz_symbol::Run;
-use mz_symbol_options::choice;
+use mz_symbol_rows::options::choice;
 use mz_value::RangeSet;
 use std::alloc::{AllocError, Global};
 
@@ -90,7 +90,7 @@ fn taken_in(
 
 /// `chosen` under each reading, of a free local that is no array: its choice, and its cell. Out of
 /// memory too where no choice may be taken from its domain, as `take` of `mz_symbol` says.
-#[tactic(auto, using(crate::proofs::Suiting::goes_none))]
+#[tactic(auto, using(crate::proofs::SuitingLaws::goes_none))]
 pub fn chosen_one(
     alloc: Global,
     run: &mut Run,

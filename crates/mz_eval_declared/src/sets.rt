@@ -10,18 +10,18 @@ ghost use Rattle.mz_symbol.specs.Readings.{Reading};
 ghost use Rattle.mz_eval_cells.specs.Views.{cell_of, seen};
 ghost use Rattle.mz_eval_symbols.specs.Taken.{count_in};
 ghost use Rattle.mz_eval_guards.specs.Guards.{IsGuard, guard_seen};
-ghost use Rattle.mz_eval_domains.specs.Wants.{wanted, wants_of};
+ghost use Rattle.mz_eval_declared.specs.Wants.{wanted, wants_of};
 ghost use Rattle.mz_eval_declared.specs.Locals.{local_in};
 
+use crate::{Want, all_have_sets, fitted, suits};
 use mz_base::{Memory, Span, Stop};
 use mz_eval_cells::{Known, is_par};
-use mz_eval_domains::{Want, all_have_sets, fitted, suits};
 use mz_eval_guards::{Guard, both, lies_in, surely, there_in, unsure};
 use mz_symbol::Run;
 use std::alloc::Global;
 
 /// Whether a var cell has a value that lies in its declared set.
-#[tactic(auto, using(mz_symbol_rows::proofs::GoingOn::goes_most, crate::proofs::Suiting::goes_none, crate::proofs::Suiting::open_suits))]
+#[tactic(auto, using(mz_symbol_rows::proofs::GoingOn::goes_most, crate::proofs::SuitingLaws::goes_none, crate::proofs::SuitingLaws::open_suits))]
 fn var_suits(alloc: Global, run: &mut Run, w: &Want, k: &Known) -> Result<Guard, Memory>
     requires { cells.is_par (cell_of k.now) ≡ false }
     ensures goes { GoesOnBy (26 + 44 * count_in k.now) run.old run.new }
@@ -38,7 +38,7 @@ fn var_suits(alloc: Global, run: &mut Run, w: &Want, k: &Known) -> Result<Guard,
 ///
 /// What the nodes may cost the caller's work has to pay for. Out of memory too where `there_in` and
 /// `lies_in` of `mz_eval_guards` are.
-#[tactic(auto, using(crate::proofs::Suiting::goes_none, crate::proofs::Suiting::par_suits))]
+#[tactic(auto, using(crate::proofs::SuitingLaws::goes_none, crate::proofs::SuitingLaws::par_suits))]
 pub fn suits_in(alloc: Global, run: &mut Run, w: &Want, k: &Known) -> Result<Guard, Memory>
     ensures goes { GoesOnBy (26 + 44 * count_in k.now) run.old run.new }
     ensures guards { IfOk result (IsGuard run.old run.new (λ r. arrays.suits (wanted w.now) (seen r k.now))) }
@@ -64,7 +64,7 @@ fn set_guard(w: &Want) -> Guard
 
 /// `argument_suits` under each reading: whether an argument is there and lies in its parameter's
 /// set. It costs and is refused as `suits_in`.
-#[tactic(auto, using(crate::proofs::Suiting::goes_none))]
+#[tactic(auto, using(crate::proofs::SuitingLaws::goes_none))]
 pub fn argument_suits_in(
     alloc: Global,
     run: &mut Run,
@@ -91,7 +91,7 @@ fn all_sets_guard(ws: &[Want]) -> Guard
     Guard::Par(s.is)
 }
 
-#[tactic(auto, using(crate::proofs::Suiting::suited_goes, crate::proofs::Suiting::suited_begins))]
+#[tactic(auto, using(crate::proofs::SuitingLaws::suited_goes, crate::proofs::SuitingLaws::suited_begins))]
 fn suited_in(
     alloc: Global,
     run: &mut Run,
@@ -110,7 +110,7 @@ fn suited_in(
 
 /// `kept` under each reading: a value under its declared index sets and its declared set. The
 /// refusal is that of `fitted`; it costs 6 more than `suits_in`.
-#[tactic(auto, using(crate::proofs::Suiting::goes_none))]
+#[tactic(auto, using(crate::proofs::SuitingLaws::goes_none))]
 pub fn kept_in(
     alloc: Global,
     run: &mut Run,

@@ -14,7 +14,7 @@ use Rattle.mz_symbol.specs.declared.types.Symbol.{Symbol}
 use Rattle.mz_symbol.specs.Symbols.{symbol_value}
 use Rattle.mz_symbol.specs.Readings.{Reading, symbol_seen}
 use Rattle.mz_symbol_rows.specs.RowValues.{argument}
-use Rattle.mz_symbol_lines.specs.LineValues.{array_argument}
+use Rattle.mz_symbol_arrays.specs.LineValues.{array_argument}
 use Rattle.mz_symbol_access.specs.AccessValues.{access_value, at_node}
 use Rattle.mz_eval_cells.specs.declared.types.Known.{Known}
 use Rattle.mz_eval_cells.specs.Views.{all_seen, cell_of, cells_of, seen}
@@ -22,11 +22,11 @@ use Rattle.mz_eval_cells.proofs.Seeing.{par_seen}
 use Rattle.mz_eval_symbols.specs.Bases.{symbol_base}
 use Rattle.mz_eval_symbols.specs.Taken.{cell_value, ranges_in}
 use Rattle.mz_eval_access.specs.Places.{reached_bound}
-use Rattle.mz_eval_lines.specs.ArrayCells.{counted, is_counted}
+use Rattle.mz_eval_arrays.specs.ArrayCells.{counted, is_counted}
 use Rattle.mz_eval_elements.specs.ElementCells.{element_value}
-use Rattle.mz_eval_lines.proofs.KindLaws.{as_counted, counted_twice}
-use Rattle.mz_eval_lines.proofs.Gathering.{all_same, par_cell, par_same}
-use Rattle.mz_eval_lines.proofs.Seeing.{bounds_same, given_same, held_cells, pars_same}
+use Rattle.mz_eval_arrays.proofs.KindLaws.{as_counted, counted_twice}
+use Rattle.mz_eval_arrays.proofs.GatheredCells.{all_same, par_cell, par_same}
+use Rattle.mz_eval_arrays.proofs.Seeing.{bounds_same, given_same, held_cells, pars_same}
 
 -- ---- an element by its symbol
 

@@ -19,9 +19,9 @@ use Rattle.mz_eval_cells.specs.declared.types.Known.{Known}
 use Rattle.mz_eval_cells.specs.Views.{all_seen, cell_of, cells_of, seen}
 use Rattle.mz_eval_access.specs.Places.{reached_bound}
 use Rattle.mz_eval_elements.specs.ElementCells.{element_value}
-use Rattle.mz_eval_lines.specs.Told.{is_told}
+use Rattle.mz_eval_arrays.specs.Told.{is_told}
 use Rattle.mz_eval_elements.proofs.AccessLaws.{accessed_by, both_seen, bound_same, typed_counted}
-use Rattle.mz_eval_lines.proofs.Missing.{all_untold, untold}
+use Rattle.mz_eval_arrays.proofs.Missing.{all_untold, untold}
 use Rattle.mz_eval_elements.specs.StepsElements.{counted_seen}
 use Rattle.mz_eval_elements.proofs.CellLaws.{shape_seen}
 

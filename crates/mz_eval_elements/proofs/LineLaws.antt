@@ -21,7 +21,7 @@ use Rattle.mz_symbol.specs.Symbols.{all_there, line_value, symbol_value, value_a
 use Rattle.mz_symbol.specs.Runs.{ReadsNodes}
 use Rattle.mz_symbol.specs.Readings.{Reading, no_values}
 use Rattle.mz_symbol_rows.proofs.RowLaws.{truth_by}
-use Rattle.mz_symbol_lines.specs.LineValues.{array_argument}
+use Rattle.mz_symbol_arrays.specs.LineValues.{array_argument}
 use Rattle.mz_eval_cells.specs.declared.types.Origins.{Origins}
 use Rattle.mz_eval_cells.specs.Views.{array_of, cast_by, origins_value}
 use Rattle.mz_eval_symbols.specs.Steps.{elements_cast}

@@ -17,18 +17,18 @@ use Rattle.mz_symbol.specs.Symbols.{symbol_value, AreItems, IsItem}
 use Rattle.mz_symbol.specs.Runs.{Run, ReadsNodes}
 use Rattle.mz_symbol.specs.Readings.{Reading, Reads, symbol_seen}
 use Rattle.mz_symbol_rows.specs.RowValues.{argument, as_argument}
-use Rattle.mz_symbol_options.specs.OptionValues.{guarded_value}
-use Rattle.mz_symbol_lines.specs.LineValues.{IsLineOf}
-use Rattle.mz_symbol_lines.proofs.RowLaws.{items_back}
+use Rattle.mz_symbol_rows.specs.OptionValues.{guarded_value}
+use Rattle.mz_symbol_arrays.specs.LineValues.{IsLineOf}
+use Rattle.mz_symbol_arrays.proofs.RowLaws.{items_back}
 use Rattle.mz_eval_cells.specs.declared.types.Known.{Known}
 use Rattle.mz_eval_cells.specs.declared.types.VarItems.{VarItems}
 use Rattle.mz_eval_cells.specs.Views.{all_seen, array_of, cast_by, cells_of, origins_value, seen}
 use Rattle.mz_eval_symbols.specs.Steps.{argued, elements_cast, item_cast}
 use Rattle.mz_eval_symbols.specs.Taken.{cell_value}
 use Rattle.mz_eval_symbols.proofs.Arrays.{array_cast}
-use Rattle.mz_eval_lines.specs.ArrayCells.{counted, is_counted}
-use Rattle.mz_eval_lines.proofs.KindLaws.{as_counted, counted_twice}
-use Rattle.mz_eval_lines.proofs.Gathering.{all_same}
+use Rattle.mz_eval_arrays.specs.ArrayCells.{counted, is_counted}
+use Rattle.mz_eval_arrays.proofs.KindLaws.{as_counted, counted_twice}
+use Rattle.mz_eval_arrays.proofs.GatheredCells.{all_same}
 use Rattle.mz_eval_elements.specs.StepsElements.{at_kind, counted_seen, guarded_seen, in_place, item_at, origins_item, row_element}
 use Rattle.mz_eval_elements.proofs.CellLaws.{get_mapped, item_argued}
 

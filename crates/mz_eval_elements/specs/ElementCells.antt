@@ -8,7 +8,7 @@ use Rattle.mz_meaning.specs.Cells.{Cell, held, typed, value_of}
 use Rattle.mz_symbol.specs.Readings.{Reading}
 use Rattle.mz_eval_cells.specs.declared.types.Known.{Known}
 use Rattle.mz_eval_cells.specs.Views.{all_seen, seen}
-use Rattle.mz_eval_lines.specs.ArrayCells.{counted, is_counted}
+use Rattle.mz_eval_arrays.specs.ArrayCells.{counted, is_counted}
 
 -- the element of an array at indices, at a node of this base, an option or not
 abbrev pub element_value : Reading → Base → Bool → Known → List Known → Option Content

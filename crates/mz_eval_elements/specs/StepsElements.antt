@@ -17,7 +17,7 @@ use Rattle.mz_eval_cells.specs.declared.types.VarItems.{VarItems}
 use Rattle.mz_eval_cells.specs.Views.{all_seen, cells_of, origins_value, row_content, seen}
 use Rattle.mz_eval_symbols.specs.Steps.{argued, item_cast}
 use Rattle.mz_eval_access.specs.Places.{list_ranges}
-use Rattle.mz_eval_lines.specs.ArrayCells.{counted, is_counted}
+use Rattle.mz_eval_arrays.specs.ArrayCells.{counted, is_counted}
 use Rattle.mz_eval_elements.specs.ElementCells.{element_value}
 
 -- a value at a node of this base, an option or not

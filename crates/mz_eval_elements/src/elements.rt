@@ -19,7 +19,7 @@ ghost use Rattle.mz_eval_cells.specs.Views.{all_seen, cell_of, cells_of, known_b
 ghost use Rattle.mz_eval_symbols.specs.Steps.{argued, item_cast};
 ghost use Rattle.mz_eval_symbols.specs.Taken.{cell_value, line_seen, ranges_in};
 ghost use Rattle.mz_eval_elements.specs.ElementCells.{element_value, typed_seen};
-ghost use Rattle.mz_eval_lines.specs.Told.{is_told};
+ghost use Rattle.mz_eval_arrays.specs.Told.{is_told};
 ghost use Rattle.mz_eval_elements.specs.StepsElements.{IsSureItem, IsSureItemOf, counted_seen};
 
 use crate::cells::{no_value, number_cell, symbol_cell};
@@ -30,8 +30,8 @@ use mz_arena::Arena;
 use mz_base::{Memory, Stop};
 use mz_core::{Base, TypeInst};
 use mz_eval_access::{access_bound, number_place, par_element};
+use mz_eval_arrays::{are_told, is_told, of_kind};
 use mz_eval_cells::{Bound, Known, Origins, VarItems, all_par, is_par};
-use mz_eval_lines::{are_told, is_told, of_kind};
 use mz_eval_symbols::{is_gone, symbol_base};
 use mz_symbol::{Run, Symbol};
 use mz_symbol_access::access;

@@ -5,12 +5,12 @@ ghost use Rattle.mz_meaning.specs.Runs.{give};
 ghost use Rattle.mz_symbol.specs.Readings.{Reading, Reads, symbol_seen};
 ghost use Rattle.mz_symbol.specs.Makes.{GoesOnBy, Means};
 ghost use Rattle.mz_eval_symbols.specs.Taken.{cell_value};
-ghost use Rattle.mz_eval_lines.specs.StepsLines.{AreSymbols, OneSymbol};
+ghost use Rattle.mz_eval_arrays.specs.StepsLines.{AreSymbols, OneSymbol};
 
 use mz_base::Stop;
 use mz_core::Base;
+use mz_eval_arrays::uncounted;
 use mz_eval_cells::{Item, Known, Origin, VarValue};
-use mz_eval_lines::uncounted;
 use mz_eval_symbols::symbol_in;
 use mz_symbol::{Run, Symbol};
 use std::alloc::Global;

@@ -7,7 +7,7 @@ ghost use Rattle.mz_meaning.specs.Cells.{held};
 ghost use Rattle.mz_meaning.specs.Runs.{give};
 ghost use Rattle.mz_symbol.specs.Readings.{Reading, Reads};
 ghost use Rattle.mz_symbol.specs.Makes.{GoesOn, Means};
-ghost use Rattle.mz_symbol_lines.specs.LineValues.{array_argument};
+ghost use Rattle.mz_symbol_arrays.specs.LineValues.{array_argument};
 ghost use Rattle.mz_eval_cells.specs.Views.{origins_value, row_content};
 ghost use Rattle.mz_eval_symbols.specs.Steps.{elements_cast};
 ghost use Rattle.mz_eval_symbols.specs.Taken.{cell_value, count_in, line_seen};

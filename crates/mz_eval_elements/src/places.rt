@@ -22,12 +22,12 @@ use crate::placing::place_at;
 use mz_arena::{Arena, Id};
 use mz_base::Stop;
 use mz_core::Base;
+use mz_eval_arrays::of_kind;
 use mz_eval_cells::{Bound, Known, Origins, VarItems};
-use mz_eval_lines::of_kind;
 use mz_eval_symbols::symbol_in;
 use mz_symbol::{Run, Symbol};
-use mz_symbol_lines::defined;
-use mz_symbol_options::guarded;
+use mz_symbol_arrays::lines::defined;
+use mz_symbol_rows::options::guarded;
 use mz_value::Value;
 use std::alloc::Global;
 

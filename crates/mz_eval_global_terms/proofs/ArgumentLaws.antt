@@ -14,7 +14,7 @@ use Rattle.mz_eval_cells.specs.declared.types.Known.{Known}
 use Rattle.mz_eval_symbols.specs.Taken.{cell_value, ranges_in}
 use Rattle.glob_nodes.specs.declared.arguments.Numbers.{Numbers}
 use Rattle.glob_nodes.specs.Arguments.{IsWhole, int_symbol, number_value}
-use Rattle.glob_lists.specs.Sets.{set_value}
+use Rattle.glob_nodes.specs.Sets.{set_value}
 use Rattle.glob_sets.specs.Arrays.{plain_symbol}
 use Rattle.mz_eval_global_terms.specs.Calls.{IsArray, IsGiven, IsRange, IsSame}
 

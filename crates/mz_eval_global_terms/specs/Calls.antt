@@ -21,7 +21,7 @@ use Rattle.mz_eval_symbols.specs.Taken.{cell_value, line_seen, ranges_in}
 use Rattle.glob_nodes.specs.declared.arguments.Numbers.{Numbers}
 use Rattle.glob_nodes.specs.Arguments.{IsWhole, array_value, number_value}
 use Rattle.glob_nodes.specs.Rows.{row_cost}
-use Rattle.glob_lists.specs.Sets.{set_value}
+use Rattle.glob_nodes.specs.Sets.{set_value}
 use Rattle.glob_graph.specs.declared.automata.Automaton.{Automaton}
 use Rattle.glob_graph.specs.Tables.{table_value}
 use Rattle.glob_sets.specs.Arrays.{AreSets, AreTruths, sets_value, truths_value}

@@ -12,9 +12,9 @@ use mz_arena::Id;
 use mz_base::Memory;
 use mz_core::Base;
 use mz_eval_cells::Known;
-use mz_eval_rows::size_of;
+use mz_eval_row_cells::size_of;
+use mz_eval_row_symbols::drawn_line;
 use mz_eval_symbols::symbol_in;
-use mz_eval_terms::drawn_line;
 use mz_symbol::{Run, Symbol};
 use std::alloc::Global;
 

@@ -3,7 +3,7 @@
 ghost use Rattle.std.specs.Prelude.{◌≡◌, IfOk, length, map, pos};
 ghost use Rattle.mz_globals.specs.Givens.{given_at};
 ghost use Rattle.mz_globals.specs.Table as table;
-ghost use Rattle.mz_globals_apply.specs.Views.{plain_given};
+ghost use Rattle.mz_eval_globals.specs.Views.{plain_given};
 ghost use Rattle.mz_meaning.specs.Cells.{Bare, Par, Var};
 ghost use Rattle.mz_meaning.specs.Globals as globals;
 ghost use Rattle.mz_meaning.specs.Runs.{give};
@@ -13,12 +13,12 @@ ghost use Rattle.mz_eval_cells.specs.Views.{cell_of, cells_of, known_bound};
 ghost use Rattle.mz_eval_globals.specs.Bounds.{bound_by};
 ghost use Rattle.mz_eval_globals.specs.Steps.{is_count, global_result_by, call_by};
 
+use crate::apply::{Given, refusal_of, value};
 use crate::givens::givens_in;
 use mz_base::{Fault, Kind, Span, Stop};
 use mz_eval_cells::{Bound, Known, all_par, known_of, var_value};
-use mz_eval_rows::all_given;
+use mz_eval_row_cells::all_given;
 use mz_globals::{Global, Refusal};
-use mz_globals_apply::{Given, refusal_of, value};
 use std::alloc::{AllocError, Global as Heap};
 
 /// A call's refusal at a place.

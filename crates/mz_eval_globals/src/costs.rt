@@ -4,10 +4,10 @@ ghost use Rattle.std.specs.Prelude.{◌≡◌, ◌≤◌, ◌^◌, IfOk};
 ghost use Rattle.mz_meaning.specs.Globals as globals;
 ghost use Rattle.mz_eval_cells.specs.Views.{cells_of};
 
+use crate::apply::global_cost;
 use mz_eval_cells::Known;
-use mz_eval_rows::sizes_of;
+use mz_eval_row_cells::sizes_of;
 use mz_globals::Global;
-use mz_globals_apply::global_cost;
 use std::alloc::{AllocError, Global as Heap};
 
 /// What a call of a global costs, by the elements of its arrays and the values of its par integers;

@@ -2,13 +2,13 @@
 
 ghost use Rattle.std.specs.Prelude.{◌≡◌, ◌++◌, [], IfOk, OnOk, map};
 ghost use Rattle.mz_globals.specs.Givens as words;
-ghost use Rattle.mz_globals_apply.specs.Views.{plain_given};
+ghost use Rattle.mz_eval_globals.specs.Views.{plain_given};
 ghost use Rattle.mz_meaning.specs.Cells as cells;
 ghost use Rattle.mz_meaning.specs.Globals.{given_in};
 ghost use Rattle.mz_eval_cells.specs.Views.{cell_of, cells_of, known_bound, known_bounds};
 
+use crate::apply::Given;
 use mz_eval_cells::{Bound, Bounds, Known, bounds_in};
-use mz_globals_apply::Given;
 use std::alloc::{AllocError, Global};
 
 fn push_ends(all: &mut Vec<(i64, i64)>, b: &Bound) -> Result<(), AllocError>

@@ -1,6 +1,7 @@
-// Calls of globals over cells: which global a number has, what a call costs, what it is refused for, and what it gives.
+// Calls of globals, on values and over cells: which global a number has, what a call costs, what it is refused for, and what it gives.
 #![tactic(auto)]
 
+pub mod apply;
 mod calls;
 mod costs;
 mod givens;

@@ -22,7 +22,7 @@ use Rattle.mz_symbol.specs.Makes.{GoesOnBy}
 use Rattle.mz_symbol.proofs.ConstantLaws.{out_value, out_state}
 use Rattle.mz_symbol_rows.specs.RowValues.{argument, as_argument}
 use Rattle.mz_symbol_rows.proofs.RowLaws.{truth_is}
-use Rattle.mz_symbol_options.specs.OptionValues.{guarded_value}
+use Rattle.mz_symbol_rows.specs.OptionValues.{guarded_value}
 use Rattle.glob_nodes.specs.Says.{Says}
 use Rattle.mz_eval_cells.specs.declared.types.Known.{Known}
 use Rattle.mz_eval_cells.specs.declared.types.Known.TheVariants as known

@@ -17,7 +17,7 @@ use Rattle.mz_symbol.specs.Readings.{Reading, IsGiven, Reads, line_in, state_of}
 use Rattle.mz_symbol.specs.Makes.{GoesOnBy}
 use Rattle.mz_symbol.proofs.ConstantLaws.{out_value, out_state}
 use Rattle.mz_symbol_rows.proofs.GoingOn.{goes_both, goes_most}
-use Rattle.mz_symbol_lines.specs.LineValues.{array_argument}
+use Rattle.mz_symbol_arrays.specs.LineValues.{array_argument}
 use Rattle.glob_nodes.specs.Says.{Says}
 use Rattle.mz_eval_cells.specs.declared.types.Bound.{Bound}
 use Rattle.mz_eval_cells.specs.declared.types.Known.{Known}

@@ -14,7 +14,7 @@ ghost use Rattle.mz_symbol.specs.Makes.{GoesOnBy};
 ghost use Rattle.mz_symbol.specs.Readings.{Reading};
 ghost use Rattle.mz_symbol.specs.Symbols.{symbol_value};
 ghost use Rattle.mz_symbol_rows.specs.RowValues.{as_argument};
-ghost use Rattle.mz_symbol_lines.specs.LineValues.{array_argument};
+ghost use Rattle.mz_symbol_arrays.specs.LineValues.{array_argument};
 ghost use Rattle.mz_eval_cells.specs.declared.types.Known.TheVariants as known;
 ghost use Rattle.mz_eval_cells.specs.Views.{cell_of, known_bound, row_content, seen, truth_by, var_content};
 ghost use Rattle.mz_eval_symbols.specs.Taken.{count_in, ranges_in};
@@ -80,7 +80,7 @@ fn other_kept(alloc: Global, run: &mut Run, bound: Bound, d: Id, s: Symbol) -> R
     ensures goes { GoesOnBy 20 run.old run.new }
     ensures cell { IfOk result (IsCell run.old run.new (λ r. Var (bounds.one (known_bound bound)) (held r.mode (only_if (is_true (r.term d)) (symbol_value r.term s))))) }
 {
-    let Ok(x) = mz_symbol_options::guarded(run, d, s) else {
+    let Ok(x) = mz_symbol_rows::options::guarded(run, d, s) else {
         return Err(Memory);
     };
     if is_truth(x) {

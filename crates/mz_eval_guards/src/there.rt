@@ -19,7 +19,7 @@ use mz_base::Memory;
 use mz_core::Base;
 use mz_eval_cells::{Known, Origin, Origins, VarValue};
 use mz_symbol::{Run, Symbol};
-use mz_symbol_lines::defined;
+use mz_symbol_arrays::lines::defined;
 
 // ---- symbols
 

@@ -10,15 +10,14 @@ ghost use Rattle.mz_meaning.specs.Lets as lets;
 ghost use Rattle.mz_symbol.specs.Makes.{GoesOn, Means};
 ghost use Rattle.mz_symbol.specs.Readings.{Reading};
 ghost use Rattle.mz_eval_cells.specs.Views.{cell_of, known_bound, sure_of};
-ghost use Rattle.mz_eval_domains.specs.Wants.{wanted, wants_of};
+ghost use Rattle.mz_eval_declared.specs.Wants.{wanted, wants_of};
 ghost use Rattle.mz_eval_declared.specs.Locals.{IsLocal, local_in};
 ghost use Rattle.mz_eval_names.specs.Steps.{empty_cell, line_cell, taken_places, unchosen_cell};
 
 use mz_base::{Memory, Stop};
 use mz_core::{Base, TypeInst};
 use mz_eval_cells::{Bound, Known, Origins, VarItems, row_of};
-use mz_eval_declared::{chosen_line, chosen_one};
-use mz_eval_domains::{Want, chosen};
+use mz_eval_declared::{Want, chosen, chosen_line, chosen_one};
 use mz_eval_guards::{Guard, surely, unsure};
 use mz_eval_symbols::cell_of_line;
 use mz_symbol::Run;
@@ -61,7 +60,7 @@ fn choice_set(
     }
 }
 
-#[tactic(auto, using(mz_eval_domains::proofs::Ranging::as_many))]
+#[tactic(auto, using(mz_eval_declared::proofs::Ranging::as_many))]
 fn bound_count(all: &[Bound]) -> u64
     ensures { result ≡ length (map known_bound all.now) }
 {

@@ -7,12 +7,12 @@ ghost use Rattle.mz_meaning.specs.Forms as forms;
 ghost use Rattle.mz_meaning.specs.Runs.{spend, weigh};
 ghost use Rattle.mz_symbol.specs.Makes.{GoesOn, Means};
 ghost use Rattle.mz_eval_cells.specs.Views.{seen};
-ghost use Rattle.mz_eval_domains.specs.Wants.{wants_of};
+ghost use Rattle.mz_eval_declared.specs.Wants.{wants_of};
 
 use crate::values::item_count;
 use mz_base::{Span, Stop};
 use mz_eval_cells::Known;
-use mz_eval_domains::Want;
+use mz_eval_declared::Want;
 use mz_eval_scopes::World;
 use mz_symbol::Run;
 use std::alloc::Global;
@@ -63,7 +63,7 @@ pub fn counted(
     ensures goes { GoesOn run.old run.new }
     ensures means { Means (λ _ _. tt) result run.old run.new (λ r. spend world.now.budget at (declared_count (wants_of index.now) (seen r k.now))) }
 {
-    let n = mz_eval_domains::declared_count(alloc, index, k)?;
+    let n = mz_eval_declared::declared_count(alloc, index, k)?;
     spent(world, at, n, run)
 }
 

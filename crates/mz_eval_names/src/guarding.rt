@@ -10,7 +10,7 @@ ghost use Rattle.mz_symbol.specs.Makes.{GoesOn, Means};
 ghost use Rattle.mz_symbol.specs.Readings.{Reading};
 ghost use Rattle.mz_eval_cells.specs.Views.{seen};
 ghost use Rattle.mz_eval_guards.specs.Guards.{IsCell, guard_seen, open_sure};
-ghost use Rattle.mz_eval_domains.specs.Wants.{wanted, wants_of};
+ghost use Rattle.mz_eval_declared.specs.Wants.{wanted, wants_of};
 ghost use Rattle.mz_eval_names.specs.Names.{result_cell};
 
 use crate::joining::both_of;
@@ -20,7 +20,7 @@ use mz_arena::Id;
 use mz_base::{Memory, Stop};
 use mz_core::TypeInst;
 use mz_eval_cells::{Known, Origins, row_of, share_bound, to_var, undefined, var_value};
-use mz_eval_domains::Want;
+use mz_eval_declared::Want;
 use mz_eval_guards::{Guard, guarded};
 use mz_symbol::Run;
 use std::alloc::{AllocError, Global};

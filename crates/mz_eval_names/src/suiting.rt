@@ -11,7 +11,7 @@ ghost use Rattle.mz_symbol.specs.Makes.{GoesOn, Means};
 ghost use Rattle.mz_symbol.specs.Readings.{Reading};
 ghost use Rattle.mz_eval_cells.specs.Views.{cell_of, seen};
 ghost use Rattle.mz_eval_guards.specs.Guards.{IsGuard, guard_seen};
-ghost use Rattle.mz_eval_domains.specs.Wants.{wanted, wants_of};
+ghost use Rattle.mz_eval_declared.specs.Wants.{wanted, wants_of};
 ghost use Rattle.mz_eval_declared.specs.Locals.{local_in};
 ghost use Rattle.mz_eval_names.specs.Names.{argument_fitted};
 
@@ -19,7 +19,7 @@ use crate::joining::both_of;
 use crate::values::{charge, has_no_value};
 use mz_base::{Memory, Span, Stop};
 use mz_eval_cells::{Known, is_par};
-use mz_eval_domains::{Want, all_have_sets, fitted, suits};
+use mz_eval_declared::{Want, all_have_sets, fitted, suits};
 use mz_eval_guards::{Guard, lies_in, never, surely, there_in, unsure};
 use mz_symbol::Run;
 use mz_value::RangeSet;
@@ -88,7 +88,7 @@ fn var_lies(alloc: Global, run: &mut Run, u: &RangeSet, k: &Known) -> Result<Gua
     }
 }
 
-#[tactic(auto, using(crate::proofs::GuardLaws::goes_on, mz_eval_declared::proofs::Suiting::open_suits))]
+#[tactic(auto, using(crate::proofs::GuardLaws::goes_on, mz_eval_declared::proofs::SuitingLaws::open_suits))]
 fn var_suits(alloc: Global, run: &mut Run, w: &Want, k: &Known) -> Result<Guard, Memory>
     requires { cells.is_par (cell_of k.now) ≡ false }
     ensures goes { GoesOn run.old run.new }
@@ -102,7 +102,7 @@ fn var_suits(alloc: Global, run: &mut Run, w: &Want, k: &Known) -> Result<Guard,
 }
 
 /// Whether a value is there and lies in its declared set.
-#[tactic(auto, using(crate::proofs::GuardLaws::goes_on, mz_eval_declared::proofs::Suiting::par_suits))]
+#[tactic(auto, using(crate::proofs::GuardLaws::goes_on, mz_eval_declared::proofs::SuitingLaws::par_suits))]
 fn value_suits(alloc: Global, run: &mut Run, w: &Want, k: &Known) -> Result<Guard, Memory>
     ensures goes { GoesOn run.old run.new }
     ensures guards { IfOk result (IsGuard run.old run.new (λ r. arrays.suits (wanted w.now) (seen r k.now))) }

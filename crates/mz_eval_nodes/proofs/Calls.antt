@@ -15,7 +15,7 @@ use Rattle.mz_meaning.specs.Globals.{call_cost, given_in, refused, global_bounds
 use Rattle.mz_meaning.specs.Forms.{World, global_by}
 use Rattle.mz_operations.specs.Bounds as bounds
 use Rattle.mz_eval_globals.specs.Bounds.{bound_by}
-use Rattle.mz_eval_row_nodes.proofs.WorkLaws.{sizes_seen}
+use Rattle.mz_eval_nodes.proofs.WorkLaws.{sizes_seen}
 use Rattle.mz_symbol.specs.Readings.{Reading}
 use Rattle.mz_eval_cells.specs.declared.types.Known.{Known}
 use Rattle.mz_eval_cells.specs.declared.types.Known.TheVariants as known

@@ -20,8 +20,8 @@ use Rattle.mz_symbol.specs.Makes.{MeetsAt}
 use Rattle.mz_eval_cells.specs.declared.types.Known.{Known}
 use Rattle.mz_eval_cells.specs.Views.{seen}
 use Rattle.mz_eval_chains.specs.Links.{links_round}
-use Rattle.mz_eval_terms.specs.declared.types.Operand.TheVariants as operand
-use Rattle.mz_eval_terms.specs.Numbers.{IsNumber}
+use Rattle.mz_eval_row_symbols.specs.declared.types.Operand.TheVariants as operand
+use Rattle.mz_eval_row_symbols.specs.Numbers.{IsNumber}
 use Rattle.mz_eval_nodes.specs.Numbers.{IsOpened, Opens, open_integer}
 
 once : (a : Answer (Unit {0})) (x : Cell) → then_do (then_do a (λ _. give x)) give ≡ then_do a (λ _. give x)

@@ -18,7 +18,7 @@ use Rattle.mz_eval_cells.specs.declared.types.Known.{Known}
 use Rattle.mz_eval_cells.specs.Views.{seen}
 use Rattle.mz_eval_chains.specs.declared.types.Operator.{Operator}
 use Rattle.mz_eval_chains.specs.Innermosts.{operator_of}
-use Rattle.mz_eval_terms.specs.declared.types.NumberRow.{NumberRow}
+use Rattle.mz_eval_row_symbols.specs.declared.types.NumberRow.{NumberRow}
 
 -- it is the row of the operator
 abbrev pub IsRowOf : Operator → NumberRow → Type 0

@@ -8,7 +8,7 @@ ghost use Rattle.mz_meaning.specs.Forms.{arguments_base};
 use mz_core::{Base, Coercion, Core, TypeInst};
 use mz_eval_cells::Known;
 use mz_eval_chains::{Operator, base_of, operand_base};
-use mz_eval_terms::Argument;
+use mz_eval_row_symbols::Argument;
 
 /// The base of a row's arguments: the first one's, and without arguments the node's.
 #[tactic(auto, unfolding(mz_core::specs::Types::plain_type))]

@@ -18,7 +18,7 @@ use crate::globals::global_closes;
 use mz_core::{Base, Coercion, Core, CoreForm, TypeInst};
 use mz_eval_chains::{Operator, operand_base};
 use mz_eval_globals::global_numbered;
-use mz_eval_rows::row_at;
+use mz_eval_row_cells::row_at;
 use mz_eval_scopes::Context;
 use mz_operations::{Connective, Quantifier, Row, ScalarRow};
 use std::alloc::{AllocError, Global};

@@ -2,13 +2,13 @@
 
 ghost use Rattle.mz_meaning.specs.Runs.{spend};
 ghost use Rattle.mz_meaning.specs.Arrays.{declared_count};
-ghost use Rattle.mz_eval_domains.specs.Wants.{wants_of};
+ghost use Rattle.mz_eval_declared.specs.Wants.{wants_of};
 ghost use Rattle.mz_symbol.specs.Makes.{GoesOn, MeansBare};
 ghost use Rattle.mz_eval_cells.specs.Views.{seen};
 
 use mz_base::{Span, Stop};
 use mz_eval_cells::Known;
-use mz_eval_domains::{Want, declared_count};
+use mz_eval_declared::{Want, declared_count};
 use mz_eval_scopes::World;
 use mz_symbol::Run;
 use std::alloc::Global;

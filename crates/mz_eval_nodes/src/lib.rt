@@ -1,5 +1,4 @@
-// What an evaluation makes step by step: the nodes of operators and globals with their work, the
-// arguments of rows, the branches of an `if`, and the contexts of parts.
+// What an evaluation makes step by step: the nodes of operators and globals with their work and types, the arguments of rows, the branches of an `if`, and the contexts of parts.
 #![tactic(auto)]
 
 mod arguments;
@@ -7,6 +6,7 @@ mod branches;
 mod contexts;
 mod counting;
 mod globals;
+mod nodes;
 mod operands;
 mod types;
 
@@ -18,5 +18,8 @@ pub use contexts::{
 };
 pub use counting::counted;
 pub use globals::operated_global;
+pub use nodes::{
+    node_of_numbers, node_of_pars, node_of_two, untyped_all, untyped_one, untyped_two,
+};
 pub use operands::{append_operand, appended_nodes, nothing_appended, operated_on, prepared};
 pub use types::Appended;

@@ -8,21 +8,21 @@ ghost use Rattle.mz_eval_cells.specs.Views.{seen};
 ghost use Rattle.mz_symbol.specs.Readings.{Reading};
 ghost use Rattle.mz_symbol.specs.Makes.{GoesOn, Means, MeansBare};
 ghost use Rattle.mz_eval_scopes.specs.Seen.{world_seen};
-ghost use Rattle.mz_eval_terms.specs.Numbers.{AreNumbers};
+ghost use Rattle.mz_eval_row_symbols.specs.Numbers.{AreNumbers};
 ghost use Rattle.mz_eval_chains.specs.Innermosts.{operator_of};
 ghost use Rattle.mz_eval_nodes.specs.Numbers.{IsOpened, IsRowOf, Opens, open_integer};
 ghost use Rattle.mz_eval_nodes.specs.Operators.{operator_node, operated_on, placed_seen, nothing_appended, appended_seen, appended_nodes, left_seen, lefts_seen};
 
 use crate::arguments::{element_argument, left_argument, right_argument};
 use crate::types::Appended;
+use crate::{node_of_numbers, node_of_pars, node_of_two};
 use mz_base::{Span, Stop};
 use mz_core::{Base, Coercion, TypeInst};
 use mz_eval_cells::{Item, Known, is_par};
 use mz_eval_chains::{Operator, coerce_both, is_uncoerced, operand_base, place_of};
-use mz_eval_row_nodes::{node_of_numbers, node_of_pars, node_of_two};
-use mz_eval_rows::row_at;
+use mz_eval_row_cells::row_at;
+use mz_eval_row_symbols::{Argument, NumberRow, integer, number_in, row_of_numbers};
 use mz_eval_scopes::World;
-use mz_eval_terms::{Argument, NumberRow, integer, number_in, row_of_numbers};
 use mz_symbol::Run;
 use std::alloc::{AllocError, Global};
 

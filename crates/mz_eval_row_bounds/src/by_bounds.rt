@@ -12,8 +12,8 @@ ghost use Rattle.mz_eval_row_bounds.specs.StepsBounds as steps;
 use crate::arguments::{all_ends_at, as_one, bounds_at, elements_at, ends_at};
 use mz_builtin_arguments::{same_set, up_to};
 use mz_eval_cells::{Bound, Bounds, Known};
-use mz_eval_int_bounds::hull_if_any;
 use mz_operations::{BoundingRow, MadeRow, Row, ScalarRow};
+use mz_operations_bounds::hull_if_any;
 use mz_value::{RangeSet, Value};
 use std::alloc::{AllocError, Global};
 

@@ -10,8 +10,8 @@ ghost use Rattle.mz_eval_row_bounds.specs.Arguments.{all_bounds, numbers};
 use crate::arguments::{all_ends_at, elements_at, ends_at, upper_at};
 use mz_builtin_arguments::end_of;
 use mz_eval_cells::Known;
-use mz_eval_int_bounds::{arith_ends, extreme_ends, folded_ends, raised_ends, sign_ends};
 use mz_operations::{Arith, Fold, ScalarRow, Side, Sign};
+use mz_operations_bounds::{arith_ends, extreme_ends, folded_ends, raised_ends, sign_ends};
 use mz_value::RangeSet;
 use std::alloc::{AllocError, Global};
 

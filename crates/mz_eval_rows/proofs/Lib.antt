@@ -1,7 +1,6 @@
-pub mod Knowing
-pub mod Limited
-pub mod Shown
-pub mod Answered
-pub mod Told
-pub mod Sizes
-pub mod Parted
+pub mod AssertedLaws
+pub mod HandedLaws
+pub mod NodeLaws
+pub mod ReshapedLaws
+pub mod SettledLaws
+pub mod JoinedLaws

@@ -1,17 +1,13 @@
-// Operators and built-ins over cells: what a row gives of its arguments, par and var, with its faults, and what it costs.
+// Rows over cells in a run: what a row gives of its arguments, with its value under each reading, and `++` of var arrays.
 #![tactic(auto)]
 
-mod applied;
-mod costs;
-mod faults;
-mod integers;
-mod limits;
-mod numbers;
-mod opened;
-mod row_of;
-mod sets;
-mod showing;
+mod asserted;
+mod handed;
+mod joined;
+mod reshaped;
+mod rows;
+mod settled;
 
-pub use costs::{cost_of_all, cost_of_one, cost_of_two, size_of, sizes_of};
-pub use numbers::row_at;
-pub use row_of::{all_given, row_of_all, row_of_one, row_of_two};
+pub use joined::row_of_two;
+pub use mz_eval_row_symbols::Argument;
+pub use rows::{row_of_all, row_of_one, rows_of_par};

@@ -4,7 +4,7 @@ use Rattle.mz_value.specs.Ranges.{Range}
 use Rattle.mz_value.specs.Contents.{Content}
 use Rattle.mz_meaning.specs.Cells.{held, length_of, or_zero, value_of}
 use Rattle.mz_symbol.specs.Readings.{Reading}
-use Rattle.mz_symbol_lines.specs.LineValues.{array_argument}
+use Rattle.mz_symbol_arrays.specs.LineValues.{array_argument}
 use Rattle.mz_eval_cells.specs.declared.types.Known.{Known}
 use Rattle.mz_eval_cells.specs.declared.types.Known.TheVariants as known
 use Rattle.mz_eval_cells.specs.Views.{cell_of, seen}

@@ -20,7 +20,7 @@ use mz_builtin_arguments::copied;
 use mz_core::Base;
 use mz_eval_cells::is_set_base;
 use mz_symbol::{Run, Symbol};
-use mz_symbol_options::nothing;
+use mz_symbol_rows::options::nothing;
 use mz_value::{RangeSet, SetValue, Value};
 use std::alloc::Global;
 

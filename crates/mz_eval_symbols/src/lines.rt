@@ -12,7 +12,7 @@ ghost use Rattle.mz_meaning.specs.Runs.{give};
 ghost use Rattle.mz_symbol.specs.Runs.{ReadsNodes};
 ghost use Rattle.mz_symbol.specs.Readings.{Reading, Reads, state_of};
 ghost use Rattle.mz_symbol.specs.Makes.{GoesOn, GoesOnBy, Means};
-ghost use Rattle.mz_symbol_lines.specs.LineValues.{array_argument};
+ghost use Rattle.mz_symbol_arrays.specs.LineValues.{array_argument};
 ghost use Rattle.mz_eval_cells.specs.Views.{known_bound, origins_value, row_content};
 ghost use Rattle.mz_eval_symbols.specs.Steps.{AreCasts, AreMade, IsLineWith, elements_cast, item_cast};
 ghost use Rattle.mz_eval_symbols.specs.StepsLacking.{IsSameItem};

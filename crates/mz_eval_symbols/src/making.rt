@@ -6,7 +6,7 @@ ghost use Rattle.mz_operations.specs.Bounds as bounds;
 ghost use Rattle.mz_meaning.specs.Cells.{Var, held};
 ghost use Rattle.mz_symbol.specs.Readings.{Reading};
 ghost use Rattle.mz_symbol_rows.specs.RowValues.{argument};
-ghost use Rattle.mz_symbol_lines.specs.LineValues.{array_argument};
+ghost use Rattle.mz_symbol_arrays.specs.LineValues.{array_argument};
 ghost use Rattle.mz_eval_cells.specs.Views.{cell_of, known_bound, seen, truth_by};
 
 use mz_arena::Id;

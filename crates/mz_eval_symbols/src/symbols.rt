@@ -19,7 +19,7 @@ use mz_base::{Memory, Stop};
 use mz_core::Base;
 use mz_eval_cells::{Item, Known, Origin, VarValue, share_item};
 use mz_symbol::{Run, Symbol};
-use mz_symbol_options::optional;
+use mz_symbol_rows::options::optional;
 use mz_value::Value;
 use std::alloc::{AllocError, Global};
 

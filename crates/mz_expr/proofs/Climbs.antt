@@ -8,10 +8,10 @@ use Rattle.mz_base.specs.declared.stop.Stop.TheVariants.{Refused, Memory}
 use Rattle.mz_lexer.specs.declared.token.Token.{Token}
 use Rattle.mz_lexer.specs.declared.token.Tok.{Tok}
 use Rattle.mz_tree.specs.declared.expr.BinOp.{BinOp}
-use Rattle.mz_grammar_rules.specs.Tokens.{tok_at}
-use Rattle.mz_grammar_rules.specs.Promise.{Stops}
-use Rattle.mz_grammar_rules.specs.Reading.{Read, mapped, ◌>>=◌}
-use Rattle.mz_grammar_rules.proofs.Steps.{grouped, same_then, itself}
+use Rattle.mz_grammar.specs.Tokens.{tok_at}
+use Rattle.mz_grammar.specs.RulesPromise.{Stops}
+use Rattle.mz_grammar.specs.RulesReading.{Read, mapped, ◌>>=◌}
+use Rattle.mz_grammar.proofs.Steps.{grouped, same_then, itself}
 use Rattle.mz_grammar.specs.declared.level.Level.{Level}
 use Rattle.mz_grammar.specs.declared.level.Level.TheVariants as level
 use Rattle.mz_grammar.specs.Operators.{operator_of, if_level, binary_of, level_number, tighter_level}

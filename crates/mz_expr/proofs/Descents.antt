@@ -2,7 +2,7 @@
 use Rattle.std.proofs.Common.{◌≡◌, ℕ, ◌<◌, ◌≤◌, arith, refl, List, Option, ◌∙◌}
 use Rattle.std.specs.Prelude.{Some, None}
 use Rattle.mz_lexer.specs.declared.token.Token.{Token}
-use Rattle.mz_grammar_rules.specs.Reading.{on}
+use Rattle.mz_grammar.specs.RulesReading.{on}
 use Rattle.mz_grammar.specs.declared.level.Level.{Level}
 use Rattle.mz_grammar.specs.declared.level.Level.TheVariants as level_is
 use Rattle.mz_grammar.specs.Parts as parts

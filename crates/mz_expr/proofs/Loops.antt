@@ -8,15 +8,15 @@ use Rattle.mz_tree.specs.declared.expr.BinOp.{BinOp}
 use Rattle.mz_tree.specs.declared.expr.PlacedOp.{PlacedOp}
 use Rattle.mz_tree.specs.Tree.{Tree, Maybe, Part, op_before}
 use Rattle.mz_tree.specs.Tree as pure
-use Rattle.mz_grammar_rules.specs.Tokens.{tok_at, behind}
-use Rattle.mz_grammar_rules.specs.Look.{is_word}
+use Rattle.mz_grammar.specs.Tokens.{tok_at, behind}
+use Rattle.mz_grammar.specs.Look.{is_word}
 use Rattle.mz_base.specs.declared.fault.Span.{Span}
 use Rattle.mz_base.specs.declared.stop.Stop.{Stop}
 use Rattle.mz_base.specs.declared.stop.Stop.TheVariants.{Refused, Memory}
-use Rattle.mz_grammar_rules.specs.Promise.{Gives}
-use Rattle.mz_grammar_rules.specs.Rules.{syntax}
-use Rattle.mz_grammar_rules.specs.Reading.{Read, mapped, with_prefix, on, stuck}
-use Rattle.mz_grammar_rules.proofs.Steps.{prefix_prefix, prefix_more}
+use Rattle.mz_grammar.specs.RulesPromise.{Gives}
+use Rattle.mz_grammar.specs.Rules.{syntax}
+use Rattle.mz_grammar.specs.RulesReading.{Read, mapped, with_prefix, on, stuck}
+use Rattle.mz_grammar.proofs.Steps.{prefix_prefix, prefix_more}
 use Rattle.mz_grammar.specs.Parts as parts
 use Rattle.mz_grammar.specs.Parts.{Operand, at_of, tree_of, link_of}
 use Rattle.mz_grammar.specs.Tests.{middle_of, tail_of}

@@ -5,7 +5,7 @@ use Rattle.mz_base.specs.declared.fault.Span.{Span}
 use Rattle.mz_base.specs.declared.stop.Stop.{Stop}
 use Rattle.mz_base.specs.declared.stop.Stop.TheVariants.{Refused, Memory}
 use Rattle.mz_lexer.specs.declared.token.Token.{Token}
-use Rattle.mz_grammar_rules.specs.Promise.{Gives, Answers}
+use Rattle.mz_grammar.specs.RulesPromise.{Gives, Answers}
 use Rattle.mz_grammar.specs.Parts.{Place, Value, annotations}
 use Rattle.mz_grammar.specs.Model.{rule}
 use Rattle.mz_grammar.specs.Reading.{reads}

@@ -3,9 +3,9 @@ use Rattle.std.specs.Prelude.{ℕ, ◌+◌, ◌*◌, ◌<◌, ◌≤◌, Bool, t
 use Rattle.std.specs.declared.alloc.Global.{Global}
 use denote.Ref.{MutBor}
 use Rattle.mz_base.specs.declared.stop.Stop.{Stop}
-use Rattle.mz_grammar_rules.specs.declared.cursor.Cursor.{Cursor}
-use Rattle.mz_grammar_rules.specs.Reads.{Reads}
-use Rattle.mz_grammar_rules.specs.Reading.{Read, Reader, mapped, on}
+use Rattle.mz_grammar.specs.declared.cursor.Cursor.{Cursor}
+use Rattle.mz_grammar.specs.Reads.{Reads}
+use Rattle.mz_grammar.specs.RulesReading.{Read, Reader, mapped, on}
 use Rattle.mz_grammar.specs.declared.level.Level.{Level}
 use Rattle.mz_grammar.specs.Operators.{tighter_level}
 use Rattle.mz_grammar.specs.Parts as parts

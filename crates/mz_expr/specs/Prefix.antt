@@ -4,7 +4,7 @@ use Rattle.mz_base.specs.declared.fault.Span.{Span}
 use Rattle.mz_base.specs.declared.stop.Stop.{Stop}
 use Rattle.mz_base.specs.declared.stop.Stop.TheVariants.{Refused, Memory}
 use Rattle.mz_lexer.specs.declared.token.Token.{Token}
-use Rattle.mz_grammar_rules.specs.Promise.{IsLongestPrefix, IsFault, fault_of, reason_of}
+use Rattle.mz_grammar.specs.RulesPromise.{IsLongestPrefix, IsFault, fault_of, reason_of}
 use Rattle.mz_grammar.specs.Parts.{annotations, Value}
 use Rattle.mz_grammar.specs.Model.{rule}
 

@@ -1,7 +1,7 @@
 -- Mirror of src/parser/expression.rt; private clauses only. How an expression goes on after its first operand: level by level,
 -- from the tightest to the loosest that it may have.
 use Rattle.std.specs.Prelude.{ℕ, zero, suc, List, [], ◌∷◌, Ok, if◌then◌else◌, nat_le, slice_index_or}
-use Rattle.mz_grammar_rules.specs.Reading.{Reader, ◌>>=◌}
+use Rattle.mz_grammar.specs.RulesReading.{Reader, ◌>>=◌}
 use Rattle.mz_grammar.specs.declared.level.Level.{Level}
 use Rattle.mz_grammar.specs.declared.level.Level.TheVariants as level
 use Rattle.mz_grammar.specs.Parts as parts

@@ -2,14 +2,14 @@
 
 ghost use Rattle.std.specs.Prelude.{◌≡◌, OnOk};
 ghost use Rattle.mz_tree.specs.Views.{tree, declaration, written};
-ghost use Rattle.mz_grammar_rules.specs.Promise.{Answers};
+ghost use Rattle.mz_grammar.specs.RulesPromise.{Answers};
 ghost use Rattle.mz_grammar.specs.Parts as parts;
 ghost use Rattle.mz_grammar.specs.Model.{rule};
 ghost use Rattle.mz_expr.specs.Prefix.{PassesAnnotations};
 
 use crate::parser;
 use mz_base::Stop;
-use mz_grammar_rules::Cursor;
+use mz_grammar::Cursor;
 use mz_tree::{Decl, Expr, TypeText};
 use std::alloc::Global;
 

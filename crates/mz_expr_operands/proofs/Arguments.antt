@@ -5,7 +5,7 @@ use Rattle.std.specs.Option.{option_map}
 use Rattle.std.proofs.lemmas.List.{append-nil}
 use Rattle.mz_base.specs.declared.fault.Span.{Span}
 use Rattle.mz_tree.specs.Tree.{Name, Tree, Maybe, Generator, generator}
-use Rattle.mz_grammar_rules.specs.Reading.{on}
+use Rattle.mz_grammar.specs.RulesReading.{on}
 use Rattle.mz_grammar.specs.Parts.{Operand, tree_of, Argument, unguarded, guarded, strict}
 use Rattle.mz_grammar.specs.Arguments.{unguarded_of, trees_of, Role, role_of, waiting, bound, unfit, by_role, generators_behind, generators_of}
 

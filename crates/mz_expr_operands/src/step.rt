@@ -1,14 +1,13 @@
 // Single tokens and separators.
 
 ghost use Rattle.std.specs.Prelude.{◌≡◌, ◌<◌, OnOk, length, Some};
-ghost use Rattle.mz_grammar_rules.specs.Tokens.{tok_at};
-ghost use Rattle.mz_grammar_rules.specs.Promise.{Gives};
+ghost use Rattle.mz_grammar.specs.Tokens.{tok_at};
+ghost use Rattle.mz_grammar.specs.RulesPromise.{Gives};
 ghost use Rattle.mz_grammar.specs.Tests.{closes, is_left_out, ident_of, middle_of, tail_of, ends_row, begins_expression, begins_base};
 ghost use Rattle.mz_grammar.specs.Steps.{ident_at, separator_at, let_separator_at};
 
 use mz_base::{Name, Span, Stop};
-use mz_grammar::Closing;
-use mz_grammar_rules::{Cursor, is_sym, is_word};
+use mz_grammar::{Closing, Cursor, is_sym, is_word};
 use mz_lexer::{Keyword, Symbol, Tok};
 
 /// Whether the token closes the list.

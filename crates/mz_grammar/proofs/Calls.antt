@@ -4,10 +4,10 @@ use Rattle.std.specs.Prelude.{Some, None, ◌&&◌}
 use Rattle.mz_base.specs.declared.fault.Span.{Span}
 use Rattle.mz_base.specs.declared.keyword.Keyword.TheVariants.{KIn, KWhere}
 use Rattle.mz_lexer.specs.declared.token.Symbol.TheVariants.{SLParen, SRParen}
-use Rattle.mz_grammar_rules.specs.Rules.{keeps, give, when, leave, part}
-use Rattle.mz_grammar_rules.specs.Look.{is_keyword, symbol_number, keyword_number}
-use Rattle.mz_grammar_rules.specs.Reading.{step, read_by}
-use Rattle.mz_grammar_rules.proofs.Viable.{never, before_end, last, tokens, maybe}
+use Rattle.mz_grammar.specs.Rules.{keeps, give, when, leave, part}
+use Rattle.mz_grammar.specs.Look.{is_keyword, symbol_number, keyword_number}
+use Rattle.mz_grammar.specs.RulesReading.{step, read_by}
+use Rattle.mz_grammar.proofs.Viable.{never, before_end, last, tokens, maybe}
 use Rattle.mz_tree.specs.Tree.{Name, Tree}
 use Rattle.mz_grammar.specs.declared.list.Generators.{Generators}
 use Rattle.mz_grammar.specs.declared.list.Generators.TheVariants.{Possible, AwaitingIn, Impossible}

@@ -9,10 +9,10 @@ use Rattle.mz_lexer.specs.declared.token.Symbol.TheVariants.{SRParen, SLBrack, S
 use Rattle.mz_tree.specs.Tree.{Name}
 use Rattle.mz_tree.specs.Data as pure
 use Rattle.mz_tree.specs.Data.{is_name}
-use Rattle.mz_grammar_rules.specs.Rules.{keeps, give, leave, part, Runs, gives, skips, finds, parts, kept}
-use Rattle.mz_grammar_rules.specs.Look.{is_sym, symbol_number}
-use Rattle.mz_grammar_rules.specs.Reading.{step, read_by, Falls}
-use Rattle.mz_grammar_rules.proofs.Viable.{where_so, never, before_end, last, tokens, maybe, done_by, goes_in, goes_out, goes_over, MayTake, Goes, Done, may_take}
+use Rattle.mz_grammar.specs.Rules.{keeps, give, leave, part, Runs, gives, skips, finds, parts, kept}
+use Rattle.mz_grammar.specs.Look.{is_sym, symbol_number}
+use Rattle.mz_grammar.specs.RulesReading.{step, read_by, Falls}
+use Rattle.mz_grammar.proofs.Viable.{where_so, never, before_end, last, tokens, maybe, done_by, goes_in, goes_out, goes_over, MayTake, Goes, Done, may_take}
 use Rattle.mz_grammar.specs.Tests.{is_end}
 use Rattle.mz_grammar.specs.Data.{Place, Value, Ruled, rule, rank, width, symbol, opening, file, item, datum, named, sized, index_sets, plains, rows, row, plain, range, set, bounds, ones, one}
 use Rattle.mz_grammar.proofs.DataPartEnds.{EndsValue, takes_token, sign, a_number, an_identifier, TakesToken, CanComplete, Completion, Facts}

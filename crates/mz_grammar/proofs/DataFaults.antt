@@ -4,8 +4,8 @@ use Rattle.std.specs.Prelude.{Some, None}
 use Rattle.mz_lexer.specs.declared.token.Token.{Token}
 use Rattle.mz_lexer.specs.declared.token.Tok.{Tok}
 use Rattle.mz_base.specs.declared.fault.Span.{Span}
-use Rattle.mz_grammar_rules.specs.Rules as rules
-use Rattle.mz_grammar_rules.specs.Rules.{Reason, syntax, keeps, opens, give, refuse, leave_out, when, ahead, leave, part, Behind, kept, opened, Refuses, unfit, unwanted, one_too_many, one_name_too_many, behind_over, behind_skip, behind_find, behind_lack, behind_sight, behind_miss, behind_leave, within, beyond}
+use Rattle.mz_grammar.specs.Rules as rules
+use Rattle.mz_grammar.specs.Rules.{Reason, syntax, keeps, opens, give, refuse, leave_out, when, ahead, leave, part, Behind, kept, opened, Refuses, unfit, unwanted, one_too_many, one_name_too_many, behind_over, behind_skip, behind_find, behind_lack, behind_sight, behind_miss, behind_leave, within, beyond}
 use Rattle.mz_grammar.specs.Data.{Place, Value, Told, Ruled, rule, file, item, datum, named, sized, index_sets, plains, rows, row, plain, range, set, bounds, ones, one}
 
 -- how deep the tokens that a part opens are nested

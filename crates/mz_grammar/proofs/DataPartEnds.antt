@@ -6,8 +6,8 @@ use Rattle.mz_lexer.specs.declared.token.Tok.{Tok}
 use Rattle.mz_lexer.specs.declared.token.Tok.TheVariants.{Sym, Ident, Int}
 use Rattle.mz_lexer.specs.declared.token.Symbol.{Symbol}
 use Rattle.mz_lexer.specs.declared.token.Symbol.TheVariants.{SLParen, SComma, SDots, SEq}
-use Rattle.mz_grammar_rules.specs.Look.{is_sym}
-use Rattle.mz_grammar_rules.proofs.Viable as ways
+use Rattle.mz_grammar.specs.Look.{is_sym}
+use Rattle.mz_grammar.proofs.Viable as ways
 use Rattle.mz_grammar.specs.Tests.{ends_row}
 use Rattle.mz_grammar.specs.Data.{Place, Value, Ruled, rule, rank, file, item, datum, named, index_sets, row, plain, range, set, bounds}
 

@@ -5,10 +5,10 @@ use Rattle.mz_base.specs.declared.fault.Span.{Span}
 use Rattle.mz_base.specs.declared.stop.Stop.{Stop}
 use Rattle.mz_lexer.specs.declared.token.Token.{Token}
 use Rattle.mz_lexer.specs.declared.token.Tok.{Tok}
-use Rattle.mz_grammar_rules.specs.Rules.{Runs}
-use Rattle.mz_grammar_rules.specs.Promise.{Gives, Answers}
-use Rattle.mz_grammar_rules.proofs.Answering
-use Rattle.mz_grammar_rules.proofs.Viable as ways
+use Rattle.mz_grammar.specs.Rules.{Runs}
+use Rattle.mz_grammar.specs.RulesPromise.{Gives, Answers}
+use Rattle.mz_grammar.proofs.Answering
+use Rattle.mz_grammar.proofs.Viable as ways
 use Rattle.mz_grammar.specs.Data.{Place, Value, rule, rank, width, reads}
 use Rattle.mz_grammar.proofs.DataFacts.{low, falls, takes, complete, can_complete}
 use Rattle.mz_grammar.proofs.DataPartEnds.{MayEndBefore, takes_token, IsUsable, far, aim}

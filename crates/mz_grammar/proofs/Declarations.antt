@@ -2,10 +2,10 @@
 use Rattle.std.proofs.Common.{arith, ℕ, zero, suc, [], ◌∷◌}
 use Rattle.mz_base.specs.declared.keyword.Keyword.TheVariants.{KInt, KOf}
 use Rattle.mz_lexer.specs.declared.token.Symbol.TheVariants.{SRParen, SLBrack, SRBrack, SColon}
-use Rattle.mz_grammar_rules.specs.Rules.{give, part}
-use Rattle.mz_grammar_rules.specs.Look.{symbol_number, keyword_number}
-use Rattle.mz_grammar_rules.specs.Reading.{step, read_by}
-use Rattle.mz_grammar_rules.proofs.Viable.{never, before_end, last, tokens, maybe}
+use Rattle.mz_grammar.specs.Rules.{give, part}
+use Rattle.mz_grammar.specs.Look.{symbol_number, keyword_number}
+use Rattle.mz_grammar.specs.RulesReading.{step, read_by}
+use Rattle.mz_grammar.proofs.Viable.{never, before_end, last, tokens, maybe}
 use Rattle.mz_grammar.specs.declared.list.Closing.TheVariants.{Paren, Bracket}
 use Rattle.mz_grammar.specs.Parts
 use Rattle.mz_tree.specs.Tree.{Written, Based}

@@ -11,12 +11,12 @@ use Rattle.mz_lexer.specs.declared.token.Symbol.{Symbol}
 use Rattle.mz_lexer.specs.declared.token.Symbol.TheVariants.{SLParen, SRParen, SLBrack, SRBrack, SLBrace, SComma, SColons, SDots, SAbsent}
 use Rattle.mz_tree.specs.Tree.{Name, Tree, Generator, node, gen_call, unary, call, plain, generator, trees, gens}
 use Rattle.mz_tree.specs.declared.expr.PlacedOp.{PlacedOp}
-use Rattle.mz_grammar_rules.specs.Tokens.{tok_at, behind, place, passes, told}
-use Rattle.mz_grammar_rules.specs.Look.{is_sym, is_word, is_keyword}
-use Rattle.mz_grammar_rules.specs.Rules.{syntax, left_out}
-use Rattle.mz_grammar_rules.specs.Reading.{Read, Reader, stuck, on, open_at, symbol_at, word_at, mapped, with_prefix, listed, step, ◌>>=◌}
-use Rattle.mz_grammar_rules.proofs.Laws
-use Rattle.mz_grammar_rules.proofs.Steps.{itself, grouped, then_prefix, same_then, same_if, same_on, same_open}
+use Rattle.mz_grammar.specs.Tokens.{tok_at, behind, place, passes, told}
+use Rattle.mz_grammar.specs.Look.{is_sym, is_word, is_keyword}
+use Rattle.mz_grammar.specs.Rules.{syntax, left_out}
+use Rattle.mz_grammar.specs.RulesReading.{Read, Reader, stuck, on, open_at, symbol_at, word_at, mapped, with_prefix, listed, step, ◌>>=◌}
+use Rattle.mz_grammar.proofs.Laws
+use Rattle.mz_grammar.proofs.Steps.{itself, grouped, then_prefix, same_then, same_if, same_on, same_open}
 use Rattle.mz_grammar.specs.declared.level.Level.{Level}
 use Rattle.mz_grammar.specs.declared.level.Level.TheVariants as level_is
 use Rattle.mz_grammar.specs.declared.list.Closing.{Closing}

@@ -4,10 +4,10 @@ use Rattle.std.specs.Prelude.{Some, None}
 use Rattle.mz_lexer.specs.declared.token.Tok.TheVariants.{TextTail}
 use Rattle.mz_base.specs.declared.keyword.Keyword.TheVariants.{KEndif, KIn, KThen}
 use Rattle.mz_lexer.specs.declared.token.Symbol.TheVariants.{SRParen, SRBrack, SLBrace, SRBrace, SRRows}
-use Rattle.mz_grammar_rules.specs.Rules.{give, part}
-use Rattle.mz_grammar_rules.specs.Look.{symbol_number, keyword_number}
-use Rattle.mz_grammar_rules.specs.Reading.{step, read_by, Falls}
-use Rattle.mz_grammar_rules.proofs.Viable.{never, before_end, last, tokens, maybe}
+use Rattle.mz_grammar.specs.Rules.{give, part}
+use Rattle.mz_grammar.specs.Look.{symbol_number, keyword_number}
+use Rattle.mz_grammar.specs.RulesReading.{step, read_by, Falls}
+use Rattle.mz_grammar.proofs.Viable.{never, before_end, last, tokens, maybe}
 use Rattle.mz_base.specs.declared.fault.Span.{Span}
 use Rattle.mz_tree.specs.declared.expr.BinOp.{BinOp}
 use Rattle.mz_grammar.specs.declared.level.Level.{Level}

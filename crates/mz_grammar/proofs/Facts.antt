@@ -1,7 +1,7 @@
 -- The facts of all parts of a model.
 use Rattle.std.proofs.Common.{◌≡◌, ◌<◌, arith, true}
-use Rattle.mz_grammar_rules.specs.Reading.{Falls}
-use Rattle.mz_grammar_rules.proofs.Viable.{where_so}
+use Rattle.mz_grammar.specs.RulesReading.{Falls}
+use Rattle.mz_grammar.proofs.Viable.{where_so}
 use Rattle.mz_grammar.specs.declared.level.Level.{Level}
 use Rattle.mz_grammar.specs.declared.level.Level.TheVariants as level_is
 use Rattle.mz_grammar.specs.Parts

@@ -9,11 +9,11 @@ use Rattle.mz_base.specs.declared.keyword.Keyword.TheVariants.{KArray, KList, KO
 use Rattle.mz_lexer.specs.declared.token.Symbol.TheVariants.{SLParen, SRParen, SLBrack, SRBrack, SLBrace, SRBrace, SSemi, SColon, SEq}
 use Rattle.mz_tree.specs.Tree.{Written, Based, array_type, marked, declaration, written, base_bool, base_int, base_of, no_array, just, nothing}
 use Rattle.mz_tree.specs.Items.{satisfy, minimize, maximize}
-use Rattle.mz_grammar_rules.specs.Tokens.{tok_at, behind, place}
-use Rattle.mz_grammar_rules.specs.Look.{is_sym, is_word}
-use Rattle.mz_grammar_rules.specs.Rules.{syntax, left_out}
-use Rattle.mz_grammar_rules.specs.Reading.{Read, stuck, on, open_at, symbol_at, word_at, mapped, with_prefix, listed, step, ◌>>=◌}
-use Rattle.mz_grammar_rules.proofs.Steps.{itself, grouped, same_then, same_if, same_on, same_open}
+use Rattle.mz_grammar.specs.Tokens.{tok_at, behind, place}
+use Rattle.mz_grammar.specs.Look.{is_sym, is_word}
+use Rattle.mz_grammar.specs.Rules.{syntax, left_out}
+use Rattle.mz_grammar.specs.RulesReading.{Read, stuck, on, open_at, symbol_at, word_at, mapped, with_prefix, listed, step, ◌>>=◌}
+use Rattle.mz_grammar.proofs.Steps.{itself, grouped, same_then, same_if, same_on, same_open}
 use Rattle.mz_grammar.specs.declared.level.Level.TheVariants as level_is
 use Rattle.mz_grammar.specs.declared.list.Closing.TheVariants.{Paren, Bracket, Brace}
 use Rattle.mz_grammar.specs.Parts

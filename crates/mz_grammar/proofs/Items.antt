@@ -6,9 +6,9 @@ use Rattle.mz_lexer.specs.declared.token.Tok.TheVariants.{Text}
 use Rattle.mz_base.specs.declared.keyword.Keyword.TheVariants.{KConstraint, KInt, KSatisfy}
 use Rattle.mz_lexer.specs.declared.token.Symbol.TheVariants.{SLParen, SLBrace, SRBrace, SColon, SEq, SConcat}
 use Rattle.mz_base.specs.declared.fault.Span.{Span}
-use Rattle.mz_grammar_rules.specs.Look.{is_sym, symbol_number, keyword_number}
-use Rattle.mz_grammar_rules.specs.Reading.{step, read_by, Falls}
-use Rattle.mz_grammar_rules.proofs.Viable.{never, before_end, last, tokens, maybe, brought}
+use Rattle.mz_grammar.specs.Look.{is_sym, symbol_number, keyword_number}
+use Rattle.mz_grammar.specs.RulesReading.{step, read_by, Falls}
+use Rattle.mz_grammar.proofs.Viable.{never, before_end, last, tokens, maybe, brought}
 use Rattle.mz_grammar.specs.Parts
 use Rattle.mz_grammar.specs.Parts.{Operand}
 use Rattle.mz_tree.specs.Tree.{Written}

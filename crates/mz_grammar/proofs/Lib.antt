@@ -1,3 +1,8 @@
+pub mod Laws
+pub mod Viable
+pub mod Longer
+pub mod Answering
+pub mod Steps
 pub mod PartEnds
 pub mod Expressions
 pub mod Calls

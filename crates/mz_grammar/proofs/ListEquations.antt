@@ -7,11 +7,11 @@ use Rattle.mz_base.specs.declared.keyword.Keyword.TheVariants.{KIn, KWhere, KThe
 use Rattle.mz_lexer.specs.declared.token.Symbol.TheVariants.{SRBrack, SRBrace, SRRows, SBar, SComma, SSemi}
 use Rattle.mz_tree.specs.Tree.{Generator, Let, array, set, array_comp, set_comp, just, nothing, plain, shown, generator, constrained, trees, gens}
 use Rattle.mz_tree.specs.Tree as pure
-use Rattle.mz_grammar_rules.specs.Tokens.{tok_at, behind, place, passes}
-use Rattle.mz_grammar_rules.specs.Look.{is_sym, is_word, is_symbol}
-use Rattle.mz_grammar_rules.specs.Rules.{give, part, syntax, left_out}
-use Rattle.mz_grammar_rules.specs.Reading.{Read, Reader, stuck, on, word_at, mapped, with_prefix, listed, step, ◌>>=◌}
-use Rattle.mz_grammar_rules.proofs.Steps.{grouped, then_prefix, listed_mapped, same_then, same_if}
+use Rattle.mz_grammar.specs.Tokens.{tok_at, behind, place, passes}
+use Rattle.mz_grammar.specs.Look.{is_sym, is_word, is_symbol}
+use Rattle.mz_grammar.specs.Rules.{give, part, syntax, left_out}
+use Rattle.mz_grammar.specs.RulesReading.{Read, Reader, stuck, on, word_at, mapped, with_prefix, listed, step, ◌>>=◌}
+use Rattle.mz_grammar.proofs.Steps.{grouped, then_prefix, listed_mapped, same_then, same_if}
 use Rattle.mz_grammar.specs.declared.level.Level.TheVariants as level_is
 use Rattle.mz_grammar.specs.declared.list.Closing.{Closing}
 use Rattle.mz_grammar.specs.declared.list.Closing.TheVariants.{Bracket, Elements, Brace}

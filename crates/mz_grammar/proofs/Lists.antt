@@ -4,10 +4,10 @@ use Rattle.std.specs.Prelude.{Some}
 use Rattle.mz_lexer.specs.declared.token.Tok.TheVariants.{Word, Sym}
 use Rattle.mz_base.specs.declared.keyword.Keyword.TheVariants.{KConstraint, KEndif, KIn, KThen}
 use Rattle.mz_lexer.specs.declared.token.Symbol.TheVariants.{SRBrack, SRBrace, SRRows}
-use Rattle.mz_grammar_rules.specs.Rules.{give, part}
-use Rattle.mz_grammar_rules.specs.Look.{symbol_number, keyword_number}
-use Rattle.mz_grammar_rules.specs.Reading.{step, read_by}
-use Rattle.mz_grammar_rules.proofs.Viable.{never, before_end, last, tokens, maybe}
+use Rattle.mz_grammar.specs.Rules.{give, part}
+use Rattle.mz_grammar.specs.Look.{symbol_number, keyword_number}
+use Rattle.mz_grammar.specs.RulesReading.{step, read_by}
+use Rattle.mz_grammar.proofs.Viable.{never, before_end, last, tokens, maybe}
 use Rattle.mz_tree.specs.Tree.{Tree, Generator}
 use Rattle.mz_grammar.specs.declared.list.Closing.{Closing}
 use Rattle.mz_grammar.specs.declared.list.Closing.TheVariants.{Paren, Bracket, Elements, Brace}

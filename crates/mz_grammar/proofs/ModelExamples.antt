@@ -13,9 +13,9 @@ use Rattle.mz_tree.specs.declared.expr.BinOp.TheVariants as op
 use Rattle.mz_tree.specs.declared.expr.UnOp.TheVariants as prefix
 use Rattle.mz_tree.specs.Tree.{Name, Tree, node, int, ident, unary, chain, gen_call, access, rows, choice, let_in, trees, links, op_before, gens, rows_of, branches, lets, generator, nothing}
 use Rattle.mz_tree.specs.Items.{ItemTree, assign, solve, satisfy}
-use Rattle.mz_grammar_rules.specs.Look.{keyword_number, symbol_number}
-use Rattle.mz_grammar_rules.specs.Rules.{syntax, left_out, too_deep}
-use Rattle.mz_grammar_rules.specs.Reading.{Read, stuck, step, read_by}
+use Rattle.mz_grammar.specs.Look.{keyword_number, symbol_number}
+use Rattle.mz_grammar.specs.Rules.{syntax, left_out, too_deep}
+use Rattle.mz_grammar.specs.RulesReading.{Read, stuck, step, read_by}
 use Rattle.mz_grammar.specs.Parts as parts
 use Rattle.mz_grammar.specs.Model.{rule}
 use Rattle.mz_grammar.specs.Reading.{reads, rank, operand_rank}

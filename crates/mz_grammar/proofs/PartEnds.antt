@@ -9,12 +9,12 @@ use Rattle.mz_base.specs.declared.keyword.Keyword.{Keyword}
 use Rattle.mz_base.specs.declared.keyword.Keyword.TheVariants.{KWhere, KThen, KEndif, KSatisfy}
 use Rattle.mz_lexer.specs.declared.token.Symbol.{Symbol}
 use Rattle.mz_lexer.specs.declared.token.Symbol.TheVariants.{SLParen, SRParen, SLBrack, SRBrack, SRBrace, SComma, SColon, SColons, SEq, SConcat}
-use Rattle.mz_grammar_rules.specs.Rules.{give, refuse, leave_out, ahead}
-use Rattle.mz_grammar_rules.specs.Look.{is_sym, is_word, symbol_number, keyword_number}
-use Rattle.mz_grammar_rules.specs.Reading.{step}
+use Rattle.mz_grammar.specs.Rules.{give, refuse, leave_out, ahead}
+use Rattle.mz_grammar.specs.Look.{is_sym, is_word, symbol_number, keyword_number}
+use Rattle.mz_grammar.specs.RulesReading.{step}
 use Rattle.mz_grammar.specs.Reading.{rank}
-use Rattle.mz_grammar_rules.proofs.Viable as ways
-use Rattle.mz_grammar_rules.proofs.Viable.{never, tokens}
+use Rattle.mz_grammar.proofs.Viable as ways
+use Rattle.mz_grammar.proofs.Viable.{never, tokens}
 use Rattle.mz_tree.specs.Tree.{Name}
 use Rattle.mz_grammar.specs.declared.level.Level.{Level}
 use Rattle.mz_grammar.specs.declared.list.Generators.{Generators}

@@ -4,14 +4,14 @@ use Rattle.std.specs.Prelude.{Some, None}
 use Rattle.mz_base.specs.declared.fault.Span.{Span}
 use Rattle.mz_lexer.specs.declared.token.Token.{Token}
 use Rattle.mz_lexer.specs.declared.token.Symbol.TheVariants.{SEq}
-use Rattle.mz_grammar_rules.specs.Rules.{give, part}
+use Rattle.mz_grammar.specs.Rules.{give, part}
 use Rattle.mz_tree.specs.Tree.{Tree}
-use Rattle.mz_grammar_rules.specs.Look.{symbol_number, keyword_number}
-use Rattle.mz_grammar_rules.specs.Reading.{step, read_by}
-use Rattle.mz_grammar_rules.proofs.Longer as longer
-use Rattle.mz_grammar_rules.proofs.Longer.{firm, by, firmly, near, farther}
-use Rattle.mz_grammar_rules.proofs.Answering as answering
-use Rattle.mz_grammar_rules.specs.Promise.{Gives, Answers}
+use Rattle.mz_grammar.specs.Look.{symbol_number, keyword_number}
+use Rattle.mz_grammar.specs.RulesReading.{step, read_by}
+use Rattle.mz_grammar.proofs.Longer as longer
+use Rattle.mz_grammar.proofs.Longer.{firm, by, firmly, near, farther}
+use Rattle.mz_grammar.proofs.Answering as answering
+use Rattle.mz_grammar.specs.RulesPromise.{Gives, Answers}
 use Rattle.mz_base.specs.declared.stop.Stop.{Stop}
 use Rattle.std.specs.Prelude.{Result}
 use Rattle.mz_tree.specs.declared.expr.BinOp.{BinOp}

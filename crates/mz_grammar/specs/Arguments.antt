@@ -3,7 +3,7 @@ use Rattle.std.specs.Prelude.{Bool, true, false, List, [], ◌∷◌, ◌++◌, 
 use Rattle.std.specs.Option.{option_map}
 use Rattle.mz_base.specs.declared.fault.Span.{Span}
 use Rattle.mz_tree.specs.Tree.{Name, Tree, Maybe, Generator, generator, just, nothing}
-use Rattle.mz_grammar_rules.specs.Reading.{on}
+use Rattle.mz_grammar.specs.RulesReading.{on}
 use Rattle.mz_grammar.specs.declared.list.Generators.{Generators}
 use Rattle.mz_grammar.specs.declared.list.Generators.TheVariants.{Possible, AwaitingIn, Impossible}
 use Rattle.mz_grammar.specs.Parts.{Operand, name, member, other, tree_of, Argument, unguarded, guarded, strict}

@@ -11,11 +11,11 @@ use Rattle.mz_lexer.specs.declared.token.Symbol.TheVariants.{SLParen, SRParen, S
 use Rattle.mz_tree.specs.Tree.{Name}
 use Rattle.mz_tree.specs.Data as pure
 use Rattle.mz_tree.specs.Data.{Given, values, lines, is_name}
-use Rattle.mz_grammar_rules.specs.Tokens.{told}
-use Rattle.mz_grammar_rules.specs.Look.{is_sym, is_symbol}
-use Rattle.mz_grammar_rules.specs.Rules as rules
-use Rattle.mz_grammar_rules.specs.Rules.{keeps, opens, Rule, give, refuse, when, ahead, leave, part}
-use Rattle.mz_grammar_rules.specs.Reading.{Reader, read}
+use Rattle.mz_grammar.specs.Tokens.{told}
+use Rattle.mz_grammar.specs.Look.{is_sym, is_symbol}
+use Rattle.mz_grammar.specs.Rules as rules
+use Rattle.mz_grammar.specs.Rules.{keeps, opens, Rule, give, refuse, when, ahead, leave, part}
+use Rattle.mz_grammar.specs.RulesReading.{Reader, read}
 use Rattle.mz_grammar.specs.Tests.{ident_in, is_end, ends_row}
 
 -- the number of dimensions that a text names, if it names an array with index sets

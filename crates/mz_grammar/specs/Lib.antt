@@ -1,3 +1,9 @@
+pub mod Tokens
+pub mod Look
+pub mod Rules
+pub mod RulesReading
+pub mod RulesPromise
+pub mod Reads
 pub mod Operators
 pub mod Parts
 pub mod Arguments

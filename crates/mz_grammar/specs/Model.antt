@@ -8,8 +8,8 @@ use Rattle.mz_lexer.specs.declared.token.Symbol.TheVariants.{SLParen, SRParen, S
 use Rattle.mz_tree.specs.Tree.{Name, Tree, Generator, Written, array_type, marked, node, int, bool, absent, text, interp, unary, call, gen_call, access, array, rows, set, array_comp, set_comp, choice, let_in, nothing, just, plain, shown, generator as a_generator, constrained, declaration as make_declaration, written, base_bool, base_int, base_of, no_array, trees, rows_of, branches as branch_list, parts, gens, lets}
 use Rattle.mz_tree.specs.Tree as pure
 use Rattle.mz_tree.specs.Items.{satisfy, minimize, maximize, include, declare, assign, constraint, solve, output, function, enum, annotation}
-use Rattle.mz_grammar_rules.specs.Look.{is_sym, is_word, is_symbol, is_keyword}
-use Rattle.mz_grammar_rules.specs.Rules.{keeps, opens, Rule, give, refuse, leave_out, when, named, ahead, leave, part}
+use Rattle.mz_grammar.specs.Look.{is_sym, is_word, is_symbol, is_keyword}
+use Rattle.mz_grammar.specs.Rules.{keeps, opens, Rule, give, refuse, leave_out, when, named, ahead, leave, part}
 use Rattle.mz_grammar.specs.declared.level.Level.{Level}
 use Rattle.mz_grammar.specs.declared.level.Level.TheVariants as level_is
 use Rattle.mz_grammar.specs.declared.list.Closing.{Closing}

@@ -4,7 +4,7 @@ use Rattle.mz_lexer.specs.declared.token.Tok.{Tok}
 use Rattle.mz_lexer.specs.declared.token.Tok.TheVariants.{Word, Sym}
 use Rattle.mz_base.specs.declared.keyword.Keyword.TheVariants.{KNot, KXor, KIn, KSubset, KSuperset, KUnion, KDiff, KSymdiff, KDiv, KMod, KIntersect}
 use Rattle.mz_lexer.specs.declared.token.Symbol.TheVariants.{SIff, SImp, SRimp, SOr, SAnd, SLt, SGt, SLe, SGe, SEq, SEqEq, SNe, SDots, SPlus, SMinus, SStar, SCaret, SConcat}
-use Rattle.mz_grammar_rules.specs.Tokens.{told}
+use Rattle.mz_grammar.specs.Tokens.{told}
 use Rattle.mz_tree.specs.declared.expr.UnOp.{UnOp}
 use Rattle.mz_tree.specs.declared.expr.UnOp.TheVariants as prefix
 use Rattle.mz_tree.specs.declared.expr.BinOp.{BinOp}

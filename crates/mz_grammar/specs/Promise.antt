@@ -3,7 +3,7 @@ use Rattle.std.specs.Prelude.{◌≡◌, ℕ, List}
 use Rattle.mz_lexer.specs.declared.token.Token.{Token}
 use Rattle.mz_tree.specs.Items.{ItemTree}
 use Rattle.mz_tree.specs.Data.{Given}
-use Rattle.mz_grammar_rules.specs.Promise.{IsWithin}
+use Rattle.mz_grammar.specs.RulesPromise.{IsWithin}
 use Rattle.mz_grammar.specs.Parts.{file}
 use Rattle.mz_grammar.specs.Model.{rule}
 use Rattle.mz_grammar.specs.Data as of_data

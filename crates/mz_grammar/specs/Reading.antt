@@ -1,6 +1,6 @@
 -- What the grammar of models reads at the beginning of a list of tokens.
 use Rattle.std.specs.Prelude.{ℕ, ◌+◌}
-use Rattle.mz_grammar_rules.specs.Reading.{Reader, read}
+use Rattle.mz_grammar.specs.RulesReading.{Reader, read}
 use Rattle.mz_grammar.specs.declared.level.Level.{Level}
 use Rattle.mz_grammar.specs.declared.level.Level.TheVariants as level_is
 use Rattle.mz_grammar.specs.Parts

@@ -9,10 +9,10 @@ use Rattle.mz_lexer.specs.declared.token.Symbol.{Symbol}
 use Rattle.mz_lexer.specs.declared.token.Symbol.TheVariants.{SLParen, SRParen, SLBrack, SRBrack, SLBrace, SRBrace, SLRows, SComma, SSemi, SColon, SEq, SAbsent, SConcat}
 use Rattle.mz_tree.specs.Tree.{Name, Tree, Maybe, Generator, Written, Based, node, int, bool, absent, text, interp, call, gen_call, rows, choice, let_in, plain, generator, written, base_bool, base_of, no_array, trees, rows_of, branches, parts, gens, lets}
 use Rattle.mz_tree.specs.Items.{ItemTree, include, declare, assign, constraint, solve, output, function, enum, annotation}
-use Rattle.mz_grammar_rules.specs.Tokens.{tok_at, behind, place}
-use Rattle.mz_grammar_rules.specs.Look.{is_sym}
-use Rattle.mz_grammar_rules.specs.Rules.{syntax, left_out}
-use Rattle.mz_grammar_rules.specs.Reading.{Read, Reader, stuck, on, open_at, symbol_at, word_at, mapped, with_prefix, listed, ◌>>=◌}
+use Rattle.mz_grammar.specs.Tokens.{tok_at, behind, place}
+use Rattle.mz_grammar.specs.Look.{is_sym}
+use Rattle.mz_grammar.specs.Rules.{syntax, left_out}
+use Rattle.mz_grammar.specs.RulesReading.{Read, Reader, stuck, on, open_at, symbol_at, word_at, mapped, with_prefix, listed, ◌>>=◌}
 use Rattle.mz_grammar.specs.declared.level.Level.TheVariants as level_is
 use Rattle.mz_grammar.specs.declared.list.Closing.{Closing}
 use Rattle.mz_grammar.specs.declared.list.Closing.TheVariants.{Paren}

@@ -8,8 +8,8 @@ use Rattle.mz_lexer.specs.declared.token.Symbol.TheVariants.{SLParen, SRParen, S
 use Rattle.mz_tree.specs.Tree.{Name}
 use Rattle.mz_grammar.specs.declared.list.Closing.{Closing}
 use Rattle.mz_grammar.specs.declared.list.Closing.TheVariants.{Paren, Bracket, Elements, Brace}
-use Rattle.mz_grammar_rules.specs.Tokens.{told}
-use Rattle.mz_grammar_rules.specs.Look.{is_sym, is_word}
+use Rattle.mz_grammar.specs.Tokens.{told}
+use Rattle.mz_grammar.specs.Look.{is_sym, is_word}
 
 -- the symbol that closes the list
 abbrev pub closing_symbol : Closing → Symbol

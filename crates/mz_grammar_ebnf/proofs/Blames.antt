@@ -1,8 +1,8 @@
 -- Where the rules refuse a form that is left out, such a form stands there, if each rule refuses it so.
 use Rattle.std.proofs.Common.{◌≡◌, ℕ, suc, List, [], ◌∷◌, ◌++◌, refl, sym, ap, ◌∙◌, subst, append_assoc, true, Bool, Option}
 use Rattle.mz_lexer.specs.declared.token.Token.{Token}
-use Rattle.mz_grammar_rules.specs.Tokens.{place, tok_at}
-use Rattle.mz_grammar_rules.specs.Rules.{Reason, syntax, left_out, too_deep, Rule, give, refuse, leave_out, when, named, ahead, leave, part, kept, opened, Refuses, unfit, unwanted, one_too_many, one_name_too_many, behind_over, behind_skip, behind_find, behind_lack, behind_sight, behind_miss, behind_leave, within, beyond}
+use Rattle.mz_grammar.specs.Tokens.{place, tok_at}
+use Rattle.mz_grammar.specs.Rules.{Reason, syntax, left_out, too_deep, Rule, give, refuse, leave_out, when, named, ahead, leave, part, kept, opened, Refuses, unfit, unwanted, one_too_many, one_name_too_many, behind_over, behind_skip, behind_find, behind_lack, behind_sight, behind_miss, behind_leave, within, beyond}
 use Rattle.mz_lexer.specs.declared.token.Tok.{Tok}
 use Rattle.mz_grammar_ebnf.specs.LeftOut.{Within}
 use Rattle.mz_grammar_ebnf.proofs.Means as meant

@@ -12,8 +12,8 @@ use Rattle.mz_lexer.specs.declared.token.Symbol.TheVariants.{SLParen, SRParen, S
 use Rattle.mz_tree.specs.Tree.{Name}
 use Rattle.mz_tree.specs.Data as pure
 use Rattle.mz_tree.specs.Data.{Given, values, is_name}
-use Rattle.mz_grammar_rules.specs.Tokens.{place}
-use Rattle.mz_grammar_rules.specs.Promise.{IsWithin, IsLongestPrefix}
+use Rattle.mz_grammar.specs.Tokens.{place}
+use Rattle.mz_grammar.specs.RulesPromise.{IsWithin, IsLongestPrefix}
 use Rattle.mz_grammar.specs.Tests.{ident_in}
 use Rattle.mz_grammar.specs.Data.{Dimensions, dimensions_of, Place, Value, Ruled, rule, file, item, datum, named, sized, index_sets, plains, rows, row, plain, range, set, bounds, ones, one, literal_in, negated_in}
 use Rattle.mz_grammar_ebnf.specs.Next.{Next}

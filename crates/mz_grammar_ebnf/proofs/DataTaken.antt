@@ -10,12 +10,12 @@ use Rattle.mz_lexer.specs.declared.token.Symbol.TheVariants.{SLParen, SRParen, S
 use Rattle.mz_tree.specs.Tree.{Name}
 use Rattle.mz_tree.specs.Data as pure
 use Rattle.mz_tree.specs.Data.{Given, is_name}
-use Rattle.mz_grammar_rules.specs.Tokens.{tok_at, place}
-use Rattle.mz_grammar_rules.specs.Look.{is_sym, symbol_number}
-use Rattle.mz_grammar_rules.specs.Rules.{Reason, syntax, left_out, too_deep}
-use Rattle.mz_grammar_rules.specs.Reading.{Reader, step}
-use Rattle.mz_grammar_rules.specs.Promise.{IsWithin, IsFault, FailsAt}
-use Rattle.mz_grammar_rules.proofs.Laws
+use Rattle.mz_grammar.specs.Tokens.{tok_at, place}
+use Rattle.mz_grammar.specs.Look.{is_sym, symbol_number}
+use Rattle.mz_grammar.specs.Rules.{Reason, syntax, left_out, too_deep}
+use Rattle.mz_grammar.specs.RulesReading.{Reader, step}
+use Rattle.mz_grammar.specs.RulesPromise.{IsWithin, IsFault, FailsAt}
+use Rattle.mz_grammar.proofs.Laws
 use Rattle.mz_grammar.specs.Tests.{ident_of, ends_row}
 use Rattle.mz_grammar.specs.Data.{Dimensions, dimensions_of, Place, rule, rank, width, reads, file, item, datum, named, sized, index_sets, plains, rows, row, plain, range, set, bounds, ones, one}
 use Rattle.mz_grammar.proofs.DataFacts.{low, falls}

@@ -9,9 +9,9 @@ use Rattle.mz_lexer.specs.declared.token.Tok.TheVariants.{Word, Sym, Ident, Int,
 use Rattle.mz_lexer.specs.declared.token.Symbol.TheVariants.{SLParen, SRParen, SLBrack, SRBrack, SLBrace, SRBrace, SLRows, SRRows, SBar, SComma, SColon, SColons, SDots, SEq, SPlus, SMinus, SConcat}
 use Rattle.mz_tree.specs.Tree.{Name, Tree, node, ident, gen_call, let_in, lets, gens, generator, nothing, written, array_of, bases, base_int, declaration}
 use Rattle.mz_tree.specs.Items.{ItemTree, constraint, declare}
-use Rattle.mz_grammar_rules.specs.Look.{keyword_number, symbol_number}
-use Rattle.mz_grammar_rules.specs.Rules.{syntax, left_out, too_deep}
-use Rattle.mz_grammar_rules.specs.Reading.{Read, stuck, step, read_by}
+use Rattle.mz_grammar.specs.Look.{keyword_number, symbol_number}
+use Rattle.mz_grammar.specs.Rules.{syntax, left_out, too_deep}
+use Rattle.mz_grammar.specs.RulesReading.{Read, stuck, step, read_by}
 use Rattle.mz_grammar.specs.Parts as parts
 use Rattle.mz_grammar.specs.Model.{rule}
 use Rattle.mz_grammar.specs.Reading.{reads, rank, operand_rank}

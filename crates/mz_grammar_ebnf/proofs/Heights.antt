@@ -9,7 +9,7 @@ use Rattle.mz_tree.specs.Tree as pure
 use Rattle.mz_tree.specs.Tree.{Tree, Generator, Written, Based, Declaration, written, array_type, marked, base_int, node, trees, links, rows_of, branches, parts, gens, lets, bases}
 use Rattle.mz_tree.specs.Height.{height, maybe_height, trees_height, links_height, rows_height, branches_height, parts_height, generator_height, gens_height, let_height, lets_height, declaration_height, written_height, based_height, bases_height, most}
 use Rattle.mz_tree.specs.Items.{ItemTree, goal_height, declarations_height, item_height}
-use Rattle.mz_grammar_rules.specs.Tokens.{place}
+use Rattle.mz_grammar.specs.Tokens.{place}
 use Rattle.mz_grammar.specs.Operators.{level_number}
 use Rattle.mz_grammar_ebnf.specs.ModelSyntax as ebnf
 use Rattle.mz_grammar_ebnf.specs.ModelSyntax.{Phrase, Meaning, Derives, DerivesModel, with_accesses}

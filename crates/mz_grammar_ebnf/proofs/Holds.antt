@@ -12,8 +12,8 @@ use Rattle.mz_tree.specs.Tree.{Name, Tree, Generator, Written, Based, written, a
 use Rattle.mz_tree.specs.Items.{ItemTree}
 use Rattle.mz_tree.specs.Kinds.{IsSpot, OfTree, OfMaybe, OfTrees, OfLinks, OfRows, OfBranches, OfParts, OfGenerator, OfGens, OfLet, OfLets, OfDeclaration, OfWritten, OfBased, OfBases, OfGoal, OfCases, OfItem}
 use Rattle.mz_tree.specs.Data.{Value, Given, values, lines}
-use Rattle.mz_data_names.specs.Named.{names_in, names_in_all, names_in_lines}
-use Rattle.mz_grammar_rules.specs.Tokens.{place}
+use Rattle.mz_tree.specs.Named.{names_in, names_in_all, names_in_lines}
+use Rattle.mz_grammar.specs.Tokens.{place}
 use Rattle.mz_grammar.specs.Data.{Dimensions}
 use Rattle.mz_grammar_ebnf.specs.Next.{Next, begins}
 use Rattle.mz_grammar_ebnf.specs.TokenParts.{name_of, IsNameOf, IsPlaceOf, IsIdentifierOf, declared_name, DeclaresIdentifier, OfGiven}

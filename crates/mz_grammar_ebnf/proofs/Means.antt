@@ -6,10 +6,10 @@ use Rattle.mz_lexer.specs.declared.token.Token.{Token}
 use Rattle.mz_lexer.specs.declared.token.Tok.{Tok}
 use Rattle.mz_lexer.specs.declared.token.Tok.TheVariants.{Word, Sym}
 use Rattle.mz_lexer.specs.declared.token.Symbol.{Symbol}
-use Rattle.mz_grammar_rules.specs.Tokens.{place, tok_at, follows, passes, told}
-use Rattle.mz_grammar_rules.specs.Look.{is_symbol, is_keyword}
-use Rattle.mz_grammar_rules.specs.Rules.{Opens, keeps, opens, Rule, give, refuse, leave_out, when, named, ahead, leave, part, kept, opened, Runs, gives, over, skips, finds, lacks, sees, misses, leaves, parts}
-use Rattle.mz_grammar_rules.proofs.Laws.{follow}
+use Rattle.mz_grammar.specs.Tokens.{place, tok_at, follows, passes, told}
+use Rattle.mz_grammar.specs.Look.{is_symbol, is_keyword}
+use Rattle.mz_grammar.specs.Rules.{Opens, keeps, opens, Rule, give, refuse, leave_out, when, named, ahead, leave, part, kept, opened, Runs, gives, over, skips, finds, lacks, sees, misses, leaves, parts}
+use Rattle.mz_grammar.proofs.Laws.{follow}
 use Rattle.mz_grammar_ebnf.specs.Next.{Next, begins}
 use Rattle.mz_grammar_ebnf.proofs.Symbols.{same_symbol, same_word}
 

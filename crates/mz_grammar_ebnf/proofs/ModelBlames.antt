@@ -11,10 +11,10 @@ use Rattle.mz_lexer.specs.declared.token.Symbol.{Symbol}
 use Rattle.mz_lexer.specs.declared.token.Symbol.TheVariants.{SLParen, SLBrack, SRBrack, SLRows, SComma, SColon, SDots, SEq, SConcat}
 use Rattle.mz_tree.specs.Tree as pure
 use Rattle.mz_tree.specs.Tree.{Name, Tree, Generator}
-use Rattle.mz_grammar_rules.specs.Tokens.{place, tok_at, place_or}
-use Rattle.mz_grammar_rules.specs.Look.{is_sym, is_word}
-use Rattle.mz_grammar_rules.specs.Rules.{left_out}
-use Rattle.mz_grammar_rules.specs.Promise.{IsFault}
+use Rattle.mz_grammar.specs.Tokens.{place, tok_at, place_or}
+use Rattle.mz_grammar.specs.Look.{is_sym, is_word}
+use Rattle.mz_grammar.specs.Rules.{left_out}
+use Rattle.mz_grammar.specs.RulesPromise.{IsFault}
 use Rattle.mz_grammar.specs.declared.level.Level.{Level}
 use Rattle.mz_grammar.specs.declared.list.Closing.TheVariants.{Elements}
 use Rattle.mz_grammar.specs.Operators.{tighter_level}

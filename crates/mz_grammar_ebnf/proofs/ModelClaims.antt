@@ -18,8 +18,8 @@ use Rattle.mz_tree.specs.declared.expr.PlacedOp.{PlacedOp}
 use Rattle.mz_tree.specs.Tree as pure
 use Rattle.mz_tree.specs.Tree.{Name, Tree, node, links, op_before}
 use Rattle.mz_tree.specs.Items.{ItemTree}
-use Rattle.mz_grammar_rules.specs.Tokens.{place, tok_at}
-use Rattle.mz_grammar_rules.specs.Look.{is_sym, symbol_number}
+use Rattle.mz_grammar.specs.Tokens.{place, tok_at}
+use Rattle.mz_grammar.specs.Look.{is_sym, symbol_number}
 use Rattle.mz_grammar.specs.declared.level.Level.{Level}
 use Rattle.mz_grammar.specs.declared.level.Level.TheVariants as level_is
 use Rattle.mz_grammar.specs.Operators.{operator_of, prefix_of, binary_of, if_level, level_number, is_nonassociative, tighter_level}

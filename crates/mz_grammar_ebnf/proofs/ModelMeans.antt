@@ -11,9 +11,9 @@ use Rattle.mz_lexer.specs.declared.token.Symbol.TheVariants.{SLParen, SLBrack, S
 use Rattle.mz_tree.specs.Tree as pure
 use Rattle.mz_tree.specs.Tree.{Name, Tree, Written, Declaration, Generator, node, generator, written, no_array, base_of, trees, gens}
 use Rattle.mz_tree.specs.Items.{ItemTree, function, assign}
-use Rattle.mz_grammar_rules.specs.Tokens.{place, tok_at}
-use Rattle.mz_grammar_rules.specs.Look.{is_sym, is_symbol, is_keyword, symbol_number}
-use Rattle.mz_grammar_rules.specs.Promise.{IsWithin}
+use Rattle.mz_grammar.specs.Tokens.{place, tok_at}
+use Rattle.mz_grammar.specs.Look.{is_sym, is_symbol, is_keyword, symbol_number}
+use Rattle.mz_grammar.specs.RulesPromise.{IsWithin}
 use Rattle.mz_grammar.specs.declared.level.Level.{Level}
 use Rattle.mz_grammar.specs.declared.level.Level.TheVariants as level_is
 use Rattle.mz_grammar.specs.declared.list.Generators.{Generators}

@@ -7,7 +7,7 @@ use Rattle.mz_lexer.specs.declared.token.Tok.{Tok}
 use Rattle.mz_lexer.specs.declared.token.Tok.TheVariants.{Word, Sym}
 use Rattle.mz_lexer.specs.declared.token.Symbol.{Symbol}
 use Rattle.mz_lexer.specs.declared.token.Symbol.TheVariants.{SLParen, SRParen, SLBrack, SRBrack, SLBrace, SRBrace, SLRows, SRRows, SBar, SComma, SSemi, SColon, SColons, SDots, SEq, SEqEq, SNe, SLt, SLe, SGt, SGe, SRimp, SImp, SIff, SOr, SAnd, SPlus, SMinus, SStar, SCaret, SConcat, SAbsent}
-use Rattle.mz_grammar_rules.specs.Look.{symbol_number, keyword_number, is_symbol, is_keyword}
+use Rattle.mz_grammar.specs.Look.{symbol_number, keyword_number, is_symbol, is_keyword}
 
 nth : {A : Type 0} → A → List A → ℕ → A
 nth other [] n = other

@@ -9,7 +9,7 @@ use Rattle.mz_lexer.specs.declared.token.Tok.TheVariants.{Word, Sym, Ident}
 use Rattle.mz_lexer.specs.declared.token.Symbol.{Symbol}
 use Rattle.mz_lexer.specs.declared.token.Symbol.TheVariants.{SComma}
 use Rattle.mz_tree.specs.Tree.{Name, Tree, Maybe, Generator, generator, nothing, just}
-use Rattle.mz_grammar_rules.specs.Tokens.{place}
+use Rattle.mz_grammar.specs.Tokens.{place}
 use Rattle.mz_grammar.specs.declared.list.Generators.{Generators}
 use Rattle.mz_grammar.specs.declared.list.Generators.TheVariants.{Possible, AwaitingIn, Impossible}
 use Rattle.mz_grammar.specs.Parts.{Operand, name, member, other, tree_of, Argument, unguarded, guarded, strict}

@@ -11,7 +11,7 @@ use Rattle.mz_lexer.specs.declared.token.Symbol.TheVariants.{SLParen, SRParen, S
 use Rattle.mz_tree.specs.Tree.{Name}
 use Rattle.mz_tree.specs.Data as pure
 use Rattle.mz_tree.specs.Data.{Given, values, lines}
-use Rattle.mz_grammar_rules.specs.Tokens.{place}
+use Rattle.mz_grammar.specs.Tokens.{place}
 use Rattle.mz_grammar.specs.Data.{Dimensions}
 use Rattle.mz_grammar_ebnf.specs.Next.{Next}
 

@@ -7,7 +7,7 @@ use Rattle.mz_lexer.specs.declared.token.Tok.{Tok}
 use Rattle.mz_lexer.specs.declared.token.Tok.TheVariants.{Word, Sym, Ident}
 use Rattle.mz_lexer.specs.declared.token.Symbol.TheVariants.{SLParen, SLBrack, SRBrack, SLRows, SBar, SComma, SColon, SDots, SEq, SConcat}
 use Rattle.mz_tree.specs.Tree.{Name, Tree}
-use Rattle.mz_grammar_rules.specs.Tokens.{tok_at}
+use Rattle.mz_grammar.specs.Tokens.{tok_at}
 use Rattle.mz_grammar.specs.Tests.{begins_base}
 use Rattle.mz_grammar_ebnf.specs.Next.{Next}
 use Rattle.mz_grammar_ebnf.specs.ModelSyntax.{Ending, Phrase, Meaning, Derives, list, expr, base, term, head, anns, cases}

@@ -22,7 +22,7 @@ use Rattle.mz_tree.specs.Tree as pure
 use Rattle.mz_tree.specs.Tree.{Name, Tree, Maybe, Part, Generator, Let, Declaration, Written, Based, node, nothing, just, plain, shown, generator, written, no_array, base_bool, base_int, base_of, array_type, marked, trees, links, rows_of, branches, parts, gens, lets, op_before}
 use Rattle.mz_tree.specs.Items as pure_item
 use Rattle.mz_tree.specs.Items.{GoalTree, ItemTree}
-use Rattle.mz_grammar_rules.specs.Tokens.{place}
+use Rattle.mz_grammar.specs.Tokens.{place}
 use Rattle.mz_grammar.specs.declared.level.Level.{Level}
 use Rattle.mz_grammar.specs.declared.level.Level.TheVariants as level_is
 use Rattle.mz_grammar.specs.Operators.{prefix_of, binary_of, is_nonassociative, tighter_level}

@@ -4,9 +4,9 @@ use Rattle.mz_base.specs.declared.fault.Span.{Span}
 use Rattle.mz_lexer.specs.declared.token.Token.{Token}
 use Rattle.mz_tree.specs.Tree.{Name, Tree, Declaration, Written}
 use Rattle.mz_tree.specs.Data.{Given}
-use Rattle.mz_grammar_rules.specs.Tokens.{place_or}
-use Rattle.mz_grammar_rules.specs.Rules.{Reason, left_out}
-use Rattle.mz_grammar_rules.specs.Promise.{IsWithin, IsLongestPrefix, IsFault}
+use Rattle.mz_grammar.specs.Tokens.{place_or}
+use Rattle.mz_grammar.specs.Rules.{Reason, left_out}
+use Rattle.mz_grammar.specs.RulesPromise.{IsWithin, IsLongestPrefix, IsFault}
 use Rattle.mz_grammar.specs.Data.{Dimensions, dimensions_of, rule, file}
 use Rattle.mz_tree.specs.Items.{ItemTree, item_height}
 use Rattle.mz_tree.specs.Height.{most}

@@ -7,7 +7,7 @@ use Rattle.mz_lexer.specs.declared.token.Tok.TheVariants.{Ident, Text, TextHead,
 use Rattle.mz_tree.specs.Tree.{Name, Declaration, declaration}
 use Rattle.mz_tree.specs.Items.{ItemTree, declare}
 use Rattle.mz_tree.specs.Data.{Given}
-use Rattle.mz_data_names.specs.Named.{names_in}
+use Rattle.mz_tree.specs.Named.{names_in}
 
 abbrev pub name_of : Tok → Option Name
 name_of (Ident n) = Some n

@@ -19,8 +19,8 @@ use Rattle.fz_program.specs.Names.{Name}
 use Rattle.fz_program.specs.Values.{Value, Values, number}
 use Rattle.fz_program.specs.declared.program.Domain.{Domain as FlatDomain}
 use Rattle.fz_program.specs.Flat.{Program, Variable}
-use Rattle.fz_emission.specs.Front.{written_set, domain_by, value_place}
-use Rattle.fz_emission.specs.Reading.{by_place, layout, domain_set, least_at, IsLeast, AreLeast, LeastIn}
+use Rattle.flat_meaning.specs.Front.{written_set, domain_by, value_place}
+use Rattle.flat_meaning.specs.Reading.{by_place, layout, domain_set, least_at, IsLeast, AreLeast, LeastIn}
 use Rattle.flat_meaning.specs.Faithful.{value_by}
 use Rattle.flat_meaning.specs.Found.{places_from, layout_from, domain_at, AreDomains, AreFound}
 use Rattle.mz_headline.specs.Keeping.{DefaultsBy, HasDefault as DeclDefault}

@@ -16,7 +16,7 @@ use Rattle.mz_model_meaning.specs.Modeled.{var_tail, names_of}
 use Rattle.fz_program.specs.Names.{Name}
 use Rattle.fz_program.specs.Values.{Values}
 use Rattle.fz_program.specs.Flat.{Program}
-use Rattle.fz_emission.specs.Reading.{Layout, layout, by_place, layout_content, read_content}
+use Rattle.flat_meaning.specs.Reading.{Layout, layout, by_place, layout_content, read_content}
 use Rattle.mz_headline.specs.Keeping.{AreNumbered, IsThereBy, IsThere, ReadsBy, Reads}
 
 -- ---- values that are looked up by their slots

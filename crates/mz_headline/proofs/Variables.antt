@@ -26,7 +26,7 @@ use Rattle.mz_model_meaning.specs.Modeled.{cell_domain, domains_by, domains_of, 
 use Rattle.fz_program.specs.Names.{Name}
 use Rattle.fz_program.specs.Values.{Values}
 use Rattle.fz_program.specs.Flat.{Program}
-use Rattle.fz_emission.specs.Reading.{Layout, Alone, Rows, layout_by, layout, by_place, cell_value, layout_content, read_content}
+use Rattle.flat_meaning.specs.Reading.{Layout, Alone, Rows, layout_by, layout, by_place, cell_value, layout_content, read_content}
 use Rattle.flat_meaning.specs.Found.{cell_places, places_from, layout_from, AreFound}
 use Rattle.mz_headline.specs.Keeping.{IsThereBy, IsThere, IsRead, ReadsBy, Reads}
 use Rattle.mz_headline.proofs.Cells.{HasDefault}

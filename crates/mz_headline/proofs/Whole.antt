@@ -27,8 +27,8 @@ use Rattle.fz_program.specs.Names.{Name}
 use Rattle.fz_program.specs.Values.{Value, Values, number, number_in, set_in}
 use Rattle.fz_program.specs.declared.program.FzGoal.{FzGoal}
 use Rattle.fz_program.specs.Flat.{Program, FlatSolves}
-use Rattle.fz_emission.specs.Goals.{IsGoalOf, objective_of}
-use Rattle.fz_emission.specs.Reading.{by_place}
+use Rattle.flat_meaning.specs.Goals.{IsGoalOf, objective_of}
+use Rattle.flat_meaning.specs.Reading.{by_place}
 use Rattle.flat_meaning.specs.Faithful.{value_by, front_values, front_of, IsReading, Faithful}
 use Rattle.flat_meaning.specs.Found.{AreFound}
 use Rattle.flat_meaning.proofs.Front.{front_found}

@@ -14,8 +14,8 @@ use Rattle.fz_program.specs.Values.{Values}
 use Rattle.fz_program.specs.declared.program.FzGoal.{FzGoal}
 use Rattle.fz_program.specs.declared.program.FzGoal.TheVariants.{Satisfy}
 use Rattle.fz_program.specs.Flat.{Program, FlatSolves}
-use Rattle.fz_emission.specs.Reading.{layout, read_content, HasDefaults}
-use Rattle.fz_emission.specs.Goals.{objective_of, IsMinimum, IsMaximum}
+use Rattle.flat_meaning.specs.Reading.{layout, read_content, HasDefaults}
+use Rattle.flat_meaning.specs.Goals.{objective_of, IsMinimum, IsMaximum}
 
 -- the declarations, in the order of evaluation, have their places as slots
 abbrev pub AreNumbered : List Decl → Type 0

@@ -12,8 +12,8 @@ use Rattle.mz_lexer.specs.declared.opening.Opening.{Opening}
 use Rattle.mz_lexer.specs.Lexemes.{Lex, Outcome, with_token}
 use Rattle.mz_lexer.specs.Lexes.{Lexed, no_bytes, a_blank, a_line_comment, a_comment, a_token, left_out, past_limit, nothing_begins, in_a_text}
 use Rattle.mz_base.specs.Faults.{IfRefused as IfStopped}
-use Rattle.mz_grammar_rules.specs.Rules.{Reason, syntax, left_out as is_left_out, too_deep}
-use Rattle.mz_grammar_rules.specs.Promise.{kind_of, reason_of}
+use Rattle.mz_grammar.specs.Rules.{Reason, syntax, left_out as is_left_out, too_deep}
+use Rattle.mz_grammar.specs.RulesPromise.{kind_of, reason_of}
 use Rattle.mz_lexer.specs.declared.token.Token.{Token}
 use Rattle.mz_parser.specs.Model.{IsItems, IsRefused}
 use Rattle.mz_include.specs.Parsing.{IsUnparsed, by_its_bytes, by_its_tokens}

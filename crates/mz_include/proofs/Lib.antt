@@ -12,3 +12,10 @@ pub mod ReadFiles
 pub mod OneReading
 pub mod OneSources
 pub mod Owners
+pub mod OneText
+pub mod OneData
+pub mod LaterData
+pub mod Numbers
+pub mod Reading
+pub mod Refusals
+pub mod Whole

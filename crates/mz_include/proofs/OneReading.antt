@@ -14,11 +14,11 @@ use Rattle.mz_lexer.specs.Lexemes.{Lexeme, word, sym as symbol, ident, int, text
 use Rattle.mz_lexer.specs.Views.{lexeme, lex, IsNamed, HasName}
 use Rattle.mz_lexer.proofs.Lexing.{determined}
 use Rattle.mz_tree.specs.Items.{ItemTree}
-use Rattle.mz_grammar_rules.specs.Tokens.{tok_at, place_or}
-use Rattle.mz_grammar_rules.specs.Rules.{Reason, syntax, left_out, too_deep, Refuses}
-use Rattle.mz_grammar_rules.specs.Reading.{Read, stuck}
-use Rattle.mz_grammar_rules.specs.Promise.{IsFault, reason_of, fault_of}
-use Rattle.mz_grammar_rules.proofs.Laws as Laws
+use Rattle.mz_grammar.specs.Tokens.{tok_at, place_or}
+use Rattle.mz_grammar.specs.Rules.{Reason, syntax, left_out, too_deep, Refuses}
+use Rattle.mz_grammar.specs.RulesReading.{Read, stuck}
+use Rattle.mz_grammar.specs.RulesPromise.{IsFault, reason_of, fault_of}
+use Rattle.mz_grammar.proofs.Laws as Laws
 use Rattle.mz_grammar.specs.Parts.{file}
 use Rattle.mz_grammar.specs.Model.{rule}
 use Rattle.mz_grammar.specs.Reading.{rank, width, reads}

@@ -14,9 +14,9 @@ use Rattle.mz_lexer.specs.declared.token.Token.{Token}
 use Rattle.mz_base.specs.Faults.{start_of}
 use Rattle.mz_lexer.specs.Views.{lex}
 use Rattle.mz_tree.specs.Items.{ItemTree, include, declare, assign, constraint, solve, output, function, enum, annotation}
-use Rattle.mz_grammar_rules.specs.Tokens.{place_or}
-use Rattle.mz_grammar_rules.specs.Rules.{Reason, syntax, left_out, too_deep}
-use Rattle.mz_grammar_rules.specs.Promise.{IsFault, reason_of}
+use Rattle.mz_grammar.specs.Tokens.{place_or}
+use Rattle.mz_grammar.specs.Rules.{Reason, syntax, left_out, too_deep}
+use Rattle.mz_grammar.specs.RulesPromise.{IsFault, reason_of}
 use Rattle.mz_grammar.specs.Parts.{file}
 use Rattle.mz_grammar.specs.Model.{rule}
 use Rattle.mz_include.specs.Joining.{joined}

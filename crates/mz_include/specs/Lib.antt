@@ -8,3 +8,7 @@ pub mod Parsing
 pub mod Views
 pub mod Ends
 pub mod Walks
+pub mod DataTexts
+pub mod DataFiles
+pub mod WithData
+pub mod DataPromise

@@ -1,4 +1,4 @@
-// A model with the files that it includes.
+// A model with the files that it includes, and its data files after them.
 #![tactic(auto)]
 
 mod end;
@@ -9,6 +9,7 @@ mod law;
 mod library;
 mod queue;
 mod read;
+pub mod with_data;
 
 pub use end::GatherEnd;
 pub use gathering::gather;

@@ -8,3 +8,7 @@ pub mod MemSource
 pub mod MemSink
 pub mod StdSink
 pub mod StdSource
+pub mod SureFiles
+pub mod SureSink
+pub mod SureSource
+pub mod AllBytes

@@ -1,6 +1,7 @@
-// The outside of the compiler: the files it reads, the solver's stream, and where it writes.
+// The outside of the compiler: the files it reads, the solver's stream, where it writes, and files, a source and a sink in memory that never fail.
 #![tactic(auto)]
 
+mod all_bytes;
 mod disk_files;
 mod files;
 mod mem_files;
@@ -10,7 +11,11 @@ mod sink;
 mod source;
 mod std_sink;
 mod std_source;
+mod sure_files;
+mod sure_sink;
+mod sure_source;
 
+pub use all_bytes::{ReadEnd, read_all};
 pub use disk_files::DiskFiles;
 pub use files::{Fetched, Files};
 pub use mem_files::MemFiles;
@@ -20,3 +25,6 @@ pub use sink::{Sent, Sink};
 pub use source::{Source, Took};
 pub use std_sink::StdSink;
 pub use std_source::StdSource;
+pub use sure_files::SureFiles;
+pub use sure_sink::SureSink;
+pub use sure_source::SureSource;

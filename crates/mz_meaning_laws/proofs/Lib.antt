@@ -14,3 +14,9 @@ pub mod Consequences
 pub mod Values
 pub mod Budgets
 pub mod Limits
+pub mod Parts
+pub mod Operators
+pub mod Stopping
+pub mod PlaceForms
+pub mod Unbounded
+pub mod PlaceWalks

@@ -4,3 +4,5 @@ pub mod Ties
 pub mod Independence
 pub mod Spending
 pub mod Limits
+pub mod Places
+pub mod Stopping

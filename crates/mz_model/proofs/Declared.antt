@@ -11,7 +11,7 @@ use Rattle.mz_core.specs.TreeViews.{decl}
 use Rattle.mz_core.specs.declared.tree.CoreDecl.{CoreDecl}
 use Rattle.mz_meaning.specs.Walk.{ordered, with_decl}
 use Rattle.mz_symbol.specs.Runs.{Run}
-use Rattle.mz_model_laws.specs.Hands as hands
+use Rattle.mz_model_state.specs.Hands as hands
 use Rattle.mz_model.specs.declared.types.Task.{Task}
 use Rattle.mz_model.specs.Walks.{program_of, IsUpTo, DeclarationEnds, NumberEnds}
 use Rattle.mz_model.specs.Loops.{NumbersEnd, AreToCome}

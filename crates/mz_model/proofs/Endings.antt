@@ -22,14 +22,14 @@ use Rattle.mz_symbol.specs.Runs.{Run, IsRun}
 use Rattle.mz_symbol.specs.Readings.{Reading, Reads, state_of}
 use Rattle.mz_symbol.specs.Makes.{MeetsAt}
 use Rattle.mz_eval_cells.specs.declared.types.Known.{Known}
-use Rattle.mz_model_laws.specs.Hands as hands
-use Rattle.mz_model_laws.specs.Hands.{AreVars, SlotsFrom, IsAimed, name_roots, constraint_roots, cell_at}
-use Rattle.mz_model_laws.specs.Loops.{ReadBack, world_after}
-use Rattle.mz_model_end.specs.Tested.{IsTested}
-use Rattle.mz_model_hand.specs.Progress.{Begins, HaltedStops, ObjectiveHalts, ClosedModels}
+use Rattle.mz_model_state.specs.Hands as hands
+use Rattle.mz_model_state.specs.Hands.{AreVars, SlotsFrom, IsAimed, name_roots, constraint_roots, cell_at}
+use Rattle.mz_model_state.specs.Loops.{ReadBack, world_after}
+use Rattle.mz_model_state.specs.Tested.{IsTested}
+use Rattle.mz_model_state.specs.Progress.{Begins, HaltedStops, ObjectiveHalts, ClosedModels}
 use Rattle.mz_model_names.specs.declared.types.HeldName.{HeldName}
 use Rattle.mz_model_names.specs.Named.{held_name, view_if}
-use Rattle.mz_model_close.specs.Closed.{IsClosing}
+use Rattle.mz_model_names.specs.Closed.{IsClosing}
 use Rattle.mz_model.specs.declared.types.HeldConstraint.{HeldConstraint}
 use Rattle.mz_model.specs.declared.types.Names.{Names}
 use Rattle.mz_model.specs.declared.types.Task.{Task}

@@ -9,8 +9,8 @@ use Rattle.mz_symbol.specs.Readings.{Reading}
 use Rattle.mz_eval_cells.specs.declared.types.Known.{Known}
 use Rattle.mz_eval_cells.specs.Views.{seen}
 use Rattle.mz_eval_scopes.specs.Views.{env_cells_by}
-use Rattle.mz_model_laws.specs.Hands as hands
-use Rattle.mz_model_laws.specs.Hands.{names_at, SlotsFrom}
+use Rattle.mz_model_state.specs.Hands as hands
+use Rattle.mz_model_state.specs.Hands.{names_at, SlotsFrom}
 use Rattle.mz_model_names.specs.declared.types.HeldName.{HeldName}
 use Rattle.mz_model_names.specs.Named.{held_name}
 use Rattle.mz_model.specs.declared.types.Names.{Names}

@@ -15,9 +15,9 @@ use Rattle.mz_eval_cells.specs.declared.types.Known.{Known}
 use Rattle.mz_eval_cells.specs.declared.types.Known.TheVariants as known
 use Rattle.mz_eval_cells.specs.Views.{cell_of, seen}
 use Rattle.mz_eval_scopes.specs.Views.{known_by, env_cells}
-use Rattle.mz_model_laws.specs.Hands.{names_at, SlotsFrom}
-use Rattle.mz_model_laws.specs.Loops.{UnboundedStops}
-use Rattle.mz_model_hand.specs.Progress.{HaltedStops}
+use Rattle.mz_model_state.specs.Hands.{names_at, SlotsFrom}
+use Rattle.mz_model_state.specs.Loops.{UnboundedStops}
+use Rattle.mz_model_state.specs.Progress.{HaltedStops}
 use Rattle.mz_model_names.specs.Named.{held_name}
 use Rattle.mz_model.specs.declared.types.Names.{Names}
 use Rattle.mz_model.specs.declared.types.Task.{Task}

@@ -20,14 +20,14 @@ use Rattle.mz_symbol.specs.Makes.{MeetsAt}
 use Rattle.mz_eval_cells.specs.declared.types.Known.{Known}
 use Rattle.mz_eval_cells.specs.Views.{seen}
 use Rattle.mz_eval_scopes.specs.Views.{text_entry, env_cells_by}
-use Rattle.mz_model_laws.specs.Hands as hands
-use Rattle.mz_model_laws.specs.Loops.{ReadBack, world_after}
+use Rattle.mz_model_state.specs.Hands as hands
+use Rattle.mz_model_state.specs.Loops.{ReadBack, world_after}
 use Rattle.mz_model_roots.specs.Rooted.{view, AreRootsOfConstraint}
-use Rattle.mz_model_hand.specs.Forms.{NameForm, form_in}
-use Rattle.mz_model_hand.specs.Names.{HasForm, FormFaults}
-use Rattle.mz_model_hand.specs.Progress.{IsBetween, OneMoreName, OneMoreConstraint, DeclarationHalts, ConstraintHalts}
-use Rattle.mz_model_domains.specs.declared.forms.Form.{Form}
-use Rattle.mz_model_domains.specs.Formed.{form_seen}
+use Rattle.mz_model_state.specs.Forms.{NameForm, form_in}
+use Rattle.mz_model_state.specs.Names.{HasForm, FormFaults}
+use Rattle.mz_model_state.specs.Progress.{IsBetween, OneMoreName, OneMoreConstraint, DeclarationHalts, ConstraintHalts}
+use Rattle.mz_model_names.specs.declared.forms.Form.{Form}
+use Rattle.mz_model_names.specs.Formed.{form_seen}
 use Rattle.mz_model.specs.declared.types.Task.{Task}
 use Rattle.mz_model.specs.declared.types.Names.{Names}
 use Rattle.mz_model.specs.declared.types.HeldConstraint.{HeldConstraint}

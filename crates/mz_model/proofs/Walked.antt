@@ -9,8 +9,8 @@ use Rattle.mz_core.specs.TreeViews.{tree}
 use Rattle.mz_core.specs.declared.tree.Core.{Core}
 use Rattle.mz_meaning.specs.Walk.{ordered}
 use Rattle.mz_symbol.specs.Runs.{Run}
-use Rattle.mz_model_laws.specs.Hands as hands
-use Rattle.mz_model_hand.specs.Progress.{IsAmong, AllNames}
+use Rattle.mz_model_state.specs.Hands as hands
+use Rattle.mz_model_state.specs.Progress.{IsAmong, AllNames}
 use Rattle.mz_model.specs.declared.types.Task.{Task}
 use Rattle.mz_model.specs.declared.types.HeldConstraint.{HeldConstraint}
 use Rattle.mz_model.specs.Walks.{limits_of, program_of, IsUpTo}

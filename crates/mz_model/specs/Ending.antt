@@ -11,10 +11,10 @@ use Rattle.mz_meaning.specs.Walk.{Limits}
 use Rattle.mz_model_meaning.specs.Modeled.{HasGoalOf, Modeled}
 use Rattle.mz_model_meaning.specs.Refusals.{StopsOnce}
 use Rattle.mz_symbol.specs.Runs.{Run}
-use Rattle.mz_model_laws.specs.Hands as hands
-use Rattle.mz_model_laws.specs.Hands.{View, IsAimed, SlotsFrom, WalkStops}
-use Rattle.mz_model_laws.specs.Loops.{IsObjective, IsObjectiveFault}
-use Rattle.mz_model_hand.specs.Progress.{IsAmong}
+use Rattle.mz_model_state.specs.Hands as hands
+use Rattle.mz_model_state.specs.Hands.{View, IsAimed, SlotsFrom, WalkStops}
+use Rattle.mz_model_state.specs.Loops.{IsObjective, IsObjectiveFault}
+use Rattle.mz_model_state.specs.Progress.{IsAmong}
 use Rattle.mz_model_names.specs.declared.types.HeldName.{HeldName}
 use Rattle.mz_model_names.specs.Named.{held_name}
 use Rattle.mz_model.specs.declared.types.Task.{Task}

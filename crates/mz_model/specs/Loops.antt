@@ -9,9 +9,9 @@ use Rattle.mz_symbol.specs.Runs.{Run}
 use Rattle.mz_symbol.specs.Readings.{Reading}
 use Rattle.mz_eval_cells.specs.declared.types.Known.{Known}
 use Rattle.mz_eval_cells.specs.Views.{seen}
-use Rattle.mz_model_laws.specs.Hands as hands
-use Rattle.mz_model_laws.specs.Hands.{WalkStops}
-use Rattle.mz_model_hand.specs.Progress.{IsAmong}
+use Rattle.mz_model_state.specs.Hands as hands
+use Rattle.mz_model_state.specs.Hands.{WalkStops}
+use Rattle.mz_model_state.specs.Progress.{IsAmong}
 use Rattle.mz_model.specs.declared.types.Task.{Task}
 use Rattle.mz_model.specs.declared.types.HeldConstraint.{HeldConstraint}
 use Rattle.mz_model.specs.Walks.{limits_of, program_of, held_constraint, Ends, IsUpTo}

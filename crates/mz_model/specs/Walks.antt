@@ -11,12 +11,12 @@ use Rattle.mz_symbol.specs.Runs.{Run}
 use Rattle.mz_symbol.specs.Readings.{Reading}
 use Rattle.mz_eval_cells.specs.Views.{seen}
 use Rattle.mz_eval_scopes.specs.Views.{env_cells_by}
-use Rattle.mz_model_laws.specs.Hands as hands
-use Rattle.mz_model_laws.specs.Hands.{names_at, SlotsFrom, WalkStops}
-use Rattle.mz_model_hand.specs.Names.{HasForm, FormStops}
-use Rattle.mz_model_hand.specs.Progress.{IsBetween, IsAmong}
-use Rattle.mz_model_domains.specs.Formed.{form_seen}
-use Rattle.mz_model_domains.specs.declared.forms.Form.{Form}
+use Rattle.mz_model_state.specs.Hands as hands
+use Rattle.mz_model_state.specs.Hands.{names_at, SlotsFrom, WalkStops}
+use Rattle.mz_model_state.specs.Names.{HasForm, FormStops}
+use Rattle.mz_model_state.specs.Progress.{IsBetween, IsAmong}
+use Rattle.mz_model_names.specs.Formed.{form_seen}
+use Rattle.mz_model_names.specs.declared.forms.Form.{Form}
 use Rattle.mz_model_names.specs.Named.{IsNameOver, held_name}
 use Rattle.mz_model.specs.declared.types.Task.{Task}
 use Rattle.mz_model.specs.declared.types.Names.{Names}

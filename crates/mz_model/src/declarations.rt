@@ -4,7 +4,7 @@ ghost use Rattle.std.specs.Prelude.{◌≡◌, ◌++◌, ◌∷◌, [], IfOk, fa
 ghost use Rattle.mz_core.specs.TreeViews.{decl};
 ghost use Rattle.mz_eval_scopes.specs.Seen.{world_seen};
 ghost use Rattle.mz_symbol.specs.Readings.{Reading};
-ghost use Rattle.mz_model_laws.specs.Loops.{world_after};
+ghost use Rattle.mz_model_state.specs.Loops.{world_after};
 ghost use Rattle.mz_model_names.specs.Named.{IsNameOver, held_name};
 ghost use Rattle.mz_model.specs.Walks.{AreReadable, DeclarationEnds, FormEnds, IsAdded, NumberEnds, limits_of, names_of, program_of};
 ghost use Rattle.mz_model.specs.Loops.{NumbersEnd};
@@ -15,9 +15,8 @@ use mz_base::{Memory, Stop};
 use mz_core::CoreDecl;
 use mz_eval_cells::share;
 use mz_eval_scopes::World;
-use mz_model_domains::Form;
-use mz_model_hand::{names_are_added, walks_are_closed, walks_go_on};
-use mz_model_names::{HeldName, Kind, held};
+use mz_model_names::{Form, HeldName, Kind, held};
+use mz_model_state::{names_are_added, walks_are_closed, walks_go_on};
 use mz_symbol::{Free, Run};
 use std::alloc::Global;
 

@@ -8,8 +8,7 @@ ghost use Rattle.mz_model.specs.Ending.{StopHalts};
 use crate::types::{Names, Task};
 use mz_base::{Fault, Kind, Span, Stop};
 use mz_eval_scopes::Env;
-use mz_model_hand::walks_are_closed;
-use mz_model_laws::declarations_are_walked;
+use mz_model_state::{declarations_are_walked, walks_are_closed};
 use mz_symbol::Run;
 use std::alloc::Global;
 

@@ -14,9 +14,9 @@ use crate::whole::walked;
 use mz_arena::Instance;
 use mz_base::Stop;
 use mz_core::Program;
-use mz_model_hand::{walks_are_closed, walks_go_on};
+use mz_model_state::{walks_are_closed, walks_go_on};
+use mz_model_unbounded::first_unbounded;
 use mz_symbol::Run;
-use mz_unbounded::first_unbounded;
 use std::alloc::Global;
 
 /// What follows the constraints: the objective, and the instance.

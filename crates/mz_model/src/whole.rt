@@ -9,7 +9,7 @@ use crate::constraints::constrain_each;
 use crate::declarations::declare_each;
 use crate::types::{HeldConstraint, Names, Task};
 use mz_base::Stop;
-use mz_model_hand::walks_go_on;
+use mz_model_state::walks_go_on;
 use mz_symbol::Run;
 use std::alloc::Global;
 

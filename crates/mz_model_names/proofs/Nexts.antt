@@ -12,16 +12,16 @@ use Rattle.mz_symbol.specs.Runs.{Run}
 use Rattle.mz_symbol.specs.Readings.{Reading, Reads, state_of}
 use Rattle.mz_eval_cells.specs.declared.types.Known.{Known}
 use Rattle.mz_eval_cells.specs.Views.{seen}
-use Rattle.mz_model_laws.specs.Hands as hands
-use Rattle.mz_model_laws.specs.Hands.{kind_domains, cell_at}
-use Rattle.mz_model_laws.specs.Loops.{IsNextName}
-use Rattle.mz_model_laws.specs.Roots.{NoRoots}
-use Rattle.mz_model_hand.specs.Forms.{NameForm, VarForm}
-use Rattle.mz_model_hand.specs.Names.{HasForm, par_held, var_form, ParIsNext, VarIsNext}
-use Rattle.mz_model_domains.specs.declared.forms.Form.{Form}
-use Rattle.mz_model_domains.specs.declared.forms.Form.TheVariants as form
-use Rattle.mz_model_domains.specs.Formed.{cell_if, form_seen}
-use Rattle.mz_model_vars.specs.Placed.{place_over}
+use Rattle.mz_model_state.specs.Hands as hands
+use Rattle.mz_model_state.specs.Hands.{kind_domains, cell_at}
+use Rattle.mz_model_state.specs.Loops.{IsNextName}
+use Rattle.mz_model_state.specs.Roots.{NoRoots}
+use Rattle.mz_model_state.specs.Forms.{NameForm, VarForm}
+use Rattle.mz_model_state.specs.Names.{HasForm, par_held, var_form, ParIsNext, VarIsNext}
+use Rattle.mz_model_names.specs.declared.forms.Form.{Form}
+use Rattle.mz_model_names.specs.declared.forms.Form.TheVariants as form
+use Rattle.mz_model_names.specs.Formed.{cell_if, form_seen}
+use Rattle.mz_model_roots.specs.Placed.{place_over}
 use Rattle.mz_model_names.specs.declared.types.Label.{Label}
 use Rattle.mz_model_names.specs.Named.{IsLabelOf, view_if, IsVarOver, IsNameOver}
 

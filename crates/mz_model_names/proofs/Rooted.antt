@@ -6,8 +6,8 @@ use Rattle.mz_value.specs.Ranges.{Range}
 use Rattle.mz_operations.specs.Sets.{same_set}
 use Rattle.mz_symbol.specs.Runs.{Run}
 use Rattle.mz_eval_cells.specs.declared.types.Known.{Known}
-use Rattle.mz_model_laws.specs.Hands.{NameKind}
-use Rattle.mz_model_laws.specs.Roots.{NoRoots}
+use Rattle.mz_model_state.specs.Hands.{NameKind}
+use Rattle.mz_model_state.specs.Roots.{NoRoots}
 use Rattle.mz_model_roots.specs.Rooted.{view, AreRootsOf}
 use Rattle.mz_model_names.specs.Named.{AreRootsIf, Stands, view_if}
 

@@ -9,11 +9,11 @@ use Rattle.mz_symbol.specs.Runs.{Run}
 use Rattle.mz_symbol.specs.Makes.{GoesOn, GoesOnBy}
 use Rattle.mz_eval_cells.specs.declared.types.Known.{Known}
 use Rattle.mz_eval_cells.specs.Views.{seen}
-use Rattle.mz_model_laws.specs.Hands as hands
-use Rattle.mz_model_laws.specs.Hands.{NameKind, OnePlace, ManyPlaces}
-use Rattle.mz_model_laws.specs.Loops.{ReadBack}
-use Rattle.mz_model_laws.specs.Variables.{IsPlaceCell, IsArrayCell}
-use Rattle.mz_model_vars.specs.Placed.{place_over, ArePlaces, MakesPlaces, Keeps, ArePlacesOver}
+use Rattle.mz_model_state.specs.Hands as hands
+use Rattle.mz_model_state.specs.Hands.{NameKind, OnePlace, ManyPlaces}
+use Rattle.mz_model_state.specs.Loops.{ReadBack}
+use Rattle.mz_model_state.specs.Variables.{IsPlaceCell, IsArrayCell}
+use Rattle.mz_model_roots.specs.Placed.{place_over, ArePlaces, MakesPlaces, Keeps, ArePlacesOver}
 use Rattle.mz_model_names.specs.declared.types.Label.{Label}
 use Rattle.mz_model_names.specs.Named.{view_if, AreRootsIf, Stands, IsVarOver}
 

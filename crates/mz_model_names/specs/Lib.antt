@@ -1,1 +1,4 @@
 pub mod Named
+pub mod Formed
+pub mod Closed
+pub mod StepsVars

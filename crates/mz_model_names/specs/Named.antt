@@ -11,13 +11,13 @@ use Rattle.mz_symbol.specs.Runs.{Run}
 use Rattle.mz_symbol.specs.Readings.{Reading, Reads, state_of}
 use Rattle.mz_eval_cells.specs.declared.types.Known.{Known}
 use Rattle.mz_eval_cells.specs.Views.{seen}
-use Rattle.mz_model_laws.specs.Hands as hands
-use Rattle.mz_model_laws.specs.Hands.{View, NameKind, ParName, OnePlace, ManyPlaces, kind_places, kind_domains, IsRootedName}
-use Rattle.mz_model_laws.specs.Loops.{ReadBack, IsNextName}
-use Rattle.mz_model_laws.specs.Variables.{is_var_kind}
-use Rattle.mz_model_hand.specs.Names.{HasForm, IsMadeVar}
-use Rattle.mz_model_domains.specs.declared.forms.Form.{Form}
-use Rattle.mz_model_domains.specs.Formed.{form_seen}
+use Rattle.mz_model_state.specs.Hands as hands
+use Rattle.mz_model_state.specs.Hands.{View, NameKind, ParName, OnePlace, ManyPlaces, kind_places, kind_domains, IsRootedName}
+use Rattle.mz_model_state.specs.Loops.{ReadBack, IsNextName}
+use Rattle.mz_model_state.specs.Variables.{is_var_kind}
+use Rattle.mz_model_state.specs.Names.{HasForm, IsMadeVar}
+use Rattle.mz_model_names.specs.declared.forms.Form.{Form}
+use Rattle.mz_model_names.specs.Formed.{form_seen}
 use Rattle.mz_model_names.specs.declared.types.HeldName.{HeldName}
 use Rattle.mz_model_names.specs.declared.types.Label.{Label}
 use Rattle.mz_model_names.specs.declared.types.Kind.{Kind}

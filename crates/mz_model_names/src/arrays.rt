@@ -2,14 +2,14 @@
 
 ghost use Rattle.std.specs.Prelude.{◌≡◌, IfOk, map};
 ghost use Rattle.mz_meaning.specs.Domains.{Places};
-ghost use Rattle.mz_model_vars.specs.Placed.{place_over};
+ghost use Rattle.mz_model_roots.specs.Placed.{place_over};
 ghost use Rattle.mz_model_names.specs.Named.{IsVarOver, held_name};
 
 use crate::roots::many_roots;
 use crate::types::{HeldName, Kind, Label};
 use mz_base::Memory;
 use mz_eval_cells::Known;
-use mz_model_vars::array_cell;
+use mz_model_roots::array_cell;
 use mz_symbol::Run;
 use mz_value::RangeSet;
 use std::alloc::Global;

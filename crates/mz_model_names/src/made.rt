@@ -3,19 +3,18 @@
 ghost use Rattle.std.specs.Prelude.{◌≡◌, IfOk, false, true};
 ghost use Rattle.mz_core.specs.Types.{plain_type};
 ghost use Rattle.mz_eval_cells.specs.Views.{seen};
-ghost use Rattle.mz_model_hand.specs.Names.{par_held};
-ghost use Rattle.mz_model_domains.specs.declared.forms.Form.TheVariants as form;
+ghost use Rattle.mz_model_state.specs.Names.{par_held};
+ghost use Rattle.mz_model_names.specs.declared.forms.Form.TheVariants as form;
 ghost use Rattle.mz_model_names.specs.Named.{IsLabelOf, IsNameOver, held_name};
 
+use crate::Form;
 use crate::arrays::many_name;
 use crate::types::{HeldName, Kind, Label};
 use crate::variables::one_name;
 use mz_base::{Memory, Name};
 use mz_core::TypeInst;
 use mz_eval_cells::Known;
-use mz_model_domains::Form;
-use mz_model_hand::names_are_added;
-use mz_model_laws::roots_tell_values;
+use mz_model_state::{names_are_added, roots_tell_values};
 use mz_symbol::Run;
 use mz_value::RangeSet;
 use std::alloc::Global;

@@ -3,7 +3,7 @@
 ghost use Rattle.std.specs.Prelude.{◌≡◌, ◌∷◌, [], IfOk, List, None, Some, true};
 ghost use Rattle.mz_value.specs.Ranges.{Range};
 ghost use Rattle.mz_symbol.specs.declared.types.Free.{Free};
-ghost use Rattle.mz_model_laws.specs.Hands.{OnePlace, ManyPlaces};
+ghost use Rattle.mz_model_state.specs.Hands.{OnePlace, ManyPlaces};
 ghost use Rattle.mz_model_roots.specs.Rooted.{HasRanges};
 ghost use Rattle.mz_model_names.specs.Named.{AreRootsIf, Stands, view_if};
 
@@ -11,8 +11,8 @@ use mz_arena::Id;
 use mz_base::Memory;
 use mz_core::Base;
 use mz_eval_cells::Known;
-use mz_model_laws::roots_tell_values;
 use mz_model_roots::{array_roots, place_root};
+use mz_model_state::roots_tell_values;
 use mz_symbol::{Free, Run};
 use std::alloc::Global;
 

@@ -2,14 +2,14 @@
 
 ghost use Rattle.std.specs.Prelude.{◌≡◌, IfOk};
 ghost use Rattle.mz_meaning.specs.Domains.{Scalar};
-ghost use Rattle.mz_model_vars.specs.Placed.{place_over};
+ghost use Rattle.mz_model_roots.specs.Placed.{place_over};
 ghost use Rattle.mz_model_names.specs.Named.{IsVarOver, held_name};
 
 use crate::roots::one_roots;
 use crate::types::{HeldName, Kind, Label};
 use mz_base::Memory;
 use mz_eval_cells::Known;
-use mz_model_vars::{one_place, place_cell};
+use mz_model_roots::{one_place, place_cell};
 use mz_symbol::Run;
 use mz_value::RangeSet;
 use std::alloc::Global;

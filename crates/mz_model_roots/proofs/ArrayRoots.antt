@@ -19,9 +19,9 @@ use Rattle.mz_symbol_rows.proofs.GoingOn.{goes_both, goes_most}
 use Rattle.mz_eval_cells.specs.declared.types.Known.{Known}
 use Rattle.mz_eval_cells.specs.Views.{seen}
 use Rattle.mz_eval_symbols.specs.Taken.{cell_value, line_seen, ranges_in}
-use Rattle.mz_model_laws.specs.Hands.{ManyPlaces, array_value}
-use Rattle.mz_model_laws.specs.Roots.{TestsOne, TestElements}
-use Rattle.mz_model_laws.proofs.Roots.{array_roots}
+use Rattle.mz_model_state.specs.Hands.{ManyPlaces, array_value}
+use Rattle.mz_model_state.specs.Roots.{TestsOne, TestElements}
+use Rattle.mz_model_state.proofs.Roots.{array_roots}
 use Rattle.mz_model_roots.specs.Rooted.{view, AreRootsOf, own_argument}
 use Rattle.mz_model_roots.specs.StepsEqual.{TestArguments, AreEqualNodes, IsEqualAt, IsLineOf, AreSoFar}
 use Rattle.mz_model_roots.proofs.EqualNodes.{given_held, none_goes, some_there}

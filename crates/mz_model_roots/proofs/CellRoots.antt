@@ -16,9 +16,9 @@ use Rattle.mz_symbol_rows.proofs.RowLaws.{truth_is}
 use Rattle.mz_eval_cells.specs.declared.types.Known.{Known}
 use Rattle.mz_eval_cells.specs.Views.{seen}
 use Rattle.mz_eval_symbols.specs.Taken.{cell_value}
-use Rattle.mz_model_laws.specs.Hands.{View, NameKind, ParName, OnePlace, IsAim}
-use Rattle.mz_model_laws.specs.Roots.{TestsOne, are_all_true}
-use Rattle.mz_model_laws.proofs.Roots.{place_roots, false_roots, constraint_roots}
+use Rattle.mz_model_state.specs.Hands.{View, NameKind, ParName, OnePlace, IsAim}
+use Rattle.mz_model_state.specs.Roots.{TestsOne, are_all_true}
+use Rattle.mz_model_state.proofs.Roots.{place_roots, false_roots, constraint_roots}
 use Rattle.mz_model_roots.specs.Rooted.{view, AreRootsOf, AreRootsOfConstraint, own_argument, IsEqualNode}
 use Rattle.mz_model_roots.proofs.EqualNodes.{given_held}
 

@@ -17,8 +17,8 @@ use Rattle.mz_operations.specs.Values.{scalar_value, equality}
 use Rattle.mz_arena.specs.Values.{Term, set_comparison_term}
 use Rattle.mz_arena.specs.Values as terms
 use Rattle.mz_meaning.specs.Cells.{is_true}
-use Rattle.mz_model_laws.specs.Hands.{AreOne, Iff}
-use Rattle.mz_model_laws.proofs.Tests.{bit_true, sets_tested}
+use Rattle.mz_model_state.specs.Hands.{AreOne, Iff}
+use Rattle.mz_model_state.proofs.Tests.{bit_true, sets_tested}
 
 abbrev pub equal_by : Option Content → Option Content → Bool
 equal_by v w = is_true (scalar_value row.Equal (v ∷ w ∷ []))

@@ -22,10 +22,10 @@ use Rattle.mz_symbol.specs.Makes.{GoesOnBy}
 use Rattle.mz_symbol_rows.specs.RowValues.{as_argument, argument, truth_of, row_value}
 use Rattle.mz_symbol_rows.specs.StepsNodes.{IsOf}
 use Rattle.mz_symbol_rows.proofs.RowLaws.{truth_is, argument_kept}
-use Rattle.mz_symbol_options.specs.OptionValues.{IsWholeOf}
-use Rattle.mz_symbol_options.proofs.WholeLaws.{whole_value}
-use Rattle.mz_model_laws.specs.Hands.{AreOne, Iff}
-use Rattle.mz_model_laws.specs.Roots.{TestsOne}
+use Rattle.mz_symbol_rows.specs.OptionValues.{IsWholeOf}
+use Rattle.mz_symbol_rows.proofs.WholeLaws.{whole_value}
+use Rattle.mz_model_state.specs.Hands.{AreOne, Iff}
+use Rattle.mz_model_state.specs.Roots.{TestsOne}
 use Rattle.mz_model_roots.specs.Rooted.{own_argument, IsEqualNode}
 use Rattle.mz_model_roots.specs.StepsEqual.{equal_row, AreOfOneBase}
 use Rattle.mz_model_roots.proofs.EqualContents.{equal_by, sets_equal_by, IsOptional, singles_tested, sets_tested_by, options_of_sets}

@@ -8,7 +8,7 @@ use Rattle.mz_symbol.specs.Readings.{Reading, Reads}
 use Rattle.mz_symbol_rows.proofs.RowLaws.{bit_true}
 use Rattle.mz_eval_symbols.specs.declared.nodes.Pair.TheVariants as pair
 use Rattle.mz_eval_symbols.specs.StepsNodes.{IsPair}
-use Rattle.mz_model_laws.specs.Roots.{are_all_true}
+use Rattle.mz_model_state.specs.Roots.{are_all_true}
 use Rattle.mz_model_roots.specs.StepsOperands.{all_true}
 
 and_true : (x y : Term) → is_true (and_term x y) ≡ (is_true x && is_true y)

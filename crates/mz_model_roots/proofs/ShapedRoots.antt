@@ -5,7 +5,7 @@ use Rattle.mz_symbol.specs.declared.types.Free.{Free}
 use Rattle.mz_symbol.specs.Runs.{Run}
 use Rattle.mz_eval_cells.specs.declared.types.Known.{Known}
 use Rattle.mz_eval_symbols.specs.Taken.{ranges_in}
-use Rattle.mz_model_laws.specs.Hands.{ManyPlaces}
+use Rattle.mz_model_state.specs.Hands.{ManyPlaces}
 use Rattle.mz_model_roots.specs.Rooted.{view, HasRanges, AreRootsOf}
 
 -- with the ranges that the value has

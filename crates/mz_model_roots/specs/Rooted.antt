@@ -14,8 +14,8 @@ use Rattle.mz_eval_cells.specs.declared.types.Known.{Known}
 use Rattle.mz_eval_cells.specs.declared.types.Known.TheVariants as known
 use Rattle.mz_eval_cells.specs.Views.{seen}
 use Rattle.mz_eval_symbols.specs.Taken.{ranges_in}
-use Rattle.mz_model_laws.specs.Hands.{View, NameKind, HeldName, HeldConstraint, IsRootedName, IsRooted}
-use Rattle.mz_model_laws.specs.Roots.{TestsOne}
+use Rattle.mz_model_state.specs.Hands.{View, NameKind, HeldName, HeldConstraint, IsRootedName, IsRooted}
+use Rattle.mz_model_state.specs.Roots.{TestsOne}
 
 -- no work is spent and no choice is taken, and nothing is refused
 abbrev pub Stays : {A : Type 0} → Result A Stop → Run → Run → Type 0

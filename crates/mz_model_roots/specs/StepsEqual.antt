@@ -12,7 +12,7 @@ use Rattle.mz_symbol.specs.Symbols.{symbol_value, elements_value, AreWhole}
 use Rattle.mz_symbol.specs.Runs.{Run}
 use Rattle.mz_symbol.specs.Readings.{Reading, IsGiven, Reads, state_of}
 use Rattle.mz_symbol.specs.Makes.{GoesOnBy}
-use Rattle.mz_model_laws.specs.Roots.{TestsOne}
+use Rattle.mz_model_state.specs.Roots.{TestsOne}
 use Rattle.mz_model_roots.specs.Rooted.{own_argument, IsEqualNode}
 
 -- the row that tests two values of a base

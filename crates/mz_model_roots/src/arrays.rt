@@ -4,7 +4,7 @@ ghost use Rattle.std.specs.Prelude.{◌≡◌, ◌+◌, ◌*◌, [], ◌∷◌, 
 ghost use Rattle.mz_value.specs.Ranges.{Range};
 ghost use Rattle.mz_symbol.specs.Makes.{GoesOnBy};
 ghost use Rattle.mz_eval_symbols.specs.Taken.{count_in, ranges_in};
-ghost use Rattle.mz_model_laws.specs.Hands.{ManyPlaces};
+ghost use Rattle.mz_model_state.specs.Hands.{ManyPlaces};
 ghost use Rattle.mz_model_roots.specs.Rooted.{Stays, view, HasRanges, AreRootsOf};
 ghost use Rattle.mz_model_roots.specs.StepsEqual.{AreEqualNodes, IsEqualAt, IsLineOf};
 

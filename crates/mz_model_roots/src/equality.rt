@@ -17,7 +17,7 @@ use mz_base::{Memory, Stop};
 use mz_core::Base;
 use mz_eval_symbols::as_asked;
 use mz_symbol::{Run, Symbol};
-use mz_symbol_options::with_whole_value;
+use mz_symbol_rows::options::with_whole_value;
 
 /// The node of a truth value that is no option.
 pub(crate) fn truth(s: Symbol) -> Result<Id, Memory>
@@ -105,7 +105,7 @@ fn option_row(run: &mut Run, x: Symbol, y: Symbol) -> Result<Symbol, Stop>
     ensures means { Means symbol_seen result run.old run.new (λ r. give (held r.mode (truth_of (row_value r row.Equal (x ∷ y ∷ []))))) }
 {
     let z = as_option(run, y)?;
-    let s = mz_symbol_options::equal(run, x, z)?;
+    let s = mz_symbol_rows::options::equal(run, x, z)?;
     Ok(s)
 }
 
@@ -128,8 +128,8 @@ fn equality(run: &mut Run, x: Symbol, y: Symbol) -> Result<Symbol, Stop>
     ensures means { Means symbol_seen result run.old run.new (λ r. give (held r.mode (truth_of (row_value r (equal_row x.base) (x ∷ y ∷ []))))) }
 {
     match x.base {
-        Base::SetInt => mz_symbol_sets::equal(run, x, y),
-        Base::SetEnum(_) => mz_symbol_sets::equal(run, x, y),
+        Base::SetInt => mz_symbol_rows::sets::equal(run, x, y),
+        Base::SetEnum(_) => mz_symbol_rows::sets::equal(run, x, y),
         _ => single_row(run, x, y),
     }
 }

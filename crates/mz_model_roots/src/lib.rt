@@ -1,10 +1,17 @@
-// The roots of an instance: the nodes that say that a variable has its declared value and that a constraint is met, and the node that is minimized or maximized.
+// Decision variables and roots: the places and cells of declared names, and the nodes that say that a value is as declared, that a constraint is met, and what is minimized or maximized.
 #![tactic(auto)]
 
+mod array_cells;
 mod arrays;
+mod bounds;
+mod cells;
 mod equality;
 mod names;
 mod operands;
+mod places;
 
+pub use array_cells::array_cell;
 pub use arrays::array_roots;
+pub use cells::place_cell;
 pub use names::{aim, constraint_roots, place_root};
+pub use places::{many_places, one_place};

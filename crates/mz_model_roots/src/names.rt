@@ -11,7 +11,7 @@ ghost use Rattle.mz_value.specs.Contents as values;
 ghost use Rattle.mz_eval_cells.specs.declared.types.Origin.TheVariants as origin;
 ghost use Rattle.mz_eval_cells.specs.declared.types.Origins.TheVariants as origins;
 ghost use Rattle.mz_eval_cells.specs.Views.{item_content, seen};
-ghost use Rattle.mz_model_laws.specs.Hands.{OnePlace, IsAim};
+ghost use Rattle.mz_model_state.specs.Hands.{OnePlace, IsAim};
 ghost use Rattle.mz_eval_symbols.specs.Taken.{ranges_in};
 ghost use Rattle.mz_model_roots.specs.Rooted.{Stays, view, AreRootsOf, AreRootsOfConstraint, HasRanges};
 

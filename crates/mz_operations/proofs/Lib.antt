@@ -4,3 +4,5 @@ pub mod FoldBounds
 pub mod SetMembers
 pub mod SetBounds
 pub mod CardBounds
+pub mod Numbers
+pub mod Sets

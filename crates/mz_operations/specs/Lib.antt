@@ -12,3 +12,4 @@ pub mod RowBounds
 pub mod Laws
 mod ValueExamples
 mod BoundExamples
+pub mod Monotone

@@ -7,11 +7,11 @@ use Rattle.mz_lexer.specs.declared.token.Tok.{Tok}
 use Rattle.mz_lexer.specs.declared.token.Symbol.TheVariants.{SRParen, SRBrace, SSemi}
 use Rattle.mz_tree.specs.Tree.{Declaration}
 use Rattle.mz_tree.specs.Items.{ItemTree}
-use Rattle.mz_grammar_rules.specs.Tokens.{tok_at, behind}
-use Rattle.mz_grammar_rules.specs.Look.{is_sym}
-use Rattle.mz_grammar_rules.specs.Rules.{syntax}
-use Rattle.mz_grammar_rules.specs.Reading.{Read, Reader, on, stuck, listed, with_prefix, ◌>>=◌}
-use Rattle.mz_grammar_rules.proofs.Steps.{same_on, same_then, prefix_prefix}
+use Rattle.mz_grammar.specs.Tokens.{tok_at, behind}
+use Rattle.mz_grammar.specs.Look.{is_sym}
+use Rattle.mz_grammar.specs.Rules.{syntax}
+use Rattle.mz_grammar.specs.RulesReading.{Read, Reader, on, stuck, listed, with_prefix, ◌>>=◌}
+use Rattle.mz_grammar.proofs.Steps.{same_on, same_then, prefix_prefix}
 use Rattle.mz_grammar.specs.declared.list.Closing.TheVariants.{Paren}
 use Rattle.mz_grammar.specs.Parts
 use Rattle.mz_grammar.specs.Reading.{reads}

@@ -12,7 +12,7 @@ use Rattle.mz_lexer.specs.declared.token.Token.{Token}
 use Rattle.mz_tree.specs.declared.item.Item.{Item}
 use Rattle.mz_tree.specs.Height.{most, most_in_a_file}
 use Rattle.mz_tree.specs.Items.{ItemTree, item, item_height, items_height}
-use Rattle.mz_grammar_rules.specs.Promise.{Gives, IsLongestPrefix}
+use Rattle.mz_grammar.specs.RulesPromise.{Gives, IsLongestPrefix}
 use Rattle.mz_grammar.specs.Model.{rule}
 use Rattle.mz_grammar.specs.Parts
 use Rattle.mz_grammar.specs.Reading.{reads}

@@ -9,11 +9,11 @@ use Rattle.mz_lexer.specs.declared.token.Token.{Token}
 use Rattle.mz_lexer.specs.declared.token.Symbol.TheVariants.{SSemi}
 use Rattle.mz_tree.specs.declared.item.Item.{Item}
 use Rattle.mz_tree.specs.Items.{ItemTree, item}
-use Rattle.mz_grammar_rules.specs.Tokens.{tok_at, behind}
-use Rattle.mz_grammar_rules.specs.Look.{is_sym}
-use Rattle.mz_grammar_rules.specs.Rules.{syntax}
-use Rattle.mz_grammar_rules.specs.Reading.{Reader, stuck, on}
-use Rattle.mz_grammar_rules.specs.Promise.{IsWithin, IsFault, reason_of, fault_of}
+use Rattle.mz_grammar.specs.Tokens.{tok_at, behind}
+use Rattle.mz_grammar.specs.Look.{is_sym}
+use Rattle.mz_grammar.specs.Rules.{syntax}
+use Rattle.mz_grammar.specs.RulesReading.{Reader, stuck, on}
+use Rattle.mz_grammar.specs.RulesPromise.{IsWithin, IsFault, reason_of, fault_of}
 use Rattle.mz_grammar.specs.Parts.{file}
 use Rattle.mz_grammar.specs.Model.{rule}
 

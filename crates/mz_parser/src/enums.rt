@@ -1,21 +1,20 @@
 // The cases of an enum.
 
 ghost use Rattle.std.specs.Prelude.{◌≡◌, Some};
-ghost use Rattle.mz_grammar_rules.specs.Reads.{Passes, Reads};
-ghost use Rattle.mz_grammar_rules.specs.Rules.{left_out, syntax};
-ghost use Rattle.mz_grammar_rules.specs.Tokens.{tok_at, place_or};
-ghost use Rattle.mz_grammar_rules.specs.Reading.{on};
+ghost use Rattle.mz_grammar.specs.Reads.{Passes, Reads};
+ghost use Rattle.mz_grammar.specs.Rules.{left_out, syntax};
+ghost use Rattle.mz_grammar.specs.Tokens.{tok_at, place_or};
+ghost use Rattle.mz_grammar.specs.RulesReading.{on};
 ghost use Rattle.mz_grammar.specs.Tests.{ident_of};
 ghost use Rattle.std.specs.Option.{option_map};
-ghost use Rattle.mz_grammar_rules.specs.Promise.{fault_of};
+ghost use Rattle.mz_grammar.specs.RulesPromise.{fault_of};
 ghost use Rattle.mz_grammar.specs.Parts as parts;
 ghost use Rattle.mz_grammar.specs.Reading.{reads};
 ghost use Rattle.mz_grammar.specs.Steps.{braced_at};
 
 use mz_base::{Name, Span, Stop};
 use mz_expr_operands::step::{ident, ident_of, separator};
-use mz_grammar::Closing;
-use mz_grammar_rules::{Cursor, is_sym};
+use mz_grammar::{Closing, Cursor, is_sym};
 use mz_lexer::Symbol;
 use std::alloc::Global;
 
@@ -33,7 +32,7 @@ pub fn cases(alloc: Global, cur: &mut Cursor<'_>) -> Result<Option<Vec<(Name, Sp
 }
 
 /// The cases in their braces. A name that isn't in braces, and what would make more cases after them, is left out of the language.
-#[tactic(auto, using(mz_grammar_rules::proofs::Steps::open_more, mz_grammar_rules::proofs::Steps::open_none))]
+#[tactic(auto, using(mz_grammar::proofs::Steps::open_more, mz_grammar::proofs::Steps::open_none))]
 fn braced(alloc: Global, cur: &mut Cursor<'_>) -> Result<Vec<(Name, Span)>, Stop>
     ensures { Reads (λ v. Some v.items) braced_at cur.old cur.new result }
 {
@@ -61,7 +60,7 @@ fn unbraced(cur: &Cursor<'_>) -> Stop
 }
 
 /// The names of the cases up to the closing brace.
-#[tactic(auto, using(mz_grammar::proofs::ItemEquations::case_names_reads, mz_grammar_rules::proofs::Steps::prefix_prefix, mz_grammar_rules::proofs::Steps::no_prefix))]
+#[tactic(auto, using(mz_grammar::proofs::ItemEquations::case_names_reads, mz_grammar::proofs::Steps::prefix_prefix, mz_grammar::proofs::Steps::no_prefix))]
 fn case_names(alloc: Global, cur: &mut Cursor<'_>) -> Result<Vec<(Name, Span)>, Stop>
     ensures { Reads (λ v. v.items) (reads parts.case_names) cur.old cur.new result }
 {

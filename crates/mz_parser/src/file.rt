@@ -1,22 +1,22 @@
 // The items of a file, each up to its semicolon.
 
 ghost use Rattle.std.specs.Prelude.{◌≡◌, map, [], OnOk};
-ghost use Rattle.mz_grammar_rules.specs.Reads.{Passes};
+ghost use Rattle.mz_grammar.specs.Reads.{Passes};
 ghost use Rattle.mz_tree.specs.Items.{item};
-ghost use Rattle.mz_grammar_rules.specs.Promise.{Gives};
+ghost use Rattle.mz_grammar.specs.RulesPromise.{Gives};
 ghost use Rattle.mz_grammar.specs.Parts as parts;
 ghost use Rattle.mz_grammar.specs.Reading.{reads};
 ghost use Rattle.mz_parser.specs.Model.{semicolon_at};
 
 use crate::kinds::item;
 use mz_base::Stop;
-use mz_grammar_rules::Cursor;
+use mz_grammar::Cursor;
 use mz_lexer::Symbol;
 use mz_tree::Item;
 use std::alloc::Global;
 
 /// The items up to the end of the file.
-#[tactic(auto, using(crate::proofs::Lists::items_reads, mz_grammar_rules::proofs::Steps::no_prefix))]
+#[tactic(auto, using(crate::proofs::Lists::items_reads, mz_grammar::proofs::Steps::no_prefix))]
 pub fn all_items(alloc: Global, cur: &mut Cursor<'_>) -> Result<Vec<Item>, Stop>
     ensures reads { Gives (λ v. map item v.items) cur.new.end cur.new.rest.now result (reads parts.file cur.old.room cur.old.rest.now) }
     ensures room { OnOk result (cur.new.room ≡ cur.old.room) }

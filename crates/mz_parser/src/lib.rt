@@ -16,7 +16,7 @@ mod token;
 
 use crate::file::all_items;
 use mz_base::{Span, Stop};
-use mz_grammar_rules::Cursor;
+use mz_grammar::Cursor;
 use mz_lexer::Token;
 use mz_tree::Item;
 use std::alloc::Global;

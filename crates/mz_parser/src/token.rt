@@ -1,11 +1,11 @@
 // Tests on the next token.
 
 ghost use Rattle.std.specs.Prelude.{◌≡◌, Some};
-ghost use Rattle.mz_grammar_rules.specs.Tokens.{tok_at};
+ghost use Rattle.mz_grammar.specs.Tokens.{tok_at};
 ghost use Rattle.mz_grammar.specs.Tests.{begins_type, text_of};
 
 use mz_base::Name;
-use mz_grammar_rules::Cursor;
+use mz_grammar::Cursor;
 use mz_lexer::{Keyword, Tok};
 
 fn token_begins_type(tok: Tok) -> bool

@@ -11,7 +11,7 @@ use Rattle.mz_arena.specs.Terms.{kind_term, term}
 use Rattle.mz_arena.specs.Extents.{Known, whole, truth, subset, wholes, truths, subsets, empty as no_element, open_truth, as_truth, as_single, guarded_extent, guard_extent, extent}
 use Rattle.mz_arena.specs.Arenas.{IsArena}
 use Rattle.mz_arena.specs.InBounds.{Lies, AreInBounds}
-use Rattle.mz_arena_laws.proofs.Terms.{terms_lie}
+use Rattle.mz_arena.proofs.Terms.{terms_lie}
 use Rattle.mz_partial.specs.declared.part.Part.{Part}
 use Rattle.mz_partial.specs.declared.group.Group.TheVariants as group
 use Rattle.mz_partial.specs.Groups.{group_of, is_inner, is_partial}

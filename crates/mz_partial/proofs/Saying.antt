@@ -9,7 +9,7 @@ use Rattle.mz_arena.specs.Terms.{term}
 use Rattle.mz_arena.specs.Extents.{Known, truth, open_truth, connective_extent, not_extent, extent}
 use Rattle.mz_arena.specs.Arenas.{IsArena}
 use Rattle.mz_arena.specs.InBounds.{Lies, AreInBounds}
-use Rattle.mz_arena_laws.proofs.Terms.{terms_lie}
+use Rattle.mz_arena.proofs.Terms.{terms_lie}
 use Rattle.mz_partial.specs.declared.part.Part.{Part}
 use Rattle.mz_partial.specs.Totals.{IsTruth, SaysAt, Says, IsPart, IsOpen, only}
 use Rattle.mz_partial.specs.Nodes.{IsNode, Placed, three}

@@ -3,9 +3,9 @@ use Rattle.std.proofs.Common.{◌≡◌, ◌∙◌, ℕ, zero, suc, ◌+◌, ◌
 use Rattle.std.proofs.lemmas.List.{length-map}
 use Rattle.mz_value.specs.Contents.{Content}
 use Rattle.mz_meaning.specs.Cells.{Env, undefined, bind}
-use Rattle.mz_output.specs.Output.{OutputName, assigned, output_cell, output_env}
-use Rattle.mz_print_values.specs.Lines.{place_of, value_at}
-use Rattle.mz_print_values.proofs.DefaultLines.{assigned_at}
+use Rattle.mz_print.specs.Output.{OutputName, assigned, output_cell, output_env}
+use Rattle.mz_print.specs.Lines.{place_of, value_at}
+use Rattle.mz_print.proofs.DefaultLines.{assigned_at}
 use Rattle.mz_print.specs.declared.names.TopName.{TopName}
 use Rattle.mz_print.specs.Names.{top_name, top_names, place_in}
 

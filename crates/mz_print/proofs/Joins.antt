@@ -19,7 +19,7 @@ use Rattle.mz_meaning.specs.Evaluation.{eval}
 use Rattle.mz_eval_scopes.specs.Runs.{Meets, at_work}
 use Rattle.mz_eval_scopes.specs.Views.{world_for}
 use Rattle.mz_eval.specs.Values.{value_in}
-use Rattle.mz_output.specs.Output.{OutputItem, output_item, output_items, joined_elements, joined_items}
+use Rattle.mz_print.specs.Output.{OutputItem, output_item, output_items, joined_elements, joined_items}
 use Rattle.mz_print_stream.specs.Printing.{Text, says, refuses, Says}
 use Rattle.mz_print.specs.Items.{JoinedText, nothing_joined, next_joined, finished, text_of}
 

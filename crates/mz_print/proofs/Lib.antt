@@ -1,3 +1,9 @@
 pub mod Joins
 pub mod Environments
 pub mod Texts
+pub mod Faults
+pub mod Choices
+pub mod All
+pub mod ItemLists
+pub mod DefaultLines
+pub mod ShownValues

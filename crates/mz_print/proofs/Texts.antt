@@ -11,10 +11,10 @@ use Rattle.mz_meaning.specs.Runs.{start, then_do}
 use Rattle.mz_meaning.specs.Cells.{Bare}
 use Rattle.mz_meaning.specs.Walk.{Assignment}
 use Rattle.mz_eval_scopes.specs.Views.{world_for}
-use Rattle.mz_output.specs.Output.{OutputName, assigned, variable_slots, output_env, output_items, joined_items, default_text, text_by, output_text, is_shown}
+use Rattle.mz_print.specs.Output.{OutputName, assigned, variable_slots, output_env, output_items, joined_items, default_text, text_by, output_text, is_shown}
 use Rattle.mz_print_stream.specs.Printing.{says}
-use Rattle.mz_print_values.specs.declared.lines.Line.{Line}
-use Rattle.mz_print_values.specs.Lines.{IsNamed, line_at, line_of, lines_of, place_of}
+use Rattle.mz_print.specs.declared.lines.Line.{Line}
+use Rattle.mz_print.specs.Lines.{IsNamed, line_at, line_of, lines_of, place_of}
 use Rattle.mz_print.specs.Items.{text_of, items_text}
 use Rattle.mz_print.specs.Printers.{limits_of, texts_of, IsDeclNamed}
 

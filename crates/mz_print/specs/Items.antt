@@ -7,7 +7,7 @@ use Rattle.mz_core.specs.Program.{PlainProgram}
 use Rattle.mz_meaning.specs.Runs.{Answer, Out, Stopped, start, then_do, fault}
 use Rattle.mz_meaning.specs.Cells.{Env}
 use Rattle.mz_eval_scopes.specs.Views.{world_for}
-use Rattle.mz_output.specs.Output.{OutputItem, output_items, joined_elements, joined_items}
+use Rattle.mz_print.specs.Output.{OutputItem, output_items, joined_elements, joined_items}
 use Rattle.mz_print_stream.specs.Printing.{Text, says, refuses}
 use Rattle.mz_print.specs.declared.items.Joined.{Joined}
 

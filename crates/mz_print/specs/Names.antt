@@ -6,8 +6,8 @@ use Rattle.mz_value.specs.Contents.{content}
 use Rattle.mz_value.specs.declared.value.Value.{Value}
 use Rattle.mz_meaning.specs.Cells.{Env}
 use Rattle.mz_meaning.specs.Walk.{Assignment}
-use Rattle.mz_output.specs.Output.{OutputName, assigned, output_env, variable_slots}
-use Rattle.mz_print_values.specs.Lines.{place_of}
+use Rattle.mz_print.specs.Output.{OutputName, assigned, output_env, variable_slots}
+use Rattle.mz_print.specs.Lines.{place_of}
 use Rattle.mz_print.specs.declared.names.TopName.{TopName}
 
 abbrev pub top_name : TopName → OutputName

@@ -8,11 +8,11 @@ use Rattle.mz_core.specs.Tree.{Decl}
 use Rattle.mz_meaning.specs.Runs.{start}
 use Rattle.mz_meaning.specs.Cells.{Bare}
 use Rattle.mz_meaning.specs.Walk.{Limits}
-use Rattle.soln_reader_items.specs.Forms.{Form}
-use Rattle.mz_output.specs.Output.{OutputName, assigned, variable_slots, output_text}
+use Rattle.fz_items.specs.Forms.{Form}
+use Rattle.mz_print.specs.Output.{OutputName, assigned, variable_slots, output_text}
 use Rattle.mz_print_stream.specs.Printing.{Texts}
-use Rattle.mz_print_values.specs.Lines.{IsNamed, lines_of}
-use Rattle.mz_print_values.specs.Printable.{ArePrintable}
+use Rattle.mz_print.specs.Lines.{IsNamed, lines_of}
+use Rattle.mz_print.specs.Printable.{ArePrintable}
 use Rattle.mz_print.specs.declared.printer.SolutionPrinter.{SolutionPrinter}
 use Rattle.mz_print.specs.Items.{text_of}
 use Rattle.mz_print.specs.Names.{place_in, top_names}

@@ -5,8 +5,8 @@ ghost use Rattle.mz_value.specs.Contents.{content};
 ghost use Rattle.mz_meaning.specs.Cells.{Par, bind};
 ghost use Rattle.mz_eval_cells.specs.Views.{cell_of};
 ghost use Rattle.mz_eval_scopes.specs.Views.{env_cells};
-ghost use Rattle.mz_output.specs.Output.{output_cell, variable_slots};
-ghost use Rattle.mz_print_values.specs.Lines.{value_at};
+ghost use Rattle.mz_print.specs.Output.{output_cell, variable_slots};
+ghost use Rattle.mz_print.specs.Lines.{value_at};
 ghost use Rattle.mz_print.specs.Names.{cells_for, place_in, top_name, top_names};
 
 use crate::names::TopName;

@@ -9,10 +9,10 @@ ghost use Rattle.mz_eval_scopes.specs.Views.{env_cells};
 ghost use Rattle.mz_print_stream.specs.Printing.{Says};
 ghost use Rattle.mz_print.specs.Items.{finished, items_text, joined, next_joined, nothing_joined};
 
+use crate::push_elements;
 use mz_base::{Depth, Fault, Kind, Memory, Span, Steps, Stop};
 use mz_core::Program;
 use mz_eval::{Env, value};
-use mz_print_values::push_elements;
 use mz_value::Value;
 use std::alloc::Global;
 

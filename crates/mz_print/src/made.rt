@@ -7,11 +7,11 @@ ghost use Rattle.mz_core.specs.Program.{plain_program};
 ghost use Rattle.mz_print.specs.Names.{top_names};
 ghost use Rattle.mz_print.specs.Printers.{IsMade, IsDeclNamed, solution_texts, texts_of};
 
+use crate::lines_of;
 use crate::names::{TopName, places, variable_slots};
 use crate::printer::SolutionPrinter;
 use mz_base::{Memory, Names};
 use mz_core::Program;
-use mz_print_values::lines_of;
 use std::alloc::Global;
 
 /// What prints the solutions of a program. `top` has its top-level names as its walk declares them; a solution has a value

@@ -1,13 +1,13 @@
 // A model's top-level names.
 
 ghost use Rattle.std.specs.Prelude.{◌≡◌, ◌++◌, IfOk, OnOk, map};
-ghost use Rattle.mz_output.specs.Output.{variable_slot, variable_slots};
-ghost use Rattle.mz_print_values.specs.Lines.{place_of};
+ghost use Rattle.mz_print.specs.Output.{variable_slot, variable_slots};
+ghost use Rattle.mz_print.specs.Lines.{place_of};
 ghost use Rattle.mz_print.specs.Names.{place_in, top_name, top_names};
 
+use crate::place_of;
 use mz_base::Memory;
 use mz_eval_cells::Known;
-use mz_print_values::place_of;
 use std::alloc::Global;
 
 /// A top-level name by its slot: with the cell that the walk gave it, which is par, or `None` of a decision variable.

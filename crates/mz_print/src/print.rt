@@ -3,18 +3,18 @@
 ghost use Rattle.std.specs.Prelude.{◌≡◌, IfOk, map};
 ghost use Rattle.mz_value.specs.Contents.{content};
 ghost use Rattle.mz_core.specs.Program.{plain_program};
-ghost use Rattle.mz_output.specs.Output.{default_text};
+ghost use Rattle.mz_print.specs.Output.{default_text};
 ghost use Rattle.mz_print_stream.specs.Printing.{AreTaken, Says};
 ghost use Rattle.mz_print.specs.Items.{items_text};
 ghost use Rattle.mz_print.specs.Names.{cells_for, values_of};
 ghost use Rattle.mz_print.specs.Printers.{IsMade, IsTaken, solution_texts};
 
+use crate::default_text;
 use crate::env::output_env;
 use crate::items::items_text;
 use crate::printer::SolutionPrinter;
 use mz_base::{Memory, Stop};
 use mz_print_stream::Printer;
-use mz_print_values::default_text;
 use mz_value::{Assign, Value};
 use std::alloc::Global;
 

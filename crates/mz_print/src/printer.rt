@@ -1,9 +1,9 @@
 // What prints a model's solutions.
 
+use crate::Line;
 use crate::names::TopName;
 use mz_base::Names;
 use mz_core::Program;
-use mz_print_values::Line;
 
 /// What prints a model's solutions: its program and names, and what is worked out of them once.
 #[derive(Drop)]

@@ -22,9 +22,9 @@ use Rattle.mz_model_meaning.specs.Modeled.{AreVarsOf, IsHead, domains_by, domain
 use Rattle.mz_headline.specs.Keeping.{AreNumbered}
 use Rattle.mz_headline.proofs.Rows.{choice_in, some_choices, with_codes}
 use Rattle.mz_headline.proofs.Slots.{telling, telling_tells}
-use Rattle.mz_output.specs.Output.{OutputName, IsParIf, IsParName, fixed_cell, output_name, output_names}
+use Rattle.mz_print.specs.Output.{OutputName, IsParIf, IsParName, fixed_cell, output_name, output_names}
 use Rattle.mz_print.specs.Printers.{IsDeclNamed}
-use Rattle.mz_shapes.specs.Shapes.{IsVarNamed}
+use Rattle.mz_print_model.specs.Shapes.{IsVarNamed}
 use Rattle.mz_print_model.specs.Names.{HasNames, FindsNames, variable, par_name, with_name, next_with, names_with}
 
 -- ---- names by values: as many values as par names

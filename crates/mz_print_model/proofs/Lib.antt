@@ -2,3 +2,4 @@ pub mod Found
 pub mod Named
 pub mod Limits
 pub mod Ends
+pub mod Reading

@@ -9,7 +9,7 @@ use Rattle.mz_arena.specs.declared.instance.ParValue.{ParValue as CodePar}
 use Rattle.mz_value.specs.Contents.{Content, content}
 use Rattle.mz_meaning.specs.Cells.{Cell, Par}
 use Rattle.mz_meaning.specs.Walk.{ordered, with_decl}
-use Rattle.mz_output.specs.Output.{OutputName}
+use Rattle.mz_print.specs.Output.{OutputName}
 use Rattle.mz_print.specs.declared.names.TopName.{TopName}
 use Rattle.mz_print.specs.Names.{top_name, top_names}
 use Rattle.mz_print_model.specs.Names.{variable, par_name, with_name, next_with, names_with}

@@ -1,3 +1,5 @@
 pub mod Names
 pub mod Printing
 pub mod StepsNames
+pub mod Shapes
+pub mod ReadOff

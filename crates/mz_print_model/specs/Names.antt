@@ -12,7 +12,7 @@ use Rattle.mz_meaning.specs.Walk.{Limits, Assignment, Walked, ordered, walk}
 use Rattle.mz_meaning.specs.Written.{int, var_int, num, plain, decl, i}
 use Rattle.mz_model_meaning.specs.Decoded.{named}
 use Rattle.mz_model_meaning.specs.Modeled.{names_of}
-use Rattle.mz_output.specs.Output.{OutputName, output_names}
+use Rattle.mz_print.specs.Output.{OutputName, output_names}
 
 -- ---- what walks find
 

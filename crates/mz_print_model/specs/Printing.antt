@@ -7,9 +7,9 @@ use Rattle.mz_arena.specs.Instances.{ModelVar}
 use Rattle.mz_meaning.specs.Walk.{Limits, ordered}
 use Rattle.mz_model_meaning.specs.Modeled.{AreVarsOf}
 use Rattle.mz_model_meaning.specs.Refusals.{Stops}
-use Rattle.soln_reader_items.specs.Forms.{Form, forms}
-use Rattle.mz_output.specs.Output.{OutputName}
-use Rattle.mz_shapes.specs.Shapes.{forms_of}
+use Rattle.fz_items.specs.Forms.{Form, forms}
+use Rattle.mz_print.specs.Output.{OutputName}
+use Rattle.mz_print_model.specs.Shapes.{forms_of}
 use Rattle.mz_print_stream.specs.Printing.{Texts}
 use Rattle.mz_print.specs.Printers.{IsTaken, solution_texts, texts_of}
 use Rattle.mz_print_model.specs.Names.{FindsNames}

@@ -3,7 +3,7 @@ use Rattle.std.specs.Prelude.{◌≡◌, ℕ, List, ◌∷◌, ◌++◌, drop, S
 use Rattle.mz_core.specs.Tree.{Decl}
 use Rattle.mz_arena.specs.Instances.{ParValue}
 use Rattle.mz_meaning.specs.Walk.{ordered, with_decl}
-use Rattle.mz_output.specs.Output.{OutputName}
+use Rattle.mz_print.specs.Output.{OutputName}
 use Rattle.mz_print_model.specs.Names.{names_with}
 
 -- a declaration's name is added, and what follows has the values from the second place on

@@ -10,13 +10,12 @@ ghost use Rattle.mz_model_meaning.specs.Modeled.{Modeled};
 ghost use Rattle.mz_print_model.specs.Printing.{IsPrinting, PrintingEnds};
 
 use crate::names::top_names;
+use crate::shapes;
 use mz_arena::Instance;
 use mz_base::{Memory, Names, Stop};
 use mz_core::Program;
 use mz_model::model;
-use mz_print::{SolutionPrinter, solution_printer};
-use mz_print_values::are_printable;
-use mz_shapes::shapes;
+use mz_print::{SolutionPrinter, are_printable, solution_printer};
 use mz_value::Shape;
 use std::alloc::Global;
 

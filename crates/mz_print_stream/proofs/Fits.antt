@@ -2,7 +2,7 @@
 use Rattle.std.proofs.Common.{◌≡◌, List, ℕ, Bool, ap, sym, subst}
 use Rattle.mz_value.specs.declared.value.Shape.{Shape}
 use Rattle.mz_value.specs.Contents.{Content}
-use Rattle.soln_reader_items.specs.Forms.{Form, forms}
+use Rattle.fz_items.specs.Forms.{Form, forms}
 use Rattle.soln_reader.specs.Holding.{Holding, nothing_held}
 use Rattle.soln_reader.specs.Stream.{Event, block}
 use Rattle.soln_reader.specs.Reader.{State, fed, GivesEvent, Needs, Ends}

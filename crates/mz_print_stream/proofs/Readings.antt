@@ -1,6 +1,6 @@
 -- Readings: there is one of all bytes, and as more bytes come, events are added to it.
 use Rattle.std.proofs.Common.{◌≡◌, ℕ, zero, suc, ◌<◌, ◌≤◌, ◌+◌, List, [], ◌∷◌, ◌++◌, length, Bool, true, false, refl, sym, ap, ◌∙◌, arith, subst, Some, None}
-use Rattle.soln_reader_items.specs.Forms.{Form}
+use Rattle.fz_items.specs.Forms.{Form}
 use Rattle.soln_reader.specs.Blocks.{Block}
 use Rattle.soln_reader.specs.Stream.{Place, next_place, Event, Ending, Outcome, whole, bad, Stream, at_the_end, in_a_block, passes as passes_there, an_event as event_there, a_bad_line as bad_there, leaves, gives, is_bad, has_line, after_line, line_outcome}
 use Rattle.soln_reader.proofs.CutLemmas.{some_line}

@@ -8,7 +8,7 @@ use Rattle.mz_io.specs.Sink.{Held, SinkCounts, Adds}
 use Rattle.mz_io.specs.Source.{Left, Gives}
 use Rattle.mz_io.specs.declared.source.Took.TheVariants as took
 use Rattle.mz_value.specs.declared.value.Shape.{Shape}
-use Rattle.soln_reader_items.specs.Forms.{Form, forms}
+use Rattle.fz_items.specs.Forms.{Form, forms}
 use Rattle.soln_reader.specs.Holding.{Holding, nothing_held}
 use Rattle.soln_reader.specs.Views.{state}
 use Rattle.soln_reader.specs.Stream.{Event, block}

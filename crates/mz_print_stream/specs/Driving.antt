@@ -1,6 +1,6 @@
 -- What a reader that is fed pieces has been fed and has given.
 use Rattle.std.specs.Prelude.{◌≡◌, ℕ, List, [], ◌∷◌, ◌++◌, Bool, true, false, None}
-use Rattle.soln_reader_items.specs.Forms.{Form}
+use Rattle.fz_items.specs.Forms.{Form}
 use Rattle.soln_reader.specs.Stream.{Event}
 use Rattle.soln_reader.specs.Reader.{State, place, start, fed, GivesEvent, Needs, Ends, FindsBad}
 use Rattle.mz_print_stream.specs.Reading.{Close, complete, bad_at, cut, Reads, first_place}

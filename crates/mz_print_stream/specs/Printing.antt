@@ -6,7 +6,7 @@ use Rattle.mz_base.specs.declared.kind.Kind.TheVariants.{TooLong}
 use Rattle.mz_base.specs.declared.stop.Stop.{Stop}
 use Rattle.mz_base.specs.declared.stop.Stop.TheVariants as stop
 use Rattle.mz_value.specs.Contents.{Content}
-use Rattle.soln_reader_items.specs.Forms.{Form}
+use Rattle.fz_items.specs.Forms.{Form}
 use Rattle.soln_reader.specs.declared.next.Mark.{Mark}
 use Rattle.soln_reader.specs.declared.next.Mark.TheVariants.{Complete, Unsatisfiable, Unknown, Unbounded, UnsatOrUnbounded, Error}
 use Rattle.soln_reader.specs.Stream.{Event, block, mark, mark_of}

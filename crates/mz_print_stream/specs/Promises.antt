@@ -3,7 +3,7 @@ use Rattle.std.specs.Prelude.{◌≡◌, ◌≤◌, ℕ, List, [], ◌++◌, Boo
 use Rattle.mz_io.specs.Counts.{Rose}
 use Rattle.mz_io.specs.Sink.{Held, SinkCounts, Adds}
 use Rattle.mz_io.specs.Source.{Left}
-use Rattle.soln_reader_items.specs.Forms.{Form}
+use Rattle.fz_items.specs.Forms.{Form}
 use Rattle.mz_print_stream.specs.Printing.{Texts, End, all_written, refused, Prints, PrintsSoFar, PrintsCut}
 use Rattle.mz_print_stream.specs.declared.printed.Printed.{Printed}
 use Rattle.mz_print_stream.specs.declared.printed.Printed.TheVariants as printed

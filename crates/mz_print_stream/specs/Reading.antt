@@ -1,6 +1,6 @@
 -- What is read of a solver's stream, or of those of its bytes that have come: blocks and marks, and where they leave off.
 use Rattle.std.specs.Prelude.{◌≡◌, ℕ, ◌+◌, List, [], ◌∷◌, ◌++◌, Bool, true, false, Some, None}
-use Rattle.soln_reader_items.specs.Forms.{Form}
+use Rattle.fz_items.specs.Forms.{Form}
 use Rattle.soln_reader.specs.Blocks.{Block}
 use Rattle.soln_reader.specs.Stream.{Place, next_place, Event, Ending, whole, bad, Stream, leaves, gives, is_bad, has_line, after_line, line_outcome}
 

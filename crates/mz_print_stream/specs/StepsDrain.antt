@@ -3,7 +3,7 @@ use Rattle.std.specs.Prelude.{◌≡◌, ◌≤◌, ◌⊎◌, ℕ, ◌+◌, Lis
 use Rattle.mz_base.specs.declared.fault.Fault.{Fault}
 use Rattle.mz_io.specs.Sink.{Held, SinkCounts, Adds, AddsPrefix}
 use Rattle.mz_value.specs.Contents.{Content}
-use Rattle.soln_reader_items.specs.Forms.{Form}
+use Rattle.fz_items.specs.Forms.{Form}
 use Rattle.soln_reader.specs.Stream.{Event, block}
 use Rattle.soln_reader.specs.Values.{StateFits}
 use Rattle.soln_reader.specs.Reader.{State, GivesEvent, Needs, Ends, FindsBad, bad_line}

@@ -2,7 +2,7 @@
 use Rattle.std.specs.Prelude.{◌≡◌, ◌≤◌, ℕ, ◌+◌, List, [], ◌++◌, length, take, Bool, true, false}
 use Rattle.mz_io.specs.Sink.{Held}
 use Rattle.mz_io.specs.Source.{Left}
-use Rattle.soln_reader_items.specs.Forms.{Form}
+use Rattle.fz_items.specs.Forms.{Form}
 use Rattle.soln_reader.specs.Reader.{State}
 use Rattle.mz_print_stream.specs.Reading.{Reads, first_place, cut}
 use Rattle.mz_print_stream.specs.Printing.{Texts, output, PrintsSoFar, piece}

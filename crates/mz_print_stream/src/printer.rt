@@ -8,7 +8,7 @@ use std::alloc::Global;
 pub trait Printer {
     ghost use Rattle.std.specs.Prelude.{List, map};
     ghost use Rattle.mz_value.specs.Contents.{content};
-    ghost use Rattle.soln_reader_items.specs.Forms.{Form};
+    ghost use Rattle.fz_items.specs.Forms.{Form};
     ghost use Rattle.mz_print_stream.specs.Printing.{AreTaken, Texts, Says};
 
     // Whether it makes texts of values of these forms.

@@ -1,7 +1,7 @@
 // A stream, printed piece by piece.
 
 ghost use Rattle.std.specs.Prelude.{◌≡◌, ◌<◌, ◌^◌};
-ghost use Rattle.soln_reader_items.specs.Forms.{forms};
+ghost use Rattle.fz_items.specs.Forms.{forms};
 ghost use Rattle.mz_print_stream.specs.Printing.{too_long};
 ghost use Rattle.mz_print_stream.specs.Promises.{CountsIn, CountsOut, Promises};
 

@@ -18,8 +18,8 @@ use Rattle.mz_tree.specs.Data.{Given}
 use Rattle.mz_graph.specs.Graph.{IsIn}
 use Rattle.mz_scope_names.specs.Given.{occurrences}
 use Rattle.mz_scope_names.specs.Sets.{holds}
-use Rattle.mz_scope_uses.specs.Uses.{in_tree}
-use Rattle.mz_scope_uses.specs.Sketches.{Sketch, decl_sketch, function_sketch}
+use Rattle.mz_scope_names.specs.Uses.{in_tree}
+use Rattle.mz_scope_names.specs.Sketches.{Sketch, decl_sketch, function_sketch}
 use Rattle.mz_scope_order.specs.Dependencies.{sketch_at, RefersTo, AreRanks, HaveRanks, IsStuckAt, IsBackAt}
 use Rattle.mz_scope_order.specs.declared.sequence.Sequence.{Sequence}
 use Rattle.mz_scope_order.specs.declared.sequence.Sequence.TheVariants.{Ordered, CyclicDecl, CyclicFunction}

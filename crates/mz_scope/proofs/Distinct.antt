@@ -14,12 +14,12 @@ use Rattle.mz_graph.specs.Order.{IsOrder, IsComplete}
 use Rattle.mz_scope_names.specs.declared.occurrence.Occurrence.{Occurrence}
 use Rattle.mz_scope_names.specs.Given.{enum_of, occurrences}
 use Rattle.mz_scope_names.specs.Sets.{holds}
-use Rattle.mz_scope_uses.specs.Sketches.{decl_sketch}
+use Rattle.mz_scope_names.specs.Sketches.{decl_sketch}
 use Rattle.mz_scope_order.specs.Dependencies.{sketch_at, AreDeclarations}
 use Rattle.mz_scope_order.specs.Parts.{filled, declared_in, decls_of, function_in, functions_of, enums_of, unless, given_of, name_of, decl_at}
 use Rattle.mz_scope_order.specs.Scoped.{AreDistinct, enum_names, bare_name}
-use Rattle.mz_scope_faults.specs.Spaces.{declares, binds, names_with}
-use Rattle.mz_scope_faults.specs.Tests.{is_reserved, is_repeated, is_misfit, first, first_after, solve_fault, or_refused, first_unknown_of, first_missing_of, refusal_after_solves, refusal}
+use Rattle.mz_scope.specs.Spaces.{declares, binds, names_with}
+use Rattle.mz_scope.specs.Tests.{is_reserved, is_repeated, is_misfit, first, first_after, solve_fault, or_refused, first_unknown_of, first_missing_of, refusal_after_solves, refusal}
 use Rattle.mz_scope.proofs.Counting.{count, total, counted_both, counted_flat, one_here, none_counted, some_counted, some_held, distinct_once, one_place, mapped_flat, flat_flat}
 use Rattle.mz_scope.proofs.Turned.{turned_most, turned_there}
 use Rattle.mz_scope.proofs.Scanning.{passes, declared_once, given_once, given_declared}

@@ -12,7 +12,7 @@ use Rattle.mz_scope_names.specs.declared.occurrence.Role.TheVariants.{Used, Loca
 use Rattle.mz_scope_names.specs.Roles.{occurs}
 use Rattle.mz_scope_names.specs.Occurrences.{bound, is_par, lack, in_tree, in_shape, in_maybe, in_trees, in_links, in_rows, in_branches, in_part, in_parts, in_generator, in_gens, in_let, in_lets, in_local, in_written, in_based, in_dims, in_bases, in_parameter, in_goal}
 use Rattle.mz_scope_names.proofs.Lists.{flat_of_both}
-use Rattle.mz_scope_faults.specs.Spaces.{name_in, names_with}
+use Rattle.mz_scope.specs.Spaces.{name_in, names_with}
 
 module _ (has : Role → Bool) (used : has Used ≡ false) (local : has Local ≡ false) (lacking : has Lacking ≡ false) where
   abbrev IsBare : List Occurrence → Type 0

@@ -1,3 +1,5 @@
+pub mod Solving
+pub mod Tracking
 pub mod Arranging
 pub mod Counting
 pub mod Distinct

@@ -14,7 +14,7 @@ use Rattle.mz_scope_names.specs.Roles.{occurs}
 use Rattle.mz_scope_names.specs.Occurrences.{of_case, in_item}
 use Rattle.mz_scope_names.specs.Given.{with_identifier, identifiers, cases_in, enum_of, listed, in_given, occurrences}
 use Rattle.mz_scope_names.specs.Sets.{holds}
-use Rattle.mz_data_names.specs.Named.{names_in, names_in_all, IsGivenWithin}
+use Rattle.mz_tree.specs.Named.{names_in, names_in_all, IsGivenWithin}
 use Rattle.mz_scope.proofs.Parting.{or_none}
 
 module _ (count : ℕ) where

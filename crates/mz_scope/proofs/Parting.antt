@@ -15,10 +15,10 @@ use Rattle.mz_scope_names.specs.Occurrences.{is_par, in_tree, in_maybe, in_writt
 use Rattle.mz_scope_names.specs.Given.{cases_in, enum_of, listed, in_given, occurrences}
 use Rattle.mz_scope_names.specs.Sets.{holds}
 use Rattle.mz_scope_names.proofs.Lists.{flat_of_both}
-use Rattle.mz_scope_uses.specs.Sketches.{has_parameters}
+use Rattle.mz_scope_names.specs.Sketches.{has_parameters}
 use Rattle.mz_scope_order.specs.Parts.{declared_in, function_in, cases_at, given_cases, enum_in, enums_of, name_of}
 use Rattle.mz_scope_order.specs.Scoped.{enum_names, name_unless, bare_name}
-use Rattle.mz_scope_faults.specs.Spaces.{declares, gives, name_in, names_with}
+use Rattle.mz_scope.specs.Spaces.{declares, gives, name_in, names_with}
 use Rattle.mz_scope.proofs.Counting.{one_if, count, total, counted_both, counted_flat, total_sum, total_same, total_most, none_counted, flat_flat}
 use Rattle.mz_scope.proofs.Inner.{expression_bare, maybe_bare, written_bare, parameters_bare, goal_bare, bare_both}
 

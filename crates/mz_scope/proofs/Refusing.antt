@@ -1,7 +1,7 @@
 -- The second solve item.
 use Rattle.std.proofs.Common.{◌≡◌, ◌≤◌, List, [], ◌∷◌, Some, refl, length, get_or, arith}
 use Rattle.mz_base.specs.declared.fault.Span.{Span}
-use Rattle.mz_scope_faults.specs.Tests.{solve_fault}
+use Rattle.mz_scope.specs.Tests.{solve_fault}
 
 pub second_there : (end d : Span) (ss : List Span) → 2 ≤ length ss → Some (get_or ss 1 d) ≡ solve_fault end ss
 second_there end d [] h = absurd (omega (arith, h))

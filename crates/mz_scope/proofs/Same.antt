@@ -5,7 +5,7 @@ use Rattle.mz_scope_names.specs.declared.occurrence.Occurrence.{Occurrence}
 use Rattle.mz_scope_names.specs.declared.occurrence.Role.{Role}
 use Rattle.mz_scope_names.specs.declared.occurrence.Role.TheVariants.{Declared, Overloaded, Valued, Used, Local, Lacking, Wanting, Caseless, Listed, Misfit}
 use Rattle.mz_scope_names.specs.Sets.{holds}
-use Rattle.mz_scope_faults.specs.Tests.{first, unknown_as, is_unknown, missing_as, is_missing}
+use Rattle.mz_scope.specs.Tests.{first, unknown_as, is_unknown, missing_as, is_missing}
 
 pub same_first : (f g : Occurrence → Bool) → ((o : Occurrence) → f o ≡ g o) → (os : List Occurrence) → first f os ≡ first g os
 unfolding first

@@ -11,8 +11,8 @@ use Rattle.mz_scope_names.specs.declared.occurrence.Role.{Role}
 use Rattle.mz_scope_names.specs.declared.occurrence.Role.TheVariants.{Declared, Overloaded, Valued, Used, Local, Lacking, Wanting, Caseless, Listed, Misfit}
 use Rattle.mz_scope_names.specs.Sets.{holds}
 use Rattle.mz_scope_names.proofs.Lists.{flat_of_both}
-use Rattle.mz_scope_faults.specs.Spaces.{declares, gives, name_in, names_with}
-use Rattle.mz_scope_faults.specs.Tests.{is_repeated, unknown_as, is_unknown, first, first_after, or_refused}
+use Rattle.mz_scope.specs.Spaces.{declares, gives, name_in, names_with}
+use Rattle.mz_scope.specs.Tests.{is_repeated, unknown_as, is_unknown, first, first_after, or_refused}
 use Rattle.mz_scope.proofs.Counting.{one_if, count, counted_both, none_counted}
 
 -- one occurrence passes, and the rest

@@ -1,7 +1,7 @@
 -- The order of evaluation of what stands in memory is that of the parts.
 use Rattle.std.proofs.Common.{◌≡◌, List, ap, ◌∙◌, map, subst}
-use Rattle.mz_scope_uses.specs.declared.sketch.Sketch.{Sketch as CodeSketch}
-use Rattle.mz_scope_uses.specs.Sketches.{Sketch, sketch}
+use Rattle.mz_scope_names.specs.declared.sketch.Sketch.{Sketch as CodeSketch}
+use Rattle.mz_scope_names.specs.Sketches.{Sketch, sketch}
 use Rattle.mz_scope_order.specs.declared.sequence.Sequence.{Sequence}
 use Rattle.mz_scope_order.specs.Answer.{IsAnswer}
 

@@ -11,7 +11,7 @@ use Rattle.mz_scope_names.specs.declared.occurrence.Occurrence.{Occurrence}
 use Rattle.mz_scope_names.specs.Given.{occurrences}
 use Rattle.mz_scope_names.specs.StepsWalk.{items_of}
 use Rattle.mz_scope_names.proofs.Gathered.{files_flat}
-use Rattle.mz_scope_faults.specs.Tests.{AreNamed, known_in, refusal, refusal_of, solve_in, end_of}
+use Rattle.mz_scope.specs.Tests.{AreNamed, known_in, refusal, refusal_of, solve_in, end_of}
 
 pub named_here : (texts : List (List ℕ)) (fs : List SourceFile) (ds : List DataItem) (os read : List Occurrence) → AreNamed texts (occurrences (items_of fs) (map given ds)) → os ≡ occurrences (items_of fs) (map given ds) → read ≡ os → AreNamed texts read
 named_here texts fs ds os read h p q = subst (λ z. AreNamed texts z) (sym (q ∙ p)) h

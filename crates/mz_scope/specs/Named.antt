@@ -2,7 +2,7 @@
 use Rattle.std.specs.Prelude.{ℕ, ◌<◌, List, All}
 use Rattle.mz_tree.specs.Items.{ItemTree}
 use Rattle.mz_tree.specs.Data.{Given}
-use Rattle.mz_data_names.specs.Named.{IsGivenWithin}
+use Rattle.mz_tree.specs.Named.{IsGivenWithin}
 use Rattle.mz_scope_names.specs.Occurrences.{in_item}
 use Rattle.mz_scope_names.specs.Given.{occurrences}
 

@@ -5,7 +5,7 @@ use Rattle.mz_tree.specs.declared.source.SourceFile.{SourceFile}
 use Rattle.mz_tree.specs.declared.data.DataItem.{DataItem}
 use Rattle.mz_scope_names.specs.StepsWalk.{items_of}
 use Rattle.mz_scope_order.specs.Scoped.{IsCyclic}
-use Rattle.mz_scope_faults.specs.Tests.{refusal_of}
+use Rattle.mz_scope.specs.Tests.{refusal_of}
 
 -- what the tests of names find, or, where they find nothing, a cycle
 pub data IsRefused (texts : List (List ℕ)) (fs : List SourceFile) (ds : List DataItem) (f : Fault) : Type 0 where

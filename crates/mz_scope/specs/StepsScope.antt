@@ -3,7 +3,7 @@ use Rattle.std.specs.Prelude.{◌≡◌, ℕ, List, map}
 use Rattle.mz_base.specs.declared.fault.Fault.{Fault}
 use Rattle.mz_base.specs.declared.kind.Kind.TheVariants.{Cyclic}
 use Rattle.mz_base.specs.Faults.{fault_at}
-use Rattle.mz_scope_uses.specs.Sketches.{decl_sketch, function_sketch}
+use Rattle.mz_scope_names.specs.Sketches.{decl_sketch, function_sketch}
 use Rattle.mz_scope_order.specs.Dependencies.{IsSequence, IsStuckAt, IsBackAt}
 use Rattle.mz_scope_order.specs.Parts.{place_of, decl_at, function_at}
 use Rattle.mz_scope_order.specs.Scoped.{ScopedTree, in_order}

@@ -1,13 +1,13 @@
 // The tests of names, in their order.
 
 ghost use Rattle.std.specs.Prelude.{◌≡◌, IfOk};
-ghost use Rattle.mz_scope_faults.specs.Tests.{known_in, solve_fault, refusal, refusal_after_solves, first_unknown_of, first_missing_of, AreNamed};
+ghost use Rattle.mz_scope.specs.Tests.{known_in, solve_fault, refusal, refusal_after_solves, first_unknown_of, first_missing_of, AreNamed};
 
-use mz_base::{Fault, Kind, Memory, Names, Span};
-use mz_scope_faults::{
+use crate::{
     bound_names, declared_names, first_misfit, first_missing, first_repeated, first_reserved,
     first_unknown, listed_names, valued_names,
 };
+use mz_base::{Fault, Kind, Memory, Names, Span};
 use mz_scope_names::Occurrence;
 use std::alloc::Global;
 

@@ -7,14 +7,14 @@ ghost use Rattle.mz_base.specs.declared.stop.Stop.TheVariants.{Refused};
 ghost use Rattle.mz_tree.specs.Data.{given};
 ghost use Rattle.mz_scope_names.specs.Given.{occurrences};
 ghost use Rattle.mz_scope_names.specs.StepsWalk.{items_of};
-ghost use Rattle.mz_scope_uses.specs.Sketches.{decl_sketch, function_sketch};
+ghost use Rattle.mz_scope_names.specs.Sketches.{decl_sketch, function_sketch};
 ghost use Rattle.mz_scope_order.specs.Answer.{IsAnswer};
 ghost use Rattle.mz_scope_order.specs.Dependencies.{AreDeclarations};
 ghost use Rattle.mz_scope_order.specs.Scoped.{scoped_tree, parts_tree, IsScoped, AreRanked};
 ghost use Rattle.mz_scope_order.specs.Subjects.{subject, IsOrderOf};
 ghost use Rattle.mz_scope.specs.Scope.{IsRefused};
 ghost use Rattle.mz_scope.specs.StepsScope.{IsArranged, HasCycle};
-ghost use Rattle.mz_scope_faults.specs.Tests.{AreNamed, refusal_of};
+ghost use Rattle.mz_scope.specs.Tests.{AreNamed, refusal_of};
 
 use crate::testing::test_names;
 use mz_base::{Fault, Kind, Memory, Names, Span, Stop};

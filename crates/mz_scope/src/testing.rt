@@ -5,11 +5,11 @@ ghost use Rattle.mz_base.specs.Faults.{IfRefused};
 ghost use Rattle.mz_tree.specs.Data.{given};
 ghost use Rattle.mz_scope_names.specs.Given.{occurrences};
 ghost use Rattle.mz_scope_names.specs.StepsWalk.{items_of};
-ghost use Rattle.mz_scope_faults.specs.Tests.{AreNamed, refusal_of};
+ghost use Rattle.mz_scope.specs.Tests.{AreNamed, refusal_of};
 
 use crate::refusals::refusal;
+use crate::{end_of, solves_of};
 use mz_base::{Fault, Memory, Names, Stop};
-use mz_scope_faults::{end_of, solves_of};
 use mz_scope_names::occurrences;
 use mz_tree::{Data, Sources};
 use std::alloc::Global;

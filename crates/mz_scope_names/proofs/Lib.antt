@@ -5,3 +5,7 @@ pub mod Identifiers
 pub mod Lists
 pub mod Seen
 pub mod Spots
+pub mod Extending
+pub mod UsesLists
+pub mod Parts
+pub mod UsesSeen

@@ -4,3 +4,6 @@ pub mod Occurrences
 pub mod Roles
 pub mod Sets
 pub mod StepsWalk
+pub mod Sketches
+pub mod Uses
+pub mod Valued

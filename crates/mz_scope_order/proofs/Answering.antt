@@ -3,7 +3,7 @@ use Rattle.std.proofs.Common.{◌≡◌, ◌∙◌, ℕ, ◌+◌, ◌-◌, ◌<�
 use Rattle.mz_graph.specs.Graph.{Graph, number_of}
 use Rattle.mz_graph.specs.Order.{IsOrder, IsComplete, IsFirstLeft}
 use Rattle.mz_graph.specs.Depends.{DependsOn, IsWholeOrder, IsCyclicAt, NoneOnCycle, IsFirstOnCycle, HaveComponents}
-use Rattle.mz_scope_uses.specs.Sketches.{Sketch}
+use Rattle.mz_scope_names.specs.Sketches.{Sketch}
 use Rattle.mz_scope_order.specs.Answer.{AreOrders}
 use Rattle.mz_scope_order.specs.Dependencies.{sketch_at, Depends, LeadsBack, AreDeclarations, IsSequence, IsStuckAt, IsBackAt}
 use Rattle.mz_scope_order.specs.StepsGraphs.{node_of, base_of, AreGraphs}

@@ -5,8 +5,8 @@ use Rattle.mz_graph.specs.Graph.{Graph, heads, IsIn, Edge, number_of}
 use Rattle.mz_graph.proofs.Membership.{below_or_not, in_front, in_back, in_either}
 use Rattle.mz_graph.specs.Members.{IsMember}
 use Rattle.mz_graph.proofs.Joining.{both_sized, in_first, in_second}
-use Rattle.mz_scope_uses.specs.declared.name_use.NameUse.{NameUse}
-use Rattle.mz_scope_uses.specs.Sketches.{Sketch, all_of}
+use Rattle.mz_scope_names.specs.declared.name_use.NameUse.{NameUse}
+use Rattle.mz_scope_names.specs.Sketches.{Sketch, all_of}
 use Rattle.mz_scope_order.specs.Dependencies.{sketch_at, meant_by, IsUsed, RefersTo, AreDeclarations}
 use Rattle.mz_scope_order.specs.StepsFaithful.{IsName, AreFaithful, HasTypes, of_function, of_decl, to_name, to_decl, AreTypes}
 use Rattle.mz_scope_order.specs.StepsPlaces.{names_in, callee, or_zero}

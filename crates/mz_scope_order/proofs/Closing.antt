@@ -5,7 +5,7 @@ use Rattle.mz_graph.specs.Graph.{Graph, heads, IsIn, IsGraph}
 use Rattle.mz_graph.proofs.Membership.{below_or_not, in_either}
 use Rattle.mz_graph.specs.Depends.{AreUses}
 use Rattle.mz_graph.proofs.Joining.{both_sized, in_second}
-use Rattle.mz_scope_uses.specs.Sketches.{Sketch, all_of}
+use Rattle.mz_scope_names.specs.Sketches.{Sketch, all_of}
 use Rattle.mz_scope_order.specs.Dependencies.{sketch_at, AreDeclarations}
 use Rattle.mz_scope_order.specs.StepsFaithful.{of_function, of_decl}
 use Rattle.mz_scope_order.specs.StepsGraphs.{name_count, base_of, called_by, mentioned_by, AreGraphs}

@@ -3,8 +3,8 @@ use Rattle.std.proofs.Common.{◌≡◌, ℕ, zero, suc, ◌+◌, ◌<◌, List,
 use Rattle.mz_graph.specs.Graph.{Graph, Edge, IsIn}
 use Rattle.mz_graph.specs.Order.{Continues, over, turn, IsOrder}
 use Rattle.mz_graph.proofs.Membership.{in_or_not, in_front}
-use Rattle.mz_scope_uses.specs.declared.name_use.NameUse.{NameUse}
-use Rattle.mz_scope_uses.specs.Sketches.{Sketch}
+use Rattle.mz_scope_names.specs.declared.name_use.NameUse.{NameUse}
+use Rattle.mz_scope_names.specs.Sketches.{Sketch}
 use Rattle.mz_scope_order.specs.Dependencies.{sketch_at, RefersTo, AreRanks}
 use Rattle.mz_scope_order.specs.StepsFaithful.{IsName, of_function, of_decl, TypeEdge, to_name, to_decl, AreTypes}
 

@@ -8,9 +8,9 @@ use Rattle.mz_graph.specs.Graph.{IsIn}
 use Rattle.mz_graph.proofs.Membership.{in_at}
 use Rattle.mz_scope_names.specs.Sets.{holds, with_name, place_of}
 use Rattle.mz_scope_names.proofs.Holding.{holds_more}
-use Rattle.mz_scope_uses.specs.declared.name_use.NameUse.{NameUse}
-use Rattle.mz_scope_uses.specs.declared.name_use.NameUse.TheVariants.{Mention, Call}
-use Rattle.mz_scope_uses.specs.Sketches.{Sketch}
+use Rattle.mz_scope_names.specs.declared.name_use.NameUse.{NameUse}
+use Rattle.mz_scope_names.specs.declared.name_use.NameUse.TheVariants.{Mention, Call}
+use Rattle.mz_scope_names.specs.Sketches.{Sketch}
 use Rattle.mz_scope_order.specs.Dependencies.{sketch_at, meant_by, IsUsed, RefersTo, AreDeclarations}
 use Rattle.mz_scope_order.specs.StepsPlaces.{if_in, names_in, mentioned, mentions_in}
 use Rattle.mz_scope_order.proofs.Placing.{from_row, to_row, place_there, place_within, place_holds}

@@ -4,8 +4,8 @@ use Rattle.mz_graph.specs.Graph.{Graph, Edge, Path, arrived, onward}
 use Rattle.mz_graph.specs.Order.{IsOrder}
 use Rattle.mz_graph.specs.Depends.{DependsOn, directly, by_call, IsOnCycle}
 use Rattle.mz_graph.specs.Depends as graph
-use Rattle.mz_scope_uses.specs.declared.name_use.NameUse.{NameUse}
-use Rattle.mz_scope_uses.specs.Sketches.{Sketch, all_of}
+use Rattle.mz_scope_names.specs.declared.name_use.NameUse.{NameUse}
+use Rattle.mz_scope_names.specs.Sketches.{Sketch, all_of}
 use Rattle.mz_scope_order.specs.Dependencies.{sketch_at, RefersTo, LeadsTo, itself, through, Depends, TypesLeadTo, called, by_decl, by_function, LeadsBack}
 use Rattle.mz_scope_order.specs.StepsFaithful.{AreFaithful, HasTypes, of_function, of_decl, to_name, to_decl, AreTypes}
 use Rattle.mz_scope_order.proofs.Turns.{same_turns}

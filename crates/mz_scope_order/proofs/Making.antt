@@ -9,8 +9,8 @@ use Rattle.mz_graph.specs.Depends.{NoneOnCycle, IsFirstOnCycle}
 use Rattle.mz_graph.specs.Evaluation.{IsEvaluation}
 use Rattle.mz_graph.specs.declared.evaluation.Evaluation.{Evaluation}
 use Rattle.mz_scope_names.specs.Sets.{holds, with_name}
-use Rattle.mz_scope_uses.specs.declared.sketch.Sketch.{Sketch as CodeSketch}
-use Rattle.mz_scope_uses.specs.Sketches.{Sketch, sketch}
+use Rattle.mz_scope_names.specs.declared.sketch.Sketch.{Sketch as CodeSketch}
+use Rattle.mz_scope_names.specs.Sketches.{Sketch, sketch}
 use Rattle.mz_scope_order.specs.Dependencies.{meant_by}
 use Rattle.mz_scope_order.specs.StepsPlaces.{if_in, names_in, callee, or_zero}
 use Rattle.mz_scope_order.specs.StepsGraphs.{name_count, base_of, numbers_of, numbers_by, call_rows, mention_rows, type_rows, HasMembers, HasMembersBetween, AreGraphs}

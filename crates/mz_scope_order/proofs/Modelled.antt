@@ -1,7 +1,7 @@
 -- An order of types by what declarations and functions use is one of the scoped model that they are of.
 use Rattle.std.proofs.Common.{◌≡◌, ℕ, ◌<◌, List, [], ◌∷◌, ◌++◌, map, length, sym, ap, subst}
 use Rattle.std.proofs.lemmas.List.{length-map, get_or-map}
-use Rattle.mz_scope_uses.specs.Sketches.{Sketch, decl_sketch, function_sketch}
+use Rattle.mz_scope_names.specs.Sketches.{Sketch, decl_sketch, function_sketch}
 use Rattle.mz_scope_order.specs.Dependencies.{sketch_at}
 use Rattle.mz_scope_order.specs.Parts.{decl_at, function_at}
 use Rattle.mz_scope_order.specs.Scoped.{ScopedTree}

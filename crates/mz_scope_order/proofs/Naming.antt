@@ -6,8 +6,8 @@ use Rattle.std.proofs.lemmas.Bool.{ne_eqb}
 use Rattle.mz_graph.specs.Graph.{IsIn}
 use Rattle.mz_graph.proofs.Membership.{same_or_not, in_front, in_last}
 use Rattle.mz_scope_names.specs.Sets.{holds, with_name, place_of}
-use Rattle.mz_scope_uses.specs.declared.name_use.NameUse.TheVariants.{Mention, Call}
-use Rattle.mz_scope_uses.specs.Sketches.{Sketch}
+use Rattle.mz_scope_names.specs.declared.name_use.NameUse.TheVariants.{Mention, Call}
+use Rattle.mz_scope_names.specs.Sketches.{Sketch}
 use Rattle.mz_scope_order.specs.Dependencies.{sketch_at, meant_by}
 use Rattle.mz_scope_order.specs.StepsPlaces.{if_in, names_in, callee, or_zero}
 use Rattle.mz_scope_order.proofs.Placing.{place_there}

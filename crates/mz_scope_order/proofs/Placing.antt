@@ -7,8 +7,8 @@ use Rattle.std.specs.Option.{option_map}
 use Rattle.std.proofs.lemmas.Bool.{eqb-true, eq-eqb, ne_eqb, lt-ltb}
 use Rattle.mz_graph.specs.Graph.{IsIn}
 use Rattle.mz_graph.proofs.Membership.{same_or_not, in_front, in_back, in_either}
-use Rattle.mz_scope_uses.specs.declared.name_use.NameUse.{NameUse}
-use Rattle.mz_scope_uses.specs.declared.name_use.NameUse.TheVariants.{Mention, Call}
+use Rattle.mz_scope_names.specs.declared.name_use.NameUse.{NameUse}
+use Rattle.mz_scope_names.specs.declared.name_use.NameUse.TheVariants.{Mention, Call}
 use Rattle.mz_scope_order.specs.Dependencies.{IsUsed}
 use Rattle.mz_scope_names.specs.Sets.{place_of}
 use Rattle.mz_scope_order.specs.StepsPlaces.{callee, raised_from}

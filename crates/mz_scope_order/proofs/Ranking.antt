@@ -5,8 +5,8 @@ use Rattle.std.proofs.lemmas.Bool.{eq-eqb, ne_eqb}
 use Rattle.mz_graph.specs.Graph.{Graph, IsIn, Edge, IsGraph, Path, arrived, onward, AreComponents, number_of}
 use Rattle.mz_graph.specs.Order.{Continues, turn, IsOrder, IsComplete}
 use Rattle.mz_graph.proofs.Membership.{below_or_not, same_or_not, old_or_last}
-use Rattle.mz_scope_uses.specs.declared.name_use.NameUse.{NameUse}
-use Rattle.mz_scope_uses.specs.Sketches.{Sketch}
+use Rattle.mz_scope_names.specs.declared.name_use.NameUse.{NameUse}
+use Rattle.mz_scope_names.specs.Sketches.{Sketch}
 use Rattle.mz_scope_order.specs.Dependencies.{sketch_at, IsUsed, RefersTo, itself, Depends, LeadsBack, AreRanks}
 use Rattle.mz_scope_order.specs.StepsFaithful.{IsName, of_function, of_decl, to_name, to_decl, AreTypes}
 use Rattle.mz_scope_order.proofs.Following.{steps, leads}

@@ -5,8 +5,8 @@ use Rattle.std.proofs.lemmas.List.{length-map, get_or-map, map-append}
 use Rattle.mz_graph.specs.Graph.{IsIn, number_of}
 use Rattle.mz_graph.specs.Order.{IsComplete}
 use Rattle.mz_graph.proofs.Membership.{in_at, place_of}
-use Rattle.mz_scope_uses.specs.declared.name_use.NameUse.{NameUse}
-use Rattle.mz_scope_uses.specs.Sketches.{Sketch}
+use Rattle.mz_scope_names.specs.declared.name_use.NameUse.{NameUse}
+use Rattle.mz_scope_names.specs.Sketches.{Sketch}
 use Rattle.mz_scope_order.specs.Dependencies.{sketch_at, meant_by, IsUsed, RefersTo}
 use Rattle.mz_scope_order.specs.StepsSubjects.{ArePlaces, subject_at, subjects_in}
 use Rattle.mz_scope_order.specs.Subjects.{Subject, of_decl, of_function, IsAmong, AreOnce, IsCounted, AreCounted, AreBefore, ComeAfter, types_of, IsTypeSequence}

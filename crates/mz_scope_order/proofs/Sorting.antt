@@ -7,8 +7,8 @@ use Rattle.std.proofs.lemmas.Grind.{flat_map-append}
 use Rattle.mz_graph.specs.Graph.{Graph, Edge, IsIn}
 use Rattle.mz_graph.specs.Order.{Continues, turn, IsOrder}
 use Rattle.mz_graph.proofs.Membership.{below_or_not, old_or_last, in_front, in_last}
-use Rattle.mz_scope_uses.specs.declared.name_use.NameUse.{NameUse}
-use Rattle.mz_scope_uses.specs.Sketches.{Sketch}
+use Rattle.mz_scope_names.specs.declared.name_use.NameUse.{NameUse}
+use Rattle.mz_scope_names.specs.Sketches.{Sketch}
 use Rattle.mz_scope_order.specs.Dependencies.{HaveRanks}
 use Rattle.mz_scope_order.specs.StepsFaithful.{HasTypes, of_function as on_function, of_decl as on_decl, AreTypes}
 use Rattle.mz_scope_order.specs.Subjects.{Subject, of_decl, of_function, IsAmong, AreOnce, IsCounted, AreCounted, AreBefore, ComeAfter, types_of, IsTypeSequence}

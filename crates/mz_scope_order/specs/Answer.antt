@@ -1,6 +1,6 @@
 -- The answer to the question in which order a model's declarations are evaluated, and in which order types are typed.
 use Rattle.std.specs.Prelude.{ℕ, List, map}
-use Rattle.mz_scope_uses.specs.Sketches.{Sketch}
+use Rattle.mz_scope_names.specs.Sketches.{Sketch}
 use Rattle.mz_scope_order.specs.declared.sequence.Sequence.{Sequence}
 use Rattle.mz_scope_order.specs.declared.sequence.Sequence.TheVariants.{Ordered, CyclicDecl, CyclicFunction}
 use Rattle.mz_scope_order.specs.Dependencies.{sketch_at, IsSequence, IsStuckAt, IsBackAt}

@@ -1,9 +1,9 @@
 -- Which declarations a declaration depends on, what the types of a function lead to, and in which order declarations are evaluated.
 use Rattle.std.specs.Prelude.{◌≡◌, ℕ, ◌<◌, List, [], ◌∷◌, ◌⊎◌, false, if◌then◌else◌, length, slice_index_or}
 use Rattle.mz_graph.specs.Order.{IsOrder, IsComplete, IsFirstLeft}
-use Rattle.mz_scope_uses.specs.declared.name_use.NameUse.{NameUse}
-use Rattle.mz_scope_uses.specs.declared.name_use.NameUse.TheVariants.{Mention, Call}
-use Rattle.mz_scope_uses.specs.Sketches.{Sketch, all_of}
+use Rattle.mz_scope_names.specs.declared.name_use.NameUse.{NameUse}
+use Rattle.mz_scope_names.specs.declared.name_use.NameUse.TheVariants.{Mention, Call}
+use Rattle.mz_scope_names.specs.Sketches.{Sketch, all_of}
 
 -- Declarations and functions are known by their numbers in two lists, each in source order.
 abbrev pub sketch_at : List Sketch → ℕ → Sketch

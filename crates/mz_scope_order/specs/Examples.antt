@@ -1,7 +1,7 @@
 -- Worked examples: small models, what depends on what, and what leads back.
 use Rattle.std.proofs.Common.{[], ◌∷◌, List, refl, inl, inr, true, false, arith}
-use Rattle.mz_scope_uses.specs.declared.name_use.NameUse.TheVariants.{Mention, Call}
-use Rattle.mz_scope_uses.specs.Sketches.{Sketch}
+use Rattle.mz_scope_names.specs.declared.name_use.NameUse.TheVariants.{Mention, Call}
+use Rattle.mz_scope_names.specs.Sketches.{Sketch}
 use Rattle.mz_scope_order.specs.Dependencies.{Depends, itself, through, called, by_decl, LeadsBack, RefersTo}
 
 -- `int: a = f(1); function int: f(int: x) = b; int: b = 2`, with a, f and b as 0, 1 and 2

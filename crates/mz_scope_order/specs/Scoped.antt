@@ -17,7 +17,7 @@ use Rattle.mz_tree.specs.Items.{GoalTree, FunctionTree, ItemTree, function_of, g
 use Rattle.mz_tree.specs.Views.{tree, written}
 use Rattle.mz_tree.specs.Data.{Given, given}
 use Rattle.mz_scope_names.specs.Sets.{holds}
-use Rattle.mz_scope_uses.specs.Sketches.{Sketch, decl_sketch, function_sketch, has_parameters}
+use Rattle.mz_scope_names.specs.Sketches.{Sketch, decl_sketch, function_sketch, has_parameters}
 use Rattle.mz_scope_order.specs.Dependencies.{IsSequence, IsStuckAt, IsBackAt, AreRanks}
 use Rattle.mz_scope_order.specs.declared.parts.ModelParts.{ModelParts}
 use Rattle.mz_scope_order.specs.declared.scoped.Scoped.{Scoped}

@@ -2,8 +2,8 @@
 -- The functions are the first nodes; a later node of `calls` stands for a name of functions, and leads to all functions of that name.
 use Rattle.std.specs.Prelude.{◌≡◌, ℕ, ◌+◌, ◌<◌, ◌≤◌, List, length}
 use Rattle.mz_graph.specs.Graph.{Graph, Edge}
-use Rattle.mz_scope_uses.specs.declared.name_use.NameUse.{NameUse}
-use Rattle.mz_scope_uses.specs.Sketches.{Sketch, all_of}
+use Rattle.mz_scope_names.specs.declared.name_use.NameUse.{NameUse}
+use Rattle.mz_scope_names.specs.Sketches.{Sketch, all_of}
 use Rattle.mz_scope_order.specs.Dependencies.{sketch_at, RefersTo}
 
 -- a node for a name, all of whose functions these uses mean

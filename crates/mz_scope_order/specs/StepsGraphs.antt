@@ -4,8 +4,8 @@
 use Rattle.std.specs.Prelude.{◌≡◌, ℕ, ◌+◌, List, [], ◌++◌, true, false, length, map, replicate}
 use Rattle.mz_graph.specs.Graph.{Graph, number_of}
 use Rattle.mz_graph.specs.Members.{AreMembers}
-use Rattle.mz_scope_uses.specs.declared.name_use.NameUse.{NameUse}
-use Rattle.mz_scope_uses.specs.Sketches.{Sketch, all_of}
+use Rattle.mz_scope_names.specs.declared.name_use.NameUse.{NameUse}
+use Rattle.mz_scope_names.specs.Sketches.{Sketch, all_of}
 use Rattle.mz_scope_order.specs.Dependencies.{meant_by}
 use Rattle.mz_scope_order.specs.StepsPlaces.{names_in, callee, callees_in, mentions_in, or_zero}
 

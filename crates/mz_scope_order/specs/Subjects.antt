@@ -1,8 +1,8 @@
 -- Declarations and functions as what has types, and the orders in which their types can be typed: each after those that its types
 -- refer to.
 use Rattle.std.specs.Prelude.{◌≡◌, ◌⊎◌, ℕ, ◌<◌, List, [], ◌∷◌, ◌++◌, length, map}
-use Rattle.mz_scope_uses.specs.declared.name_use.NameUse.{NameUse}
-use Rattle.mz_scope_uses.specs.Sketches.{Sketch, decl_sketch, function_sketch}
+use Rattle.mz_scope_names.specs.declared.name_use.NameUse.{NameUse}
+use Rattle.mz_scope_names.specs.Sketches.{Sketch, decl_sketch, function_sketch}
 use Rattle.mz_scope_order.specs.Dependencies.{sketch_at, RefersTo}
 use Rattle.mz_scope_order.specs.Parts.{decl_at, function_at}
 use Rattle.mz_scope_order.specs.Scoped.{ScopedTree}

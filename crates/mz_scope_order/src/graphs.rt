@@ -2,14 +2,14 @@
 
 ghost use Rattle.std.specs.Prelude.{◌≡◌, ℕ, ◌+◌, ◌<◌, ◌^◌, ◌++◌, [], length, map, replicate, IfOk};
 ghost use Rattle.mz_graph.specs.Graph.{graph_of, number_of};
-ghost use Rattle.mz_scope_uses.specs.Sketches.{sketch};
+ghost use Rattle.mz_scope_names.specs.Sketches.{sketch};
 ghost use Rattle.mz_scope_order.specs.StepsGraphs.{call_rows, mention_rows, type_rows, HasMembers, HasMembersBetween, AreTables, AreGraphs};
 
 use crate::listing::{call_rows, mention_rows, type_rows};
 use crate::tables::Tables;
 use mz_base::Memory;
 use mz_graph::{empty_rows, members_of};
-use mz_scope_uses::Sketch;
+use mz_scope_names::Sketch;
 use std::alloc::Global;
 
 /// The graphs of dependencies.

@@ -4,7 +4,7 @@ ghost use Rattle.std.specs.Prelude.{◌≡◌, ℕ, ◌+◌, ◌<◌, List, leng
 ghost use Rattle.mz_graph.specs.Graph.{Graph, IsGraph, AreComponents, number_of};
 ghost use Rattle.mz_graph.specs.Order.{IsOrder, IsComplete};
 ghost use Rattle.mz_graph.specs.Depends.{DependsOn, IsOnCycle, AreUses, IsWholeOrder, IsCyclicAt, NoneOnCycle, IsFirstOnCycle, HaveComponents};
-ghost use Rattle.mz_scope_uses.specs.Sketches.{Sketch};
+ghost use Rattle.mz_scope_names.specs.Sketches.{Sketch};
 ghost use Rattle.mz_scope_order.specs.Dependencies.{Depends, LeadsBack, AreRanks, AreDeclarations, IsSequence, IsStuckAt, IsBackAt};
 ghost use Rattle.mz_scope_order.specs.StepsFaithful.{AreFaithful, AreTypes};
 ghost use Rattle.mz_scope_order.specs.StepsGraphs.{node_of, base_of, AreGraphs};

@@ -2,13 +2,13 @@
 
 ghost use Rattle.std.specs.Prelude.{◌≡◌, ◌+◌, ◌<◌, ◌^◌, ◌++◌, length, map, IfOk, OnOk};
 ghost use Rattle.mz_graph.specs.Graph.{graph_of};
-ghost use Rattle.mz_scope_uses.specs.Sketches.{sketch, all_of};
+ghost use Rattle.mz_scope_names.specs.Sketches.{sketch, all_of};
 ghost use Rattle.mz_scope_order.specs.StepsPlaces.{callee, mentioned, raised_from, callees_in, mentions_in};
 ghost use Rattle.mz_scope_order.specs.StepsGraphs.{call_rows, mention_rows, type_rows};
 
 use crate::tables::Tables;
 use mz_base::Memory;
-use mz_scope_uses::{NameUse, Sketch};
+use mz_scope_names::{NameUse, Sketch};
 use std::alloc::Global;
 
 /// Adds the name of a function that a use means, numbered from `first` on.

@@ -1,12 +1,11 @@
 // The names of declarations or functions, and the place of each.
 
 ghost use Rattle.std.specs.Prelude.{◌≡◌, [], map, IfOk, OnOk};
-ghost use Rattle.mz_scope_uses.specs.Sketches.{sketch};
+ghost use Rattle.mz_scope_names.specs.Sketches.{sketch};
 ghost use Rattle.mz_scope_order.specs.StepsPlaces.{if_in, names_in};
 
 use mz_base::Memory;
-use mz_scope_names::NameSet;
-use mz_scope_uses::Sketch;
+use mz_scope_names::{NameSet, Sketch};
 use std::alloc::Global;
 
 /// Adds the name of one that is in this space: of functions with parameters, or of all else.

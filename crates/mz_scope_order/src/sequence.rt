@@ -1,7 +1,7 @@
 // The orders in which a model's declarations are evaluated and its types are typed.
 
 ghost use Rattle.std.specs.Prelude.{map, IfOk};
-ghost use Rattle.mz_scope_uses.specs.Sketches.{sketch};
+ghost use Rattle.mz_scope_names.specs.Sketches.{sketch};
 ghost use Rattle.mz_scope_order.specs.Answer.{IsAnswer};
 ghost use Rattle.mz_scope_order.specs.Dependencies.{AreDeclarations};
 
@@ -10,7 +10,7 @@ use crate::subject::Subject;
 use crate::type_order::type_order;
 use mz_base::Memory;
 use mz_graph::{Evaluation, evaluation_order, first_on_cycle};
-use mz_scope_uses::Sketch;
+use mz_scope_names::Sketch;
 use std::alloc::Global;
 
 /// The order in which declarations are evaluated, or what has none.

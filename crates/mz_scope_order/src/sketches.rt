@@ -1,12 +1,12 @@
 // What declarations and functions use.
 
 ghost use Rattle.std.specs.Prelude.{◌≡◌, map, IfOk};
-ghost use Rattle.mz_scope_uses.specs.Sketches.{sketch, decl_sketch, function_sketch};
+ghost use Rattle.mz_scope_names.specs.Sketches.{sketch, decl_sketch, function_sketch};
 ghost use Rattle.mz_scope_order.specs.Scoped.{scoped_decl, lent_function};
 
 use crate::scoped::ScopedDecl;
 use mz_base::Memory;
-use mz_scope_uses::{Sketch, sketch_of_decl, sketch_of_function};
+use mz_scope_names::{Sketch, sketch_of_decl, sketch_of_function};
 use mz_tree::Function;
 use std::alloc::Global;
 

@@ -1,15 +1,14 @@
 // The names that uses are looked up in.
 
 ghost use Rattle.std.specs.Prelude.{◌≡◌, ◌+◌, ◌<◌, [], length, true, false, map, IfOk, IfSome};
-ghost use Rattle.mz_scope_uses.specs.Sketches.{sketch};
+ghost use Rattle.mz_scope_names.specs.Sketches.{sketch};
 ghost use Rattle.mz_scope_order.specs.Dependencies.{meant_by};
 ghost use Rattle.mz_scope_order.specs.StepsPlaces.{names_in, callee, mentioned, or_zero};
 ghost use Rattle.mz_scope_order.specs.StepsGraphs.{numbers_by};
 
 use crate::places::names_in;
 use mz_base::Memory;
-use mz_scope_names::NameSet;
-use mz_scope_uses::{NameUse, Sketch};
+use mz_scope_names::{NameSet, NameUse, Sketch};
 use std::alloc::Global;
 
 /// The names that uses are looked up in.

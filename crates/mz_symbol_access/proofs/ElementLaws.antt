@@ -23,14 +23,14 @@ use Rattle.mz_symbol.specs.Runs.{Run}
 use Rattle.mz_symbol.specs.Readings.{Reading, Reads, IsGiven, symbol_seen, state_of}
 use Rattle.mz_symbol.specs.Lines.{HasLists}
 use Rattle.mz_symbol.proofs.ConstantLaws.{out_value, out_state}
-use Rattle.mz_symbol_options.specs.StepsNodes.{symbol_of}
-use Rattle.mz_symbol_options.proofs.AskingLaws.{same_number}
+use Rattle.mz_symbol_rows.specs.StepsOptions.{symbol_of}
+use Rattle.mz_symbol_rows.proofs.AskingLaws.{same_number}
 use Rattle.mz_symbol_access.specs.StepsNowhere.{is_false, marked, IsLost}
 use Rattle.mz_symbol_rows.proofs.RowLaws.{truth_by, bit_true, truth_is}
-use Rattle.mz_symbol_lines.specs.LineValues.{IsLineOf}
-use Rattle.mz_symbol_lines.proofs.Given.{held_given, held_by}
-use Rattle.mz_symbol_lines.proofs.RowLaws.{items_back}
-use Rattle.mz_symbol_lines.proofs.WalkLaws.{line_defined, line_fails}
+use Rattle.mz_symbol_arrays.specs.LineValues.{IsLineOf}
+use Rattle.mz_symbol_arrays.proofs.Given.{held_given, held_by}
+use Rattle.mz_symbol_arrays.proofs.RowLaws.{items_back}
+use Rattle.mz_symbol_arrays.proofs.LineLaws.{line_defined, line_fails}
 use Rattle.mz_symbol_access.specs.AccessValues.{access_value, at_node}
 use Rattle.mz_symbol_access.specs.StepsPlace.{whole, AreIndices, places_of, placed}
 use Rattle.mz_symbol_access.specs.StepsAlone.{is_among, IsBeyond, IsReached}

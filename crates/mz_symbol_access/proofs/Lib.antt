@@ -3,3 +3,9 @@ pub mod PlaceLaws
 pub mod AloneLaws
 pub mod TruthLaws
 pub mod ElementLaws
+pub mod ChooseLaws
+pub mod StandingLaws
+pub mod ItemLaws
+pub mod LiftLaws
+pub mod LineLaws
+pub mod JoinLaws

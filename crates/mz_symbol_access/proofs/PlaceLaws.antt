@@ -17,7 +17,7 @@ use Rattle.mz_symbol.specs.Symbols.{value_by, value_at, symbol_value}
 use Rattle.mz_symbol.specs.Readings.{Reading, IsGiven, symbol_seen}
 use Rattle.mz_symbol.proofs.ConstantLaws.{out_value, out_state}
 use Rattle.mz_symbol_rows.proofs.RowLaws.{out_both}
-use Rattle.mz_symbol_lines.proofs.Given.{held_given}
+use Rattle.mz_symbol_arrays.proofs.Given.{held_given}
 use Rattle.mz_symbol_access.specs.StepsPlace.{whole, is_index, AreIndices, step_of, offset_in, joined_term, places_of, placed, place_term}
 
 -- ---- one dimension more

@@ -4,7 +4,7 @@ use Rattle.mz_value.specs.Contents.{Content}
 use Rattle.mz_core.specs.declared.types.Base.TheVariants as base
 use Rattle.mz_arena.specs.Values.{Term, as_number, holds, is_true, bit, access_term, and_term, comparison_term, guard_term, to_int_term}
 use Rattle.mz_symbol.specs.Symbols.{value_by}
-use Rattle.mz_symbol_options.proofs.MakingLaws.{whole_kept}
+use Rattle.mz_symbol_rows.proofs.MakingLaws.{whole_kept}
 use Rattle.mz_symbol_access.specs.StepsAlone.{is_among}
 use Rattle.mz_symbol_access.specs.StepsTruth.{among_term, truth_term}
 

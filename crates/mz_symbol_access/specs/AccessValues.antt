@@ -8,7 +8,7 @@ use Rattle.mz_meaning.specs.Arrays.{accessed}
 use Rattle.mz_symbol.specs.declared.types.Symbol.{Symbol}
 use Rattle.mz_symbol.specs.Readings.{Reading, symbol_seen}
 use Rattle.mz_symbol_rows.specs.RowValues.{truth_of}
-use Rattle.mz_symbol_lines.specs.LineValues.{array_argument}
+use Rattle.mz_symbol_arrays.specs.LineValues.{array_argument}
 
 -- the element of the var array with this number under these index ranges: undefined where the array is, or where an index is or lies outside
 abbrev pub access_value : Reading → List Range → ℕ → List Symbol → Option Content

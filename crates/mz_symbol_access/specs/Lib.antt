@@ -4,3 +4,9 @@ pub mod StepsAlone
 pub mod StepsTruth
 pub mod StepsElement
 pub mod StepsNowhere
+pub mod ChosenValues
+pub mod Standing
+pub mod StepsChoose
+pub mod StepsLines
+pub mod JoinValues
+pub mod StepsJoins

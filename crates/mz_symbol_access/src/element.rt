@@ -7,7 +7,7 @@ ghost use Rattle.mz_meaning.specs.Cells.{held};
 ghost use Rattle.mz_meaning.specs.Runs.{give};
 ghost use Rattle.mz_symbol.specs.Readings.{Reading, Reads, symbol_seen};
 ghost use Rattle.mz_symbol.specs.Makes.{GoesOnBy, Means};
-ghost use Rattle.mz_symbol_options.specs.StepsNodes.{symbol_of};
+ghost use Rattle.mz_symbol_rows.specs.StepsOptions.{symbol_of};
 ghost use Rattle.mz_symbol_access.specs.AccessValues.{access_charge, access_value, at_node, item_charge};
 ghost use Rattle.mz_symbol_access.specs.StepsElement.{is_number, plain_term, there_term, value_term, IsFound, IsItemAt, IsOptionAt, IsOptionOf, IsPlainAt};
 
@@ -19,7 +19,7 @@ use mz_arena::{Id, NodeKind};
 use mz_base::{Memory, Stop};
 use mz_core::Base;
 use mz_symbol::{Lists, Run, Symbol};
-use mz_symbol_lines::defined;
+use mz_symbol_arrays::lines::defined;
 use std::alloc::Global;
 
 /// The element of an array at these indices, at a node of this base, an option or not. The ranges are

@@ -1,3 +1,16 @@
 pub mod ItemLaws
 pub mod ArrayLaws
 pub mod SureLaws
+pub mod Given
+pub mod SeenLaws
+pub mod LineLaws
+pub mod RowLaws
+pub mod SumWalkLaws
+pub mod FoldLaws
+pub mod ExtremeLaws
+pub mod TruthLaws
+pub mod ClauseLaws
+pub mod UnionWalkLaws
+pub mod UnionLaws
+pub mod ProductLaws
+pub mod PowerLaws

@@ -1,3 +1,13 @@
 pub mod ArrayValues
 pub mod StepsArrays
 pub mod Sure
+pub mod LineValues
+pub mod StepsLines
+pub mod SumValues
+pub mod StepsSums
+pub mod StepsExtremes
+pub mod ClauseValues
+pub mod StepsClauses
+pub mod UnionValues
+pub mod StepsUnions
+pub mod StepsPowers

@@ -3,3 +3,9 @@ pub mod RowLaws
 pub mod ArithmeticLaws
 pub mod ConnectiveLaws
 pub mod ComparisonLaws
+pub mod OptionLaws
+pub mod AskingLaws
+pub mod EqualityLaws
+pub mod MakingLaws
+pub mod WholeLaws
+pub mod SetLaws

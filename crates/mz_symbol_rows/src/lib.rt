@@ -1,4 +1,4 @@
-// Terms of rows over symbols: arithmetic, comparisons and connectives, one function a row. A row that may be undefined makes a partial term.
+// Terms of rows over symbols of single values, options and sets, one function a row. A row that may be undefined makes a partial term.
 #![tactic(auto)]
 
 mod arithmetic;
@@ -6,6 +6,8 @@ mod comparisons;
 mod connectives;
 mod law;
 mod nodes;
+pub mod options;
+pub mod sets;
 mod sorts;
 
 pub use arithmetic::{arith, ordinal, sign};

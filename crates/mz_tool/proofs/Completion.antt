@@ -9,9 +9,9 @@ use Rattle.mz_io.specs.Sink.{Held, SinkCounts}
 use Rattle.mz_io.specs.Source.{Left}
 use Rattle.mz_tree.specs.Data.{Given}
 use Rattle.mz_include.specs.Naming.{File}
-use Rattle.mz_data.specs.WithData.{IsSourcesWithData, FailsWithData}
-use Rattle.mz_data.proofs.OneData.{one_sources, sources_or_failure}
-use Rattle.mz_data.proofs.Later.{sources_later, failure_later}
+use Rattle.mz_include.specs.WithData.{IsSourcesWithData, FailsWithData}
+use Rattle.mz_include.proofs.OneData.{one_sources, sources_or_failure}
+use Rattle.mz_include.proofs.LaterData.{sources_later, failure_later}
 use Rattle.mz_words.specs.Requests.{Settings, Asked, compile, check, print, make}
 use Rattle.fz_program.specs.Names.{Name}
 use Rattle.mz_value.specs.Contents.{absent}
@@ -21,7 +21,7 @@ use Rattle.mz_meaning.specs.Cells as cells
 use Rattle.mz_meaning.specs.Contexts.{Positive}
 use Rattle.mz_meaning.specs.Walk.{walk}
 use Rattle.mz_model_meaning.specs.Refusals.{Stops}
-use Rattle.soln_reader_items.specs.Forms.{Form}
+use Rattle.fz_items.specs.Forms.{Form}
 use Rattle.mz_print_stream.specs.Printing as printing
 use Rattle.mz_print_stream.specs.Promises.{Has}
 use Rattle.mz_print_stream.specs.declared.printed.Printed.TheVariants as ended

@@ -17,8 +17,8 @@ use Rattle.mz_meaning.specs.Walk.{Limits}
 use Rattle.mz_model_meaning.specs.Refusals as walks
 use Rattle.fz_program.specs.Names.{Name}
 use Rattle.fz_program.specs.Flat.{Program}
-use Rattle.fz_text_spell.specs.Spelling.{spelling}
-use Rattle.mz_compile.specs.Compiled.{IsCompiled, CompileEnds}
+use Rattle.fz_text.specs.Spelling.{spelling}
+use Rattle.mz_tool.specs.Compiled.{IsCompiled, CompileEnds}
 use Rattle.mz_print_model.specs.Printing.{PrintingEnds}
 use Rattle.mz_tool.specs.declared.checking.Checked.{Checked}
 use Rattle.mz_tool.specs.declared.end.End.{End}

@@ -10,3 +10,6 @@ pub mod Refusals
 pub mod Sinks
 pub mod Summaries
 pub mod TextPlaces
+pub mod Limits
+pub mod CompiledLaws
+pub mod Spelling

@@ -6,7 +6,7 @@ use Rattle.mz_base.specs.Names.{text_of}
 use Rattle.mz_io.specs.Files.{Texts}
 use Rattle.mz_io.specs.MemFiles as memory
 use Rattle.mz_io.specs.Sink.{Held}
-use Rattle.mz_io_sure.specs.SureFiles.{SureTexts, counts_of}
+use Rattle.mz_io.specs.SureFiles.{SureTexts, counts_of}
 use Rattle.mz_include.specs.declared.end.GatherEnd.{GatherEnd}
 use Rattle.mz_include.specs.declared.end.GatherEnd.TheVariants as gathered
 use Rattle.mz_include.specs.Ends as gather

@@ -6,9 +6,9 @@ use Rattle.std.proofs.lemmas.List.Elements.{All-contains}
 use Rattle.mz_base.specs.declared.fault.Fault.{Fault}
 use Rattle.mz_base.specs.declared.fault.Span.{Span}
 use Rattle.mz_base.specs.Names.{text_of}
-use Rattle.mz_data.specs.declared.gathering.SourcesWithData.{SourcesWithData}
-use Rattle.mz_data.specs.WithData.{FailsWithData, in_the_model, in_the_data}
-use Rattle.mz_data.proofs.Numbers.{failure_there as data_failure_there}
+use Rattle.mz_include.specs.declared.with_data.gathering.SourcesWithData.{SourcesWithData}
+use Rattle.mz_include.specs.WithData.{FailsWithData, in_the_model, in_the_data}
+use Rattle.mz_include.proofs.Numbers.{failure_there as data_failure_there}
 use Rattle.mz_include.specs.Views.{file}
 use Rattle.mz_include.proofs.Owners.{failure_there}
 use Rattle.mz_io.specs.Files.{Texts}
@@ -20,13 +20,13 @@ use Rattle.mz_meaning.specs.Runs.{Answer, Out, Stopped, start}
 use Rattle.mz_meaning.specs.Cells.{Given}
 use Rattle.mz_meaning.specs.Contexts.{Positive}
 use Rattle.mz_meaning.specs.Walk.{Limits, Assignment, walk}
-use Rattle.mz_meaning_places.specs.Places.{places_of}
-use Rattle.mz_meaning_places.specs.Stopping.{StopsAmong}
-use Rattle.mz_meaning_places.proofs.Walks.{walks_stop}
+use Rattle.mz_meaning_laws.specs.Places.{places_of}
+use Rattle.mz_meaning_laws.specs.Stopping.{StopsAmong}
+use Rattle.mz_meaning_laws.proofs.PlaceWalks.{walks_stop}
 use Rattle.mz_model_meaning.specs.Refusals.{Stops}
 use Rattle.mz_analysis.specs.Analysis.{IsTypedModel, IsRead, files_read, items_read, count_read}
-use Rattle.mz_analysis_places.specs.Promise.{LiesIn}
-use Rattle.mz_analysis_places.proofs.Programs.{programs_lie_in_their_files}
+use Rattle.mz_analysis.specs.PlacePromise.{LiesIn}
+use Rattle.mz_analysis.proofs.PlacePrograms.{programs_lie_in_their_files}
 use Rattle.mz_tool.specs.Status.{IsInItsOwn}
 use Rattle.mz_tool.specs.StepsChecking.{data_names}
 

@@ -11,9 +11,9 @@ use Rattle.mz_io.specs.Source.{Left}
 use Rattle.mz_include.specs.declared.end.GatherEnd.{GatherEnd}
 use Rattle.mz_include.specs.declared.end.GatherEnd.TheVariants as gathered
 use Rattle.mz_include.specs.Ends as gather
-use Rattle.mz_data.specs.declared.gathering.SourcesWithData.{SourcesWithData}
+use Rattle.mz_include.specs.declared.with_data.gathering.SourcesWithData.{SourcesWithData}
 use Rattle.mz_analysis.specs.Analysis.{file_name, files_read, items_read}
-use Rattle.mz_analysis_places.specs.Promise.{LiesIn}
+use Rattle.mz_analysis.specs.PlacePromise.{LiesIn}
 use Rattle.mz_words.specs.Requests.{Settings, print}
 use Rattle.mz_core.specs.Program.{plain_program}
 use Rattle.mz_meaning.specs.Walk.{Limits}
@@ -22,7 +22,7 @@ use Rattle.mz_print_stream.specs.Promises as promises
 use Rattle.mz_print_stream.specs.Printing as printing
 use Rattle.mz_print_stream.specs.declared.printed.Printed.{Printed}
 use Rattle.mz_print_stream.specs.declared.printed.Printed.TheVariants as ended
-use Rattle.soln_reader_items.specs.Forms.{Form}
+use Rattle.fz_items.specs.Forms.{Form}
 use Rattle.mz_print_model.specs.Printing.{HasTexts}
 use Rattle.mz_tool.specs.declared.print.TheConstants.{STREAM_LIMIT}
 use Rattle.mz_tool.specs.declared.checking.Checked.{Checked}

@@ -19,8 +19,8 @@ use Rattle.mz_include.specs.declared.end.GatherEnd.{GatherEnd}
 use Rattle.mz_include.specs.declared.end.GatherEnd.TheVariants as gathered
 use Rattle.mz_include.specs.Ends as gather
 use Rattle.mz_include.specs.Ends.{CountsRefusal}
-use Rattle.mz_data.specs.declared.gathering.SourcesWithData.{SourcesWithData}
-use Rattle.mz_data.specs.WithData.{IsSourcesWithData, FailsWithData, AreKnownWithData}
+use Rattle.mz_include.specs.declared.with_data.gathering.SourcesWithData.{SourcesWithData}
+use Rattle.mz_include.specs.WithData.{IsSourcesWithData, FailsWithData, AreKnownWithData}
 use Rattle.mz_words.specs.Requests.{Settings}
 use Rattle.fz_program.specs.Names.{Name}
 use Rattle.mz_core.specs.Program.{PlainProgram}
@@ -28,7 +28,7 @@ use Rattle.mz_meaning.specs.Walk.{Limits}
 use Rattle.mz_model_meaning.specs.Refusals.{is_walk_kind}
 use Rattle.mz_model_meaning.specs.Refusals as walks
 use Rattle.mz_analysis.specs.Analysis.{FailsTest, IsOfTests, IsRead, IsTypedModel, file_name, files_read, items_read}
-use Rattle.mz_analysis_places.specs.Promise.{LiesIn}
+use Rattle.mz_analysis.specs.PlacePromise.{LiesIn}
 use Rattle.mz_tool.specs.declared.checking.Checked.{Checked}
 use Rattle.mz_tool.specs.Headline.{limits_of}
 use Rattle.mz_tool.specs.Status.{owner_of, IsRefusal, a_file_fails, a_test_fails, not_compiled}

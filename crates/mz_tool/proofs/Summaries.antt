@@ -1,8 +1,8 @@
 -- The summary of the model that `make` makes, and the one file that it is read from.
 use Rattle.std.proofs.Common.{◌≡◌, ◌∙◌, ℕ, List, [], ◌∷◌, ◌++◌, Some, length, append_assoc, ap}
 use Rattle.fz_program.specs.Flat.{Program}
-use Rattle.fz_text_spell.specs.Spelling.{spelling}
-use Rattle.mz_io_sure.specs.SureFiles.{SureTexts}
+use Rattle.fz_text.specs.Spelling.{spelling}
+use Rattle.mz_io.specs.SureFiles.{SureTexts}
 use Rattle.mz_tool.specs.declared.end.End.TheVariants as end
 use Rattle.mz_tool.specs.Making.{made_name, model_text}
 use Rattle.mz_tool.specs.StepsCompiling.{IsWritten}

@@ -5,16 +5,16 @@ use Rattle.mz_io.specs.Files.{Texts}
 use Rattle.mz_io.specs.Sink.{Held, Adds, AddsPrefix}
 use Rattle.mz_tree.specs.Data.{Given}
 use Rattle.mz_include.specs.Naming.{File}
-use Rattle.mz_data.specs.WithData.{IsSourcesWithData}
+use Rattle.mz_include.specs.WithData.{IsSourcesWithData}
 use Rattle.mz_words.specs.Requests.{Settings, Asked, compile, check, print, make}
 use Rattle.mz_core.specs.Program.{PlainProgram}
 use Rattle.mz_meaning.specs.Walk.{Limits}
 use Rattle.fz_program.specs.Names.{Name}
 use Rattle.fz_program.specs.Flat.{Program}
-use Rattle.fz_text_spell.specs.Spelling.{Spells}
+use Rattle.fz_text.specs.Spelling.{Spells}
 use Rattle.mz_headline.specs.Keeping.{KeepsSolutions}
 use Rattle.mz_analysis.specs.Analysis.{IsTypedModel}
-use Rattle.mz_compile.specs.Compiled.{HasFront}
+use Rattle.mz_tool.specs.Compiled.{HasFront}
 use Rattle.mz_tool.specs.Making.{summary}
 use Rattle.mz_tool.specs.Words.{settings_in, texts_in}
 

@@ -10,3 +10,5 @@ pub mod StepsCompiling
 pub mod StepsPrinting
 pub mod StepsMaking
 pub mod Promises
+pub mod Compiled
+pub mod Spelled

@@ -3,10 +3,10 @@ use Rattle.std.specs.Prelude.{List}
 use Rattle.mz_io.specs.Files.{Texts}
 use Rattle.mz_tree.specs.Data.{Given}
 use Rattle.mz_include.specs.Naming.{File}
-use Rattle.mz_data.specs.WithData.{IsSourcesWithData}
+use Rattle.mz_include.specs.WithData.{IsSourcesWithData}
 use Rattle.mz_words.specs.Requests.{Settings}
 use Rattle.mz_core.specs.Program.{PlainProgram}
-use Rattle.soln_reader_items.specs.Forms.{Form}
+use Rattle.fz_items.specs.Forms.{Form}
 use Rattle.fz_program.specs.Names.{Name}
 use Rattle.mz_print_stream.specs.Printing as printing
 use Rattle.mz_print_model.specs.Printing.{HasTexts}

@@ -5,7 +5,7 @@ use Rattle.mz_io.specs.Files.{Texts}
 use Rattle.mz_io.specs.Sink.{Held}
 use Rattle.mz_io.specs.Source.{Left}
 use Rattle.mz_words.specs.Requests.{Settings}
-use Rattle.soln_reader_items.specs.Forms.{Form}
+use Rattle.fz_items.specs.Forms.{Form}
 use Rattle.fz_program.specs.Names.{Name}
 use Rattle.mz_print_stream.specs.Printing as printing
 use Rattle.mz_print_stream.specs.Promises.{Promises}

@@ -13,8 +13,8 @@ use Rattle.mz_io.specs.Source.{Left}
 use Rattle.mz_tree.specs.Data as datum
 use Rattle.mz_include.specs.Naming.{File}
 use Rattle.mz_include.specs.Sources.{IsInItsFile}
-use Rattle.mz_data.specs.DataFiles.{HasDataNumber}
-use Rattle.mz_data.specs.WithData.{IsSourcesWithData, FailsWithData, in_the_model, in_the_data}
+use Rattle.mz_include.specs.DataFiles.{HasDataNumber}
+use Rattle.mz_include.specs.WithData.{IsSourcesWithData, FailsWithData, in_the_model, in_the_data}
 use Rattle.mz_words.specs.Requests.{Settings, Asked, compile, check, print, make}
 use Rattle.mz_include.specs.Ends.{CountsRefusal}
 use Rattle.fz_program.specs.Names.{Name}
@@ -25,7 +25,7 @@ use Rattle.mz_meaning.specs.Cells.{Given}
 use Rattle.mz_meaning.specs.Contexts.{Positive}
 use Rattle.mz_meaning.specs.Walk.{Limits, Assignment, walk}
 use Rattle.mz_model_meaning.specs.Refusals.{Stops}
-use Rattle.soln_reader_items.specs.Forms.{Form}
+use Rattle.fz_items.specs.Forms.{Form}
 use Rattle.mz_print_stream.specs.Printing as printing
 use Rattle.mz_print_model.specs.Printing.{HasTexts}
 use Rattle.mz_analysis.specs.Analysis.{FailsTest, IsTypedModel, file_name}

@@ -9,8 +9,8 @@ use Rattle.mz_tree.specs.Data.{Given}
 use Rattle.mz_include.specs.Naming.{File}
 use Rattle.mz_include.specs.declared.end.GatherEnd.{GatherEnd}
 use Rattle.mz_include.specs.declared.end.GatherEnd.TheVariants as gathered
-use Rattle.mz_data.specs.declared.gathering.SourcesWithData.{SourcesWithData}
-use Rattle.mz_data.specs.WithData.{IsSourcesWithData}
+use Rattle.mz_include.specs.declared.with_data.gathering.SourcesWithData.{SourcesWithData}
+use Rattle.mz_include.specs.WithData.{IsSourcesWithData}
 use Rattle.mz_words.specs.Requests.{Settings}
 use Rattle.mz_core.specs.Program.{PlainProgram, plain_program}
 use Rattle.mz_meaning.specs.Walk.{Limits}

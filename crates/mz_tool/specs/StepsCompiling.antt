@@ -5,7 +5,7 @@ use Rattle.mz_io.specs.Sink.{Held, Adds, AddsPrefix}
 use Rattle.mz_words.specs.Requests.{Settings}
 use Rattle.fz_program.specs.Names.{Name}
 use Rattle.fz_program.specs.Flat.{Program, WellFormed}
-use Rattle.fz_text_spell.specs.Spelling.{spelling}
+use Rattle.fz_text.specs.Spelling.{spelling}
 use Rattle.mz_tool.specs.declared.end.End.{End}
 use Rattle.mz_tool.specs.declared.end.End.TheVariants as end
 use Rattle.mz_tool.specs.Headline.{Compiles}

@@ -1,9 +1,9 @@
 -- Mirror of src/make.rt; private clauses only.
 use Rattle.std.specs.Prelude.{◌≡◌, ℕ, [], ◌∷◌, length}
 use Rattle.mz_io.specs.Sink.{Held, Adds, AddsPrefix}
-use Rattle.mz_io_sure.specs.SureFiles.{SureTexts}
+use Rattle.mz_io.specs.SureFiles.{SureTexts}
 use Rattle.fz_program.specs.Flat.{Program}
-use Rattle.fz_text_spell.specs.Spelling.{spelling}
+use Rattle.fz_text.specs.Spelling.{spelling}
 use Rattle.mz_tool.specs.declared.end.End.{End}
 use Rattle.mz_tool.specs.declared.end.End.TheVariants as end
 use Rattle.mz_tool.specs.Making.{made_name, model_text, summary_of}

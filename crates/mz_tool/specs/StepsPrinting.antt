@@ -5,11 +5,11 @@ use Rattle.mz_base.specs.Names.{text_of}
 use Rattle.mz_io.specs.Files.{Texts}
 use Rattle.mz_io.specs.Sink.{Held}
 use Rattle.mz_io.specs.Source.{Left}
-use Rattle.mz_data.specs.declared.gathering.SourcesWithData.{SourcesWithData}
+use Rattle.mz_include.specs.declared.with_data.gathering.SourcesWithData.{SourcesWithData}
 use Rattle.mz_words.specs.Requests.{Settings}
 use Rattle.mz_core.specs.Program.{plain_program}
 use Rattle.mz_meaning.specs.Walk.{Limits}
-use Rattle.soln_reader_items.specs.Forms.{Form}
+use Rattle.fz_items.specs.Forms.{Form}
 use Rattle.fz_program.specs.Names.{Name}
 use Rattle.mz_print_stream.specs.Printing as printing
 use Rattle.mz_print_stream.specs.Promises.{Promises}

@@ -9,7 +9,7 @@ ghost use Rattle.mz_words.specs.Requests.{IsWithinLimits, compile, check, settin
 ghost use Rattle.fz_program.specs.Flat.{program, WellFormed};
 ghost use Rattle.mz_analysis.specs.Analysis.{IsRead, names_of};
 ghost use Rattle.mz_analysis.specs.Promise.{IsOwnIdentifier};
-ghost use Rattle.mz_compile.specs.Compiled.{IsCompiled};
+ghost use Rattle.mz_tool.specs.Compiled.{IsCompiled};
 ghost use Rattle.mz_tool.specs.Headline.{limits_of};
 ghost use Rattle.mz_tool.specs.Status.{CountsFiles as Counts, CountsOut, IsRefusal};
 ghost use Rattle.mz_tool.specs.StepsChecking.{HasProgram, IsNamedRefusal};
@@ -17,11 +17,11 @@ ghost use Rattle.mz_tool.specs.StepsCompiling.{IsFlatOf, IsWritten};
 ghost use Rattle.mz_tool.specs.StepsEnding.{Ends, IsNamedEnd, status_of};
 
 use crate::checking::{Checked, checked_model, stopped};
+use crate::compiled;
 use crate::end::{End, failed};
 use fz_program::FzProgram;
 use fz_text::{Wrote, write};
 use mz_base::Names;
-use mz_compile::compiled;
 use mz_include::GatherEnd;
 use mz_io::{Files, Sink};
 use mz_words::Options;

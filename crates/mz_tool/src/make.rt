@@ -4,7 +4,7 @@ ghost use Rattle.std.specs.Prelude.{◌≡◌, ◌++◌, ◌∷◌, ℕ, [], IfO
 ghost use Rattle.mz_io.specs.Files.{Texts};
 ghost use Rattle.mz_words.specs.Requests.{make, settings};
 ghost use Rattle.fz_program.specs.Flat.{program, WellFormed};
-ghost use Rattle.fz_text_spell.specs.Spelling.{spelling};
+ghost use Rattle.fz_text.specs.Spelling.{spelling};
 ghost use Rattle.mz_tool.specs.Making.{made_arrays, made_constraints, made_head, made_name, made_objective, made_settings, model_text, summary_line, summary_of};
 ghost use Rattle.mz_tool.specs.Status.{CountsOut, IsNoReadFault};
 ghost use Rattle.mz_tool.specs.StepsEnding.{Ends, IsNamedEnd, status_of};
@@ -15,8 +15,7 @@ use crate::end::{End, failed};
 use fz_program::FzProgram;
 use itoa::Buffer;
 use mz_base::{FILE_LIMIT, Memory, Names};
-use mz_io::{Sent, Sink};
-use mz_io_sure::{SureFiles, SureSink, SureSource, read_all};
+use mz_io::{Sent, Sink, SureFiles, SureSink, SureSource, read_all};
 use mz_words::{DEFAULT_BUDGET, DEFAULT_INT_RANGE, Options};
 use std::alloc::Global;
 

@@ -4,13 +4,13 @@ ghost use Rattle.std.specs.Prelude.{◌≡◌, ◌<◌, IfOk, length};
 ghost use Rattle.mz_base.specs.Names.{AreDistinct, text_of};
 ghost use Rattle.mz_words.specs.Requests.{settings};
 ghost use Rattle.mz_include.specs.Ends.{IfRefused, CountsFiles};
-ghost use Rattle.mz_data.specs.WithData.{IsSourcesWithData, FailsWithData};
+ghost use Rattle.mz_include.specs.WithData.{IsSourcesWithData, FailsWithData};
 ghost use Rattle.mz_analysis.specs.Analysis.{IsRead, files_read, items_read};
 ghost use Rattle.mz_tool.specs.StepsChecking.{data_names};
 
 use mz_base::Names;
-use mz_data::{SourcesWithData, gather_with_data};
 use mz_include::GatherEnd;
+use mz_include::with_data::{SourcesWithData, gather_with_data};
 use mz_io::Files;
 use mz_words::Options;
 use std::alloc::Global;

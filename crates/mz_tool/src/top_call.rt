@@ -2,7 +2,7 @@
 
 ghost use Rattle.std.specs.Prelude.{◌≡◌, ◌<◌, ◌⊎◌, List, ℕ, Some, IsSomeAnd};
 ghost use Rattle.mz_io.specs.Counts.{Rose};
-ghost use Rattle.mz_words_command.specs.Found.{text_of};
+ghost use Rattle.mz_words.specs.Found.{text_of};
 ghost use Rattle.mz_words.specs.Requests.{AskedWithinLimits, asked, request_of};
 ghost use Rattle.mz_tool.specs.Words.{IsUsage, OnCheck, OnMake, OnPrint, UnlessPrint};
 ghost use Rattle.mz_tool.specs.Headline.{Writes, WritesPrefix};
@@ -112,7 +112,7 @@ fn answer<F: Files, I: Source, S: Sink, E: Sink>(
 /// of local names, `DuplicateName` of functions with parameters, `DataForm` of all other data, `TypeMismatch`, `NoOverload`,
 /// `Ambiguous`, `LeftOut`.
 ///
-/// All else is compiled (`mz_compile::compiled`). The model is walked over once, without values of its variables: the declarations in
+/// All else is compiled (`crate::compiled`). The model is walked over once, without values of its variables: the declarations in
 /// their order, each with its sets and its value, then the constraints in the order of the text, then the objective. The first of these
 /// stops it, and no values of the variables solve such a model. `UnboundedSet` at a declaration's name, before all others: it has no
 /// value and no bound, as `var set of int`. `ParUndefined` at the value or the set: a parameter's value is undefined or outside its set,

@@ -4,3 +4,4 @@ pub mod Later
 pub mod Looks
 pub mod Maps
 pub mod Anything
+pub mod Staying

@@ -5,3 +5,4 @@ pub mod Items
 pub mod Data
 pub mod Kinds
 pub mod Names
+pub mod Named

@@ -1,4 +1,4 @@
-// The syntax trees of files.
+// The syntax trees of files, and which names stand in data.
 #![tactic(auto)]
 
 mod data;
@@ -10,6 +10,7 @@ mod law;
 mod make;
 #[tactic(auto, unfolding(crate::specs::Data::value))]
 mod make_data;
+mod names_law;
 #[tactic(auto, unfolding(crate::specs::Views::tree, crate::specs::Views::shape, crate::specs::Views::let_of, crate::specs::Views::part, crate::specs::Views::based, crate::specs::Views::declaration, crate::specs::Views::generator, crate::specs::Views::written))]
 mod parts;
 mod source;
@@ -30,6 +31,7 @@ pub use make_data::{
     make_absent_datum, make_array_datum, make_array_nd_datum, make_bool_datum, make_ident_datum,
     make_int_datum, make_range_datum, make_rows_datum, make_set_datum,
 };
+pub use names_law::names_stay;
 pub use parts::{
     make_bool_base, make_declaration, make_generator, make_int_base, make_let_constraint,
     make_let_declaration, make_plain, make_scalar, make_set_base, make_shown,

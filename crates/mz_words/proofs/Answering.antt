@@ -2,8 +2,8 @@
 use Rattle.std.proofs.Common.{◌≡◌, ◌∙◌, ap, List, [], ◌∷◌, Option, Some, None, refl, sym, subst}
 use Rattle.std.specs.Prelude.{Result, String, slice_get, string_bytes}
 use Rattle.clap.specs.Walk.{Text}
-use Rattle.mz_words_command.specs.Found.{Answers, text_of}
-use Rattle.mz_words_command.specs.declared.error.WordsError.{WordsError}
+use Rattle.mz_words.specs.Found.{Answers, text_of}
+use Rattle.mz_words.specs.declared.command.error.WordsError.{WordsError}
 use Rattle.mz_words.specs.Requests.{Asked, asked, asked_of, request_of}
 use Rattle.mz_words.specs.declared.request.Request.{Request}
 

@@ -4,9 +4,9 @@ use Rattle.std.specs.Str.{bytes_eq}
 use Rattle.clap.specs.Simple.{App}
 use Rattle.clap.specs.Walk.{Text, texts}
 use Rattle.mz_base.specs.declared.limit.TheConstants.{INTEGER_LIMIT}
-use Rattle.mz_words_command.specs.Commands.{files_command, number_command}
-use Rattle.mz_words_command.specs.Found.{IsWithin, Words, count_found, words_found}
-use Rattle.mz_words_command.specs.declared.limits.TheConstants.{BUDGET_LIMIT, MAKE_LIMIT}
+use Rattle.mz_words.specs.Commands.{files_command, number_command}
+use Rattle.mz_words.specs.Found.{IsWithin, Words, count_found, words_found}
+use Rattle.mz_words.specs.declared.command.limits.TheConstants.{BUDGET_LIMIT, MAKE_LIMIT}
 use Rattle.mz_words.specs.declared.request.TheConstants.{DEFAULT_BUDGET, DEFAULT_INT_RANGE}
 use Rattle.mz_words.specs.declared.request.Options.{Options}
 use Rattle.mz_words.specs.declared.request.Request.{Request}

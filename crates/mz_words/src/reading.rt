@@ -1,12 +1,12 @@
 // The words read as a request.
 
 ghost use Rattle.std.specs.Prelude.{◌≡◌, IfOk};
-ghost use Rattle.mz_words_command.specs.Commands.{files_command};
-ghost use Rattle.mz_words_command.specs.Found.{Answers, HasLimits, text_of, words_in};
+ghost use Rattle.mz_words.specs.Commands.{files_command};
+ghost use Rattle.mz_words.specs.Found.{Answers, HasLimits, text_of, words_in};
 ghost use Rattle.mz_words.specs.Requests.{AskedWithinLimits, IsWithinLimits, asked, asked_of, request_of, settings, settings_found, settings_of};
 
+use crate::command::{FileWords, WordsError, read_files, read_number};
 use crate::request::{DEFAULT_BUDGET, DEFAULT_INT_RANGE, Options, Request};
-use mz_words_command::{FileWords, WordsError, read_files, read_number};
 use std::alloc::Global;
 
 /// What is asked for, with the defaults for the options that aren't given.

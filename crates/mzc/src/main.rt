@@ -3,7 +3,7 @@
 
 ghost use Rattle.std.specs.Prelude.{◌≡◌};
 ghost use Rattle.std.specs.Process.{exit_status};
-ghost use Rattle.mz_words_command.specs.Found.{text_of};
+ghost use Rattle.mz_words.specs.Found.{text_of};
 ghost use Rattle.mz_words.specs.Requests.{asked};
 ghost use Rattle.mz_tool.specs.Words.{OnCheck, OnMake, UnlessPrint};
 ghost use Rattle.mz_tool.specs.Promises.{Promises};

@@ -3,8 +3,8 @@ use Rattle.std.proofs.Common.{◌≡◌, ℕ, ◌<◌, ◌+◌, List, [], ◌∷
 use Rattle.std.proofs.lemmas.Bool.{false≢true, eqb-true}
 use Rattle.std.proofs.lemmas.List.{append-nil, drop-append-le, take-append-le, length-append}
 use Rattle.std.proofs.lemmas.List.Folds.{prefix_len-append}
-use Rattle.soln_reader_items.specs.Bytes.{is_no_newline}
-use Rattle.soln_reader_items.specs.Forms.{Form}
+use Rattle.fz_items.specs.Bytes.{is_no_newline}
+use Rattle.fz_items.specs.Forms.{Form}
 use Rattle.soln_reader.specs.Blocks.{Block}
 use Rattle.soln_reader.specs.Stream.{Place, next_place, Event, Ending, whole, bad, Stream, at_the_end, in_a_block, passes, an_event, a_bad_line, leaves, gives, is_bad, Passes, no_line, a_line, line_len, line_limit, has_newline, is_too_long, has_line, first_line, chopped, after_line, line_outcome, outcome}
 use Rattle.soln_reader.specs.Reader.{State, place, at, start, fed, GivesEvent, Ends, IsFirstBad, a_bad_line as bad_found, left_open, FindsBad, first, again}

@@ -5,8 +5,8 @@ use Rattle.std.proofs.lemmas.Bool.{false≢true}
 use Rattle.std.proofs.lemmas.List.{drop_all, length-drop}
 use Rattle.std.proofs.lemmas.List.Folds.{prefix_len-append}
 use Rattle.std.proofs.lemmas.List.Sums.{prefix_len-le-length}
-use Rattle.soln_reader_items.specs.Bytes.{is_no_newline}
-use Rattle.soln_reader_items.specs.Forms.{Form}
+use Rattle.fz_items.specs.Bytes.{is_no_newline}
+use Rattle.fz_items.specs.Forms.{Form}
 use Rattle.soln_reader.specs.Blocks.{Block}
 use Rattle.soln_reader.specs.Stream.{is_bad, line_len, line_limit, has_newline, is_too_long, has_line, first_line, chopped, line_outcome, outcome}
 use Rattle.soln_reader.specs.declared.step.Step.{Step}

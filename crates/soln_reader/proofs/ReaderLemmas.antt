@@ -4,7 +4,7 @@ use Rattle.std.proofs.lemmas.Bool.{false≢true, cases_lt}
 use Rattle.soln_reader.proofs.LineLemmas.{ended_line, last_line, rest_slice}
 use Rattle.mz_value.specs.declared.value.Shape.{Shape}
 use Rattle.std.proofs.lemmas.List.{drop-drop}
-use Rattle.soln_reader_items.specs.Forms.{Form, forms}
+use Rattle.fz_items.specs.Forms.{Form, forms}
 use Rattle.soln_reader.specs.Blocks.{Block, Given}
 use Rattle.soln_reader.specs.Stream.{Place, next_place, Event, leaves, gives, is_bad, Passes, no_line, a_line, line_len, has_line, after_line, line_outcome}
 use Rattle.soln_reader.specs.Reader.{State, Answers, bad_line, GivesEvent, Needs, Ends, IsFirstBad, a_bad_line, left_open, FindsBad, first}

@@ -8,11 +8,11 @@ use Rattle.std.specs.Prelude.{slice_get}
 use Rattle.std.specs.Option.{option_map}
 use Rattle.std.proofs.Math.ListN.{set}
 use Rattle.std.proofs.lemmas.Option.{slice_get-map, slice_get-get_or}
-use Rattle.soln_reader_items.specs.Gives.{Fits}
-use Rattle.soln_reader_items.proofs.Loops.{cut, cut_map}
-use Rattle.soln_reader_items.specs.declared.outputs.Slot.{Slot}
-use Rattle.soln_reader_items.specs.Items.{◌>>=◌, Elements}
-use Rattle.soln_reader_items.specs.Forms.{Form}
+use Rattle.fz_items.specs.Gives.{Fits}
+use Rattle.fz_items.proofs.Loops.{cut, cut_map}
+use Rattle.fz_items.specs.declared.outputs.Slot.{Slot}
+use Rattle.fz_items.specs.Items.{◌>>=◌, Elements}
+use Rattle.fz_items.specs.Forms.{Form}
 use Rattle.soln_reader.specs.Blocks.{Given, put_in, put, optional, optional_all, solved, solution, nothing_for, nothing_given}
 
 abbrev pub with_all : List Content → Option (List Content) → Option (List Content)

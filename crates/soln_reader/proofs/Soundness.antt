@@ -5,7 +5,7 @@ use Rattle.std.proofs.lemmas.List.{length-append, length-drop}
 use Rattle.mz_base.specs.declared.stop.Memory.{Memory}
 use Rattle.mz_value.specs.declared.value.Shape.{Shape}
 use Rattle.soln_reader.specs.Stream.{line_len}
-use Rattle.soln_reader_items.specs.Tables.{Table}
+use Rattle.fz_items.specs.Tables.{Table}
 use Rattle.soln_reader.specs.StepsReader.{IsSound, FitsShapes}
 use Rattle.soln_reader.proofs.LineLemmas.{len_grows}
 

@@ -1,17 +1,17 @@
 -- What was put into a block, taken out again.
 use Rattle.std.proofs.Common.{◌≡◌, ℕ, zero, suc, ◌<◌, ◌≤◌, List, [], ◌∷◌, ◌++◌, length, map, get_or, set, true, false, refl, sym, ap, ◌∙◌, arith, Option, Some, None, Result, Ok, Err}
 use Rattle.std.specs.Prelude.{slice_get, slice_set, OnOk}
-use Rattle.soln_reader_items.specs.Gives.{Puts}
-use Rattle.soln_reader_items.specs.declared.miss.Miss.{Miss}
+use Rattle.fz_items.specs.Gives.{Puts}
+use Rattle.fz_items.specs.declared.miss.Miss.{Miss}
 use Rattle.std.specs.Option.{option_map}
 use Rattle.std.proofs.lemmas.List.{map-set}
 use Rattle.std.proofs.lemmas.Bool.{false≢true}
 use Rattle.std.proofs.lemmas.Option.{slice_get-map, slice_get-get_or}
-use Rattle.soln_reader_items.specs.declared.outputs.Part.{Part}
-use Rattle.soln_reader_items.specs.declared.outputs.Part.TheVariants.{Occurs, Value}
-use Rattle.soln_reader_items.specs.declared.outputs.Slot.{Slot}
-use Rattle.soln_reader_items.specs.Items.{choose, Elements, ◌>>=◌}
-use Rattle.soln_reader_items.specs.Forms.{Form}
+use Rattle.fz_items.specs.declared.outputs.Part.{Part}
+use Rattle.fz_items.specs.declared.outputs.Part.TheVariants.{Occurs, Value}
+use Rattle.fz_items.specs.declared.outputs.Slot.{Slot}
+use Rattle.fz_items.specs.Items.{choose, Elements, ◌>>=◌}
+use Rattle.fz_items.specs.Forms.{Form}
 use Rattle.soln_reader.specs.Blocks.{Given, Block, put_in, put, given_in}
 use Rattle.soln_reader.specs.StepsUndo.{cleared_in, cleared, undone, Undo, Restores}
 

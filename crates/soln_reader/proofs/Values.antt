@@ -6,11 +6,11 @@ use Rattle.mz_value.specs.Ranges.{Range}
 use Rattle.mz_value.specs.Contents.{Content, bool, int, case, set, absent}
 use Rattle.mz_value.specs.declared.value.ShapeBase.{ShapeBase}
 use Rattle.mz_value.specs.declared.value.ShapeBase.TheVariants as base
-use Rattle.soln_reader_items.specs.declared.outputs.Part.{Part}
-use Rattle.soln_reader_items.specs.declared.outputs.Part.TheVariants.{Occurs, Value}
-use Rattle.soln_reader_items.specs.declared.outputs.Slot.{Slot}
-use Rattle.soln_reader_items.specs.Forms.{Form, slot_of}
-use Rattle.soln_reader_items.specs.Items.{◌>>=◌, Read, Elements, has, truth_number, is_within, first_domain, truth_at, int_at, set_at, truth_in, int_in, set_in, valued, based_at, element_at, next_at, more_at, elements_at, array_at, index_at, filled_array_at, scalar_at, value_of, value_at, ended, given_at, Item, item_at, item_of, name_at, after}
+use Rattle.fz_items.specs.declared.outputs.Part.{Part}
+use Rattle.fz_items.specs.declared.outputs.Part.TheVariants.{Occurs, Value}
+use Rattle.fz_items.specs.declared.outputs.Slot.{Slot}
+use Rattle.fz_items.specs.Forms.{Form, slot_of}
+use Rattle.fz_items.specs.Items.{◌>>=◌, Read, Elements, has, truth_number, is_within, first_domain, truth_at, int_at, set_at, truth_in, int_in, set_in, valued, based_at, element_at, next_at, more_at, elements_at, array_at, index_at, filled_array_at, scalar_at, value_of, value_at, ended, given_at, Item, item_at, item_of, name_at, after}
 use Rattle.soln_reader.specs.Blocks.{Given, Block, nothing_for, given_in, unless, put_in, put, is_false, is_least, optional, optional_all, only, whole, elements_of, solved, solution}
 use Rattle.soln_reader.specs.Stream.{Place, next_place, Event, block, mark, Outcome, leaves, gives, is_bad, at_block_end, at_mark, at_put, at_item, at_other, mark_of, is_skipped, ends_block, outcome, is_too_long, first_line, line_outcome, Passes, no_line, a_line}
 use Rattle.soln_reader.specs.Reader.{State, place}

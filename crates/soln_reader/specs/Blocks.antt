@@ -3,11 +3,11 @@ use Rattle.std.specs.Prelude.{ℤ, List, [], ◌∷◌, map, Bool, false, not, O
 use Rattle.std.specs.Ordering.{int_eq}
 use Rattle.mz_value.specs.Ranges.{Range}
 use Rattle.mz_value.specs.Contents.{Content, bool, int, case, set, absent, text, array, contents}
-use Rattle.soln_reader_items.specs.declared.outputs.Part.{Part}
-use Rattle.soln_reader_items.specs.declared.outputs.Part.TheVariants.{Occurs, Value}
-use Rattle.soln_reader_items.specs.declared.outputs.Slot.{Slot}
-use Rattle.soln_reader_items.specs.Forms.{Form}
-use Rattle.soln_reader_items.specs.Items.{Elements, truth_number, is_none, ◌>>=◌}
+use Rattle.fz_items.specs.declared.outputs.Part.{Part}
+use Rattle.fz_items.specs.declared.outputs.Part.TheVariants.{Occurs, Value}
+use Rattle.fz_items.specs.declared.outputs.Slot.{Slot}
+use Rattle.fz_items.specs.Forms.{Form}
+use Rattle.fz_items.specs.Items.{Elements, truth_number, is_none, ◌>>=◌}
 
 -- what the items of a block gave for a shape: its value, and for an option its occurrence
 pub record Given : Type 0 where

@@ -1,6 +1,6 @@
 -- A stream in pieces.
 use Rattle.std.specs.Prelude.{◌≡◌, ℕ, List, [], ◌∷◌, ◌++◌, true, false, None}
-use Rattle.soln_reader_items.specs.Forms.{Form}
+use Rattle.fz_items.specs.Forms.{Form}
 use Rattle.soln_reader.specs.Stream.{Place, Event, Ending, whole, bad, Stream}
 use Rattle.soln_reader.specs.Reader.{State, start, fed, GivesEvent, Needs, Ends, FindsBad, Stops}
 

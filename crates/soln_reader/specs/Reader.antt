@@ -5,7 +5,7 @@ use Rattle.mz_base.specs.declared.kind.Kind.TheVariants.{BadSolution}
 use Rattle.mz_value.specs.Contents.{content}
 use Rattle.soln_reader.specs.declared.next.Next.{Next}
 use Rattle.soln_reader.specs.declared.next.Next.TheVariants as next
-use Rattle.soln_reader_items.specs.Forms.{Form}
+use Rattle.fz_items.specs.Forms.{Form}
 use Rattle.soln_reader.specs.Blocks.{Block}
 use Rattle.soln_reader.specs.Stream.{Place, next_place, Event, block, mark, Passes, has_line, after_line, line_outcome, gives, is_bad}
 

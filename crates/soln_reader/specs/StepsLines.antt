@@ -1,13 +1,13 @@
 -- Mirror of src/line.rt and src/step.rt; private clauses only.
 use Rattle.std.specs.Prelude.{◌≡◌, ℕ, ◌<◌, ◌≤◌, List, Bool, true, false, length, drop, map, Result, Ok, Err}
 use Rattle.mz_value.specs.Contents.{content}
-use Rattle.soln_reader_items.specs.declared.miss.Miss.{Miss}
-use Rattle.soln_reader_items.specs.declared.miss.Miss.TheVariants.{Unfit, Memory}
+use Rattle.fz_items.specs.declared.miss.Miss.{Miss}
+use Rattle.fz_items.specs.declared.miss.Miss.TheVariants.{Unfit, Memory}
 use Rattle.soln_reader.specs.declared.line.Said.{Said}
 use Rattle.soln_reader.specs.declared.line.Said.TheVariants.{Leaves, Block, Mark}
 use Rattle.soln_reader.specs.declared.step.Step.{Step}
 use Rattle.soln_reader.specs.declared.step.Step.TheVariants as step
-use Rattle.soln_reader_items.specs.Forms.{Form}
+use Rattle.fz_items.specs.Forms.{Form}
 use Rattle.soln_reader.specs.Blocks as blocks
 use Rattle.soln_reader.specs.StepsUndo.{Undo}
 use Rattle.soln_reader.specs.Stream.{Outcome, leaves, gives, is_bad, block, mark, has_line, after_line, line_outcome}

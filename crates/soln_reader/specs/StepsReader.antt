@@ -1,8 +1,8 @@
 -- Mirror of src/reader.rt; private clauses only.
 use Rattle.std.specs.Prelude.{ℕ, ◌+◌, ◌^◌, ◌<◌, ◌≤◌, List, length, drop, Option, Some, None}
 use Rattle.mz_value.specs.declared.value.Shape.{Shape}
-use Rattle.soln_reader_items.specs.Forms.{forms, outputs_from}
-use Rattle.soln_reader_items.specs.Tables.{Table, Finds}
+use Rattle.fz_items.specs.Forms.{forms, outputs_from}
+use Rattle.fz_items.specs.Tables.{Table, Finds}
 use Rattle.soln_reader.specs.Stream.{line_len}
 
 -- a table that is there finds the output names

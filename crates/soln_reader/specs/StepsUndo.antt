@@ -1,9 +1,9 @@
 -- Mirror of src/undo.rt; private clauses only.
 use Rattle.std.specs.Prelude.{◌≡◌, List, [], ◌∷◌, Option, Some, None, slice_get, slice_set}
-use Rattle.soln_reader_items.specs.declared.outputs.Part.{Part}
-use Rattle.soln_reader_items.specs.declared.outputs.Part.TheVariants.{Occurs, Value}
-use Rattle.soln_reader_items.specs.declared.outputs.Slot.{Slot}
-use Rattle.soln_reader_items.specs.Items.{choose}
+use Rattle.fz_items.specs.declared.outputs.Part.{Part}
+use Rattle.fz_items.specs.declared.outputs.Part.TheVariants.{Occurs, Value}
+use Rattle.fz_items.specs.declared.outputs.Slot.{Slot}
+use Rattle.fz_items.specs.Items.{choose}
 use Rattle.soln_reader.specs.Blocks.{Given, Block}
 
 -- nothing stands under a name any more

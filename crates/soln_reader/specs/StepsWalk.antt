@@ -4,7 +4,7 @@ use Rattle.mz_value.specs.Contents.{content}
 use Rattle.soln_reader.specs.declared.walk.Stop.{Stop}
 use Rattle.soln_reader.specs.declared.walk.Walk.{Walk}
 use Rattle.soln_reader.specs.declared.walk.Stop.TheVariants as stop
-use Rattle.soln_reader_items.specs.Forms.{Form}
+use Rattle.fz_items.specs.Forms.{Form}
 use Rattle.soln_reader.specs.Blocks.{Block}
 use Rattle.soln_reader.specs.Stream.{Place, block, mark, Outcome, gives, is_bad, Passes, has_line, after_line, line_outcome}
 

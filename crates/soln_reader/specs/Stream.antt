@@ -6,9 +6,9 @@ use Rattle.mz_value.specs.Contents.{Content}
 use Rattle.soln_reader.specs.declared.next.Mark.{Mark}
 use Rattle.soln_reader.specs.declared.next.Mark.TheVariants.{Complete, Unsatisfiable, Unknown, Unbounded, UnsatOrUnbounded, Error}
 use Rattle.soln_reader.specs.declared.line.TheConstants.{LINE_LIMIT}
-use Rattle.soln_reader_items.specs.Bytes.{first_byte, is_no_newline}
-use Rattle.soln_reader_items.specs.Forms.{Form}
-use Rattle.soln_reader_items.specs.Items.{is_empty, item_of, Item}
+use Rattle.fz_items.specs.Bytes.{first_byte, is_no_newline}
+use Rattle.fz_items.specs.Forms.{Form}
+use Rattle.fz_items.specs.Items.{is_empty, item_of, Item}
 use Rattle.soln_reader.specs.Blocks.{Given, Block, given_in, put, solution}
 
 -- lines

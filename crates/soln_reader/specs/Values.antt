@@ -4,8 +4,8 @@ use Rattle.mz_value.specs.Ranges.{Range}
 use Rattle.mz_value.specs.Contents.{Content, bool, int, case, set, absent}
 use Rattle.mz_value.specs.declared.value.ShapeBase.{ShapeBase}
 use Rattle.mz_value.specs.declared.value.ShapeBase.TheVariants as base
-use Rattle.soln_reader_items.specs.Forms.{Form}
-use Rattle.soln_reader_items.specs.Items.{Elements, has, truth_number, is_within, first_domain}
+use Rattle.fz_items.specs.Forms.{Form}
+use Rattle.fz_items.specs.Items.{Elements, has, truth_number, is_within, first_domain}
 use Rattle.soln_reader.specs.Blocks.{Given, Block, whole}
 use Rattle.soln_reader.specs.Stream.{Event, block, mark}
 use Rattle.soln_reader.specs.Reader.{State, start, fed, GivesEvent, Needs}

@@ -2,8 +2,8 @@
 use Rattle.std.specs.Prelude.{List, map, Option, Vec}
 use Rattle.std.specs.Option.{option_map}
 use Rattle.std.specs.declared.alloc.Global.{Global}
-use Rattle.soln_reader_items.specs.Forms.{forms}
-use Rattle.soln_reader_items.specs.Views.{elements}
+use Rattle.fz_items.specs.Forms.{forms}
+use Rattle.fz_items.specs.Views.{elements}
 use Rattle.soln_reader.specs.Blocks as blocks
 use Rattle.soln_reader.specs.Holding.{Holding}
 use Rattle.soln_reader.specs.Reader.{State}

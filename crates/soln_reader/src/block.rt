@@ -3,17 +3,17 @@
 ghost use Rattle.std.specs.Prelude.{◌≡◌, [], OnOk, map, Some, None};
 ghost use Rattle.std.specs.Option.{option_map};
 ghost use Rattle.mz_value.specs.Contents.{content};
-ghost use Rattle.soln_reader_items.specs.Contents.{content_of, contents_of};
-ghost use Rattle.soln_reader_items.specs.Forms.{form, forms};
-ghost use Rattle.soln_reader_items.specs.Items.{is_none};
+ghost use Rattle.fz_items.specs.Contents.{content_of, contents_of};
+ghost use Rattle.fz_items.specs.Forms.{form, forms};
+ghost use Rattle.fz_items.specs.Items.{is_none};
 ghost use Rattle.soln_reader.specs.Blocks.{is_first, is_least, is_false, optional, optional_all, whole, elements_of, solved, solution, put_in, put, given_in, nothing_for};
 ghost use Rattle.soln_reader.specs.StepsUndo.{Undo};
-ghost use Rattle.soln_reader_items.specs.Views.{elements};
+ghost use Rattle.fz_items.specs.Views.{elements};
 ghost use Rattle.soln_reader.specs.Views.{given, givens, block_of};
-ghost use Rattle.soln_reader_items.specs.Gives.{Fits, Gives, Puts};
+ghost use Rattle.fz_items.specs.Gives.{Fits, Gives, Puts};
 
+use fz_items::{Element, Elements, Miss, Part, Slot};
 use mz_value::{RangeSet, Shape, Value};
-use soln_reader_items::{Element, Elements, Miss, Part, Slot};
 use std::alloc::Global;
 
 /// What the items of a block gave for a shape.

@@ -2,18 +2,18 @@
 
 ghost use Rattle.std.specs.Prelude.{◌≡◌, ◌<◌, ◌≤◌, Some, None, length};
 ghost use Rattle.std.specs.Str.{bytes_eq};
-ghost use Rattle.soln_reader_items.specs.Forms.{forms, outputs_from};
+ghost use Rattle.fz_items.specs.Forms.{forms, outputs_from};
 ghost use Rattle.soln_reader.specs.Stream.{line_len, chopped, mark_of, is_skipped, ends_block, at_block_end, at_item, at_mark, outcome};
 ghost use Rattle.soln_reader.specs.Blocks.{solution, given_in};
-ghost use Rattle.soln_reader_items.specs.Items.{item_of};
-ghost use Rattle.soln_reader_items.specs.Tables.{Finds};
+ghost use Rattle.fz_items.specs.Items.{item_of};
+ghost use Rattle.fz_items.specs.Tables.{Finds};
 ghost use Rattle.soln_reader.specs.StepsLines.{SaysThere};
 ghost use Rattle.soln_reader.specs.Views.{block_of};
 
 use crate::block::{Given, put, solution_of};
 use crate::next::Mark;
+use fz_items::{Miss, Slot, Table, is_empty, read_item};
 use mz_value::{Assign, Shape};
-use soln_reader_items::{Miss, Slot, Table, is_empty, read_item};
 use std::alloc::Global;
 
 /// The most bytes of a line, its newline aside: 16 MiB.

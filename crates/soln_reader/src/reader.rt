@@ -7,9 +7,9 @@ use crate::block::Given;
 use crate::next::Next;
 use crate::settle::{bad_line, settle};
 use crate::walk::walk_lines;
+use fz_items::{Table, table_of};
 use mz_base::Memory;
 use mz_value::Shape;
-use soln_reader_items::{Table, table_of};
 use std::alloc::Global;
 use std::marker::Model;
 

@@ -1,18 +1,18 @@
 // One line of the bytes that are held.
 
 ghost use Rattle.std.specs.Prelude.{◌≡◌, ◌<◌, ◌≤◌, ◌+◌, ◌&&◌, length, Bool, nat_lt};
-ghost use Rattle.soln_reader_items.specs.Forms.{forms, outputs_from};
+ghost use Rattle.fz_items.specs.Forms.{forms, outputs_from};
 ghost use Rattle.soln_reader.specs.Stream.{Outcome, line_len};
 ghost use Rattle.soln_reader.specs.Blocks.{Block};
-ghost use Rattle.soln_reader_items.specs.Tables.{Finds};
+ghost use Rattle.fz_items.specs.Tables.{Finds};
 ghost use Rattle.soln_reader.specs.StepsLines.{SaysThere, IsStep, Steps};
 ghost use Rattle.soln_reader.specs.Views.{block_of};
 
 use crate::block::Given;
 use crate::line::{LINE_LIMIT, Said, chopped, line_len, says};
 use crate::next::Mark;
+use fz_items::{Miss, Slot, Table};
 use mz_value::{Assign, Shape};
-use soln_reader_items::{Miss, Slot, Table};
 use std::alloc::Global;
 
 /// What the first line does, with its bytes, the newline among them.

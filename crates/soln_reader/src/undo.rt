@@ -6,7 +6,7 @@ ghost use Rattle.soln_reader.specs.StepsUndo.{cleared_in, cleared, undone, Undo,
 ghost use Rattle.soln_reader.specs.Views.{given, givens, block_of};
 
 use crate::block::Given;
-use soln_reader_items::{Part, Slot};
+use fz_items::{Part, Slot};
 
 impl Given {
     /// Takes out what stands under a name.

@@ -1,9 +1,9 @@
 // The lines of the bytes that are held, up to the first that gives an event or is bad.
 
 ghost use Rattle.std.specs.Prelude.{◌≡◌, ◌<◌, ◌≤◌, ◌+◌, ◌-◌, ◌^◌, [], length};
-ghost use Rattle.soln_reader_items.specs.Forms.{forms, outputs_from};
+ghost use Rattle.fz_items.specs.Forms.{forms, outputs_from};
 ghost use Rattle.soln_reader.specs.Stream.{line_len};
-ghost use Rattle.soln_reader_items.specs.Tables.{Finds};
+ghost use Rattle.fz_items.specs.Tables.{Finds};
 ghost use Rattle.soln_reader.specs.StepsUndo.{Restores};
 ghost use Rattle.soln_reader.specs.StepsWalk.{Follows, IsUntouched, is_short};
 ghost use Rattle.soln_reader.specs.Views.{block_of};
@@ -12,8 +12,8 @@ use crate::block::Given;
 use crate::next::Mark;
 use crate::step::{Step, first_step};
 use crate::undo::{note, restore};
+use fz_items::{Slot, Table};
 use mz_value::{Assign, Shape};
-use soln_reader_items::{Slot, Table};
 use std::alloc::Global;
 
 /// Where a walk over lines ends.

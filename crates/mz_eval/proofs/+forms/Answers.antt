@@ -19,8 +19,8 @@ use Rattle.mz_symbol.proofs.RunLaws.{goes_on}
 use Rattle.mz_eval_cells.specs.Views.{seen, all_seen, test_if}
 use Rattle.mz_eval_guards.specs.Guards.{guard_seen}
 use Rattle.mz_eval_names.specs.Names.{names_seen}
-use Rattle.mz_eval_presences.specs.Presences.{presence_seen}
-use Rattle.mz_eval_turns.specs.Views.{elements_of, made_in, turn_in, turns_left}
+use Rattle.mz_eval_comprehensions.specs.Presences.{presence_seen}
+use Rattle.mz_eval_comprehensions.specs.Views.{elements_of, made_in, turn_in, turns_left}
 use Rattle.mz_eval_scopes.specs.Seen.{ctx_of}
 use Rattle.mz_eval_chains.proofs.Runs.{loop_goes, meets_at_is, meets_at_err}
 use Rattle.mz_eval_nodes.specs.Views.{gathered_seen}

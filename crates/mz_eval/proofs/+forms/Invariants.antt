@@ -8,10 +8,10 @@ use Rattle.mz_meaning.specs.Chains.{operators_at}
 use Rattle.mz_meaning.specs.Forms.{part, parts, row_of_parts, chain_by, operators, append_operands, branches}
 use Rattle.mz_meaning.specs.Lets.{let_item, nothing_bound, index_wants, one_index}
 use Rattle.mz_meaning.specs.Calls.{parameter}
-use Rattle.mz_eval_presences.specs.Presences.{presence_seen}
-use Rattle.mz_eval_turns.specs.Views.{elements_of, made_in, turns_left}
+use Rattle.mz_eval_comprehensions.specs.Presences.{presence_seen}
+use Rattle.mz_eval_comprehensions.specs.Views.{elements_of, made_in, turns_left}
 use Rattle.mz_eval_names.specs.Names.{names_seen}
-use Rattle.mz_eval_domains.specs.Wants.{wants_of}
+use Rattle.mz_eval_declared.specs.Wants.{wants_of}
 use Rattle.mz_symbol.specs.Makes.{Continues}
 use Rattle.mz_eval_cells.specs.Views.{seen, all_seen}
 use Rattle.mz_eval_scopes.specs.Seen.{ctx_of}
@@ -19,7 +19,7 @@ use Rattle.mz_eval_nodes.specs.Views.{gathered_seen, pairs_seen}
 use Rattle.mz_eval_chains.specs.Innermosts.{operator_of}
 use Rattle.mz_eval_nodes.specs.Contexts.{later}
 use Rattle.mz_eval_nodes.specs.Operators.{appended_seen}
-use Rattle.mz_eval_tables.specs.TableCells.{rows_seen}
+use Rattle.mz_eval_branches.specs.TableCells.{rows_seen}
 use Rattle.mz_symbol.specs.Readings.{blank}
 use Rattle.mz_eval.specs.Rows.{row_trees}
 use Rattle.mz_eval.specs.Chains.{own_operators, operands}

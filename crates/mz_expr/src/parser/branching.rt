@@ -4,7 +4,7 @@ ghost use Rattle.std.specs.Prelude.{◌<◌, length, map};
 ghost use Rattle.std.specs.Option.{option_map};
 ghost use Rattle.mz_tree.specs.Tree as pure;
 ghost use Rattle.mz_tree.specs.Views.{tree, branch, let_of};
-ghost use Rattle.mz_grammar_rules.specs.Reads.{Reads};
+ghost use Rattle.mz_grammar.specs.Reads.{Reads};
 ghost use Rattle.mz_grammar.specs.Parts as parts;
 ghost use Rattle.mz_grammar.specs.Reading.{reads};
 ghost use Rattle.mz_grammar.specs.Steps.{head_word_at, let_at, with_branches};
@@ -15,14 +15,14 @@ use crate::parser::descent::{Descent, Entry};
 use mz_base::{OneDrop, Stop};
 use mz_expr_operands::operand::{Operand, other};
 use mz_expr_operands::step::let_separator;
-use mz_grammar_rules::{Cursor, is_sym, is_word};
+use mz_grammar::{Cursor, is_sym, is_word};
 use mz_lexer::{Keyword, Symbol};
 use mz_tree::{Expr, LetItem, make_if, make_let, make_let_constraint, make_let_declaration};
 use std::alloc::Global;
 
 impl<F: Fn(Global, &mut Cursor<'_>, Entry) -> Result<Operand, Stop>> Descent<F> {
     /// An `if`.
-    #[tactic(auto, using(mz_grammar_rules::proofs::Steps::open_more, mz_grammar_rules::proofs::Steps::open_none))]
+    #[tactic(auto, using(mz_grammar::proofs::Steps::open_more, mz_grammar::proofs::Steps::open_none))]
     pub fn choice(&self, cur: &mut Cursor<'_>) -> Result<Operand, Stop>
         requires may { MayOpen self.now.room self.now.entry (F.pre self.now.reader) (F.post self.now.reader) cur.old }
         requires some { 0 < length cur.old.rest.now }
@@ -51,7 +51,7 @@ impl<F: Fn(Global, &mut Cursor<'_>, Entry) -> Result<Operand, Stop>> Descent<F> 
     }
 
     /// The other branches up to the `endif`, after those that were read.
-    #[tactic(auto, using(mz_grammar::proofs::ListEquations::branches_reads, crate::proofs::Loops::branches_push, mz_grammar_rules::proofs::Steps::nothing_behind))]
+    #[tactic(auto, using(mz_grammar::proofs::ListEquations::branches_reads, crate::proofs::Loops::branches_push, mz_grammar::proofs::Steps::nothing_behind))]
     fn branches(
         &self,
         cur: &mut Cursor<'_>,
@@ -80,7 +80,7 @@ impl<F: Fn(Global, &mut Cursor<'_>, Entry) -> Result<Operand, Stop>> Descent<F> 
     }
 
     /// A `let`.
-    #[tactic(auto, using(mz_grammar_rules::proofs::Steps::open_more, mz_grammar_rules::proofs::Steps::open_none))]
+    #[tactic(auto, using(mz_grammar::proofs::Steps::open_more, mz_grammar::proofs::Steps::open_none))]
     pub fn let_in(&self, cur: &mut Cursor<'_>) -> Result<Operand, Stop>
         requires may { MayOpen self.now.room self.now.entry (F.pre self.now.reader) (F.post self.now.reader) cur.old }
         requires some { 0 < length cur.old.rest.now }
@@ -102,7 +102,7 @@ impl<F: Fn(Global, &mut Cursor<'_>, Entry) -> Result<Operand, Stop>> Descent<F> 
     }
 
     /// The items of a `let`, and the closing brace.
-    #[tactic(auto, using(mz_grammar::proofs::ListEquations::let_items_reads, mz_grammar_rules::proofs::Steps::prefix_push, std::proofs::lemmas::List::map_push, mz_grammar_rules::proofs::Steps::nothing_behind, mz_grammar_rules::proofs::Steps::no_prefix))]
+    #[tactic(auto, using(mz_grammar::proofs::ListEquations::let_items_reads, mz_grammar::proofs::Steps::prefix_push, std::proofs::lemmas::List::map_push, mz_grammar::proofs::Steps::nothing_behind, mz_grammar::proofs::Steps::no_prefix))]
     fn let_items(&self, cur: &mut Cursor<'_>) -> Result<Vec<LetItem>, Stop>
         requires { MayRead self.now.room self.now.entry (F.pre self.now.reader) (F.post self.now.reader) cur.old }
         ensures { Reads (λ v. map let_of v.items) (reads parts.let_items) cur.old cur.new result }

@@ -1,10 +1,10 @@
 // Names and calls.
 
 ghost use Rattle.std.specs.Prelude.{◌≡◌, ◌<◌, length, map, true};
-ghost use Rattle.mz_grammar_rules.specs.Tokens.{tok_at};
-ghost use Rattle.mz_grammar_rules.specs.Look.{is_sym};
-ghost use Rattle.mz_grammar_rules.specs.Reads.{Passes, Reads};
-ghost use Rattle.mz_grammar_rules.specs.Reading.{mapped, with_prefix};
+ghost use Rattle.mz_grammar.specs.Tokens.{tok_at};
+ghost use Rattle.mz_grammar.specs.Look.{is_sym};
+ghost use Rattle.mz_grammar.specs.Reads.{Passes, Reads};
+ghost use Rattle.mz_grammar.specs.RulesReading.{mapped, with_prefix};
 ghost use Rattle.mz_grammar.specs.Parts as parts;
 ghost use Rattle.mz_grammar.specs.Reading.{reads};
 ghost use Rattle.mz_grammar.specs.Steps.{called_at, guarded_at, waited_at};
@@ -19,15 +19,14 @@ use mz_expr_operands::argument::{
 };
 use mz_expr_operands::operand::{Operand, other};
 use mz_expr_operands::step::separator;
-use mz_grammar::{Closing, Generators, Level};
-use mz_grammar_rules::{Cursor, is_sym, is_word};
+use mz_grammar::{Closing, Cursor, Generators, Level, is_sym, is_word};
 use mz_lexer::{Keyword, Symbol};
 use mz_tree::{make_call, make_gen_call, make_generator};
 use std::alloc::Global;
 
 impl<F: Fn(Global, &mut Cursor<'_>, Entry) -> Result<Operand, Stop>> Descent<F> {
     /// A name, or a call of it.
-    #[tactic(auto, using(mz_grammar::proofs::Equations::named_reads, mz_grammar_rules::proofs::Steps::open_more, mz_grammar_rules::proofs::Steps::open_none))]
+    #[tactic(auto, using(mz_grammar::proofs::Equations::named_reads, mz_grammar::proofs::Steps::open_more, mz_grammar::proofs::Steps::open_none))]
     pub fn named(&self, cur: &mut Cursor<'_>, name: Name, at: Span) -> Result<Operand, Stop>
         requires { MayOpen self.now.room self.now.entry (F.pre self.now.reader) (F.post self.now.reader) cur.old }
         ensures { Passes operand (reads (parts.named name at)) cur.old cur.new result }
@@ -63,7 +62,7 @@ impl<F: Fn(Global, &mut Cursor<'_>, Entry) -> Result<Operand, Stop>> Descent<F> 
     }
 
     /// The second parentheses of a call with generators.
-    #[tactic(auto, using(mz_grammar_rules::proofs::Steps::open_more, mz_grammar_rules::proofs::Steps::open_none))]
+    #[tactic(auto, using(mz_grammar::proofs::Steps::open_more, mz_grammar::proofs::Steps::open_none))]
     fn generator_call(
         &self,
         cur: &mut Cursor<'_>,
@@ -89,7 +88,7 @@ impl<F: Fn(Global, &mut Cursor<'_>, Entry) -> Result<Operand, Stop>> Descent<F> 
     }
 
     /// The arguments of a call, and the closing parenthesis.
-    #[tactic(auto, using(mz_grammar::proofs::Equations::arguments_reads, mz_grammar_rules::proofs::Steps::prefix_push, std::proofs::lemmas::List::map_push, mz_grammar_rules::proofs::Steps::nothing_behind, mz_grammar_rules::proofs::Steps::no_prefix))]
+    #[tactic(auto, using(mz_grammar::proofs::Equations::arguments_reads, mz_grammar::proofs::Steps::prefix_push, std::proofs::lemmas::List::map_push, mz_grammar::proofs::Steps::nothing_behind, mz_grammar::proofs::Steps::no_prefix))]
     fn arguments(&self, cur: &mut Cursor<'_>) -> Result<Vec<Argument>, Stop>
         requires { MayRead self.now.room self.now.entry (F.pre self.now.reader) (F.post self.now.reader) cur.old }
         ensures { Reads (λ v. map argument v.items) (reads (parts.arguments Generators.Possible)) cur.old cur.new result }
@@ -132,7 +131,7 @@ impl<F: Fn(Global, &mut Cursor<'_>, Entry) -> Result<Operand, Stop>> Descent<F> 
     }
 
     /// An argument that makes the call one with generators, and the others, which must be generators.
-    #[tactic(auto, using(mz_grammar_rules::proofs::Steps::prefix_push, std::proofs::lemmas::List::map_push, mz_grammar_rules::proofs::Steps::nothing_behind))]
+    #[tactic(auto, using(mz_grammar::proofs::Steps::prefix_push, std::proofs::lemmas::List::map_push, mz_grammar::proofs::Steps::nothing_behind))]
     fn guarded(
         &self,
         cur: &mut Cursor<'_>,
@@ -151,7 +150,7 @@ impl<F: Fn(Global, &mut Cursor<'_>, Entry) -> Result<Operand, Stop>> Descent<F> 
     }
 
     /// Generators up to the closing parenthesis.
-    #[tactic(auto, using(mz_grammar::proofs::Equations::generators_reads, mz_grammar_rules::proofs::Steps::prefix_push, std::proofs::lemmas::List::map_push, mz_grammar_rules::proofs::Steps::nothing_behind, mz_grammar_rules::proofs::Steps::mapped_prefix))]
+    #[tactic(auto, using(mz_grammar::proofs::Equations::generators_reads, mz_grammar::proofs::Steps::prefix_push, std::proofs::lemmas::List::map_push, mz_grammar::proofs::Steps::nothing_behind, mz_grammar::proofs::Steps::mapped_prefix))]
     fn strict(&self, cur: &mut Cursor<'_>, before: Vec<Argument>) -> Result<Vec<Argument>, Stop>
         requires { MayRead self.now.room self.now.entry (F.pre self.now.reader) (F.post self.now.reader) cur.old }
         ensures { Reads (λ v. map argument v.items) (λ room ts. with_prefix (map argument before.items) (mapped (λ gs. map parts.strict gs) (reads (parts.generators Closing.Paren) room ts))) cur.old cur.new result }

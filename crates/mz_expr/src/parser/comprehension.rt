@@ -4,8 +4,8 @@ ghost use Rattle.std.specs.Prelude.{map};
 ghost use Rattle.std.specs.Option.{option_map};
 ghost use Rattle.mz_tree.specs.Tree as pure;
 ghost use Rattle.mz_tree.specs.Views.{tree, generator};
-ghost use Rattle.mz_grammar_rules.specs.Reads.{Passes, Reads};
-ghost use Rattle.mz_grammar_rules.specs.Reading.{with_prefix};
+ghost use Rattle.mz_grammar.specs.Reads.{Passes, Reads};
+ghost use Rattle.mz_grammar.specs.RulesReading.{with_prefix};
 ghost use Rattle.mz_grammar.specs.Parts as parts;
 ghost use Rattle.mz_grammar.specs.Reading.{reads};
 ghost use Rattle.mz_grammar.specs.Steps.{generators_at};
@@ -15,8 +15,7 @@ use crate::parser::descent::{Descent, Entry};
 use mz_base::{Name, OneDrop, Span, Stop};
 use mz_expr_operands::operand::Operand;
 use mz_expr_operands::step::{closes, ident, ident_of, separator};
-use mz_grammar::{Closing, Level};
-use mz_grammar_rules::{Cursor, is_sym, is_word};
+use mz_grammar::{Closing, Cursor, Level, is_sym, is_word};
 use mz_lexer::{Keyword, Symbol};
 use mz_tree::{Expr, Gen, make_generator};
 use std::alloc::Global;
@@ -54,7 +53,7 @@ impl<F: Fn(Global, &mut Cursor<'_>, Entry) -> Result<Operand, Stop>> Descent<F> 
     }
 
     /// Generators, one at least, and the closing token.
-    #[tactic(auto, using(mz_grammar::proofs::Equations::generators_reads, mz_grammar_rules::proofs::Steps::prefix_push, std::proofs::lemmas::List::map_push, mz_grammar_rules::proofs::Steps::nothing_behind, mz_grammar_rules::proofs::Steps::no_prefix))]
+    #[tactic(auto, using(mz_grammar::proofs::Equations::generators_reads, mz_grammar::proofs::Steps::prefix_push, std::proofs::lemmas::List::map_push, mz_grammar::proofs::Steps::nothing_behind, mz_grammar::proofs::Steps::no_prefix))]
     pub fn generators(&self, cur: &mut Cursor<'_>, c: Closing) -> Result<Vec<Gen>, Stop>
         requires { MayRead self.now.room self.now.entry (F.pre self.now.reader) (F.post self.now.reader) cur.old }
         ensures { Reads (λ v. map generator v.items) (generators_at c) cur.old cur.new result }
@@ -75,7 +74,7 @@ impl<F: Fn(Global, &mut Cursor<'_>, Entry) -> Result<Operand, Stop>> Descent<F> 
 }
 
 /// Names, each after a comma, after those that were read.
-#[tactic(auto, using(mz_grammar::proofs::ListEquations::more_names_reads, mz_grammar_rules::proofs::Steps::prefix_more, mz_grammar_rules::proofs::Steps::nothing_behind))]
+#[tactic(auto, using(mz_grammar::proofs::ListEquations::more_names_reads, mz_grammar::proofs::Steps::prefix_more, mz_grammar::proofs::Steps::nothing_behind))]
 fn more_names(
     alloc: Global,
     cur: &mut Cursor<'_>,

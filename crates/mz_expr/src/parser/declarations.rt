@@ -3,7 +3,7 @@
 ghost use Rattle.std.specs.Option.{option_map};
 ghost use Rattle.mz_tree.specs.Tree as pure;
 ghost use Rattle.mz_tree.specs.Views.{tree, declaration, written};
-ghost use Rattle.mz_grammar_rules.specs.Reads.{Passes, Reads};
+ghost use Rattle.mz_grammar.specs.Reads.{Passes, Reads};
 ghost use Rattle.mz_grammar.specs.Parts as parts;
 ghost use Rattle.mz_grammar.specs.Reading.{reads};
 ghost use Rattle.mz_expr.specs.Descent.{MayRead};
@@ -12,7 +12,7 @@ use crate::parser::descent::{Descent, Entry};
 use mz_base::Stop;
 use mz_expr_operands::operand::Operand;
 use mz_expr_operands::step::ident;
-use mz_grammar_rules::{Cursor, is_sym};
+use mz_grammar::{Cursor, is_sym};
 use mz_lexer::Symbol;
 use mz_tree::{Decl, Expr, TypeText, make_declaration};
 use std::alloc::Global;

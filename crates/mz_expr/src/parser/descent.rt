@@ -4,7 +4,7 @@
 
 ghost use Rattle.std.specs.Prelude.{◌≡◌, ◌≤◌, suc};
 ghost use Rattle.mz_base.specs.declared.limit.TheConstants.{OPEN_LIMIT};
-ghost use Rattle.mz_grammar_rules.specs.Reads.{Reads};
+ghost use Rattle.mz_grammar.specs.Reads.{Reads};
 ghost use Rattle.mz_grammar.specs.Parts as parts;
 ghost use Rattle.mz_grammar.specs.Reading.{reads};
 ghost use Rattle.mz_expr_operands.specs.Views.{operand};
@@ -13,8 +13,7 @@ ghost use Rattle.mz_expr.specs.Descent.{entry_at, tighter, MayBegin, MayRead};
 use mz_base::Stop;
 use mz_expr_operands::operand::Operand;
 use mz_expr_operands::operator::tighter_level;
-use mz_grammar::Level;
-use mz_grammar_rules::Cursor;
+use mz_grammar::{Cursor, Level};
 use std::alloc::Global;
 
 /// Where the descent begins.

@@ -2,7 +2,7 @@
 
 ghost use Rattle.std.specs.Prelude.{map};
 ghost use Rattle.mz_tree.specs.Views.{tree, link};
-ghost use Rattle.mz_grammar_rules.specs.Reads.{Passes, Reads};
+ghost use Rattle.mz_grammar.specs.Reads.{Passes, Reads};
 ghost use Rattle.mz_grammar.specs.Parts as parts;
 ghost use Rattle.mz_grammar.specs.Reading.{reads};
 ghost use Rattle.mz_expr_operands.specs.Views.{operand};
@@ -16,8 +16,7 @@ use mz_expr_operands::operator::{
     binary_of, is_nonassociative, level_number, next_level, prefix_of,
 };
 use mz_expr_operands::step::separator;
-use mz_grammar::{Closing, Level};
-use mz_grammar_rules::{Cursor, is_sym};
+use mz_grammar::{Closing, Cursor, Level, is_sym};
 use mz_lexer::Symbol;
 use mz_tree::{Expr, PlacedOp, make_unary};
 use std::alloc::Global;
@@ -64,7 +63,7 @@ impl<F: Fn(Global, &mut Cursor<'_>, Entry) -> Result<Operand, Stop>> Descent<F> 
     }
 
     /// The operators of one level in a row, each with the operand after it.
-    #[tactic(auto, using(mz_grammar::proofs::Equations::operators_reads, mz_grammar_rules::proofs::Steps::prefix_push, std::proofs::lemmas::List::map_push, mz_grammar_rules::proofs::Steps::nothing_behind, mz_grammar_rules::proofs::Steps::no_prefix))]
+    #[tactic(auto, using(mz_grammar::proofs::Equations::operators_reads, mz_grammar::proofs::Steps::prefix_push, std::proofs::lemmas::List::map_push, mz_grammar::proofs::Steps::nothing_behind, mz_grammar::proofs::Steps::no_prefix))]
     fn operators(&self, cur: &mut Cursor<'_>, l: Level) -> Result<Vec<(PlacedOp, Expr)>, Stop>
         requires { MayBegin (Entry.Level l) self.now.room self.now.entry (F.pre self.now.reader) (F.post self.now.reader) cur.old }
         ensures { Passes (λ v. map link v.items) (reads (parts.operators l)) cur.old cur.new result }
@@ -83,7 +82,7 @@ impl<F: Fn(Global, &mut Cursor<'_>, Entry) -> Result<Operand, Stop>> Descent<F> 
     }
 
     /// An atom, or a prefix operator and what it applies to.
-    #[tactic(auto, using(mz_grammar::proofs::Equations::unit_reads, mz_grammar_rules::proofs::Steps::open_more, mz_grammar_rules::proofs::Steps::open_none))]
+    #[tactic(auto, using(mz_grammar::proofs::Equations::unit_reads, mz_grammar::proofs::Steps::open_more, mz_grammar::proofs::Steps::open_none))]
     pub fn unit(&self, cur: &mut Cursor<'_>) -> Result<Operand, Stop>
         requires { MayBegin Entry.Unit self.now.room self.now.entry (F.pre self.now.reader) (F.post self.now.reader) cur.old }
         ensures { Reads operand (reads parts.unit) cur.old cur.new result }
@@ -114,7 +113,7 @@ impl<F: Fn(Global, &mut Cursor<'_>, Entry) -> Result<Operand, Stop>> Descent<F> 
     }
 
     /// The accesses after a head. Each `[` stays open up to the last `]`.
-    #[tactic(auto, using(mz_grammar::proofs::Equations::accesses_reads, mz_grammar_rules::proofs::Steps::open_more, mz_grammar_rules::proofs::Steps::open_none))]
+    #[tactic(auto, using(mz_grammar::proofs::Equations::accesses_reads, mz_grammar::proofs::Steps::open_more, mz_grammar::proofs::Steps::open_none))]
     fn accesses(&self, cur: &mut Cursor<'_>, first: Operand) -> Result<Operand, Stop>
         requires { MayOpen self.now.room self.now.entry (F.pre self.now.reader) (F.post self.now.reader) cur.old }
         ensures { Passes operand (reads (parts.accesses (operand first))) cur.old cur.new result }
@@ -132,7 +131,7 @@ impl<F: Fn(Global, &mut Cursor<'_>, Entry) -> Result<Operand, Stop>> Descent<F> 
     }
 
     /// The indices of an access, one at least, and the closing bracket.
-    #[tactic(auto, using(mz_grammar::proofs::Equations::indices_reads, mz_grammar::proofs::Equations::more_indices_reads, mz_grammar_rules::proofs::Steps::prefix_push, std::proofs::lemmas::List::map_push, mz_grammar_rules::proofs::Steps::nothing_behind, mz_grammar_rules::proofs::Steps::no_prefix))]
+    #[tactic(auto, using(mz_grammar::proofs::Equations::indices_reads, mz_grammar::proofs::Equations::more_indices_reads, mz_grammar::proofs::Steps::prefix_push, std::proofs::lemmas::List::map_push, mz_grammar::proofs::Steps::nothing_behind, mz_grammar::proofs::Steps::no_prefix))]
     fn indices(&self, cur: &mut Cursor<'_>) -> Result<Vec<Expr>, Stop>
         requires { MayRead self.now.room self.now.entry (F.pre self.now.reader) (F.post self.now.reader) cur.old }
         ensures { Reads (λ v. map tree v.items) (reads parts.indices) cur.old cur.new result }

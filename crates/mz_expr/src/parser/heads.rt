@@ -1,7 +1,7 @@
 // Heads: what an atom begins with.
 
 ghost use Rattle.std.specs.Prelude.{◌<◌, length, Some};
-ghost use Rattle.mz_grammar_rules.specs.Reads.{Reads};
+ghost use Rattle.mz_grammar.specs.Reads.{Reads};
 ghost use Rattle.mz_grammar.specs.Parts as parts;
 ghost use Rattle.mz_grammar.specs.Reading.{reads};
 ghost use Rattle.mz_grammar.specs.Steps.{head_at, head_word_at, head_symbol_at, parenthesised_at};
@@ -11,7 +11,7 @@ ghost use Rattle.mz_expr.specs.Descent.{MayOpen};
 use crate::parser::descent::{Descent, Entry};
 use mz_base::{Name, OneDrop, Stop};
 use mz_expr_operands::operand::{Operand, other};
-use mz_grammar_rules::{Cursor, is_sym};
+use mz_grammar::{Cursor, is_sym};
 use mz_lexer::{Keyword, Symbol, Tok};
 use mz_tree::{make_absent, make_bool, make_int, make_interp, make_plain, make_rows, make_text};
 use std::alloc::Global;
@@ -97,7 +97,7 @@ impl<F: Fn(Global, &mut Cursor<'_>, Entry) -> Result<Operand, Stop>> Descent<F> 
     }
 
     /// A text with interpolation, whose first piece is this one.
-    #[tactic(auto, using(mz_grammar_rules::proofs::Steps::open_more, mz_grammar_rules::proofs::Steps::open_none))]
+    #[tactic(auto, using(mz_grammar::proofs::Steps::open_more, mz_grammar::proofs::Steps::open_none))]
     fn interpolated(&self, cur: &mut Cursor<'_>, content: Name) -> Result<Operand, Stop>
         requires may { MayOpen self.now.room self.now.entry (F.pre self.now.reader) (F.post self.now.reader) cur.old }
         requires some { 0 < length cur.old.rest.now }
@@ -113,7 +113,7 @@ impl<F: Fn(Global, &mut Cursor<'_>, Entry) -> Result<Operand, Stop>> Descent<F> 
     }
 
     /// An expression in parentheses, which make no node.
-    #[tactic(auto, using(mz_grammar_rules::proofs::Steps::open_more, mz_grammar_rules::proofs::Steps::open_none))]
+    #[tactic(auto, using(mz_grammar::proofs::Steps::open_more, mz_grammar::proofs::Steps::open_none))]
     fn parenthesised(&self, cur: &mut Cursor<'_>) -> Result<Operand, Stop>
         requires may { MayOpen self.now.room self.now.entry (F.pre self.now.reader) (F.post self.now.reader) cur.old }
         requires some { 0 < length cur.old.rest.now }
@@ -134,7 +134,7 @@ impl<F: Fn(Global, &mut Cursor<'_>, Entry) -> Result<Operand, Stop>> Descent<F> 
     }
 
     /// An array literal or an array comprehension.
-    #[tactic(auto, using(mz_grammar_rules::proofs::Steps::open_more, mz_grammar_rules::proofs::Steps::open_none))]
+    #[tactic(auto, using(mz_grammar::proofs::Steps::open_more, mz_grammar::proofs::Steps::open_none))]
     fn array(&self, cur: &mut Cursor<'_>) -> Result<Operand, Stop>
         requires may { MayOpen self.now.room self.now.entry (F.pre self.now.reader) (F.post self.now.reader) cur.old }
         requires some { 0 < length cur.old.rest.now }
@@ -148,7 +148,7 @@ impl<F: Fn(Global, &mut Cursor<'_>, Entry) -> Result<Operand, Stop>> Descent<F> 
     }
 
     /// An array literal of two dimensions.
-    #[tactic(auto, using(mz_grammar_rules::proofs::Steps::open_more, mz_grammar_rules::proofs::Steps::open_none))]
+    #[tactic(auto, using(mz_grammar::proofs::Steps::open_more, mz_grammar::proofs::Steps::open_none))]
     fn rows(&self, cur: &mut Cursor<'_>) -> Result<Operand, Stop>
         requires may { MayOpen self.now.room self.now.entry (F.pre self.now.reader) (F.post self.now.reader) cur.old }
         requires some { 0 < length cur.old.rest.now }
@@ -162,7 +162,7 @@ impl<F: Fn(Global, &mut Cursor<'_>, Entry) -> Result<Operand, Stop>> Descent<F> 
     }
 
     /// A set literal or a set comprehension.
-    #[tactic(auto, using(mz_grammar_rules::proofs::Steps::open_more, mz_grammar_rules::proofs::Steps::open_none))]
+    #[tactic(auto, using(mz_grammar::proofs::Steps::open_more, mz_grammar::proofs::Steps::open_none))]
     fn set(&self, cur: &mut Cursor<'_>) -> Result<Operand, Stop>
         requires may { MayOpen self.now.room self.now.entry (F.pre self.now.reader) (F.post self.now.reader) cur.old }
         requires some { 0 < length cur.old.rest.now }

@@ -1,14 +1,14 @@
 // Arrays, sets, rows and the pieces of texts.
 
 ghost use Rattle.std.specs.Prelude.{◌≡◌, ◌<◌, length, OnOk, map, [], ◌∷◌, ◌++◌, Ok};
-ghost use Rattle.mz_grammar_rules.specs.Reads.{Passes, Reads};
+ghost use Rattle.mz_grammar.specs.Reads.{Passes, Reads};
 ghost use Rattle.mz_tree.specs.Tree as pure;
 ghost use Rattle.mz_tree.specs.Views.{tree, tree_row, part};
-ghost use Rattle.mz_grammar_rules.specs.Rules.{syntax};
-ghost use Rattle.mz_grammar_rules.specs.Tokens.{tok_at, behind};
+ghost use Rattle.mz_grammar.specs.Rules.{syntax};
+ghost use Rattle.mz_grammar.specs.Tokens.{tok_at, behind};
 ghost use Rattle.mz_grammar.specs.Tests.{tail_of};
-ghost use Rattle.mz_grammar_rules.specs.Promise.{Gives};
-ghost use Rattle.mz_grammar_rules.specs.Reading.{mapped, with_prefix, listed, on, stuck};
+ghost use Rattle.mz_grammar.specs.RulesPromise.{Gives};
+ghost use Rattle.mz_grammar.specs.RulesReading.{mapped, with_prefix, listed, on, stuck};
 ghost use Rattle.mz_grammar.specs.Parts as parts;
 ghost use Rattle.mz_grammar.specs.Reading.{reads};
 ghost use Rattle.mz_grammar.specs.Steps.{separator_at};
@@ -18,8 +18,7 @@ use crate::parser::descent::{Descent, Entry};
 use mz_base::{OneDrop, Span, Stop};
 use mz_expr_operands::operand::Operand;
 use mz_expr_operands::step::{closes, ends_row, middle_of, separator, tail_of};
-use mz_grammar::Closing;
-use mz_grammar_rules::{Cursor, is_sym};
+use mz_grammar::{Closing, Cursor, is_sym};
 use mz_lexer::Symbol;
 use mz_tree::{
     Expr, TextPart, make_array, make_array_comp, make_plain, make_set, make_set_comp, make_shown,
@@ -28,7 +27,7 @@ use std::alloc::Global;
 
 impl<F: Fn(Global, &mut Cursor<'_>, Entry) -> Result<Operand, Stop>> Descent<F> {
     /// The rest of a text after pieces that were read: expressions and pieces up to its last one.
-    #[tactic(auto, using(mz_grammar::proofs::ListEquations::text_rest_reads, mz_grammar_rules::proofs::Steps::prefix_push, std::proofs::lemmas::List::map_push, mz_grammar_rules::proofs::Steps::nothing_behind, mz_grammar_rules::proofs::Steps::prefix_prefix))]
+    #[tactic(auto, using(mz_grammar::proofs::ListEquations::text_rest_reads, mz_grammar::proofs::Steps::prefix_push, std::proofs::lemmas::List::map_push, mz_grammar::proofs::Steps::nothing_behind, mz_grammar::proofs::Steps::prefix_prefix))]
     pub fn text_rest(
         &self,
         cur: &mut Cursor<'_>,
@@ -52,7 +51,7 @@ impl<F: Fn(Global, &mut Cursor<'_>, Entry) -> Result<Operand, Stop>> Descent<F> 
     }
 
     /// Elements up to the closing token, after those that were read.
-    #[tactic(auto, using(mz_grammar::proofs::Equations::elements_reads, mz_grammar_rules::proofs::Steps::prefix_push, std::proofs::lemmas::List::map_push, mz_grammar_rules::proofs::Steps::nothing_behind))]
+    #[tactic(auto, using(mz_grammar::proofs::Equations::elements_reads, mz_grammar::proofs::Steps::prefix_push, std::proofs::lemmas::List::map_push, mz_grammar::proofs::Steps::nothing_behind))]
     fn elements(
         &self,
         cur: &mut Cursor<'_>,
@@ -75,7 +74,7 @@ impl<F: Fn(Global, &mut Cursor<'_>, Entry) -> Result<Operand, Stop>> Descent<F> 
     }
 
     /// An element that was read, and those after it up to the closing token.
-    #[tactic(auto, using(mz_grammar_rules::proofs::Steps::prefix_push, std::proofs::lemmas::List::map_push, mz_grammar_rules::proofs::Steps::nothing_behind))]
+    #[tactic(auto, using(mz_grammar::proofs::Steps::prefix_push, std::proofs::lemmas::List::map_push, mz_grammar::proofs::Steps::nothing_behind))]
     fn elements_behind(&self, cur: &mut Cursor<'_>, c: Closing, e: Expr) -> Result<Vec<Expr>, Stop>
         requires { MayRead self.now.room self.now.entry (F.pre self.now.reader) (F.post self.now.reader) cur.old }
         ensures { Reads (λ v. map tree v.items) (λ room ts. listed (separator_at c) (reads (parts.elements c) room) (tree e) ts) cur.old cur.new result }
@@ -130,7 +129,7 @@ impl<F: Fn(Global, &mut Cursor<'_>, Entry) -> Result<Operand, Stop>> Descent<F> 
     }
 
     /// What stands between `[|` and `|]`, and the latter.
-    #[tactic(auto, using(mz_grammar::proofs::ListEquations::rows_body_reads, mz_grammar_rules::proofs::Steps::prefix_push, std::proofs::lemmas::List::map_push, mz_grammar_rules::proofs::Steps::nothing_behind))]
+    #[tactic(auto, using(mz_grammar::proofs::ListEquations::rows_body_reads, mz_grammar::proofs::Steps::prefix_push, std::proofs::lemmas::List::map_push, mz_grammar::proofs::Steps::nothing_behind))]
     pub fn rows_body(&self, cur: &mut Cursor<'_>) -> Result<Vec<Vec<Expr>>, Stop>
         requires { MayRead self.now.room self.now.entry (F.pre self.now.reader) (F.post self.now.reader) cur.old }
         ensures { Reads (λ v. map tree_row v.items) (reads parts.rows_body) cur.old cur.new result }
@@ -149,7 +148,7 @@ impl<F: Fn(Global, &mut Cursor<'_>, Entry) -> Result<Operand, Stop>> Descent<F> 
     }
 
     /// Rows, each after a `|`, up to the `|]`, after those that were read.
-    #[tactic(auto, using(mz_grammar::proofs::ListEquations::more_rows_reads, mz_grammar_rules::proofs::Steps::prefix_push, std::proofs::lemmas::List::map_push, mz_grammar_rules::proofs::Steps::nothing_behind))]
+    #[tactic(auto, using(mz_grammar::proofs::ListEquations::more_rows_reads, mz_grammar::proofs::Steps::prefix_push, std::proofs::lemmas::List::map_push, mz_grammar::proofs::Steps::nothing_behind))]
     fn more_rows(
         &self,
         cur: &mut Cursor<'_>,
@@ -176,7 +175,7 @@ impl<F: Fn(Global, &mut Cursor<'_>, Entry) -> Result<Operand, Stop>> Descent<F> 
     }
 
     /// A row.
-    #[tactic(auto, using(mz_grammar::proofs::ListEquations::row_reads, mz_grammar_rules::proofs::Steps::prefix_push, std::proofs::lemmas::List::map_push, mz_grammar_rules::proofs::Steps::nothing_behind))]
+    #[tactic(auto, using(mz_grammar::proofs::ListEquations::row_reads, mz_grammar::proofs::Steps::prefix_push, std::proofs::lemmas::List::map_push, mz_grammar::proofs::Steps::nothing_behind))]
     fn row(&self, cur: &mut Cursor<'_>) -> Result<Vec<Expr>, Stop>
         requires { MayRead self.now.room self.now.entry (F.pre self.now.reader) (F.post self.now.reader) cur.old }
         ensures { Reads (λ v. map tree v.items) (reads parts.row) cur.old cur.new result }
@@ -188,7 +187,7 @@ impl<F: Fn(Global, &mut Cursor<'_>, Entry) -> Result<Operand, Stop>> Descent<F> 
     }
 
     /// The elements of a row, each after a comma, after those that were read.
-    #[tactic(auto, using(mz_grammar::proofs::ListEquations::cells_reads, mz_grammar_rules::proofs::Steps::prefix_push, std::proofs::lemmas::List::map_push, mz_grammar_rules::proofs::Steps::nothing_behind))]
+    #[tactic(auto, using(mz_grammar::proofs::ListEquations::cells_reads, mz_grammar::proofs::Steps::prefix_push, std::proofs::lemmas::List::map_push, mz_grammar::proofs::Steps::nothing_behind))]
     fn cells(&self, cur: &mut Cursor<'_>, before: Vec<Expr>) -> Result<Vec<Expr>, Stop>
         requires { MayRead self.now.room self.now.entry (F.pre self.now.reader) (F.post self.now.reader) cur.old }
         ensures { Passes (λ v. map tree v.items) (λ room ts. with_prefix (map tree before.items) (reads parts.cells room ts)) cur.old cur.new result }

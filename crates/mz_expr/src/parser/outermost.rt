@@ -1,7 +1,7 @@
 // The entry points of the descent.
 
 ghost use Rattle.mz_tree.specs.Views.{tree, declaration, written};
-ghost use Rattle.mz_grammar_rules.specs.Reads.{Passes, Reads};
+ghost use Rattle.mz_grammar.specs.Reads.{Passes, Reads};
 ghost use Rattle.mz_grammar.specs.Parts as parts;
 ghost use Rattle.mz_grammar.specs.Reading.{reads};
 ghost use Rattle.mz_expr_operands.specs.Views.{operand};
@@ -9,8 +9,7 @@ ghost use Rattle.mz_expr_operands.specs.Views.{operand};
 use crate::parser::descent::{Descent, Entry, descend};
 use mz_base::Stop;
 use mz_expr_operands::operand::Operand;
-use mz_grammar::Level;
-use mz_grammar_rules::Cursor;
+use mz_grammar::{Cursor, Level};
 use mz_tree::{Decl, Expr, TypeText};
 use std::alloc::Global;
 

@@ -2,7 +2,7 @@
 
 ghost use Rattle.std.specs.Prelude.{map};
 ghost use Rattle.mz_tree.specs.Views.{written, based};
-ghost use Rattle.mz_grammar_rules.specs.Reads.{Reads};
+ghost use Rattle.mz_grammar.specs.Reads.{Reads};
 ghost use Rattle.mz_grammar.specs.Parts as parts;
 ghost use Rattle.mz_grammar.specs.Reading.{reads};
 ghost use Rattle.mz_grammar.specs.Steps.{dimensions_at};
@@ -12,8 +12,7 @@ use crate::parser::descent::{Descent, Entry};
 use mz_base::{Span, Stop};
 use mz_expr_operands::operand::Operand;
 use mz_expr_operands::step::{begins_base, separator};
-use mz_grammar::{Closing, Level};
-use mz_grammar_rules::{Cursor, is_sym, is_word};
+use mz_grammar::{Closing, Cursor, Level, is_sym, is_word};
 use mz_lexer::{Keyword, Symbol};
 use mz_tree::{TypeBase, TypeText, make_bool_base, make_int_base, make_scalar, make_set_base};
 use std::alloc::Global;
@@ -43,7 +42,7 @@ impl<F: Fn(Global, &mut Cursor<'_>, Entry) -> Result<Operand, Stop>> Descent<F> 
     }
 
     /// The index types of an array type in their brackets, and the `of`.
-    #[tactic(auto, using(mz_grammar_rules::proofs::Steps::open_more, mz_grammar_rules::proofs::Steps::open_none))]
+    #[tactic(auto, using(mz_grammar::proofs::Steps::open_more, mz_grammar::proofs::Steps::open_none))]
     fn dimensions(&self, cur: &mut Cursor<'_>) -> Result<Vec<TypeBase>, Stop>
         requires { MayRead self.now.room self.now.entry (F.pre self.now.reader) (F.post self.now.reader) cur.old }
         ensures { Reads (λ v. map based v.items) dimensions_at cur.old cur.new result }
@@ -63,7 +62,7 @@ impl<F: Fn(Global, &mut Cursor<'_>, Entry) -> Result<Operand, Stop>> Descent<F> 
     }
 
     /// At most six index types, and the closing bracket.
-    #[tactic(auto, using(mz_grammar::proofs::ItemEquations::index_types_more, mz_grammar::proofs::ItemEquations::index_types_none, mz_grammar_rules::proofs::Steps::prefix_push, std::proofs::lemmas::List::map_push, mz_grammar_rules::proofs::Steps::nothing_behind, mz_grammar_rules::proofs::Steps::no_prefix))]
+    #[tactic(auto, using(mz_grammar::proofs::ItemEquations::index_types_more, mz_grammar::proofs::ItemEquations::index_types_none, mz_grammar::proofs::Steps::prefix_push, std::proofs::lemmas::List::map_push, mz_grammar::proofs::Steps::nothing_behind, mz_grammar::proofs::Steps::no_prefix))]
     fn index_types(&self, cur: &mut Cursor<'_>) -> Result<Vec<TypeBase>, Stop>
         requires { MayRead self.now.room self.now.entry (F.pre self.now.reader) (F.post self.now.reader) cur.old }
         ensures { Reads (λ v. map based v.items) (reads (parts.index_types 6)) cur.old cur.new result }

@@ -1,6 +1,6 @@
 use Rattle.std.proofs.Common.{map, subst}
 use Rattle.mz_arena.specs.Instances.{model_var}
-use Rattle.fz_emission.specs.Front.{AreNamed}
+use Rattle.flat_meaning.specs.Front.{AreNamed}
 use Rattle.cases_flatten.proofs.answer.print_flattened.Goals as goal
 
 pub flatten-requires-clause-instance : goal.flatten-requires-clause-instance

@@ -1,6 +1,6 @@
 use Rattle.std.proofs.Common.{◌+◌, map, subst, sym}
 use Rattle.mz_arena.specs.Instances.{model_var, var_cell}
-use Rattle.flat_front.proofs.Stepping.{vars_from}
+use Rattle.flat.proofs.Stepping.{vars_from}
 use Rattle.flat.specs.Absent.{AreOptions, AddsCellRoots, all_cells}
 use Rattle.flat.proofs.Absenting.{VarsFixed, vars_begin, vars_first, vars_next, vars_done, vars_here, vars_end}
 use Rattle.flat.proofs.absent.fix_absent.Goals as goal

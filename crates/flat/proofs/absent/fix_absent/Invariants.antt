@@ -1,6 +1,6 @@
 use Rattle.std.proofs.Common.{map}
 use Rattle.mz_arena.specs.Instances.{model_var}
-use Rattle.flat_front.proofs.Stepping.{vars_from}
+use Rattle.flat.proofs.Stepping.{vars_from}
 use Rattle.flat.specs.Absent.{all_cells}
 use Rattle.flat.proofs.Absenting.{VarsFixed}
 use Rattle.flat.proofs.absent.fix_absent.Given as goal

@@ -1,6 +1,6 @@
 use Rattle.std.proofs.Common.{map}
 use Rattle.mz_arena.specs.Instances.{model_var, var_cell}
-use Rattle.flat_front.proofs.Stepping.{cells_from}
+use Rattle.flat.proofs.Stepping.{cells_from}
 use Rattle.flat.proofs.Absenting.{CellsFixed}
 use Rattle.flat.proofs.absent.fix_cells.Given as goal
 

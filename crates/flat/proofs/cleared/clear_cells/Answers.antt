@@ -2,7 +2,7 @@ use Rattle.std.proofs.Common.{◌+◌, map, [], ◌∷◌, subst}
 use Rattle.mz_arena.specs.Instances.{model_var, var_cell}
 use Rattle.mz_instance.specs.Parts.{value_part}
 use Rattle.flat_reif.specs.States.{state}
-use Rattle.flat_front.proofs.Stepping.{cells_from}
+use Rattle.flat.proofs.Stepping.{cells_from}
 use Rattle.flat.specs.Cleared.{value_parts}
 use Rattle.flat.proofs.Clearing.{PartsLeft, parts_begin, parts_first, parts_next, parts_done, cells_left, cells_end}
 use Rattle.flat.proofs.cleared.clear_cells.Goals as goal

@@ -1,7 +1,7 @@
 use Rattle.std.proofs.Common.{map}
 use Rattle.mz_arena.specs.Instances.{model_var, var_cell}
 use Rattle.flat_reif.specs.States.{state}
-use Rattle.flat_front.proofs.Stepping.{cells_from}
+use Rattle.flat.proofs.Stepping.{cells_from}
 use Rattle.flat.specs.Cleared.{value_parts}
 use Rattle.flat.proofs.Clearing.{PartsLeft}
 use Rattle.flat.proofs.cleared.clear_cells.Given as goal

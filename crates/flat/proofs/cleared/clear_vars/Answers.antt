@@ -1,7 +1,7 @@
 use Rattle.std.proofs.Common.{◌+◌, map, subst, sym}
 use Rattle.mz_arena.specs.Instances.{model_var, var_cell}
 use Rattle.flat_reif.specs.States.{state}
-use Rattle.flat_front.proofs.Stepping.{vars_from}
+use Rattle.flat.proofs.Stepping.{vars_from}
 use Rattle.flat.specs.Cleared.{AreBound, AreCleared, value_parts, all_value_parts}
 use Rattle.flat.proofs.Clearing.{PartsLeft, parts_begin, parts_first, parts_next, parts_done, vars_left, vars_end}
 use Rattle.flat.proofs.cleared.clear_vars.Goals as goal

@@ -1,4 +1,4 @@
-use Rattle.fz_build_domains.proofs.Copies.{array_opened}
+use Rattle.fz_build.proofs.Copies.{array_opened}
 use Rattle.flat_reif_rows.proofs.access.array_of.Goals as goal
 
 pub returns : goal.returns

@@ -1,7 +1,7 @@
 use Rattle.std.proofs.Common.{◌≡◌, ◌∷◌, ◌++◌, [], ap, map, ◌∙◌, negsuc, refl}
 use Rattle.fz_program.specs.declared.program.Arg.{Int, the_lemmas}
 use Rattle.fz_program.specs.Arguments.{argument, array, int, plain, plains}
-use Rattle.fz_build_domains.specs.Inputs.{elements_at}
+use Rattle.fz_build.specs.Inputs.{elements_at}
 use Rattle.fz_build.specs.Build.{coefficients_with}
 use Rattle.fz_build.proofs.Lists.{if_ok_weaker}
 use Rattle.fz_build.proofs.result_row.coefficients_with.Goals as goal

@@ -1,5 +1,5 @@
 use Rattle.std.proofs.Common.{rules}
-use Rattle.soln_reader_items.proofs.SetLemmas.{listed_is}
+use Rattle.fz_items.proofs.SetLemmas.{listed_is}
 use Rattle.fz_text_read.proofs.list.listed.Goals as goal
 
 pub returns : goal.returns

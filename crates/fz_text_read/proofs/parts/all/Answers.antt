@@ -1,7 +1,7 @@
 use Rattle.std.proofs.Common.{◌≡◌, ◌-◌, ◌+◌, List, length, map, ap, sym, subst, ◌∙◌, Some}
 use Rattle.std.proofs.lemmas.List.{map_push}
 use Rattle.fz_text_read.specs.Lists.{all_at, parts_at}
-use Rattle.soln_reader_items.proofs.IntLists.{fails_along}
+use Rattle.fz_items.proofs.IntLists.{fails_along}
 use Rattle.fz_text_read.proofs.PartLoops.{with_prefix, begins_at, fails, ends, goes_on, runs_out}
 use Rattle.fz_text_read.proofs.parts.all.Goals as goal
 

@@ -1,7 +1,7 @@
 use Rattle.std.proofs.Common.{◌≡◌, ◌-◌, ◌+◌, List, length, map, ap, sym, subst, ◌∙◌}
 use Rattle.std.proofs.lemmas.List.{map_push}
 use Rattle.fz_text_read.specs.Lines.{every_at, lines_at}
-use Rattle.soln_reader_items.proofs.IntLists.{fails_along}
+use Rattle.fz_items.proofs.IntLists.{fails_along}
 use Rattle.fz_text_read.proofs.PartLoops.{with_prefix}
 use Rattle.fz_text_read.proofs.LineLoops.{begins_at, stops, fails, goes_on, runs_out}
 use Rattle.fz_text_read.proofs.parts.lines.Goals as goal

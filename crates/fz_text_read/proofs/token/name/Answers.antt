@@ -1,6 +1,6 @@
 use Rattle.std.proofs.Common.{ℕ, subst, sym, take}
 use Rattle.std.specs.Str.{IsUtf8}
-use Rattle.soln_reader_items.proofs.NameBytes.{name_utf8}
+use Rattle.fz_items.proofs.NameBytes.{name_utf8}
 use Rattle.fz_text_read.proofs.token.name.Goals as goal
 
 pub returns-in-Err : goal.returns-in-Err

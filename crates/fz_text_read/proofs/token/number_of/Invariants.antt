@@ -1,5 +1,5 @@
 use Rattle.std.proofs.Common.{◌≡◌, ◌≤◌, drop}
-use Rattle.soln_reader_items.specs.Items.{number_from, past}
+use Rattle.fz_items.specs.Items.{number_from, past}
 use Rattle.fz_text_read.proofs.token.number_of.Given as goal
 
 abbrev pub invariant-loop-d : goal.invariant-loop-d

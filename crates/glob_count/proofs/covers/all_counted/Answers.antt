@@ -3,8 +3,8 @@ use Rattle.std.specs.List.{list_all}
 use Rattle.mz_symbol.specs.Makes.{GoesOnBy}
 use Rattle.glob_nodes.specs.Says.{Tells}
 use Rattle.glob_nodes.proofs.Saying.{ok_so}
-use Rattle.glob_lists.proofs.Nodes.{stays}
-use Rattle.glob_lists.proofs.Several.{same_two}
+use Rattle.glob_nodes.proofs.IntegerNodes.{stays}
+use Rattle.glob_nodes.proofs.Several.{same_two}
 use Rattle.glob_count.specs.Senses.{is_count}
 use Rattle.glob_count.proofs.covers.all_counted.Goals as goal
 

@@ -4,7 +4,7 @@ use Rattle.mz_globals.specs.Counting as counting
 use Rattle.glob_nodes.specs.Arguments.{array_value, numbers_in}
 use Rattle.glob_nodes.proofs.Saying.{ok_so}
 use Rattle.glob_nodes.proofs.Telling.{goes_less, goes_more}
-use Rattle.glob_lists.proofs.Several.{three_arrays_row}
+use Rattle.glob_nodes.proofs.Several.{three_arrays_row}
 use Rattle.glob_count.proofs.Covering.{cardinality_cost, cardinality_line, cardinality_told}
 use Rattle.glob_count.proofs.covers.cardinality.Goals as goal
 

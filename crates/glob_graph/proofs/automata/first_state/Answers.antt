@@ -2,7 +2,7 @@ use Rattle.std.proofs.Common.{Some, ap, rules}
 use Rattle.std.proofs.lemmas.Int.{to_z-of_z}
 use mir.Syntax.{w64}
 use Rattle.glob_nodes.proofs.Saying.{ok_so}
-use Rattle.glob_lists.proofs.Nodes.{number_is, number_like}
+use Rattle.glob_nodes.proofs.IntegerNodes.{number_is, number_like}
 use Rattle.glob_graph.specs.Automata.{as_state, first_state}
 use Rattle.glob_graph.proofs.automata.first_state.Goals as goal
 

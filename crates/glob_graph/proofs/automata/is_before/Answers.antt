@@ -2,7 +2,7 @@ use Rattle.std.proofs.Common.{Some}
 use Rattle.glob_nodes.specs.declared.nodes.Compare.TheVariants.{AtMost}
 use Rattle.glob_nodes.specs.Says.{num, compares}
 use Rattle.glob_nodes.proofs.Saying.{ok_so}
-use Rattle.glob_lists.proofs.Nodes.{says_over_number}
+use Rattle.glob_nodes.proofs.IntegerNodes.{says_over_number}
 use Rattle.glob_graph.proofs.automata.is_before.Goals as goal
 
 pub returns-clause-says : goal.returns-clause-says

@@ -2,7 +2,7 @@ use Rattle.std.proofs.Common.{Some, ap, rules}
 use Rattle.std.proofs.lemmas.Int.{to_z-of_z}
 use mir.Syntax.{w64}
 use Rattle.glob_nodes.proofs.Saying.{ok_so}
-use Rattle.glob_lists.proofs.Nodes.{number_like}
+use Rattle.glob_nodes.proofs.IntegerNodes.{number_like}
 use Rattle.glob_graph.proofs.automata.last_letter.Goals as goal
 
 pub returns-clause-is : goal.returns-clause-is

@@ -1,7 +1,7 @@
 use Rattle.std.proofs.Common.{IfSome, arith, subst}
 use Rattle.glob_nodes.proofs.Saying.{ok_so}
 use Rattle.glob_nodes.proofs.Telling.{goes_less, goes_more}
-use Rattle.glob_lists.specs.Numbers.{IsNumber, plus}
+use Rattle.glob_nodes.specs.Numbers.{IsNumber, plus}
 use Rattle.glob_nodes.specs.Says.{num}
 use Rattle.glob_graph.proofs.Letterwise.{place_later, place_of_sum}
 use Rattle.glob_graph.proofs.automata.place.Goals as goal

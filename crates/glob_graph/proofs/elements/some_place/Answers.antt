@@ -3,8 +3,8 @@ use Rattle.std.specs.List.{list_any}
 use Rattle.mz_symbol.specs.Makes.{GoesOnBy}
 use Rattle.glob_nodes.proofs.Saying.{ok_so}
 use Rattle.glob_nodes.proofs.Telling.{goes_less, goes_more}
-use Rattle.glob_lists.specs.Places.{indexed}
-use Rattle.glob_lists.proofs.Nodes.{tells_from}
+use Rattle.glob_nodes.specs.Places.{indexed}
+use Rattle.glob_nodes.proofs.IntegerNodes.{tells_from}
 use Rattle.glob_graph.specs.Senses.{is_place}
 use Rattle.glob_graph.proofs.ElementAt.{any_numbered}
 use Rattle.glob_graph.proofs.elements.some_place.Goals as goal

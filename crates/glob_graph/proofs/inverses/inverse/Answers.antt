@@ -5,7 +5,7 @@ use Rattle.glob_nodes.specs.Arguments.{array_value, numbers_in}
 use Rattle.glob_nodes.proofs.Saying.{ok_so}
 use Rattle.glob_nodes.proofs.Telling.{goes_less, goes_more}
 use Rattle.glob_nodes.proofs.Rows.{arrays_row}
-use Rattle.glob_lists.proofs.Several.{placed}
+use Rattle.glob_nodes.proofs.Several.{placed}
 use Rattle.glob_graph.proofs.BothWays.{inverse_cost, inverse_line, inverse_told}
 use Rattle.glob_graph.proofs.inverses.inverse.Goals as goal
 

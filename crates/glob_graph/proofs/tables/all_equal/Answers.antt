@@ -5,8 +5,8 @@ use Rattle.glob_nodes.specs.declared.nodes.Compare.TheVariants.{Equal}
 use Rattle.glob_nodes.specs.Says.{Tells, compares, num}
 use Rattle.glob_nodes.proofs.Saying.{ok_so}
 use Rattle.glob_nodes.proofs.Telling.{goes_less}
-use Rattle.glob_lists.proofs.Nodes.{stays}
-use Rattle.glob_lists.proofs.Squares.{zip_short}
+use Rattle.glob_nodes.proofs.IntegerNodes.{stays}
+use Rattle.glob_nodes.proofs.Squares.{zip_short}
 use Rattle.glob_graph.proofs.tables.all_equal.Goals as goal
 
 pub returns-in_err-pairs-clause-goes : goal.returns-in_err-pairs-clause-goes

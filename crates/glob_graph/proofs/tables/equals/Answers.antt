@@ -4,7 +4,7 @@ use mir.Syntax.{w64}
 use Rattle.glob_nodes.specs.declared.nodes.Compare.TheVariants.{Equal}
 use Rattle.glob_nodes.specs.Says.{num, compares}
 use Rattle.glob_nodes.proofs.Saying.{ok_so}
-use Rattle.glob_lists.proofs.Nodes.{number_like, says_over_number}
+use Rattle.glob_nodes.proofs.IntegerNodes.{number_like, says_over_number}
 use Rattle.glob_graph.proofs.tables.equals.Goals as goal
 
 pub returns-clause-says : goal.returns-clause-says

@@ -3,7 +3,7 @@ use Rattle.std.specs.List.{list_any}
 use Rattle.mz_symbol.specs.Makes.{GoesOnBy}
 use Rattle.glob_nodes.specs.Says.{Tells}
 use Rattle.glob_nodes.proofs.Saying.{ok_so}
-use Rattle.glob_lists.proofs.Nodes.{stays}
+use Rattle.glob_nodes.proofs.IntegerNodes.{stays}
 use Rattle.glob_graph.specs.Tables.{row_at}
 use Rattle.glob_graph.proofs.Rowwise.{steps_length}
 use Rattle.glob_graph.proofs.tables.has_row.Goals as goal

@@ -3,8 +3,8 @@ use Rattle.mz_globals.specs.Lists.{pairwise}
 use Rattle.mz_symbol.specs.Makes.{GoesOnBy}
 use Rattle.glob_nodes.specs.Says.{Tells, pair_count}
 use Rattle.glob_nodes.proofs.Saying.{ok_so}
-use Rattle.glob_lists.proofs.Nodes.{stays}
-use Rattle.glob_lists.proofs.Several.{same_two}
+use Rattle.glob_nodes.proofs.IntegerNodes.{stays}
+use Rattle.glob_nodes.proofs.Several.{same_two}
 use Rattle.glob_sched.specs.Senses.{are_apart_or_idle}
 use Rattle.glob_sched.proofs.apart.all_apart_or_idle.Goals as goal
 

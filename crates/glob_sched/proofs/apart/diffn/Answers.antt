@@ -4,7 +4,7 @@ use Rattle.mz_globals.specs.Scheduling as scheduling
 use Rattle.glob_nodes.specs.Arguments.{array_value, numbers_in}
 use Rattle.glob_nodes.proofs.Saying.{ok_so}
 use Rattle.glob_nodes.proofs.Telling.{goes_less, goes_more}
-use Rattle.glob_lists.proofs.Several.{four_arrays_row}
+use Rattle.glob_nodes.proofs.Several.{four_arrays_row}
 use Rattle.glob_sched.proofs.Costs.{diffn_cost}
 use Rattle.glob_sched.proofs.Lines.{diffn_line}
 use Rattle.glob_sched.proofs.Meanings.{diffn_told}

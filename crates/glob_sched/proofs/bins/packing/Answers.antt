@@ -5,7 +5,7 @@ use Rattle.glob_nodes.specs.Says.{num}
 use Rattle.glob_nodes.specs.Arguments.{array_value, number_value, numbers_in}
 use Rattle.glob_nodes.proofs.Saying.{ok_so}
 use Rattle.glob_nodes.proofs.Telling.{goes_less, goes_more}
-use Rattle.glob_lists.proofs.Several.{number_arrays_row}
+use Rattle.glob_nodes.proofs.Several.{number_arrays_row}
 use Rattle.glob_sched.proofs.Costs.{packing_cost}
 use Rattle.glob_sched.proofs.Lines.{packing_line}
 use Rattle.glob_sched.proofs.Meanings.{packing_told}

@@ -3,9 +3,9 @@ use Rattle.std.specs.List.{list_all}
 use Rattle.mz_symbol.specs.Makes.{GoesOnBy}
 use Rattle.glob_nodes.proofs.Saying.{ok_so}
 use Rattle.glob_nodes.proofs.Telling.{goes_less, goes_more}
-use Rattle.glob_lists.specs.Places.{indexed}
-use Rattle.glob_lists.proofs.Nodes.{tells_from}
-use Rattle.glob_lists.proofs.Indexing.{all_numbered}
+use Rattle.glob_nodes.specs.Places.{indexed}
+use Rattle.glob_nodes.proofs.IntegerNodes.{tells_from}
+use Rattle.glob_nodes.proofs.Indexing.{all_numbered}
 use Rattle.glob_sched.specs.Senses.{has_load}
 use Rattle.glob_sched.proofs.loads.bins_have_loads.Goals as goal
 

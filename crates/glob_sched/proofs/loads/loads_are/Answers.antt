@@ -2,8 +2,8 @@ use Rattle.std.proofs.Common.{◌≡◌, ◌∙◌, ◌+◌, ◌*◌, length, zi
 use Rattle.mz_symbol.specs.Makes.{GoesOnBy}
 use Rattle.glob_nodes.specs.Says.{Tells}
 use Rattle.glob_nodes.proofs.Saying.{ok_so}
-use Rattle.glob_lists.proofs.Nodes.{stays}
-use Rattle.glob_lists.proofs.Several.{same_two}
+use Rattle.glob_nodes.proofs.IntegerNodes.{stays}
+use Rattle.glob_nodes.proofs.Several.{same_two}
 use Rattle.glob_sched.specs.Senses.{are_loads}
 use Rattle.glob_sched.proofs.loads.loads_are.Goals as goal
 

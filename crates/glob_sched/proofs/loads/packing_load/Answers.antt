@@ -4,7 +4,7 @@ use Rattle.mz_globals.specs.Scheduling as scheduling
 use Rattle.glob_nodes.specs.Arguments.{array_value, numbers_in}
 use Rattle.glob_nodes.proofs.Saying.{ok_so}
 use Rattle.glob_nodes.proofs.Telling.{goes_less, goes_more}
-use Rattle.glob_lists.proofs.Several.{placed, three_arrays_row}
+use Rattle.glob_nodes.proofs.Several.{placed, three_arrays_row}
 use Rattle.glob_sched.proofs.Costs.{load_cost}
 use Rattle.glob_sched.proofs.Lines.{load_line}
 use Rattle.glob_sched.proofs.Meanings.{loads_told}

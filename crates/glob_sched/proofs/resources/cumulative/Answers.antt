@@ -5,7 +5,7 @@ use Rattle.glob_nodes.specs.Says.{num}
 use Rattle.glob_nodes.specs.Arguments.{array_value, number_value, numbers_in}
 use Rattle.glob_nodes.proofs.Saying.{ok_so}
 use Rattle.glob_nodes.proofs.Telling.{goes_less, goes_more}
-use Rattle.glob_lists.proofs.Several.{arrays_number_row}
+use Rattle.glob_nodes.proofs.Several.{arrays_number_row}
 use Rattle.glob_sched.proofs.Costs.{cumulative_cost}
 use Rattle.glob_sched.proofs.Lines.{cumulative_line}
 use Rattle.glob_sched.proofs.Meanings.{cumulative_told}

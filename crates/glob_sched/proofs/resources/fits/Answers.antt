@@ -1,7 +1,7 @@
 use Rattle.glob_nodes.specs.declared.nodes.Compare.TheVariants.{AtMost}
 use Rattle.glob_nodes.specs.Says.{num, compares}
 use Rattle.glob_nodes.proofs.Saying.{ok_so}
-use Rattle.glob_lists.proofs.Nodes.{says_over_number}
+use Rattle.glob_nodes.proofs.IntegerNodes.{says_over_number}
 use Rattle.glob_sched.proofs.resources.fits.Goals as goal
 
 pub returns-clause-says : goal.returns-clause-says

@@ -3,9 +3,9 @@ use Rattle.std.specs.List.{list_all}
 use Rattle.mz_symbol.specs.Makes.{GoesOnBy}
 use Rattle.glob_nodes.proofs.Saying.{ok_so}
 use Rattle.glob_nodes.proofs.Telling.{goes_less, goes_more}
-use Rattle.glob_lists.specs.Places.{indexed}
-use Rattle.glob_lists.proofs.Nodes.{tells_from}
-use Rattle.glob_lists.proofs.Several.{same_two}
+use Rattle.glob_nodes.specs.Places.{indexed}
+use Rattle.glob_nodes.proofs.IntegerNodes.{tells_from}
+use Rattle.glob_nodes.proofs.Several.{same_two}
 use Rattle.glob_sets.specs.Senses.{belong}
 use Rattle.glob_sets.proofs.Belonging.{pairs_numbered}
 use Rattle.glob_sets.proofs.channels.all_belong.Goals as goal

@@ -3,7 +3,7 @@ use Rattle.std.specs.List.{list_all}
 use Rattle.mz_symbol.specs.Makes.{GoesOnBy}
 use Rattle.glob_nodes.specs.Says.{Tells, num}
 use Rattle.glob_nodes.proofs.Saying.{ok_so}
-use Rattle.glob_lists.specs.Places.{lies_within}
+use Rattle.glob_nodes.specs.Places.{lies_within}
 use Rattle.glob_sets.proofs.channels.name_indices.Goals as goal
 
 pub returns-clause-goes : goal.returns-clause-goes

@@ -5,7 +5,7 @@ use Rattle.mz_arena.specs.Values.{as_set, holds}
 use Rattle.mz_symbol.specs.Makes.{GoesOnBy}
 use Rattle.glob_nodes.proofs.Saying.{ok_so}
 use Rattle.glob_nodes.proofs.Telling.{goes_less, goes_more}
-use Rattle.glob_lists.proofs.Nodes.{tells_from}
+use Rattle.glob_nodes.proofs.IntegerNodes.{tells_from}
 use Rattle.glob_sets.specs.Senses.{lies_among}
 use Rattle.glob_sets.proofs.indices.have_indices.Goals as goal
 

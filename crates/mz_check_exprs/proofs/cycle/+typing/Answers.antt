@@ -8,7 +8,7 @@ use Rattle.mz_check_meaning.specs.Passes.{Passes}
 use Rattle.mz_check_context.specs.Known.{known}
 use Rattle.mz_check_context.specs.Extending.{Extends, itself, one_more}
 use Rattle.mz_check_forms.proofs.Passing.{stops}
-use Rattle.mz_check_binders.specs.Views.{typed_item}
+use Rattle.mz_check_context.specs.Views.{typed_item}
 use Rattle.mz_check_exprs.specs.StepsForms.{expression, gen_by, item_by, form_layer}
 use Rattle.mz_check_exprs.specs.Views.{generated, declared_in}
 use Rattle.mz_check_exprs.proofs.Layers.{expression_is}

@@ -6,7 +6,7 @@ use Rattle.mz_check_meaning.specs.Forms.{part, row_parts, piece, left_next, oper
 use Rattle.mz_check_context.specs.Known.{known}
 use Rattle.mz_check_context.specs.Extending.{Extends}
 use Rattle.mz_check_calls.specs.Views.{operand as operand_of, chained}
-use Rattle.mz_check_binders.specs.Views.{typed_base}
+use Rattle.mz_check_context.specs.Views.{typed_base}
 use Rattle.mz_check_exprs.specs.StepsForms.{expression, operand_by, branch_by, piece_by, gen_by, base_by, item_by}
 use Rattle.mz_check_exprs.specs.Views.{generated, declared_in, branched}
 use Rattle.mz_check_exprs.proofs.cycle.+typing.Given as goal

@@ -1,6 +1,6 @@
 use Rattle.std.proofs.Common.{◌≡◌, length, map}
 use Rattle.mz_tree.specs.Data.{given}
-use Rattle.mz_grammar_rules.specs.Reading.{with_prefix}
+use Rattle.mz_grammar.specs.RulesReading.{with_prefix}
 use Rattle.mz_grammar.specs.Data.{reads, file, dimensions_of}
 use Rattle.mz_dzn.proofs.file.file.Given as goal
 

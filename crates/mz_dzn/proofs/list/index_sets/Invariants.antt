@@ -1,6 +1,6 @@
 use Rattle.std.proofs.Common.{◌≡◌, ◌≤◌, length, map}
 use Rattle.mz_tree.specs.Data.{value}
-use Rattle.mz_grammar_rules.specs.Reading.{with_prefix}
+use Rattle.mz_grammar.specs.RulesReading.{with_prefix}
 use Rattle.mz_grammar.specs.Data.{reads, index_sets}
 use Rattle.mz_dzn.proofs.list.index_sets.Given as goal
 

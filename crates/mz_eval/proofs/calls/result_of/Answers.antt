@@ -6,7 +6,7 @@ use Rattle.mz_meaning.specs.Runs.{then_do}
 use Rattle.mz_symbol.specs.Readings.{state_of}
 use Rattle.mz_eval_cells.specs.Views.{seen}
 use Rattle.mz_eval_guards.specs.Guards.{guard_seen}
-use Rattle.mz_eval_domains.specs.Wants.{wanted, wants_of}
+use Rattle.mz_eval_declared.specs.Wants.{wanted, wants_of}
 use Rattle.mz_eval_names.specs.Names.{result_cell}
 use Rattle.mz_eval_chains.proofs.Runs.{meets_at_is}
 use Rattle.mz_eval.specs.Levels.{world_in}

@@ -3,7 +3,7 @@ use Rattle.mz_meaning.specs.Arrays.{table_cell}
 use Rattle.mz_meaning.specs.Runs.{then_do}
 use Rattle.mz_symbol.specs.Readings.{state_of}
 use Rattle.mz_eval_cells.specs.Views.{seen}
-use Rattle.mz_eval_tables.specs.TableCells.{rows_seen}
+use Rattle.mz_eval_branches.specs.TableCells.{rows_seen}
 use Rattle.mz_eval_chains.proofs.Runs.{meets_at_is}
 use Rattle.mz_eval.proofs.forms.table_of.Goals as goal
 

@@ -5,7 +5,7 @@ use Rattle.mz_meaning.specs.Arrays.{declared_count}
 use Rattle.mz_meaning.specs.Lets.{free_local}
 use Rattle.mz_symbol.specs.Readings.{state_of}
 use Rattle.mz_eval_declared.specs.Locals.{local_in}
-use Rattle.mz_eval_domains.specs.Wants.{wanted, wants_of}
+use Rattle.mz_eval_declared.specs.Wants.{wanted, wants_of}
 use Rattle.mz_eval_scopes.specs.Seen.{ctx_of}
 use Rattle.mz_eval_chains.proofs.Runs.{meets_at_is}
 use Rattle.mz_eval.specs.Levels.{world_in}

@@ -1,6 +1,6 @@
 use Rattle.std.proofs.Common.{◌∙◌, ap, arith}
 use Rattle.mz_meaning.specs.Cells.{par_value}
-use Rattle.mz_eval_arrays.proofs.Lines.{line_made}
+use Rattle.mz_eval_arrays.proofs.ValueLists.{line_made}
 use Rattle.mz_eval_arrays.proofs.lining.line_of_values.Goals as goal
 
 pub returns : goal.returns

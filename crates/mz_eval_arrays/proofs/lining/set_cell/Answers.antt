@@ -5,7 +5,7 @@ use Rattle.mz_core.specs.Types.{plain_type}
 use Rattle.mz_meaning.specs.Cells.{Par}
 use Rattle.mz_meaning.specs.Coerced.{enum_in}
 use Rattle.mz_eval_arrays.specs.Gathered.{gathered}
-use Rattle.mz_eval_arrays.specs.StepsLines.{unions}
+use Rattle.mz_eval_arrays.specs.StepsJoining.{unions}
 use Rattle.mz_eval_arrays.proofs.Numbered.{by_numbers}
 use Rattle.mz_eval_arrays.proofs.lining.set_cell.Goals as goal
 

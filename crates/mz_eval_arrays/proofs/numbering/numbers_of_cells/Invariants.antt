@@ -1,6 +1,6 @@
 use Rattle.std.proofs.Common.{◌≡◌, [], drop}
 use Rattle.mz_eval_cells.specs.Views.{cells_of}
-use Rattle.mz_eval_arrays.specs.StepsLines.{numbers_in, values_from}
+use Rattle.mz_eval_arrays.specs.StepsJoining.{numbers_in, values_from}
 use Rattle.mz_eval_arrays.proofs.numbering.numbers_of_cells.Given as goal
 
 abbrev pub invariant-loop-k : goal.invariant-loop-k

@@ -2,7 +2,7 @@ use Rattle.std.proofs.Common.{◌∙◌, ap, sym}
 use Rattle.mz_symbol.proofs.ConstantLaws.{out_value, out_state}
 use Rattle.mz_symbol_rows.proofs.RowLaws.{out_both}
 use Rattle.mz_eval_cells.specs.Views.{cell_of}
-use Rattle.mz_eval_lines.specs.StepsBranches.{with_value}
+use Rattle.mz_eval_arrays.specs.StepsBranches.{with_value}
 use Rattle.mz_eval_branches.proofs.choosing.array_choice.Goals as goal
 
 pub returns-clause-means : goal.returns-clause-means

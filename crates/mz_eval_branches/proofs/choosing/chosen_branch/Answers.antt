@@ -4,7 +4,7 @@ use Rattle.mz_meaning.specs.Arrays.{branch_cell}
 use Rattle.mz_symbol.specs.Readings.{state_of}
 use Rattle.mz_eval_cells.specs.Views.{seen}
 use Rattle.mz_eval_arrays.specs.Gathered.{pairs_by}
-use Rattle.mz_eval_lines.proofs.BranchLaws.{last_told}
+use Rattle.mz_eval_arrays.proofs.BranchLaws.{last_told}
 use Rattle.mz_eval_branches.proofs.ChoiceLaws.{same_run}
 use Rattle.mz_eval_branches.proofs.Settling.{settled_cell}
 use Rattle.mz_eval_branches.proofs.choosing.chosen_branch.Goals as goal

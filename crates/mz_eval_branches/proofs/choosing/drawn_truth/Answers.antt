@@ -3,8 +3,8 @@ use Rattle.mz_operations.specs.Bounds as bounds
 use Rattle.mz_symbol.proofs.ConstantLaws.{out_value, out_state}
 use Rattle.mz_symbol_rows.proofs.RowLaws.{out_both}
 use Rattle.mz_eval_cells.specs.Views.{cell_of, known_bound, seen}
-use Rattle.mz_eval_lines.specs.StepsBranches.{branches_value}
-use Rattle.mz_eval_lines.proofs.BranchLaws.{open_value}
+use Rattle.mz_eval_arrays.specs.StepsBranches.{branches_value}
+use Rattle.mz_eval_arrays.proofs.BranchLaws.{open_value}
 use Rattle.mz_eval_branches.specs.Truths.{truth_seen}
 use Rattle.mz_eval_branches.proofs.ChoiceLaws.{goes_charged}
 use Rattle.mz_eval_branches.proofs.choosing.drawn_truth.Goals as goal

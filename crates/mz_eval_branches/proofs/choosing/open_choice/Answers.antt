@@ -5,7 +5,7 @@ use Rattle.mz_meaning.specs.Arrays.{branch_cell}
 use Rattle.mz_symbol.specs.Readings.{state_of}
 use Rattle.mz_eval_cells.specs.Views.{cell_of, seen}
 use Rattle.mz_eval_arrays.specs.Gathered.{pairs_by}
-use Rattle.mz_eval_lines.specs.StepsBranches.{branches_value, with_value}
+use Rattle.mz_eval_arrays.specs.StepsBranches.{branches_value, with_value}
 use Rattle.mz_eval_branches.proofs.ChoiceLaws.{same_refusal}
 use Rattle.mz_eval_branches.proofs.choosing.open_choice.Goals as goal
 

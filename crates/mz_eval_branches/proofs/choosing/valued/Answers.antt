@@ -1,7 +1,7 @@
 use Rattle.std.proofs.Common.{◌∙◌, ap, sym, refl}
 use Rattle.mz_symbol_rows.proofs.RowLaws.{out_both}
 use Rattle.mz_eval_cells.specs.Views.{cell_of}
-use Rattle.mz_eval_lines.specs.StepsBranches.{with_value}
+use Rattle.mz_eval_arrays.specs.StepsBranches.{with_value}
 use Rattle.mz_eval_branches.proofs.choosing.valued.Goals as goal
 
 pub returns-then-no_values-clause-means : goal.returns-then-no_values-clause-means

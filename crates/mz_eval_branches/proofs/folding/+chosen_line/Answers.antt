@@ -2,8 +2,8 @@ use Rattle.std.proofs.Common.{◌∙◌, ap, length}
 use Rattle.mz_symbol.proofs.ConstantLaws.{out_value, out_state}
 use Rattle.mz_symbol_rows.proofs.RowLaws.{out_both}
 use Rattle.mz_eval_symbols.specs.Taken.{count_in}
-use Rattle.mz_eval_lines.specs.StepsBranches.{branches_value}
-use Rattle.mz_eval_lines.proofs.BranchLaws.{more_told}
+use Rattle.mz_eval_arrays.specs.StepsBranches.{branches_value}
+use Rattle.mz_eval_arrays.proofs.BranchLaws.{more_told}
 use Rattle.mz_eval_branches.specs.BranchLines.{option_seen}
 use Rattle.mz_eval_branches.proofs.FoldLaws.{fold_last, fold_more, fold_rest}
 use Rattle.mz_eval_branches.proofs.folding.+chosen_line.Goals as goal

@@ -2,7 +2,7 @@ use Rattle.std.proofs.Common.{◌∙◌}
 use Rattle.mz_symbol.proofs.ConstantLaws.{out_value, out_state}
 use Rattle.mz_symbol_rows.proofs.RowLaws.{out_both}
 use Rattle.mz_eval_symbols.specs.Taken.{count_in}
-use Rattle.mz_eval_lines.proofs.BranchLaws.{first_told}
+use Rattle.mz_eval_arrays.proofs.BranchLaws.{first_told}
 use Rattle.mz_eval_branches.specs.BranchLines.{option_seen}
 use Rattle.mz_eval_branches.proofs.FoldLaws.{goes_line, goes_one}
 use Rattle.mz_eval_branches.proofs.folding.with_first.Goals as goal

@@ -1,7 +1,7 @@
 use Rattle.std.proofs.Common.{◌∙◌, ap, sym}
 use Rattle.mz_symbol.proofs.ConstantLaws.{out_value, out_state}
 use Rattle.mz_symbol_rows.proofs.RowLaws.{out_both}
-use Rattle.mz_symbol_lines.specs.LineValues.{array_argument}
+use Rattle.mz_symbol_arrays.specs.LineValues.{array_argument}
 use Rattle.mz_eval_symbols.specs.Taken.{count_in}
 use Rattle.mz_eval_branches.proofs.LineLaws.{goes_counted}
 use Rattle.mz_eval_branches.proofs.lines.fitting_line.Goals as goal

@@ -2,7 +2,7 @@ use Rattle.std.proofs.Common.{◌∙◌, ap}
 use Rattle.mz_symbol.proofs.ConstantLaws.{out_value, out_state}
 use Rattle.mz_symbol_rows.proofs.RowLaws.{out_both}
 use Rattle.mz_eval_symbols.specs.Taken.{line_seen}
-use Rattle.mz_eval_lines.specs.StepsBranches.{one_value}
+use Rattle.mz_eval_arrays.specs.StepsBranches.{one_value}
 use Rattle.mz_eval_branches.proofs.lines.of_second.Goals as goal
 
 pub returns-clause-means : goal.returns-clause-means

@@ -2,7 +2,7 @@ use Rattle.std.proofs.Common.{◌∙◌, sym, length}
 use Rattle.std.specs.Prelude.{slice_get}
 use Rattle.mz_symbol.proofs.ConstantLaws.{out_value, out_state}
 use Rattle.mz_symbol_rows.proofs.RowLaws.{out_both}
-use Rattle.mz_symbol_lines.specs.LineValues.{count_of}
+use Rattle.mz_symbol_arrays.specs.LineValues.{count_of}
 use Rattle.mz_eval_branches.proofs.LineLaws.{goes_chosen, goes_chosen_alone}
 use Rattle.mz_eval_branches.proofs.lines.one_line.Goals as goal
 

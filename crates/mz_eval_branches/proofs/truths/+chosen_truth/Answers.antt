@@ -1,8 +1,8 @@
 use Rattle.std.proofs.Common.{◌∙◌, ap, length}
 use Rattle.mz_symbol.proofs.ConstantLaws.{out_value, out_state}
 use Rattle.mz_symbol_rows.proofs.RowLaws.{out_both}
-use Rattle.mz_eval_lines.specs.StepsBranches.{branches_value}
-use Rattle.mz_eval_lines.proofs.BranchLaws.{goes_last, goes_more, goes_rest, more_told}
+use Rattle.mz_eval_arrays.specs.StepsBranches.{branches_value}
+use Rattle.mz_eval_arrays.proofs.BranchLaws.{goes_last, goes_more, goes_rest, more_told}
 use Rattle.mz_eval_branches.specs.Truths.{truth_seen}
 use Rattle.mz_eval_branches.proofs.truths.+chosen_truth.Goals as goal
 

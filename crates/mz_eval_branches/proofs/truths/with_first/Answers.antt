@@ -1,7 +1,7 @@
 use Rattle.std.proofs.Common.{◌∙◌}
 use Rattle.mz_symbol.proofs.ConstantLaws.{out_value, out_state}
 use Rattle.mz_symbol_rows.proofs.RowLaws.{out_both}
-use Rattle.mz_eval_lines.proofs.BranchLaws.{first_told, goes_first, goes_picked}
+use Rattle.mz_eval_arrays.proofs.BranchLaws.{first_told, goes_first, goes_picked}
 use Rattle.mz_eval_branches.specs.Truths.{truth_seen}
 use Rattle.mz_eval_branches.proofs.truths.with_first.Goals as goal
 

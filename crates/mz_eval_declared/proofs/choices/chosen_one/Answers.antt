@@ -6,7 +6,7 @@ use Rattle.mz_meaning.specs.Lets as lets
 use Rattle.mz_meaning.specs.Runs.{start}
 use Rattle.mz_symbol.specs.Readings.{state_of}
 use Rattle.mz_eval_cells.specs.Views.{cell_of, known_bound, sure_of}
-use Rattle.mz_eval_domains.specs.Wants.{wanted}
+use Rattle.mz_eval_declared.specs.Wants.{wanted}
 use Rattle.mz_eval_declared.specs.Locals.{local_in}
 use Rattle.mz_eval_declared.proofs.Choosing.{chosen_means, taken_bound, unchosen_means}
 use Rattle.mz_eval_declared.proofs.choices.chosen_one.Goals as goal

@@ -1,5 +1,5 @@
-use Rattle.mz_eval_domains.specs.Wants.{wants_of}
-use Rattle.mz_eval_declared.proofs.Suiting.{all_sets}
+use Rattle.mz_eval_declared.specs.Wants.{wants_of}
+use Rattle.mz_eval_declared.proofs.SuitingLaws.{all_sets}
 use Rattle.mz_eval_declared.proofs.sets.all_sets_guard.Goals as goal
 
 pub returns : goal.returns

@@ -1,7 +1,7 @@
 use Rattle.mz_symbol.specs.Readings.{state_of}
 use Rattle.mz_eval_cells.specs.Views.{seen}
-use Rattle.mz_eval_domains.specs.Wants.{wanted, wants_of}
-use Rattle.mz_eval_declared.proofs.Suiting.{kept_goes, kept_means}
+use Rattle.mz_eval_declared.specs.Wants.{wanted, wants_of}
+use Rattle.mz_eval_declared.proofs.SuitingLaws.{kept_goes, kept_means}
 use Rattle.mz_eval_declared.proofs.sets.kept_in.Goals as goal
 
 pub returns-in_err-g-clause-goes : goal.returns-in_err-g-clause-goes

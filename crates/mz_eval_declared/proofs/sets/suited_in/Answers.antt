@@ -1,8 +1,8 @@
 use Rattle.mz_meaning.specs.Arrays as arrays
 use Rattle.mz_meaning.specs.Lets as lets
 use Rattle.mz_eval_cells.specs.Views.{seen}
-use Rattle.mz_eval_domains.specs.Wants.{wanted, wants_of}
-use Rattle.mz_eval_declared.proofs.Suiting.{both_guards}
+use Rattle.mz_eval_declared.specs.Wants.{wanted, wants_of}
+use Rattle.mz_eval_declared.proofs.SuitingLaws.{both_guards}
 use Rattle.mz_eval_declared.proofs.sets.suited_in.Goals as goal
 
 pub returns-clause-guards : goal.returns-clause-guards

@@ -1,6 +1,6 @@
 use Rattle.std.proofs.Common.{ap}
-use Rattle.mz_eval_domains.specs.Wants.{wanted}
-use Rattle.mz_eval_declared.proofs.Suiting.{missing_suits}
+use Rattle.mz_eval_declared.specs.Wants.{wanted}
+use Rattle.mz_eval_declared.proofs.SuitingLaws.{missing_suits}
 use Rattle.mz_eval_declared.proofs.sets.var_suits.Goals as goal
 
 pub returns-in-Missing-clause-guards : goal.returns-in-Missing-clause-guards

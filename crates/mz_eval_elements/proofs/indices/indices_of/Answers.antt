@@ -1,6 +1,6 @@
 use Rattle.std.proofs.Common.{◌≡◌, ◌+◌, ap, length, arith}
 use Rattle.mz_symbol.specs.Readings.{symbol_seen}
-use Rattle.mz_eval_lines.proofs.Seeing.{symbols_none, symbols_more, symbols_all, goes_none, goes_more, goes_same}
+use Rattle.mz_eval_arrays.proofs.Seeing.{symbols_none, symbols_more, symbols_all, goes_none, goes_more, goes_same}
 use Rattle.mz_eval_elements.proofs.indices.indices_of.Goals as goal
 
 pub loop-k-init : goal.loop-k-init

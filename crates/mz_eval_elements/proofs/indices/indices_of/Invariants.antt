@@ -1,7 +1,7 @@
 use Rattle.std.proofs.Common.{◌≡◌, ◌*◌, length, take}
 use Rattle.mz_symbol.specs.Readings.{Reading, Reads, symbol_seen}
 use Rattle.mz_symbol.specs.Makes.{GoesOnBy}
-use Rattle.mz_eval_lines.specs.StepsLines.{AreSymbols}
+use Rattle.mz_eval_arrays.specs.StepsLines.{AreSymbols}
 use Rattle.mz_eval_elements.proofs.indices.indices_of.Given as goal
 
 abbrev pub invariant-loop-k : goal.invariant-loop-k

@@ -3,7 +3,7 @@ use Rattle.mz_symbol.specs.declared.types.Symbol.{Symbol}
 use Rattle.mz_symbol.proofs.ConstantLaws.{out_value, out_state}
 use Rattle.mz_symbol_rows.specs.RowValues.{argument}
 use Rattle.mz_symbol_rows.proofs.RowLaws.{out_both}
-use Rattle.mz_eval_lines.specs.ArrayCells.{is_counted}
+use Rattle.mz_eval_arrays.specs.ArrayCells.{is_counted}
 use Rattle.mz_eval_elements.proofs.PlaceLaws.{guarded_told}
 use Rattle.mz_eval_elements.proofs.places.guarded_symbol.Goals as goal
 

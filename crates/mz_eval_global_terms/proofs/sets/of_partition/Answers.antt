@@ -6,7 +6,7 @@ use Rattle.mz_meaning.specs.Operations.{size_of}
 use Rattle.mz_symbol_rows.proofs.GoingOn.{goes_both}
 use Rattle.mz_eval_cells.specs.Views.{cell_of}
 use Rattle.glob_nodes.specs.Rows.{row_cost}
-use Rattle.glob_lists.specs.Sets.{set_value}
+use Rattle.glob_nodes.specs.Sets.{set_value}
 use Rattle.glob_sets.specs.Arrays.{sets_value}
 use Rattle.mz_eval_global_terms.proofs.CallLaws.{call_of_two}
 use Rattle.mz_eval_global_terms.proofs.CostLaws.{room_for}

@@ -9,7 +9,7 @@ use Rattle.mz_symbol_rows.proofs.GoingOn.{goes_both}
 use Rattle.mz_eval_cells.specs.Views.{cell_of}
 use Rattle.glob_nodes.specs.Arguments.{array_value}
 use Rattle.glob_nodes.specs.Rows.{row_cost}
-use Rattle.glob_lists.specs.Sets.{set_value}
+use Rattle.glob_nodes.specs.Sets.{set_value}
 use Rattle.glob_graph.specs.Tables.{table_value}
 use Rattle.mz_eval_global_terms.proofs.CallLaws.{call_of_six}
 use Rattle.mz_eval_global_terms.proofs.CostLaws.{room_for}

@@ -1,10 +1,10 @@
 use Rattle.std.proofs.Common.{map}
 use Rattle.mz_globals.specs.Table.{refusal_of}
-use Rattle.mz_globals_apply.specs.Views.{plain_given}
+use Rattle.mz_eval_globals.specs.Views.{plain_given}
 use Rattle.mz_meaning.specs.Globals.{refused}
 use Rattle.mz_meaning.specs.Runs.{give}
 use Rattle.mz_eval_cells.specs.Views.{cell_of, cells_of}
-use Rattle.mz_eval_rows.proofs.Told.{tells_ends, tells_then}
+use Rattle.mz_eval_row_cells.proofs.Told.{tells_ends, tells_then}
 use Rattle.mz_eval_globals.specs.Steps.{global_result_by}
 use Rattle.mz_eval_globals.proofs.calls.call_by.Goals as goal
 

@@ -1,4 +1,4 @@
-use Rattle.mz_eval_rows.proofs.Told.{tells_given}
+use Rattle.mz_eval_row_cells.proofs.Told.{tells_given}
 use Rattle.mz_eval_globals.proofs.calls.result_by.Goals as goal
 
 pub returns : goal.returns

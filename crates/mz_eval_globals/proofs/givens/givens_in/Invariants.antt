@@ -1,5 +1,5 @@
 use Rattle.std.proofs.Common.{◌≡◌, ◌++◌, drop, map}
-use Rattle.mz_globals_apply.specs.Views.{plain_given}
+use Rattle.mz_eval_globals.specs.Views.{plain_given}
 use Rattle.mz_meaning.specs.Globals.{given_in}
 use Rattle.mz_eval_cells.specs.Views.{cells_of}
 use Rattle.mz_eval_globals.proofs.givens.givens_in.Given as goal

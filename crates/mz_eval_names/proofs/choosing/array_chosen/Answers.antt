@@ -5,7 +5,7 @@ use Rattle.mz_meaning.specs.Domains.{domain_over}
 use Rattle.mz_meaning.specs.Lets as lets
 use Rattle.mz_meaning.specs.Runs.{start}
 use Rattle.mz_eval_cells.specs.Views.{cell_of, known_bound, sure_of}
-use Rattle.mz_eval_domains.specs.Wants.{wanted, wants_of}
+use Rattle.mz_eval_declared.specs.Wants.{wanted, wants_of}
 use Rattle.mz_eval_names.proofs.ChoiceLaws.{empty_local, row_known, taken_local, unchosen_local}
 use Rattle.mz_eval_names.proofs.choosing.array_chosen.Goals as goal
 

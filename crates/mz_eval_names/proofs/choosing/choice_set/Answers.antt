@@ -2,7 +2,7 @@ use Rattle.std.proofs.Common.{◌∙◌, Some, sym, ap}
 use Rattle.mz_core.specs.Types.{plain_type}
 use Rattle.mz_meaning.specs.Domains.{domain_over}
 use Rattle.mz_meaning.specs.Lets as lets
-use Rattle.mz_eval_domains.specs.Wants.{wanted}
+use Rattle.mz_eval_declared.specs.Wants.{wanted}
 use Rattle.mz_eval_names.proofs.choosing.choice_set.Goals as goal
 
 pub returns-in_ok-s-in-Anything : goal.returns-in_ok-s-in-Anything

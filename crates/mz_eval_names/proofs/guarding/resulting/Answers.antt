@@ -3,7 +3,7 @@ use Rattle.mz_meaning.specs.Arrays.{suits}
 use Rattle.mz_meaning.specs.Cells.{both_sure}
 use Rattle.mz_meaning.specs.Lets.{all_have_sets}
 use Rattle.mz_eval_cells.specs.Views.{seen}
-use Rattle.mz_eval_domains.specs.Wants.{wanted, wants_of}
+use Rattle.mz_eval_declared.specs.Wants.{wanted, wants_of}
 use Rattle.mz_eval_names.proofs.ResultLaws.{result_means}
 use Rattle.mz_eval_names.proofs.guarding.resulting.Goals as goal
 

@@ -1,5 +1,5 @@
-use Rattle.mz_eval_domains.specs.Wants.{wanted}
-use Rattle.mz_eval_declared.proofs.Suiting.{only_sets}
+use Rattle.mz_eval_declared.specs.Wants.{wanted}
+use Rattle.mz_eval_declared.proofs.SuitingLaws.{only_sets}
 use Rattle.mz_eval_names.proofs.suiting.parameter_suits.Goals as goal
 
 pub returns-in-false-true-clause-guards : goal.returns-in-false-true-clause-guards

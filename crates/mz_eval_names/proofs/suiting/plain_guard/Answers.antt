@@ -1,5 +1,5 @@
 use Rattle.mz_meaning.specs.Arrays as arrays
-use Rattle.mz_eval_declared.proofs.Suiting.{only_sets}
+use Rattle.mz_eval_declared.proofs.SuitingLaws.{only_sets}
 use Rattle.mz_eval_names.proofs.suiting.plain_guard.Goals as goal
 
 pub returns-in-false-true-clause-guards : goal.returns-in-false-true-clause-guards

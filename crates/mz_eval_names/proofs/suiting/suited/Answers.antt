@@ -1,6 +1,6 @@
 use Rattle.mz_symbol.specs.Readings.{state_of}
 use Rattle.mz_eval_cells.specs.Views.{seen}
-use Rattle.mz_eval_domains.specs.Wants.{wanted, wants_of}
+use Rattle.mz_eval_declared.specs.Wants.{wanted, wants_of}
 use Rattle.mz_eval_names.proofs.ResultLaws.{suited_means}
 use Rattle.mz_eval_names.proofs.suiting.suited.Goals as goal
 

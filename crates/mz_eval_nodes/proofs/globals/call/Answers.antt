@@ -5,7 +5,7 @@ use Rattle.mz_symbol.specs.Readings.{state_of}
 use Rattle.mz_eval_cells.specs.declared.types.Known.{Known}
 use Rattle.mz_eval_cells.specs.Views.{all_seen, cells_of, seen}
 use Rattle.mz_eval_scopes.specs.Seen.{world_seen}
-use Rattle.mz_eval_row_nodes.proofs.WorkLaws.{earns_pays}
+use Rattle.mz_eval_nodes.proofs.WorkLaws.{earns_pays}
 use Rattle.mz_eval_nodes.proofs.Calls.{call_goes, call_stops, cost_seen}
 use Rattle.mz_eval_nodes.proofs.globals.call.Goals as goal
 

@@ -8,8 +8,8 @@ use Rattle.mz_eval_cells.specs.Views.{seen}
 use Rattle.mz_eval_scopes.specs.Seen.{world_seen}
 use Rattle.mz_eval_chains.specs.Innermosts.{operator_of}
 use Rattle.mz_eval_chains.proofs.Runs.{meets_at_is}
-use Rattle.mz_eval_row_nodes.specs.RowNodes.{node_by}
-use Rattle.mz_eval_row_nodes.proofs.BareLaws.{cell_blind}
+use Rattle.mz_eval_nodes.specs.RowNodes.{node_by}
+use Rattle.mz_eval_nodes.proofs.BareLaws.{cell_blind}
 use Rattle.mz_eval_nodes.specs.Numbers.{open_integer}
 use Rattle.mz_eval_nodes.specs.Operators.{operator_node}
 use Rattle.mz_eval_nodes.proofs.NumberLaws.{opened_goes, opened_stops}

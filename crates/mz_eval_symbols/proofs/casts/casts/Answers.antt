@@ -1,5 +1,5 @@
 use Rattle.std.proofs.Common.{◌≡◌, ◌+◌, ap, length, subst, arith}
-use Rattle.mz_symbol_lines.proofs.WalkLaws.{goes_none}
+use Rattle.mz_symbol_arrays.proofs.LineLaws.{goes_none}
 use Rattle.mz_eval_symbols.specs.Steps.{AreCasts}
 use Rattle.mz_eval_symbols.proofs.Lists.{casts_none, casts_more, goes_more, goes_same}
 use Rattle.mz_eval_symbols.proofs.casts.casts.Goals as goal

@@ -1,7 +1,7 @@
 use Rattle.std.proofs.Common.{◌≡◌, ◌+◌, map, ap, length, subst, arith}
 use Rattle.mz_value.specs.Contents.{content}
 use Rattle.mz_symbol.proofs.RunLaws.{goes_on}
-use Rattle.mz_symbol_lines.proofs.WalkLaws.{goes_none}
+use Rattle.mz_symbol_arrays.proofs.LineLaws.{goes_none}
 use Rattle.mz_eval_symbols.specs.Steps.{AreConstants, item_cast}
 use Rattle.mz_eval_symbols.proofs.Lists.{constants_none, constants_more}
 use Rattle.mz_eval_symbols.proofs.constants.constants.Goals as goal

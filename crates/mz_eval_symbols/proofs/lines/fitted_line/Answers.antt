@@ -1,7 +1,7 @@
 use Rattle.std.proofs.Common.{◌∙◌, sym}
 use Rattle.mz_core.specs.declared.types.Base.TheVariants as base
 use Rattle.mz_symbol.proofs.ConstantLaws.{out_value, out_state}
-use Rattle.mz_symbol_lines.proofs.WalkLaws.{goes_none}
+use Rattle.mz_symbol_arrays.proofs.LineLaws.{goes_none}
 use Rattle.mz_symbol_rows.proofs.RowLaws.{out_both}
 use Rattle.mz_eval_symbols.proofs.LackingLaws.{bottom_line, fits_made}
 use Rattle.mz_eval_symbols.proofs.LineLaws.{casts_line, casts_whole, goes_counted}

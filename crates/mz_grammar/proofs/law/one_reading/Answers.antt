@@ -1,6 +1,6 @@
 -- The lines that are only cited are checked with it.
 use Rattle.std.proofs.Common.{[]}
-use Rattle.mz_grammar_rules.proofs.Laws
+use Rattle.mz_grammar.proofs.Laws
 use Rattle.mz_grammar.specs.Parts.{file}
 use Rattle.mz_grammar.specs.Model.{rule}
 use Rattle.mz_grammar.specs.Reading.{rank, width}

@@ -1,5 +1,5 @@
 use Rattle.std.proofs.Common.{map, subst}
-use Rattle.mz_model_laws.specs.Hands.{SlotsFrom}
+use Rattle.mz_model_state.specs.Hands.{SlotsFrom}
 use Rattle.mz_model_names.specs.Named.{held_name}
 use Rattle.mz_model.proofs.ending.are_in_order.Goals as goal
 

@@ -1,5 +1,5 @@
 use Rattle.std.proofs.Common.{◌≡◌, ◌++◌, map, drop}
-use Rattle.mz_model_laws.specs.Hands.{constraint_roots}
+use Rattle.mz_model_state.specs.Hands.{constraint_roots}
 use Rattle.mz_model.specs.Walks.{held_constraint}
 use Rattle.mz_model.proofs.ending.roots_of.Given as goal
 

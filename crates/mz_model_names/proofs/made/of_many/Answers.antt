@@ -1,6 +1,6 @@
 use Rattle.std.proofs.Common.{refl}
 use Rattle.mz_core.specs.Types.{plain_type}
-use Rattle.mz_model_domains.specs.declared.forms.Form.TheVariants as form
+use Rattle.mz_model_names.specs.declared.forms.Form.TheVariants as form
 use Rattle.mz_model_names.specs.Named.{held_name}
 use Rattle.mz_model_names.proofs.Nexts.{many_over}
 use Rattle.mz_model_names.proofs.made.of_many.Goals as goal

@@ -1,5 +1,5 @@
 use Rattle.std.proofs.Common.{refl}
-use Rattle.mz_model_laws.specs.Hands.{ManyPlaces}
+use Rattle.mz_model_state.specs.Hands.{ManyPlaces}
 use Rattle.mz_model_names.proofs.Rooted.{rooted_if}
 use Rattle.mz_model_names.proofs.roots.array_value_roots.Goals as goal
 

@@ -2,7 +2,7 @@ use Rattle.std.proofs.Common.{◌≡◌, ◌∙◌, ◌∷◌, ℕ, List, refl, 
 use Rattle.mz_symbol.specs.declared.types.Symbol.{Symbol}
 use Rattle.mz_symbol.proofs.ConstantLaws.{out_value, out_other}
 use Rattle.mz_eval_symbols.specs.Taken.{ranges_in}
-use Rattle.mz_model_laws.specs.Hands.{ManyPlaces}
+use Rattle.mz_model_state.specs.Hands.{ManyPlaces}
 use Rattle.mz_model_roots.specs.Rooted.{view, AreRootsOf}
 use Rattle.mz_model_roots.specs.StepsEqual.{IsLineOf}
 use Rattle.mz_model_roots.proofs.ArrayRoots.{array_rooted}

@@ -1,7 +1,7 @@
 -- What was read so far, and then what the rest is read to, is what the whole is read to.
 use Rattle.std.proofs.Common.{◌≡◌, ◌≤◌, length, map}
 use Rattle.mz_tree.specs.Items.{item}
-use Rattle.mz_grammar_rules.specs.Reading.{with_prefix}
+use Rattle.mz_grammar.specs.RulesReading.{with_prefix}
 use Rattle.mz_grammar.specs.Parts as parts
 use Rattle.mz_grammar.specs.Reading.{reads}
 use Rattle.mz_parser.proofs.file.all_items.Given as goal

@@ -1,7 +1,7 @@
 use Rattle.std.proofs.Common.{map, refl}
 use Rattle.mz_value.specs.Contents.{content}
 use Rattle.mz_eval_scopes.specs.Views.{env_cells}
-use Rattle.mz_output.specs.Output.{variable_slots}
+use Rattle.mz_print.specs.Output.{variable_slots}
 use Rattle.mz_print.specs.Names.{top_names}
 use Rattle.mz_print.proofs.Environments.{env_begins, env_goes_on, env_ends}
 use Rattle.mz_print.proofs.env.output_env.Goals as goal

@@ -1,7 +1,7 @@
 use Rattle.std.proofs.Common.{◌≡◌, ◌-◌, ℕ, drop, length, map}
 use Rattle.mz_value.specs.Contents.{content}
 use Rattle.mz_eval_scopes.specs.Views.{env_cells}
-use Rattle.mz_output.specs.Output.{assigned, output_env, variable_slots}
+use Rattle.mz_print.specs.Output.{assigned, output_env, variable_slots}
 use Rattle.mz_print.specs.Names.{top_names}
 use Rattle.mz_print.proofs.env.output_env.Given as goal
 

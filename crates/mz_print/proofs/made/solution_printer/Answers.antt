@@ -4,9 +4,9 @@ use Rattle.std.proofs.lemmas.Int.{to_z-of_z}
 use Rattle.mz_value.specs.Ranges.{greatest}
 use Rattle.mz_core.specs.Program.{plain_program}
 use Rattle.mz_core.specs.TreeViews.{decl}
-use Rattle.mz_output.specs.Output.{variable_slots}
-use Rattle.mz_print_values.specs.declared.lines.Line.{Line}
-use Rattle.mz_print_values.specs.Lines.{IsNamed, lines_of}
+use Rattle.mz_print.specs.Output.{variable_slots}
+use Rattle.mz_print.specs.declared.lines.Line.{Line}
+use Rattle.mz_print.specs.Lines.{IsNamed, lines_of}
 use Rattle.mz_print.specs.Names.{place_in, top_names}
 use Rattle.mz_print.proofs.Texts.{lines_named}
 use Rattle.mz_print.proofs.made.solution_printer.Goals as goal

@@ -1,5 +1,5 @@
 use Rattle.std.proofs.Common.{◌≡◌, ◌++◌, drop}
-use Rattle.mz_output.specs.Output.{variable_slots}
+use Rattle.mz_print.specs.Output.{variable_slots}
 use Rattle.mz_print.specs.Names.{top_names}
 use Rattle.mz_print.proofs.names.variable_slots.Given as goal
 

@@ -2,10 +2,10 @@ use Rattle.std.proofs.Common.{◌≡◌, ◌∙◌, ℕ, List, map, ap, sym, sub
 use Rattle.std.specs.List.{flat_map}
 use Rattle.mz_value.specs.Contents.{case_names, content}
 use Rattle.mz_core.specs.Program.{plain_program}
-use Rattle.mz_output.specs.Output.{variable_slots}
-use Rattle.mz_print_values.specs.Lines.{line_text}
-use Rattle.mz_print_values.proofs.DefaultLines.{are_the_default}
-use Rattle.mz_print_values.proofs.ShownValues.{prints_values}
+use Rattle.mz_print.specs.Output.{variable_slots}
+use Rattle.mz_print.specs.Lines.{line_text}
+use Rattle.mz_print.proofs.DefaultLines.{are_the_default}
+use Rattle.mz_print.proofs.ShownValues.{prints_values}
 use Rattle.mz_print.specs.Names.{top_names}
 use Rattle.mz_print.proofs.print.by_default.Goals as goal
 

@@ -5,7 +5,7 @@ use Rattle.mz_value.specs.Contents.{content}
 use Rattle.mz_core.specs.Program.{plain_program}
 use Rattle.mz_meaning.specs.Cells.{Env}
 use Rattle.mz_eval_scopes.specs.Views.{env_cells}
-use Rattle.mz_output.specs.Output.{assigned, output_env, variable_slots}
+use Rattle.mz_print.specs.Output.{assigned, output_env, variable_slots}
 use Rattle.mz_print_stream.specs.Printing.{Says}
 use Rattle.mz_print.specs.Items.{items_text}
 use Rattle.mz_print.specs.Names.{top_names}

@@ -4,12 +4,12 @@ use Rattle.mz_arena.specs.Instances.{instance, model_var, par_value}
 use Rattle.mz_value.specs.Contents.{case_names}
 use Rattle.mz_core.specs.Program.{plain_program}
 use Rattle.mz_meaning.specs.Walk.{ordered}
-use Rattle.soln_reader_items.specs.Forms.{forms}
-use Rattle.mz_output.specs.Output.{OutputName}
+use Rattle.fz_items.specs.Forms.{forms}
+use Rattle.mz_print.specs.Output.{OutputName}
 use Rattle.mz_print.specs.Names.{top_names}
 use Rattle.mz_print.specs.Printers.{solution_texts, texts_of}
-use Rattle.mz_print_values.specs.Printable.{ArePrintable, IfTrue}
-use Rattle.mz_shapes.specs.Shapes.{IsVarNamed, forms_of}
+use Rattle.mz_print.specs.Printable.{ArePrintable, IfTrue}
+use Rattle.mz_print_model.specs.Shapes.{IsVarNamed, forms_of}
 use Rattle.mz_print_model.specs.Names.{names_with}
 use Rattle.mz_print_model.proofs.Found.{all_find, all_named, decls_named}
 use Rattle.mz_print_model.proofs.Limits.{as_read}

@@ -1,5 +1,5 @@
 use Rattle.std.proofs.Common.{◌≡◌, length}
-use Rattle.soln_reader_items.specs.Forms.{forms}
+use Rattle.fz_items.specs.Forms.{forms}
 use Rattle.soln_reader.specs.Views.{state}
 use Rattle.mz_print_stream.specs.StepsDrain.{IsReady}
 use Rattle.mz_print_stream.specs.StepsStream.{Pieces}

@@ -1,5 +1,5 @@
 use Rattle.std.proofs.Common.{◌∙◌}
-use Rattle.mz_scope_faults.specs.Tests.{known_in}
+use Rattle.mz_scope.specs.Tests.{known_in}
 use Rattle.mz_scope.proofs.Same.{same_unknown}
 use Rattle.mz_scope.proofs.refusals.unknown.Goals as goal
 

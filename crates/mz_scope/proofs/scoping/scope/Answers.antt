@@ -3,12 +3,12 @@ use Rattle.std.specs.List.{flat_map}
 use Rattle.mz_tree.specs.Data.{given}
 use Rattle.mz_scope_names.specs.Given.{occurrences}
 use Rattle.mz_scope_names.specs.StepsWalk.{items_of}
-use Rattle.mz_scope_uses.specs.Sketches.{decl_sketch}
+use Rattle.mz_scope_names.specs.Sketches.{decl_sketch}
 use Rattle.mz_scope_order.specs.Dependencies.{AreDeclarations}
 use Rattle.mz_scope_order.specs.Scoped.{ScopedTree, scoped_tree, parts_tree, IsScoped, AreRanked}
 use Rattle.mz_scope.specs.Scope.{IsRefused, by_a_cycle}
 use Rattle.mz_scope.specs.StepsScope.{IsArranged, HasCycle}
-use Rattle.mz_scope_faults.specs.Tests.{known_in, end_of, solve_in}
+use Rattle.mz_scope.specs.Tests.{known_in, end_of, solve_in}
 use Rattle.mz_scope.proofs.Distinct.{have_passed, declarations}
 use Rattle.mz_scope.proofs.Arranging.{scoped, ranked, cyclic, if_ok, if_err_refused}
 use Rattle.mz_scope.proofs.scoping.scope.Goals as goal

@@ -1,4 +1,4 @@
-use Rattle.mz_scope_uses.specs.Sketches.{decl_sketch, function_sketch}
+use Rattle.mz_scope_names.specs.Sketches.{decl_sketch, function_sketch}
 use Rattle.mz_scope_order.specs.Scoped.{scoped_decl, lent_function}
 use Rattle.mz_scope.proofs.Sequencing.{sketched, answered}
 use Rattle.mz_scope.proofs.scoping.sequence_in.Goals as goal

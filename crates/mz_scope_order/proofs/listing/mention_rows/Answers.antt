@@ -1,7 +1,7 @@
 use Rattle.std.proofs.Common.{ap, ◌∙◌}
 use Rattle.mz_graph.specs.Graph.{graph_of}
 use Rattle.mz_graph.proofs.Joining.{rows_of_both}
-use Rattle.mz_scope_uses.specs.Sketches.{all_of}
+use Rattle.mz_scope_names.specs.Sketches.{all_of}
 use Rattle.mz_scope_order.specs.StepsPlaces.{mentions_in}
 use Rattle.mz_scope_order.proofs.Making.{one_made, all_made}
 use Rattle.mz_scope_order.proofs.listing.mention_rows.Goals as goal

@@ -1,6 +1,6 @@
 use Rattle.std.proofs.Common.{◌≡◌, ◌++◌, drop, map}
 use Rattle.mz_graph.specs.Graph.{graph_of}
-use Rattle.mz_scope_uses.specs.Sketches.{sketch}
+use Rattle.mz_scope_names.specs.Sketches.{sketch}
 use Rattle.mz_scope_order.specs.StepsGraphs.{mention_rows}
 use Rattle.mz_scope_order.proofs.listing.mention_rows.Given as goal
 

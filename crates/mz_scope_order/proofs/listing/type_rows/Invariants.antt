@@ -1,6 +1,6 @@
 use Rattle.std.proofs.Common.{◌≡◌, ◌++◌, drop, map}
 use Rattle.mz_graph.specs.Graph.{graph_of}
-use Rattle.mz_scope_uses.specs.Sketches.{sketch}
+use Rattle.mz_scope_names.specs.Sketches.{sketch}
 use Rattle.mz_scope_order.specs.StepsGraphs.{type_rows}
 use Rattle.mz_scope_order.proofs.listing.type_rows.Given as goal
 

@@ -2,7 +2,7 @@ use Rattle.std.proofs.Common.{refl, map, ap, sym, subst, length}
 use Rattle.mz_graph.specs.Graph.{Graph, graph_of, IsGraph}
 use Rattle.mz_graph.specs.Depends.{AreUses, HaveComponents}
 use Rattle.mz_graph.specs.Evaluation.{IsEvaluation}
-use Rattle.mz_scope_uses.specs.Sketches.{sketch}
+use Rattle.mz_scope_names.specs.Sketches.{sketch}
 use Rattle.mz_scope_order.specs.Subjects.{subject}
 use Rattle.mz_scope_order.proofs.Answering as answering
 use Rattle.mz_scope_order.proofs.Closing as closing

@@ -1,5 +1,5 @@
 use Rattle.std.proofs.Common.{◌≡◌, ◌++◌, map, drop}
-use Rattle.mz_scope_uses.specs.Sketches.{sketch, decl_sketch}
+use Rattle.mz_scope_names.specs.Sketches.{sketch, decl_sketch}
 use Rattle.mz_scope_order.specs.Scoped.{scoped_decl}
 use Rattle.mz_scope_order.proofs.sketches.decl_sketches.Given as goal
 

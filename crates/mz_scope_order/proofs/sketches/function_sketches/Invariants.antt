@@ -1,5 +1,5 @@
 use Rattle.std.proofs.Common.{◌≡◌, ◌++◌, map, drop}
-use Rattle.mz_scope_uses.specs.Sketches.{sketch, function_sketch}
+use Rattle.mz_scope_names.specs.Sketches.{sketch, function_sketch}
 use Rattle.mz_scope_order.specs.Scoped.{lent_function}
 use Rattle.mz_scope_order.proofs.sketches.function_sketches.Given as goal
 

@@ -1,5 +1,5 @@
 use Rattle.std.proofs.Common.{◌∙◌, ap}
-use Rattle.mz_symbol_options.specs.StepsNodes.{symbol_of}
+use Rattle.mz_symbol_rows.specs.StepsOptions.{symbol_of}
 use Rattle.mz_symbol_access.proofs.ElementLaws.{lost_symbol}
 use Rattle.mz_symbol_access.proofs.nowhere.lost.Goals as goal
 

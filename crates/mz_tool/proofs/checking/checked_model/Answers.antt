@@ -1,5 +1,5 @@
 use Rattle.std.proofs.Common.{◌<◌, length}
-use Rattle.mz_data.specs.declared.gathering.SourcesWithData.{SourcesWithData}
+use Rattle.mz_include.specs.declared.with_data.gathering.SourcesWithData.{SourcesWithData}
 use Rattle.mz_words.specs.Requests.{settings}
 use Rattle.mz_tool.specs.declared.checking.Checked.{Checked}
 use Rattle.mz_tool.specs.Headline.{limits_of}

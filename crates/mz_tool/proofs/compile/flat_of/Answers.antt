@@ -5,7 +5,7 @@ use Rattle.fz_program.specs.declared.program.FzProgram.{FzProgram}
 use Rattle.fz_program.specs.Flat.{program}
 use Rattle.mz_analysis.specs.Analysis.{evaluated, files_read, items_read}
 use Rattle.mz_analysis.proofs.Declared.{typed_numbered, typed_distinct}
-use Rattle.mz_compile.specs.Compiled.{IsCompiled, CompileEnds}
+use Rattle.mz_tool.specs.Compiled.{IsCompiled, CompileEnds}
 use Rattle.mz_tool.specs.Headline.{limits_of}
 use Rattle.mz_tool.proofs.Asked.{as_read, budget_is_small, read_from_zero, read_in_limit}
 use Rattle.mz_tool.proofs.Ended.{compile_stops}

@@ -1,6 +1,6 @@
 use Rattle.std.proofs.Common.{◌∙◌, length, ap}
 use Rattle.fz_program.specs.Flat.{program}
-use Rattle.mz_io_sure.specs.SureSink.{SureHeld}
+use Rattle.mz_io.specs.SureSink.{SureHeld}
 use Rattle.mz_tool.proofs.Summaries.{all_written}
 use Rattle.mz_tool.proofs.make.written_bytes.Goals as goal
 

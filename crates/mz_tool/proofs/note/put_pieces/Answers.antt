@@ -2,7 +2,7 @@ use Rattle.std.proofs.Common.{[], ◌∙◌, take, get_or, Bor, List, ℕ, inl, 
 use Rattle.std.proofs.lemmas.List.{take_all}
 use Rattle.std.specs.List.{flat_map}
 use Rattle.mz_tool.specs.Status.{now}
-use Rattle.fz_text_spell.proofs.Appends.{pieces_more}
+use Rattle.fz_text.proofs.Appends.{pieces_more}
 use Rattle.mz_tool.proofs.Sinks.{adds_nothing, adds_more, pieces_whole, cut_short, cut_before, all_out}
 use Rattle.mz_tool.proofs.note.put_pieces.Goals as goal
 

@@ -1,6 +1,6 @@
 use Rattle.std.proofs.Common.{subst}
 use Rattle.mz_words.specs.Requests.{settings}
-use Rattle.mz_data.specs.WithData.{IsSourcesWithData, AreKnownWithData, words_of}
+use Rattle.mz_include.specs.WithData.{IsSourcesWithData, AreKnownWithData, words_of}
 use Rattle.mz_analysis.specs.Analysis.{files_read, items_read}
 use Rattle.mz_tool.proofs.Refusals.{all_read}
 use Rattle.mz_tool.proofs.reading.read_files.Goals as goal

@@ -1,5 +1,5 @@
 use Rattle.std.proofs.Common.{◌≡◌, Some, refl, subst}
-use Rattle.mz_words_command.specs.Found.{text_of}
+use Rattle.mz_words.specs.Found.{text_of}
 use Rattle.mz_words.specs.Requests.{asked, request_of}
 use Rattle.mz_tool.proofs.Endings.{failed_fetch, failed_put, failed_take, nothing_counted, nothing_printed, on_check, on_make, read_fault, unless_any}
 use Rattle.mz_tool.proofs.top_call.run.Goals as goal

@@ -1,6 +1,6 @@
 use Rattle.std.proofs.Common.{refl}
 use Rattle.clap.proofs.OnLiterals.{clap_on_literals}
-use Rattle.mz_words_command.specs.Commands.{rows_found}
+use Rattle.mz_words.specs.Commands.{rows_found}
 use Rattle.mz_words.specs.Examples.{Examples, words}
 use Rattle.mz_words.specs.Requests.{asked}
 use Rattle.mz_words.proofs.law.worked_examples.Goals as goal

@@ -1,7 +1,7 @@
 use Rattle.std.proofs.Common.{ap, ◌∙◌, map}
 use Rattle.std.proofs.lemmas.List.{map_push}
 use Rattle.mz_value.specs.Contents.{content}
-use Rattle.soln_reader_items.specs.Contents.{content_of}
+use Rattle.fz_items.specs.Contents.{content_of}
 use Rattle.soln_reader.proofs.Solutions.{copied_step_at}
 use Rattle.soln_reader.proofs.block.copied_all.Goals as goal
 

@@ -1,7 +1,7 @@
 use Rattle.std.proofs.Common.{◌∙◌, ap, sym, Some}
 use Rattle.std.proofs.lemmas.List.{map_push}
 use Rattle.soln_reader.specs.Views.{given, givens}
-use Rattle.soln_reader_items.specs.Forms.{form}
+use Rattle.fz_items.specs.Forms.{form}
 use Rattle.soln_reader.proofs.Solutions.{nothing_step, nothing_all}
 use Rattle.soln_reader.proofs.block.nothing_for.Goals as goal
 

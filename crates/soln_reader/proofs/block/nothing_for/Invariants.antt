@@ -1,6 +1,6 @@
 use Rattle.std.proofs.Common.{◌≡◌, take}
 use Rattle.soln_reader.specs.Views.{givens}
-use Rattle.soln_reader_items.specs.Forms.{forms}
+use Rattle.fz_items.specs.Forms.{forms}
 use Rattle.soln_reader.specs.Blocks.{nothing_for}
 use Rattle.soln_reader.proofs.block.nothing_for.Given as goal
 

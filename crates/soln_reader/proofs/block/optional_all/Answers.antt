@@ -1,8 +1,8 @@
 use Rattle.std.proofs.Common.{ap, ◌∙◌, map, arith, min, length, ◌<◌}
 use Rattle.std.proofs.lemmas.List.{map_push}
 use Rattle.mz_value.specs.Contents.{content}
-use Rattle.soln_reader_items.specs.Contents.{content_of}
-use Rattle.soln_reader_items.proofs.IntLists.{fails_along}
+use Rattle.fz_items.specs.Contents.{content_of}
+use Rattle.fz_items.proofs.IntLists.{fails_along}
 use Rattle.soln_reader.proofs.Solutions.{optional_step, optional_fails, optional_done}
 use Rattle.soln_reader.proofs.block.optional_all.Goals as goal
 

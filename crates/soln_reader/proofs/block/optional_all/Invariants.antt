@@ -1,6 +1,6 @@
 use Rattle.std.proofs.Common.{◌≡◌, drop, map}
 use Rattle.mz_value.specs.Contents.{content}
-use Rattle.soln_reader_items.specs.Contents.{content_of}
+use Rattle.fz_items.specs.Contents.{content_of}
 use Rattle.soln_reader.specs.Blocks.{optional_all}
 use Rattle.soln_reader.proofs.Solutions.{with_all}
 use Rattle.soln_reader.proofs.block.optional_all.Given as goal

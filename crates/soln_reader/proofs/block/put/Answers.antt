@@ -1,5 +1,5 @@
-use Rattle.soln_reader_items.specs.Forms.{forms}
-use Rattle.soln_reader_items.specs.Views.{elements}
+use Rattle.fz_items.specs.Forms.{forms}
+use Rattle.fz_items.specs.Views.{elements}
 use Rattle.soln_reader.specs.Views.{block_of}
 use Rattle.soln_reader.proofs.UndoLemmas.{put_undoes}
 use Rattle.soln_reader.proofs.block.put.Goals as goal

@@ -1,5 +1,5 @@
 use Rattle.std.proofs.Common.{get_or}
-use Rattle.soln_reader_items.specs.Views.{elements}
+use Rattle.fz_items.specs.Views.{elements}
 use Rattle.soln_reader.specs.Views.{given}
 use Rattle.soln_reader.proofs.Solutions.{fits_put, put_past, get_or_same}
 use Rattle.soln_reader.proofs.block.put_at.Goals as goal

@@ -1,9 +1,9 @@
 use Rattle.std.proofs.Common.{ap, ◌∙◌, map}
 use Rattle.std.proofs.lemmas.List.{map_push}
 use Rattle.mz_value.specs.Contents.{content}
-use Rattle.soln_reader_items.specs.Forms.{form}
+use Rattle.fz_items.specs.Forms.{form}
 use Rattle.soln_reader.specs.Views.{given}
-use Rattle.soln_reader_items.proofs.IntLists.{fails_along}
+use Rattle.fz_items.proofs.IntLists.{fails_along}
 use Rattle.soln_reader.proofs.Solutions.{solution_step, solution_fails, solution_done, solution_lacks}
 use Rattle.soln_reader.proofs.block.solution.Goals as goal
 

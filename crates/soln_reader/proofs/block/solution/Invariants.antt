@@ -1,6 +1,6 @@
 use Rattle.std.proofs.Common.{◌≡◌, drop, map}
 use Rattle.mz_value.specs.Contents.{content}
-use Rattle.soln_reader_items.specs.Forms.{form}
+use Rattle.fz_items.specs.Forms.{form}
 use Rattle.soln_reader.specs.Views.{given}
 use Rattle.soln_reader.specs.Blocks.{solution}
 use Rattle.soln_reader.proofs.Solutions.{with_all}

@@ -1,6 +1,6 @@
 use Rattle.std.proofs.Common.{arith}
 use Rattle.std.proofs.lemmas.List.Sums.{prefix_len-le-length}
-use Rattle.soln_reader_items.specs.Bytes.{is_no_newline}
+use Rattle.fz_items.specs.Bytes.{is_no_newline}
 use Rattle.soln_reader.proofs.step.first_step.Goals as goal
 
 pub line_len_from-n-requires-clause-room : goal.line_len_from-n-requires-clause-room

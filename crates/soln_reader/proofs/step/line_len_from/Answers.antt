@@ -1,6 +1,6 @@
 use Rattle.std.proofs.Common.{◌+◌, ◌∙◌, ap, ℕ, List, length, arith}
 use Rattle.std.proofs.lemmas.List.{length-drop}
-use Rattle.soln_reader_items.specs.Bytes.{is_no_newline}
+use Rattle.fz_items.specs.Bytes.{is_no_newline}
 use Rattle.soln_reader.specs.Stream.{line_len}
 use Rattle.soln_reader.proofs.LineLemmas.{prefix_from, rest_slice}
 use Rattle.soln_reader.proofs.step.line_len_from.Goals as goal

@@ -1,5 +1,5 @@
 use Rattle.std.proofs.Common.{◌≡◌, ◌<◌, ◌≤◌, ◌∙◌, sym, subst, arith, refl}
-use Rattle.soln_reader_items.specs.Forms.{forms}
+use Rattle.fz_items.specs.Forms.{forms}
 use Rattle.soln_reader.specs.Views.{block_of}
 use Rattle.soln_reader.specs.Stream.{Outcome, line_len, line_limit, line_outcome, outcome}
 use Rattle.soln_reader.specs.StepsLines.{SaysThere}

@@ -1,5 +1,5 @@
 use Rattle.std.proofs.Common.{List, Option, sym, subst}
-use Rattle.soln_reader_items.specs.declared.outputs.Slot.{Slot}
+use Rattle.fz_items.specs.declared.outputs.Slot.{Slot}
 use Rattle.soln_reader.specs.StepsUndo.{Undo, Restores}
 use Rattle.soln_reader.specs.Views.{block_of}
 use Rattle.soln_reader.proofs.UndoLemmas.{restores_more}

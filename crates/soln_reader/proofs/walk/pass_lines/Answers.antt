@@ -1,9 +1,9 @@
 use Rattle.std.proofs.Common.{◌≡◌, ◌+◌, ◌∙◌, sym, List, ℕ, true, drop, subst, arith}
 use Rattle.std.proofs.lemmas.List.{drop-drop, length-drop}
-use Rattle.soln_reader_items.specs.Forms.{forms}
+use Rattle.fz_items.specs.Forms.{forms}
 use Rattle.soln_reader.specs.Views.{block_of}
 use Rattle.soln_reader.specs.Stream.{Passes, no_line, has_line, line_outcome, leaves}
-use Rattle.soln_reader_items.specs.declared.outputs.Slot.{Slot}
+use Rattle.fz_items.specs.declared.outputs.Slot.{Slot}
 use Rattle.soln_reader.specs.Blocks.{Block}
 use Rattle.soln_reader.specs.StepsLines.{StepsOver}
 use Rattle.soln_reader.specs.StepsUndo.{Undo, Restores}

@@ -1,5 +1,5 @@
 use Rattle.std.proofs.Common.{◌≤◌, ◌+◌, ◌-◌, drop, length}
-use Rattle.soln_reader_items.specs.Forms.{forms}
+use Rattle.fz_items.specs.Forms.{forms}
 use Rattle.soln_reader.specs.Views.{block_of}
 use Rattle.soln_reader.specs.Stream.{line_len, Passes}
 use Rattle.soln_reader.specs.StepsUndo.{Restores}

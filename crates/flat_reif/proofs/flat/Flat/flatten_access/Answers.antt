@@ -1,6 +1,6 @@
 use Rattle.std.proofs.Common.{Some, ap, subst, sym, ◌∙◌}
 use Rattle.fz_program.specs.Arguments.{plain, plains}
-use Rattle.fz_build_domains.specs.Bounds.{ends_of}
+use Rattle.fz_build.specs.Bounds.{ends_of}
 use Rattle.flat_reif_rows.specs.Elements.{Reaches, ReachesNone}
 use Rattle.flat_reif.specs.States.{state}
 use Rattle.flat_reif.proofs.Lacking.{lacking_place, access_index, access_listed, access_lacks, access_row, access_unmet, same_count}

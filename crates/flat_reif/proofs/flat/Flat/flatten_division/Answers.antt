@@ -1,5 +1,5 @@
 use Rattle.fz_program.specs.Arguments.{plain}
-use Rattle.fz_build_domains.specs.Bounds.{ends_of}
+use Rattle.fz_build.specs.Bounds.{ends_of}
 use Rattle.flat_reif.specs.States.{state}
 use Rattle.flat_reif.proofs.Given.{have_two}
 use Rattle.flat_reif.proofs.Lacking.{division_unmet, divides_lacks, may_divisor}

@@ -1,6 +1,6 @@
 use Rattle.std.proofs.Common.{subst}
 use Rattle.fz_program.specs.Arguments.{plain}
-use Rattle.flat_reif_folds.specs.Folds.{IsFold}
+use Rattle.flat_reif_rows.specs.Folds.{IsFold}
 use Rattle.flat_reif.specs.States.{state, plain_args}
 use Rattle.flat_reif.proofs.Given.{have_two, operands_two, divisor_of, on_ok}
 use Rattle.flat_reif.proofs.Folding.{first_given, second_given, constant_given}

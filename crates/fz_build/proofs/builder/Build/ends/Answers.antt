@@ -1,6 +1,6 @@
 use Rattle.std.proofs.Common.{subst}
 use Rattle.fz_program.specs.Arguments.{plain}
-use Rattle.fz_build_domains.proofs.InputValues.{ends_enclose}
+use Rattle.fz_build.proofs.InputValues.{ends_enclose}
 use Rattle.fz_build.specs.Build.{IsBuilt}
 use Rattle.fz_build.proofs.builder.Build.ends.Goals as goal
 

@@ -3,7 +3,7 @@ use Rattle.mz_value.specs.declared.value.Value.{Value}
 use Rattle.mz_value.specs.Contents.{content}
 use Rattle.mz_core.specs.Program.{plain_program}
 use Rattle.mz_core.specs.TreeViews.{tree}
-use Rattle.mz_output.specs.Output.{assigned, default_text, output_env, variable_slots}
+use Rattle.mz_print.specs.Output.{assigned, default_text, output_env, variable_slots}
 use Rattle.mz_print_stream.specs.Printing.{says, Says}
 use Rattle.mz_print.specs.Items.{items_text}
 use Rattle.mz_print.specs.Names.{top_names}

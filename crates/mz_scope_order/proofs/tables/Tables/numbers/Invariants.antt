@@ -1,5 +1,5 @@
 use Rattle.std.proofs.Common.{◌≡◌, ◌++◌, drop, map}
-use Rattle.mz_scope_uses.specs.Sketches.{sketch}
+use Rattle.mz_scope_names.specs.Sketches.{sketch}
 use Rattle.mz_scope_order.specs.StepsGraphs.{numbers_by}
 use Rattle.mz_scope_order.proofs.tables.Tables.numbers.Given as goal
 

@@ -1,7 +1,7 @@
 use Rattle.std.proofs.Common.{◌+◌, ap, sym, subst, arith, List, ℕ, drop, Option}
 use Rattle.std.proofs.lemmas.List.{length-drop}
 use Rattle.mz_value.specs.declared.value.Shape.{Shape}
-use Rattle.soln_reader_items.specs.Forms.{forms}
+use Rattle.fz_items.specs.Forms.{forms}
 use Rattle.soln_reader.specs.Views.{block_of, state}
 use Rattle.soln_reader.specs.Reader.{State, Answers}
 use Rattle.soln_reader.specs.StepsReader.{FitsShapes}

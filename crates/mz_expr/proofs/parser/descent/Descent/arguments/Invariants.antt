@@ -1,5 +1,5 @@
 use Rattle.std.proofs.Common.{◌≡◌, ◌≤◌, length, map}
-use Rattle.mz_grammar_rules.specs.Reading.{with_prefix}
+use Rattle.mz_grammar.specs.RulesReading.{with_prefix}
 use Rattle.mz_grammar.specs.declared.list.Generators.TheVariants as generators
 use Rattle.mz_grammar.specs.Parts as parts
 use Rattle.mz_grammar.specs.Reading.{reads}

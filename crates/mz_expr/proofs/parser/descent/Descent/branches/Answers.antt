@@ -2,8 +2,8 @@ use Rattle.std.proofs.Common.{◌≡◌, ◌++◌, ◌∷◌, [], map, sym, ap, 
 use Rattle.std.proofs.lemmas.List.{map_push}
 use Rattle.mz_base.specs.declared.keyword.Keyword.TheVariants.{KElseif}
 use Rattle.mz_tree.specs.Views.{branch}
-use Rattle.mz_grammar_rules.specs.Tokens.{tok_at}
-use Rattle.mz_grammar_rules.specs.Look.{is_word}
+use Rattle.mz_grammar.specs.Tokens.{tok_at}
+use Rattle.mz_grammar.specs.Look.{is_word}
 use Rattle.mz_expr.proofs.Loops.{branches_more}
 use Rattle.mz_expr.proofs.parser.descent.Descent.branches.Goals as goal
 

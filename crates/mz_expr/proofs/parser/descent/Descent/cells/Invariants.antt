@@ -1,6 +1,6 @@
 use Rattle.std.proofs.Common.{◌≡◌, ◌≤◌, length, map}
 use Rattle.mz_tree.specs.Views.{tree}
-use Rattle.mz_grammar_rules.specs.Reading.{with_prefix}
+use Rattle.mz_grammar.specs.RulesReading.{with_prefix}
 use Rattle.mz_grammar.specs.Parts as parts
 use Rattle.mz_grammar.specs.Reading.{reads}
 use Rattle.mz_expr.proofs.parser.descent.Descent.cells.Given as goal

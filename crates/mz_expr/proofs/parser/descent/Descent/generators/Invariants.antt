@@ -1,6 +1,6 @@
 use Rattle.std.proofs.Common.{◌≡◌, ◌≤◌, length, map}
 use Rattle.mz_tree.specs.Views.{generator}
-use Rattle.mz_grammar_rules.specs.Reading.{with_prefix}
+use Rattle.mz_grammar.specs.RulesReading.{with_prefix}
 use Rattle.mz_grammar.specs.Steps.{generators_at}
 use Rattle.mz_expr.proofs.parser.descent.Descent.generators.Given as goal
 

@@ -1,7 +1,7 @@
 use Rattle.std.proofs.Common.{◌≡◌, sym, ap, ◌∙◌, arith, rules}
 use Rattle.std.specs.Prelude.{Some, None}
 use Rattle.std.proofs.lemmas.Result.{err_from_is_err_and}
-use Rattle.mz_grammar_rules.specs.Tokens.{tok_at}
+use Rattle.mz_grammar.specs.Tokens.{tok_at}
 use Rattle.mz_expr_operands.specs.Levels.{next_level}
 use Rattle.mz_expr.proofs.Climbs.{climb_starts, climb_step, climb_stops, climb_end, unit_below, level_within, number_below}
 use Rattle.mz_expr.proofs.parser.descent.Descent.level.Goals as goal

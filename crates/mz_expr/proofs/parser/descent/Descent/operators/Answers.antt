@@ -3,7 +3,7 @@ use Rattle.std.specs.Prelude.{Some}
 use Rattle.std.proofs.lemmas.List.{map_push}
 use Rattle.mz_tree.specs.Tree.{op_before}
 use Rattle.mz_tree.specs.Views.{tree, link}
-use Rattle.mz_grammar_rules.specs.Tokens.{tok_at}
+use Rattle.mz_grammar.specs.Tokens.{tok_at}
 use Rattle.mz_grammar.specs.Operators.{binary_of}
 use Rattle.mz_expr.proofs.Loops.{operators_more}
 use Rattle.mz_expr.proofs.parser.descent.Descent.operators.Goals as goal

@@ -5,9 +5,9 @@ use Rattle.mz_tree.specs.declared.expr.TextPart.{TextPart}
 use Rattle.mz_tree.specs.Tree.{Part}
 use Rattle.mz_tree.specs.Tree as pure
 use Rattle.mz_tree.specs.Views.{tree, part}
-use Rattle.mz_grammar_rules.specs.Tokens.{tok_at, behind}
-use Rattle.mz_grammar_rules.specs.Rules.{syntax}
-use Rattle.mz_grammar_rules.specs.Reading.{on, stuck}
+use Rattle.mz_grammar.specs.Tokens.{tok_at, behind}
+use Rattle.mz_grammar.specs.Rules.{syntax}
+use Rattle.mz_grammar.specs.RulesReading.{on, stuck}
 use Rattle.mz_grammar.specs.Tests.{middle_of, tail_of}
 use Rattle.mz_expr.proofs.Loops.{gives_same, text_last, text_more}
 use Rattle.mz_expr.proofs.parser.descent.Descent.text_rest.Goals as goal

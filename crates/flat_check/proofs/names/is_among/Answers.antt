@@ -1,7 +1,0 @@
-use Rattle.std.proofs.Common.{◌≡◌, string_bytes}
-use Rattle.fz_program.proofs.Each.{each_all}
-use Rattle.flat_check.proofs.Named.{lacks_text}
-use Rattle.flat_check.proofs.names.is_among.Goals as goal
-
-pub returns : goal.returns
-returns c = λ f. lacks_text c.args.texts.now c.args.x.now (each_all (λ y. string_bytes y ≡ c.args.x.now → ⊥) c.args.texts.now c.texts.y-index c.texts-test.false c.texts.invariant)

@@ -1,6 +1,0 @@
-use Rattle.flat_reif.specs.States.{state}
-use Rattle.flat_front.proofs.Stepping.{ArraysLeft}
-use Rattle.flat_front.proofs.arrays.add_arrays.Given as goal
-
-abbrev pub invariant-vars : goal.invariant-vars
-invariant-vars l = ArraysLeft (state l.fn.flat) (state l.flat) l.names l.vars l.m-index

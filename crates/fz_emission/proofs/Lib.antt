@@ -1,3 +1,0 @@
-pub mod Distinct
-pub mod Found
-pub mod Examples

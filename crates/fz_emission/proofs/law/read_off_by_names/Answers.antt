@@ -1,5 +1,0 @@
-use Rattle.fz_emission.proofs.Distinct.{reads_itself}
-use Rattle.fz_emission.proofs.law.read_off_by_names.Goals as goal
-
-pub returns : goal.returns
-returns c names f distinct long = reads_itself names f distinct long

@@ -1,7 +1,0 @@
-use Rattle.std.proofs.Common.{◌≡◌, drop, map, None}
-use Rattle.fz_program.specs.Flat.{variable}
-use Rattle.fz_text_spell.specs.Spelling.{hull}
-use Rattle.fz_text_spell.proofs.array.hull.Given as goal
-
-abbrev pub invariant-loop-k : goal.invariant-loop-k
-invariant-loop-k l = hull (map variable l.vars) l.all (drop l.k-index l.items) ≡ hull (map variable l.vars) None l.items

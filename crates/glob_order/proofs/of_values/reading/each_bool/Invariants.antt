@@ -1,0 +1,9 @@
+use Rattle.std.proofs.Common.{◌≡◌, drop, map}
+use Rattle.mz_value.specs.Contents.{content}
+use Rattle.mz_operations.specs.Views.{as_bool}
+use Rattle.mz_globals.specs.Reading.{each}
+use Rattle.glob_order.proofs.Each.{prefixed}
+use Rattle.glob_order.proofs.of_values.reading.each_bool.Given as goal
+
+abbrev pub invariant-loop-x : goal.invariant-loop-x
+invariant-loop-x l = prefixed l.all.items (each as_bool (map content (drop l.x-index l.items))) ≡ each as_bool (map content l.items)

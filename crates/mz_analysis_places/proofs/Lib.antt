@@ -1,5 +1,0 @@
-pub mod Nodes
-pub mod Typed
-pub mod Data
-pub mod Models
-pub mod Programs

@@ -1,5 +1,0 @@
-use Rattle.mz_arena_laws.proofs.Accesses.{access_is_monotone, set_access_is_monotone}
-use Rattle.mz_arena_laws.proofs.law.accesses_are_monotone.Goals as goal
-
-pub returns : goal.returns
-returns c = record { numbers = access_is_monotone; sets = set_access_is_monotone }

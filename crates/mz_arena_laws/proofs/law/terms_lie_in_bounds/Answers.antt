@@ -1,5 +1,0 @@
-use Rattle.mz_arena_laws.proofs.Terms.{terms_lie, domains_lie, bounds_are_sets}
-use Rattle.mz_arena_laws.proofs.law.terms_lie_in_bounds.Goals as goal
-
-pub returns : goal.returns
-returns c = record { terms = terms_lie; domains = domains_lie; sets = bounds_are_sets }

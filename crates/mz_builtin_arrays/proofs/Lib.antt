@@ -1,3 +1,0 @@
-pub mod AllTexts
-pub mod Numbered
-pub mod Places

@@ -1,6 +1,0 @@
-use Rattle.std.proofs.Common.{rules}
-use Rattle.mz_builtin_arrays.proofs.AllTexts.{are_text}
-use Rattle.mz_builtin_arrays.proofs.texts.joined.Goals as goal
-
-pub join-requires : goal.join-requires
-join-requires c = are_text _ (search rules)

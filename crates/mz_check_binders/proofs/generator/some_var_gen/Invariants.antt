@@ -1,8 +1,0 @@
-use Rattle.std.proofs.Common.{◌≡◌, map, drop}
-use Rattle.std.specs.List.{list_any}
-use Rattle.mz_check_meaning.specs.Comprehensions.{is_var_gen}
-use Rattle.mz_check_binders.specs.Views.{typed_gen}
-use Rattle.mz_check_binders.proofs.generator.some_var_gen.Given as goal
-
-abbrev pub invariant-loop-g : goal.invariant-loop-g
-invariant-loop-g l = list_any is_var_gen (map typed_gen l.gs) ≡ list_any is_var_gen (map typed_gen (drop l.g-index l.gs))

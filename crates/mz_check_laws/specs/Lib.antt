@@ -1,2 +1,0 @@
-pub mod Par
-pub mod Levels

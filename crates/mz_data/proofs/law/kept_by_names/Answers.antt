@@ -1,5 +1,0 @@
-use Rattle.mz_data.proofs.Later.{sources_later, failure_later}
-use Rattle.mz_data.proofs.law.kept_by_names.Goals as goal
-
-pub returns : goal.returns
-returns c = λ old new grows. (λ texts first given. sources_later old new grows texts first given, λ texts first given. failure_later old new grows texts first given)

@@ -1,5 +1,0 @@
-use Rattle.mz_data.proofs.OneData as One
-use Rattle.mz_data.proofs.law.read_once.Goals as goal
-
-pub returns : goal.returns
-returns c = λ names texts first given files others items more distinct s t. One.one_sources names distinct texts first given files others items more s t

@@ -1,5 +1,0 @@
-use Rattle.mz_data.proofs.OneData as One
-use Rattle.mz_data.proofs.law.read_or_failure.Goals as goal
-
-pub returns : goal.returns
-returns c = λ names texts first given files items f owner distinct s h. One.sources_or_failure names distinct texts first given files items f owner s h

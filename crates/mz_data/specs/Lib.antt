@@ -1,4 +1,0 @@
-pub mod DataTexts
-pub mod DataFiles
-pub mod WithData
-pub mod Promise

@@ -1,5 +1,0 @@
-use Rattle.mz_data_names.proofs.Staying.{stays}
-use Rattle.mz_data_names.proofs.law.names_stay.Goals as goal
-
-pub returns : goal.returns
-returns c = λ before after d grows h. stays before after d grows h

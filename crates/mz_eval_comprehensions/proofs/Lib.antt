@@ -1,0 +1,10 @@
+pub mod Numbers
+pub mod GatherLaws
+pub mod RunningLaws
+pub mod TurnLaws
+pub mod MadeLaws
+pub mod Occurring
+pub mod GuardLaws
+pub mod ItemLaws
+pub mod SetLaws
+pub mod WhereLaws

@@ -1,0 +1,5 @@
+pub mod Views
+pub mod StepsTurns
+pub mod Presences
+pub mod Drawn
+pub mod StepsDrawn

@@ -1,7 +1,0 @@
-use Rattle.std.proofs.Common.{◌≡◌, ◌≤◌, ◌*◌, min, drop}
-use Rattle.mz_operations.specs.Arrays.{place_count}
-use Rattle.mz_builtin_arrays.specs.Shapes.{cap}
-use Rattle.mz_eval_domains.proofs.ranges.place_total.Given as goal
-
-abbrev pub invariant-loop-r : goal.invariant-loop-r
-invariant-loop-r l = (l.total ≤ cap) × (min cap (l.total * place_count (drop l.r-index l.ranges)) ≡ min cap (place_count l.ranges))

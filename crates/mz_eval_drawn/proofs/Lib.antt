@@ -1,4 +1,0 @@
-pub mod GuardLaws
-pub mod ItemLaws
-pub mod SetLaws
-pub mod WhereLaws

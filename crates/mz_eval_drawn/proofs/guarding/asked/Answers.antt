@@ -1,5 +1,0 @@
-use Rattle.mz_eval_drawn.proofs.GuardLaws.{drawn_seen}
-use Rattle.mz_eval_drawn.proofs.guarding.asked.Goals as goal
-
-pub returns-clause-cell : goal.returns-clause-cell
-returns-clause-cell c = drawn_seen _ _ _ _ c.in_ok-x.x c.draw_guard.ensures.same c.in_ok-x.ensures.cell

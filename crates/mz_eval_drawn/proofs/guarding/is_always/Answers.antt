@@ -1,5 +1,0 @@
-use Rattle.mz_eval_drawn.proofs.GuardLaws.{always_told}
-use Rattle.mz_eval_drawn.proofs.guarding.is_always.Goals as goal
-
-pub returns-clause-always : goal.returns-clause-always
-returns-clause-always c = always_told _ _ c.in_ok-yes.yes c.args.d c.in_ok-yes.ensures.says

@@ -1,5 +1,0 @@
-use Rattle.mz_eval_drawn.proofs.SetLaws.{drawn_sure}
-use Rattle.mz_eval_drawn.proofs.sets.var_there.Goals as goal
-
-pub returns-clause-guards : goal.returns-clause-guards
-returns-clause-guards c = drawn_sure _ _ _ _ c.in_ok-g.g c.draw.ensures.same c.in_ok-g.ensures.guards

@@ -1,5 +1,0 @@
-pub mod BranchLaws
-pub mod KindLaws
-pub mod Gathering
-pub mod Seeing
-pub mod Missing

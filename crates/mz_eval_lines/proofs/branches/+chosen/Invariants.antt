@@ -1,5 +1,0 @@
-use Rattle.std.proofs.Common.{length}
-use Rattle.mz_eval_lines.proofs.branches.+chosen.Given as goal
-
-abbrev pub decreases-chosen : goal.decreases-chosen
-decreases-chosen l = length l.branches.now

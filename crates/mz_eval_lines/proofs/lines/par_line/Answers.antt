@@ -1,5 +1,0 @@
-use Rattle.mz_eval_lines.proofs.Gathering.{par_line_seen}
-use Rattle.mz_eval_lines.proofs.lines.par_line.Goals as goal
-
-pub returns : goal.returns
-returns c r = par_line_seen r c.args.g c.in_ok-k.k c.requires c.in_ok-k.ensures

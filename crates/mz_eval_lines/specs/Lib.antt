@@ -1,4 +1,0 @@
-pub mod ArrayCells
-pub mod StepsBranches
-pub mod StepsLines
-pub mod Told

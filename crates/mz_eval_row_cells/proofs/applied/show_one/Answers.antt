@@ -1,0 +1,8 @@
+use Rattle.mz_value.specs.Contents.{case_names}
+use Rattle.mz_operations.specs.Arguments.{arguments}
+use Rattle.mz_eval_row_cells.proofs.Shown.{shown_one}
+use Rattle.mz_eval_row_cells.proofs.Told.{tells_is}
+use Rattle.mz_eval_row_cells.proofs.applied.show_one.Goals as goal
+
+pub returns : goal.returns
+returns c = tells_is _ (λ s. shown_one (case_names c.args.cases.now) c.args.base c.args.at (arguments c.args.args.now) s) c.shown_row.ensures

@@ -1,3 +1,0 @@
-pub mod BareLaws
-pub mod NodeLaws
-pub mod WorkLaws

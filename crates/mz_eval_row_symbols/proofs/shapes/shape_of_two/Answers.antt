@@ -1,0 +1,8 @@
+use Rattle.std.proofs.Common.{[], ◌∷◌}
+use Rattle.mz_value.specs.Contents.{case_names}
+use Rattle.mz_core.specs.Types.{plain_type}
+use Rattle.mz_eval_row_symbols.proofs.ToldLaws.{tells_seen}
+use Rattle.mz_eval_row_symbols.proofs.shapes.shape_of_two.Goals as goal
+
+pub returns : goal.returns
+returns c r = tells_seen r (case_names c.args.cases.now) c.args.row (plain_type c.args.t.now) c.args.at (c.args.a ∷ c.args.b ∷ []) c.row_of_two.result c.row_of_two.ensures

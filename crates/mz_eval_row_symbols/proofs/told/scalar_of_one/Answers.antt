@@ -1,0 +1,20 @@
+use Rattle.std.proofs.Common.{◌∙◌, [], ◌∷◌, sym, ap}
+use Rattle.mz_core.specs.Types.{plain_type}
+use Rattle.mz_operations.specs.declared.row.Row.TheVariants.{Scalar}
+use Rattle.mz_symbol.proofs.ConstantLaws.{out_value, out_state}
+use Rattle.mz_symbol_rows.specs.RowValues.{argument}
+use Rattle.mz_symbol_rows.proofs.RowLaws.{out_both}
+use Rattle.mz_eval_row_symbols.specs.NodeRows.{row_told}
+use Rattle.mz_eval_row_symbols.specs.StepsRows.{gives_truth, IsTold}
+use Rattle.mz_eval_row_symbols.proofs.ValueLaws.{scalar_told, told_same}
+use Rattle.mz_eval_row_symbols.proofs.told.scalar_of_one.Goals as goal
+
+pub returns-clause-means : goal.returns-clause-means
+returns-clause-means c names r h =
+    let e = c.in_ok-s.ensures.means names r h in
+    let f = c.in_ok-x.ensures.means r (c.in_ok-s.ensures.goes.back r h) in
+    let t = plain_type c.args.t.now in
+    let told : IsTold (gives_truth c.args.w) t c.in_ok-s.s = told_same t c.gives_truth.ensures c.in_ok-told.ensures.same c.in_ok-told.ensures.told in
+    out_both (ap (λ v. row_told r names (Scalar c.args.w) t (v ∷ [])) (out_value f)
+    ∙ sym (scalar_told r names c.args.w t c.in_ok-s.s (argument r c.in_ok-x.x ∷ []) told (sym (out_value e)))
+    ∙ ap (argument r) (sym c.in_ok-told.ensures.same)) (out_state f ∙ out_state e)

@@ -1,5 +1,0 @@
-pub mod AssertedLaws
-pub mod HandedLaws
-pub mod NodeLaws
-pub mod ReshapedLaws
-pub mod SettledLaws

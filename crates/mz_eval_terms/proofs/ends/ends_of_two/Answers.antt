@@ -1,6 +1,0 @@
-use Rattle.std.proofs.Common.{◌∙◌, sym}
-use Rattle.mz_eval_terms.proofs.EndLaws.{has_told}
-use Rattle.mz_eval_terms.proofs.ends.ends_of_two.Goals as goal
-
-pub returns-in-Scalar : goal.returns-in-Scalar
-returns-in-Scalar c = has_told c.args.row c.in-Scalar.w c.args.a.now c.args.b.now c.ends_of_row.result c.in-Scalar.is (sym c.are_par.ensures ∙ c.if-are_par.false) c.ends_of_row.ensures

@@ -1,4 +1,0 @@
-use Rattle.mz_eval_terms.proofs.told.made_of_one.Goals as goal
-
-pub returns-in-Deopt-clause-means : goal.returns-in-Deopt-clause-means
-returns-in-Deopt-clause-means c = rw c.in-Deopt.is c.deopt_of.ensures.means

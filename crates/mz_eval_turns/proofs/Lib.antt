@@ -1,5 +1,0 @@
-pub mod Numbers
-pub mod GatherLaws
-pub mod RunningLaws
-pub mod TurnLaws
-pub mod MadeLaws

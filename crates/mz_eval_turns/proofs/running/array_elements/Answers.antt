@@ -1,5 +1,0 @@
-use Rattle.mz_eval_turns.proofs.RunningLaws.{each_value}
-use Rattle.mz_eval_turns.proofs.running.array_elements.Goals as goal
-
-pub returns : goal.returns
-returns c r = each_value c.args.items.now

@@ -1,5 +1,0 @@
-use Rattle.std.proofs.Common.{◌≡◌, ◌*◌, ◌^◌, ◌≤◌, take, sum}
-use Rattle.mz_globals_apply.proofs.costs.total.Given as goal
-
-abbrev pub invariant-loop-size : goal.invariant-loop-size
-invariant-loop-size l = (l.total ≡ sum (take l.size-index l.sizes)) × (l.total ≤ l.size-index * 2 ^ 64)

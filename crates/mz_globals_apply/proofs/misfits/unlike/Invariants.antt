@@ -1,8 +1,0 @@
-use Rattle.std.proofs.Common.{◌≡◌, drop, map}
-use Rattle.std.specs.Prelude.{None}
-use Rattle.mz_globals.specs.Givens.{unlike}
-use Rattle.mz_globals_apply.specs.Views.{plain_given}
-use Rattle.mz_globals_apply.proofs.misfits.unlike.Given as goal
-
-abbrev pub invariant-loop-g : goal.invariant-loop-g
-invariant-loop-g l = unlike l.found (map plain_given (drop l.g-index l.gs)) ≡ unlike None (map plain_given l.gs)

@@ -1,4 +1,0 @@
-pub mod Alone
-pub mod Counted
-pub mod Members
-pub mod Windows

@@ -1,6 +1,0 @@
-use Rattle.std.proofs.Common.{◌≡◌, ◌+◌, ◌≤◌, drop}
-use Rattle.mz_globals.specs.Counting.{different_values}
-use Rattle.mz_globals_counting.proofs.counts.different_values.Given as goal
-
-abbrev pub invariant-loop-k : goal.invariant-loop-k
-invariant-loop-k l = (l.count + different_values (drop l.k l.xs) ≡ different_values l.xs) × (l.count ≤ l.k)

@@ -1,9 +1,0 @@
-use Rattle.std.proofs.Common.{◌≡◌, drop, map}
-use Rattle.mz_value.specs.Contents.{content}
-use Rattle.mz_operations.specs.Views.{as_int}
-use Rattle.mz_globals.specs.Reading.{each}
-use Rattle.mz_globals_order.proofs.Each.{prefixed}
-use Rattle.mz_globals_order.proofs.reading.each_int.Given as goal
-
-abbrev pub invariant-loop-x : goal.invariant-loop-x
-invariant-loop-x l = prefixed l.all.items (each as_int (map content (drop l.x-index l.items))) ≡ each as_int (map content l.items)

@@ -1,4 +1,0 @@
-pub mod Places
-pub mod Products
-pub mod Steps
-pub mod Walks

@@ -1,6 +1,0 @@
-use Rattle.std.proofs.Common.{◌≡◌, drop}
-use Rattle.mz_globals.specs.Scheduling.{is_disjunctive}
-use Rattle.mz_globals_scheduling.proofs.tasks.is_disjunctive.Given as goal
-
-abbrev pub invariant-loop-k : goal.invariant-loop-k
-invariant-loop-k l = is_disjunctive (drop l.k l.ks) ≡ is_disjunctive l.ks

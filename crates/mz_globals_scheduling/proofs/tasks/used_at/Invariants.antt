@@ -1,6 +1,0 @@
-use Rattle.mz_globals.specs.Scheduling.{taken_at}
-use Rattle.mz_globals_order.proofs.Sums.{IsSoFar}
-use Rattle.mz_globals_scheduling.proofs.tasks.used_at.Given as goal
-
-abbrev pub invariant-loop-u : goal.invariant-loop-u
-invariant-loop-u l = IsSoFar (taken_at l.t) l.us l.u-index l.acc

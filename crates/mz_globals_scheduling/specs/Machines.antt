@@ -1,6 +1,0 @@
--- What the code's automaton stands for.
-use Rattle.mz_globals.specs.Graphs.{Automaton}
-use Rattle.mz_globals_scheduling.specs.declared.tables.Machine.{Machine}
-
-abbrev pub machine : Machine → Automaton
-machine m = record { states = m.states; letters = m.letters; steps = m.steps.now; final = m.last.now }

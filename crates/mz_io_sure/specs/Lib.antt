@@ -1,4 +1,0 @@
-pub mod SureFiles
-pub mod SureSink
-pub mod SureSource
-pub mod AllBytes

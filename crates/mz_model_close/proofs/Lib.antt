@@ -1,3 +1,0 @@
-mod VarLaws
-mod NameLaws
-mod Placed

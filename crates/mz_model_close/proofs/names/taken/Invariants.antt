@@ -1,8 +1,0 @@
-use Rattle.std.proofs.Common.{map}
-use Rattle.std.specs.Vec.Iter.{into_iter_items}
-use Rattle.mz_model_names.specs.Named.{held_name}
-use Rattle.mz_model_close.specs.Closed.{AreTakenSoFar}
-use Rattle.mz_model_close.proofs.names.taken.Given as goal
-
-abbrev pub invariant-loop-h : goal.invariant-loop-h
-invariant-loop-h l = AreTakenSoFar (map held_name l.fn.names.items) (map held_name (into_iter_items l.h-iterator)) l.all

@@ -1,5 +1,0 @@
-use Rattle.mz_model_close.specs.Closed.{ArePlacedUpTo}
-use Rattle.mz_model_close.proofs.places.are_placed.Given as goal
-
-abbrev pub invariant-loop-h : goal.invariant-loop-h
-invariant-loop-h l = ArePlacedUpTo l.run l.names l.h-index l.number

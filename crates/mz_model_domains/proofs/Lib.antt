@@ -1,2 +1,0 @@
-mod Declared
-mod Shapes

@@ -1,5 +1,0 @@
-mod Pushed
-mod Sorts
-mod Ends
-mod VarsOver
-mod PartNodes

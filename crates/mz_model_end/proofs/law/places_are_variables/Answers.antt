@@ -1,5 +1,0 @@
-use Rattle.mz_model_end.proofs.PartNodes.{placed_is_next, placed_counts}
-use Rattle.mz_model_end.proofs.law.places_are_variables.Goals as goal
-
-pub returns : goal.returns
-returns c = record { next = placed_is_next; counts = placed_counts }

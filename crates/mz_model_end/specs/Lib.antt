@@ -1,5 +1,0 @@
-pub mod Tested
-pub mod StepsIds
-pub mod Vars
-pub mod Placed
-pub mod StepsParts

@@ -1,6 +1,0 @@
-use Rattle.mz_model_hand.proofs.Forms.{declared_by_form}
-use Rattle.mz_model_hand.proofs.NextNames.{form_faults, par_is_next, var_is_next}
-use Rattle.mz_model_hand.proofs.law.names_are_added.Goals as goal
-
-pub returns : goal.returns
-returns c = record { form = declared_by_form; stops = form_faults; par = par_is_next; var = var_is_next c.variables_are_made.ensures.seen }

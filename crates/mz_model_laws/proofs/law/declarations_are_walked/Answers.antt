@@ -1,5 +1,0 @@
-use Rattle.mz_model_laws.proofs.Walking.{started, unbounded, one_more, one_stops}
-use Rattle.mz_model_laws.proofs.law.declarations_are_walked.Goals as goal
-
-pub returns : goal.returns
-returns c = record { started = started; unbounded = unbounded; more = one_more; stops = one_stops }

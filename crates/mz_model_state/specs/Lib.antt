@@ -1,0 +1,15 @@
+pub mod Hands
+pub mod Laws
+pub mod Loops
+pub mod Variables
+pub mod Roots
+pub mod Sample
+pub mod Made
+pub mod Tested
+pub mod StepsIds
+pub mod Vars
+pub mod Placed
+pub mod StepsParts
+pub mod Forms
+pub mod Names
+pub mod Progress

@@ -1,4 +1,0 @@
-pub mod ArrayCells
-pub mod NextPlaces
-mod PlaceCells
-mod WholeItems

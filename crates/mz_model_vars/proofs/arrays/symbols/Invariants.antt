@@ -1,5 +1,0 @@
-use Rattle.mz_model_vars.specs.StepsPlaces.{AreWholeSoFar}
-use Rattle.mz_model_vars.proofs.arrays.symbols.Given as goal
-
-abbrev pub invariant-loop-f : goal.invariant-loop-f
-invariant-loop-f l = AreWholeSoFar l.fn.run l.run l.places l.f-index l.all.items

@@ -1,0 +1,8 @@
+use Rattle.std.proofs.Common.{arith}
+use Rattle.std.proofs.lemmas.Int.{ints}
+use Rattle.mz_interval.specs.Rows.{sum_of}
+use Rattle.mz_operations_bounds.proofs.Pairs.{pair_same}
+use Rattle.mz_operations_bounds.proofs.ends.sum.Goals as goal
+
+pub returns : goal.returns
+returns c = pair_same (sum_of c.args.e.now c.args.f.now) _ _ (omega (arith, ints)) (omega (arith, ints))

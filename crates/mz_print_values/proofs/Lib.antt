@@ -1,4 +1,0 @@
-pub mod All
-pub mod Items
-pub mod DefaultLines
-pub mod ShownValues

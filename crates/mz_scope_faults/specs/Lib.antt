@@ -1,5 +1,0 @@
-pub mod Examples
-pub mod Spaces
-pub mod StepsSpaces
-pub mod StepsTests
-pub mod Tests

@@ -1,4 +1,0 @@
-pub mod Extending
-pub mod Lists
-pub mod Parts
-pub mod Seen

@@ -1,3 +1,0 @@
-pub mod Sketches
-pub mod Uses
-pub mod Valued

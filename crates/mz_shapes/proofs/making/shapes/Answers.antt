@@ -1,7 +1,0 @@
-use Rattle.mz_arena.specs.Instances.{model_var}
-use Rattle.mz_shapes.specs.Shapes.{IsVarNamed}
-use Rattle.mz_shapes.proofs.Reading.{all_seen_at}
-use Rattle.mz_shapes.proofs.making.shapes.Goals as goal
-
-pub shape-requires : goal.shape-requires
-shape-requires c = all_seen_at model_var (IsVarNamed c.args.names.now) c.args.vars.now c.loop-var.var-index c.var-item.result c.requires c.loop-var-test.true c.var-item.is

@@ -1,8 +1,0 @@
-use Rattle.std.proofs.Common.{◌≡◌, ◌++◌, map, drop}
-use Rattle.mz_arena.specs.Instances.{model_var}
-use Rattle.soln_reader_items.specs.Forms.{forms}
-use Rattle.mz_shapes.specs.Shapes.{forms_of}
-use Rattle.mz_shapes.proofs.making.shapes.Given as goal
-
-abbrev pub invariant-loop-var : goal.invariant-loop-var
-invariant-loop-var l = forms_of l.names (map model_var l.vars) ≡ forms l.shapes.items ++ forms_of l.names (map model_var (drop l.var-index l.vars))

@@ -1,0 +1,6 @@
+// Rows over the elements of var arrays that compute: sums and products, the least and the greatest element, clauses.
+
+mod folds;
+mod walk;
+
+pub use folds::fold;

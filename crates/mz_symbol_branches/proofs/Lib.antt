@@ -1,5 +1,0 @@
-pub mod ChooseLaws
-pub mod StandingLaws
-pub mod ItemLaws
-pub mod LiftLaws
-pub mod LineLaws

@@ -1,5 +1,0 @@
-use Rattle.mz_symbol_branches.specs.StepsChoose.{HasLifted}
-use Rattle.mz_symbol_branches.proofs.lifting.lifted_items.Given as goal
-
-abbrev pub invariant-loop-i : goal.invariant-loop-i
-invariant-loop-i l = HasLifted l.fn.run l.run l.items l.i l.all.items

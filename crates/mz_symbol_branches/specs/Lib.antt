@@ -1,4 +1,0 @@
-pub mod ChosenValues
-pub mod Standing
-pub mod StepsChoose
-pub mod StepsLines

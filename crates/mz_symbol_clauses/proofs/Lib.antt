@@ -1,2 +1,0 @@
-pub mod TruthLaws
-pub mod ClauseLaws

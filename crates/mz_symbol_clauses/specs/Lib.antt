@@ -1,2 +1,0 @@
-pub mod ClauseValues
-pub mod StepsClauses

@@ -1,2 +1,0 @@
-pub mod JoinValues
-pub mod StepsJoins

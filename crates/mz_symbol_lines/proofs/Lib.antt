@@ -1,4 +1,0 @@
-pub mod Given
-pub mod SeenLaws
-pub mod WalkLaws
-pub mod RowLaws

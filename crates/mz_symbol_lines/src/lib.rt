@@ -1,9 +1,0 @@
-// Rows over the elements of var arrays: quantifiers and counts, element by element.
-#![tactic(auto)]
-
-mod rows;
-mod seen;
-mod walk;
-
-pub use rows::{count, quantified};
-pub use walk::defined;

@@ -1,2 +1,0 @@
-pub mod OptionValues
-pub mod StepsNodes

@@ -1,2 +1,0 @@
-pub mod ProductLaws
-pub mod PowerLaws

@@ -1,4 +1,0 @@
-use Rattle.mz_symbol_powers.proofs.powers.+power_node.Given as goal
-
-abbrev pub decreases-power_node : goal.decreases-power_node
-decreases-power_node l = l.k

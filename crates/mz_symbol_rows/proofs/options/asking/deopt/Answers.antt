@@ -1,0 +1,11 @@
+use Rattle.std.proofs.Common.{◌∙◌, sym, ap}
+use Rattle.mz_symbol.specs.Readings.{symbol_seen}
+use Rattle.mz_symbol.proofs.ConstantLaws.{out_value, out_state}
+use Rattle.mz_symbol_rows.proofs.RowLaws.{out_both}
+use Rattle.mz_symbol_rows.proofs.AskingLaws.{deopt_held}
+use Rattle.mz_symbol_rows.proofs.options.asking.deopt.Goals as goal
+
+pub returns-clause-means : goal.returns-clause-means
+returns-clause-means c r h =
+    let e = c.in_ok-term.ensures.means r h in
+    out_both (deopt_held r c.in_ok-o.o c.in_ok-term.term c.args.a c.in_ok-o.ensures (out_value e) ∙ ap (symbol_seen r) (sym c.symbol.ensures)) (out_state e)

@@ -1,8 +1,0 @@
-// Rows over sets: membership, operations, comparisons, how many elements, and the case beside a case.
-#![tactic(auto)]
-
-mod nodes;
-mod rows;
-mod sorts;
-
-pub use rows::{beside, card, equal, member, set_op, subset, superset, unequal};

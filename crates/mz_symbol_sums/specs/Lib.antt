@@ -1,2 +1,0 @@
-pub mod SumValues
-pub mod StepsWalk

@@ -1,7 +1,0 @@
-// Rows over the elements of var arrays that compute: sums and products, the least and the greatest element, clauses.
-#![tactic(auto)]
-
-mod folds;
-mod walk;
-
-pub use folds::fold;

@@ -1,2 +1,0 @@
-pub mod UnionValues
-pub mod StepsWalk

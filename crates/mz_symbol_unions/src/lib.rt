@@ -1,8 +1,0 @@
-// Unions and intersections of the sets of a var array.
-#![tactic(auto)]
-
-mod nodes;
-mod rows;
-mod walk;
-
-pub use rows::{array_intersect, array_union};

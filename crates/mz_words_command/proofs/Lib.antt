@@ -1,4 +1,0 @@
-pub mod Found
-pub mod Numbers
-pub mod Taking
-pub mod Texts

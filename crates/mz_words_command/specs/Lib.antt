@@ -1,3 +1,0 @@
-pub mod Commands
-pub mod Found
-pub mod Parsed

@@ -1,8 +1,0 @@
-use Rattle.std.proofs.Common.{drop, map}
-use Rattle.std.specs.HashMap.{get_by_text}
-use Rattle.soln_reader_items.specs.Forms.{form, forms}
-use Rattle.soln_reader_items.proofs.NameBytes.{FindsAll}
-use Rattle.soln_reader_items.proofs.outputs.table_of.Given as goal
-
-abbrev pub invariant-loop-k : goal.invariant-loop-k
-invariant-loop-k l = FindsAll (get_by_text l.table) l.k (drop l.k (map form l.shapes)) (forms l.shapes)

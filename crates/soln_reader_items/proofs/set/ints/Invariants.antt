@@ -1,9 +1,0 @@
-use Rattle.std.proofs.Common.{length}
-use Rattle.soln_reader_items.proofs.IntLists.{HasRead}
-use Rattle.soln_reader_items.proofs.set.ints.Given as goal
-
-abbrev pub invariant-items : goal.invariant-items
-invariant-items l = HasRead l.bytes l.items.items l.rest
-
-abbrev pub decreases-items : goal.decreases-items
-decreases-items l = length l.rest
