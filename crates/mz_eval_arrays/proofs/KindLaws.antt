@@ -7,7 +7,8 @@ use Rattle.mz_meaning.specs.Cells.{held}
 use Rattle.mz_symbol.specs.declared.types.Symbol.{Symbol}
 use Rattle.mz_symbol.specs.Symbols.{symbol_value}
 use Rattle.mz_symbol.specs.Readings.{Reading, symbol_seen}
-use Rattle.mz_symbol_rows.specs.RowValues.{argument, as_argument}
+use Rattle.mz_symbol.specs.Arguments.{as_argument}
+use Rattle.mz_symbol_rows.specs.RowValues.{argument}
 use Rattle.mz_eval_arrays.specs.ArrayCells.{counted, is_counted}
 
 pub as_counted : (b : Base) (o : Option ℕ) (v : Option Content) → as_argument b o v ≡ counted (is_counted b (is_some o)) v

@@ -9,7 +9,7 @@ use Rattle.mz_core.specs.declared.types.Base.TheVariants as base
 use Rattle.mz_operations.specs.Bounds as bounds
 use Rattle.mz_meaning.specs.Arrays.{all_there}
 use Rattle.mz_meaning.specs.Cells.{Cell, Var, Mode, bounds_in, held, scalar_bound, value_of}
-use Rattle.mz_symbol_rows.specs.RowValues.{truth_of}
+use Rattle.mz_symbol.specs.Arguments.{truth_of}
 
 -- ---- var arrays
 

@@ -11,7 +11,8 @@ use Rattle.mz_symbol.specs.Symbols.{symbol_value}
 use Rattle.mz_symbol.specs.Runs.{Run}
 use Rattle.mz_symbol.specs.Readings.{IsGiven, Reading}
 use Rattle.mz_symbol.specs.Makes.{GoesOnBy}
-use Rattle.mz_symbol_rows.specs.RowValues.{argument, as_argument, truth_of}
+use Rattle.mz_symbol.specs.Arguments.{as_argument, truth_of}
+use Rattle.mz_symbol_rows.specs.RowValues.{argument}
 use Rattle.mz_symbol_rows.proofs.GoingOn.{goes_both, goes_most}
 use Rattle.mz_eval_cells.specs.Views.{truth_by}
 use Rattle.mz_eval_arrays.specs.StepsBranches.{one_value}

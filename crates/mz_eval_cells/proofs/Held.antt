@@ -10,7 +10,7 @@ use Rattle.mz_meaning.specs.Cells.{Mode, Blank, Given, held}
 use Rattle.mz_meaning.specs.Cells as cells
 use Rattle.mz_symbol.specs.declared.types.Symbol.{Symbol}
 use Rattle.mz_symbol.specs.Symbols.{value_by}
-use Rattle.mz_symbol_rows.specs.RowValues.{truth_of}
+use Rattle.mz_symbol.specs.Arguments.{truth_of}
 use Rattle.mz_eval_cells.specs.declared.types.Origin.TheVariants as origin
 use Rattle.mz_eval_cells.specs.Views.{truth_by, origin_value}
 

@@ -12,7 +12,7 @@ use Rattle.mz_meaning.specs.Cells.{Cell, Par, Var, Unshaped, Test, Settled, Open
 use Rattle.mz_meaning.specs.Coerced.{recast_all}
 use Rattle.mz_symbol.specs.Symbols.{symbol_value}
 use Rattle.mz_symbol.specs.Readings.{Reading, blank}
-use Rattle.mz_symbol_rows.specs.RowValues.{as_argument}
+use Rattle.mz_symbol.specs.Arguments.{as_argument}
 use Rattle.mz_eval_cells.specs.declared.types.Item.{Item}
 use Rattle.mz_eval_cells.specs.declared.types.Item.TheVariants as item
 use Rattle.mz_eval_cells.specs.declared.types.Bound.{Bound}

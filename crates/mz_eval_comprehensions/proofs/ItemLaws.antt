@@ -21,7 +21,7 @@ use Rattle.mz_symbol.specs.Lines as lines
 use Rattle.mz_symbol.specs.Lines.{IsElement}
 use Rattle.mz_symbol.specs.Runs.{Run}
 use Rattle.mz_symbol.specs.Readings.{Reading, Reads}
-use Rattle.mz_symbol_rows.specs.RowValues.{as_argument}
+use Rattle.mz_symbol.specs.Arguments.{as_argument}
 use Rattle.mz_symbol_arrays.specs.LineValues.{IsLineOf}
 use Rattle.mz_eval_cells.specs.Views.{cast_by}
 use Rattle.mz_eval_symbols.specs.Steps.{argued, elements_cast, item_cast}

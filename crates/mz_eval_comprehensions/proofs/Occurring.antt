@@ -16,7 +16,8 @@ use Rattle.mz_meaning.specs.Comprehensions.{both_occur, if_given, absent_unless,
 use Rattle.mz_symbol.specs.declared.types.Symbol.{Symbol}
 use Rattle.mz_symbol.specs.Symbols.{value_by, value_at, symbol_value}
 use Rattle.mz_symbol.specs.Readings.{Reading}
-use Rattle.mz_symbol_rows.specs.RowValues.{as_argument, argument}
+use Rattle.mz_symbol.specs.Arguments.{as_argument}
+use Rattle.mz_symbol_rows.specs.RowValues.{argument}
 use Rattle.mz_symbol_rows.proofs.RowLaws.{bit_true, truth_is}
 use Rattle.mz_eval_cells.specs.declared.types.Known.{Known}
 use Rattle.mz_eval_cells.specs.declared.types.Known.TheVariants as known

@@ -11,7 +11,7 @@ use Rattle.mz_meaning.specs.Runs.{Out}
 use Rattle.mz_symbol.specs.Runs.{Run}
 use Rattle.mz_symbol.specs.Symbols.{value_at}
 use Rattle.mz_symbol.specs.Readings.{Reading, Reads, state_of}
-use Rattle.mz_symbol_rows.specs.RowValues.{as_argument}
+use Rattle.mz_symbol.specs.Arguments.{as_argument}
 use Rattle.mz_symbol_rows.proofs.RowLaws.{out_both, truth_is}
 use Rattle.glob_nodes.specs.Says.{Says}
 use Rattle.mz_eval_cells.specs.declared.types.Origin.TheVariants as origin

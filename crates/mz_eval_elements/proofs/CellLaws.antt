@@ -15,7 +15,7 @@ use Rattle.mz_meaning.specs.Coerced.{recast, recast_all}
 use Rattle.mz_symbol.specs.declared.types.Symbol.{Symbol}
 use Rattle.mz_symbol.specs.Symbols.{symbol_value, value_at, value_by, IsItem}
 use Rattle.mz_symbol.specs.Readings.{Reading}
-use Rattle.mz_symbol_rows.specs.RowValues.{as_argument, truth_of}
+use Rattle.mz_symbol.specs.Arguments.{as_argument, truth_of}
 use Rattle.mz_eval_cells.specs.declared.types.Known.{Known}
 use Rattle.mz_eval_cells.specs.declared.types.Known.TheVariants as known
 use Rattle.mz_eval_cells.specs.Views.{cast_by, cell_of, known_bound, origin_value, seen}

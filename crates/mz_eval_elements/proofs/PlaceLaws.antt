@@ -16,7 +16,8 @@ use Rattle.mz_symbol.specs.Lines.{IsElement, only_if}
 use Rattle.mz_symbol.specs.Symbols.{symbol_value, AreItems, IsItem}
 use Rattle.mz_symbol.specs.Runs.{Run, ReadsNodes}
 use Rattle.mz_symbol.specs.Readings.{Reading, Reads, symbol_seen}
-use Rattle.mz_symbol_rows.specs.RowValues.{argument, as_argument}
+use Rattle.mz_symbol.specs.Arguments.{as_argument}
+use Rattle.mz_symbol_rows.specs.RowValues.{argument}
 use Rattle.mz_symbol_rows.specs.OptionValues.{guarded_value}
 use Rattle.mz_symbol_arrays.specs.LineValues.{IsLineOf}
 use Rattle.mz_symbol_arrays.proofs.RowLaws.{items_back}

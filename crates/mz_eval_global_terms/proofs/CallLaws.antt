@@ -15,7 +15,7 @@ use Rattle.mz_meaning.specs.Globals.{global_value}
 use Rattle.mz_symbol.specs.Runs.{Run}
 use Rattle.mz_symbol.specs.Symbols.{value_by}
 use Rattle.mz_symbol.specs.Readings.{Reading, Reads}
-use Rattle.mz_symbol_rows.specs.RowValues.{truth_of}
+use Rattle.mz_symbol.specs.Arguments.{truth_of}
 use Rattle.mz_eval_cells.specs.declared.types.Known.{Known}
 use Rattle.mz_eval_cells.specs.Views.{all_seen, seen}
 use Rattle.glob_nodes.specs.Says.{Says}

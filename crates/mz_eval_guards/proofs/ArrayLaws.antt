@@ -20,7 +20,7 @@ use Rattle.mz_symbol.specs.Runs.{Run}
 use Rattle.mz_symbol.specs.Readings.{Reading, IsGiven, Reads, state_of}
 use Rattle.mz_symbol.specs.Makes.{GoesOnBy}
 use Rattle.mz_symbol.proofs.ConstantLaws.{out_value, out_state}
-use Rattle.mz_symbol_rows.specs.RowValues.{as_argument}
+use Rattle.mz_symbol.specs.Arguments.{as_argument}
 use Rattle.mz_symbol_rows.proofs.GoingOn.{goes_both, goes_most}
 use Rattle.glob_nodes.specs.declared.nodes.Join.TheVariants.{Both}
 use Rattle.glob_nodes.specs.Says.{Tells, joined_each}

@@ -20,7 +20,8 @@ use Rattle.mz_symbol.specs.Runs.{Run}
 use Rattle.mz_symbol.specs.Readings.{Reading, IsGiven, Reads, blank, state_of, symbol_seen}
 use Rattle.mz_symbol.specs.Makes.{GoesOnBy}
 use Rattle.mz_symbol.proofs.ConstantLaws.{out_value, out_state}
-use Rattle.mz_symbol_rows.specs.RowValues.{argument, as_argument}
+use Rattle.mz_symbol.specs.Arguments.{as_argument}
+use Rattle.mz_symbol_rows.specs.RowValues.{argument}
 use Rattle.mz_symbol_rows.proofs.RowLaws.{truth_is}
 use Rattle.mz_symbol_rows.specs.OptionValues.{guarded_value}
 use Rattle.glob_nodes.specs.Says.{Says}

@@ -19,7 +19,8 @@ use Rattle.mz_symbol.specs.Runs.{Run}
 use Rattle.mz_symbol.specs.Readings.{Reading, IsGiven, Reads, state_of, symbol_seen}
 use Rattle.mz_symbol.specs.Makes.{GoesOnBy}
 use Rattle.mz_symbol.proofs.ConstantLaws.{out_value, out_state}
-use Rattle.mz_symbol_rows.specs.RowValues.{argument, as_argument}
+use Rattle.mz_symbol.specs.Arguments.{as_argument}
+use Rattle.mz_symbol_rows.specs.RowValues.{argument}
 use Rattle.glob_nodes.specs.Says.{Gives, Says, Tells}
 use Rattle.glob_nodes.specs.StepsNodes.{meaning_over}
 use Rattle.glob_nodes.proofs.Saying as saying

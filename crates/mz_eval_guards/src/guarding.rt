@@ -13,7 +13,7 @@ ghost use Rattle.mz_meaning.specs.Cells.{Bare, Var, held, kept_if, only_if, valu
 ghost use Rattle.mz_symbol.specs.Makes.{GoesOnBy};
 ghost use Rattle.mz_symbol.specs.Readings.{Reading};
 ghost use Rattle.mz_symbol.specs.Symbols.{symbol_value};
-ghost use Rattle.mz_symbol_rows.specs.RowValues.{as_argument};
+ghost use Rattle.mz_symbol.specs.Arguments.{as_argument};
 ghost use Rattle.mz_symbol_arrays.specs.LineValues.{array_argument};
 ghost use Rattle.mz_eval_cells.specs.declared.types.Known.TheVariants as known;
 ghost use Rattle.mz_eval_cells.specs.Views.{cell_of, known_bound, row_content, seen, truth_by, var_content};

@@ -12,7 +12,7 @@ use Rattle.mz_symbol.specs.declared.types.Symbol.{Symbol}
 use Rattle.mz_symbol.specs.Symbols.{value_at}
 use Rattle.mz_symbol.specs.Runs.{Run}
 use Rattle.mz_symbol.specs.Readings.{Reading}
-use Rattle.mz_symbol_rows.specs.RowValues.{as_argument}
+use Rattle.mz_symbol.specs.Arguments.{as_argument}
 use Rattle.mz_symbol_rows.proofs.RowLaws.{truth_is}
 use Rattle.glob_nodes.specs.Says.{Tells}
 use Rattle.mz_eval_cells.specs.declared.types.Origin.TheVariants as origin

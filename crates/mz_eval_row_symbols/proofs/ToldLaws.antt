@@ -17,7 +17,8 @@ use Rattle.mz_operations.specs.Costs.{cost}
 use Rattle.mz_meaning.specs.Operations.{row_cell, row_cost}
 use Rattle.mz_symbol.specs.Readings.{Reading}
 use Rattle.mz_symbol.specs.declared.types.Symbol.{Symbol}
-use Rattle.mz_symbol_rows.specs.RowValues.{argument, truth_of}
+use Rattle.mz_symbol.specs.Arguments.{truth_of}
+use Rattle.mz_symbol_rows.specs.RowValues.{argument}
 use Rattle.mz_eval_cells.specs.declared.types.Known.{Known}
 use Rattle.mz_eval_cells.specs.declared.types.Known.TheVariants as known
 use Rattle.mz_eval_cells.specs.Views.{cell_of, cells_of, seen, all_seen}

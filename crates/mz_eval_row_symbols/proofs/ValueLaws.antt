@@ -30,7 +30,8 @@ use Rattle.mz_meaning.specs.Exact.{exact_value}
 use Rattle.mz_symbol.specs.declared.types.Symbol.{Symbol}
 use Rattle.mz_symbol.specs.Symbols.{value_by, value_at, symbol_value}
 use Rattle.mz_symbol.specs.Readings.{Reading, symbol_seen}
-use Rattle.mz_symbol_rows.specs.RowValues.{truth_of, as_argument, argument}
+use Rattle.mz_symbol.specs.Arguments.{truth_of, as_argument}
+use Rattle.mz_symbol_rows.specs.RowValues.{argument}
 use Rattle.mz_eval_cells.proofs.Held.{held_map}
 use Rattle.mz_eval_row_symbols.specs.NodeRows.{told, told_by, row_told}
 use Rattle.mz_eval_row_symbols.specs.StepsRows.{gives_truth, made_truth, is_own_base, is_set_sort, IsAt, IsFree, IsOwn, IsSetTold, IsTold}

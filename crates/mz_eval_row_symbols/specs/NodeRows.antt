@@ -13,7 +13,7 @@ use Rattle.mz_meaning.specs.Coerced.{recast}
 use Rattle.mz_meaning.specs.Exact.{exact_value}
 use Rattle.mz_meaning.specs.Operations.{row_cell}
 use Rattle.mz_symbol.specs.Readings.{Reading}
-use Rattle.mz_symbol_rows.specs.RowValues.{truth_of}
+use Rattle.mz_symbol.specs.Arguments.{truth_of}
 use Rattle.mz_eval_cells.specs.declared.types.Known.{Known}
 use Rattle.mz_eval_cells.specs.declared.types.Known.TheVariants as known
 use Rattle.mz_eval_cells.specs.Views.{cell_of, seen}

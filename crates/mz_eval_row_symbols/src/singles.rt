@@ -10,7 +10,8 @@ ghost use Rattle.mz_meaning.specs.Exact.{exact_value};
 ghost use Rattle.mz_meaning.specs.Runs.{give};
 ghost use Rattle.mz_symbol.specs.Readings.{symbol_seen};
 ghost use Rattle.mz_symbol.specs.Makes.{GoesOnBy, Means};
-ghost use Rattle.mz_symbol_rows.specs.RowValues.{argument, row_value, truth_of};
+ghost use Rattle.mz_symbol.specs.Arguments.{truth_of};
+ghost use Rattle.mz_symbol_rows.specs.RowValues.{argument, row_value};
 ghost use Rattle.mz_eval_row_symbols.specs.NodeRows.{told_by};
 ghost use Rattle.mz_eval_row_symbols.specs.StepsRows.{gives_truth, made_truth};
 

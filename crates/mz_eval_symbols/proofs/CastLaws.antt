@@ -15,7 +15,7 @@ use Rattle.mz_symbol.specs.declared.types.Symbol.{Symbol}
 use Rattle.mz_symbol.specs.Symbols.{value_by, value_at}
 use Rattle.mz_symbol.specs.Runs.{Run}
 use Rattle.mz_symbol.specs.Readings.{Reading, state_of}
-use Rattle.mz_symbol_rows.specs.RowValues.{as_argument}
+use Rattle.mz_symbol.specs.Arguments.{as_argument}
 use Rattle.mz_symbol_rows.proofs.RowLaws.{truth_is}
 use Rattle.mz_symbol.specs.Runs.{ReadsNodes}
 use Rattle.mz_eval_symbols.specs.StepsNodes.{Counts}

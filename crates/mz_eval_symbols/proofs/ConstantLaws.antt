@@ -18,7 +18,8 @@ use Rattle.mz_symbol.specs.Symbols.{value_by, value_at, symbol_value}
 use Rattle.mz_symbol.specs.Runs.{Run}
 use Rattle.mz_symbol.specs.Readings.{Reading, state_of, symbol_seen}
 use Rattle.mz_symbol.proofs.ConstantLaws.{out_value, out_state}
-use Rattle.mz_symbol_rows.specs.RowValues.{argument, as_argument, is_single}
+use Rattle.mz_symbol.specs.Arguments.{as_argument}
+use Rattle.mz_symbol_rows.specs.RowValues.{argument, is_single}
 use Rattle.mz_symbol_rows.proofs.RowLaws.{argument_kept, truth_by}
 use Rattle.mz_eval_symbols.specs.Steps.{IsConstant, OneConstant, Stands, item_cast, set_base}
 

@@ -18,7 +18,8 @@ use Rattle.mz_symbol.specs.Symbols.{symbol_value, value_by}
 use Rattle.mz_symbol.specs.Symbols as symbols
 use Rattle.mz_symbol.specs.Runs.{ReadsNodes, Run}
 use Rattle.mz_symbol.specs.Readings.{Reading, Reads}
-use Rattle.mz_symbol_rows.specs.RowValues.{as_argument, is_single}
+use Rattle.mz_symbol.specs.Arguments.{as_argument}
+use Rattle.mz_symbol_rows.specs.RowValues.{is_single}
 use Rattle.mz_symbol_rows.proofs.RowLaws.{bit_true}
 use Rattle.mz_eval_symbols.specs.declared.lacking.Claim.{Claim}
 use Rattle.mz_eval_symbols.specs.declared.lacking.Claim.TheVariants as claim

@@ -7,7 +7,7 @@ use Rattle.mz_core.specs.declared.types.Base.TheVariants as base
 use Rattle.mz_arena.specs.Values.{Term, bit, guard_term, is_true}
 use Rattle.mz_meaning.specs.Cells.{is_bool}
 use Rattle.mz_symbol.specs.Symbols.{value_by}
-use Rattle.mz_symbol_rows.specs.RowValues.{as_argument}
+use Rattle.mz_symbol.specs.Arguments.{as_argument}
 use Rattle.mz_eval_symbols.specs.Steps.{argued}
 
 none_by : (b : Base) → value_by b None ≡ None

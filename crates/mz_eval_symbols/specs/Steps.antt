@@ -12,7 +12,7 @@ use Rattle.mz_symbol.specs.declared.types.Line.{Line}
 use Rattle.mz_symbol.specs.Symbols.{symbol_value, IsItem, AreWhole}
 use Rattle.mz_symbol.specs.Runs.{Run, ReadsNodes}
 use Rattle.mz_symbol.specs.Readings.{Reading, state_of}
-use Rattle.mz_symbol_rows.specs.RowValues.{as_argument}
+use Rattle.mz_symbol.specs.Arguments.{as_argument}
 use Rattle.mz_eval_symbols.specs.StepsNodes.{IsCount}
 
 -- ---- casts

@@ -10,7 +10,8 @@ use Rattle.mz_symbol.specs.declared.types.Symbol.{Symbol}
 use Rattle.mz_symbol.specs.Symbols.{value_by, value_at, symbol_value}
 use Rattle.mz_symbol.specs.Runs.{Run}
 use Rattle.mz_symbol.specs.Readings.{Reading, IsGiven, Reads}
-use Rattle.mz_symbol_rows.specs.RowValues.{as_argument, argument, truth_of}
+use Rattle.mz_symbol.specs.Arguments.{as_argument, truth_of}
+use Rattle.mz_symbol_rows.specs.RowValues.{argument}
 use Rattle.mz_symbol_rows.specs.StepsNodes.{IsOf}
 use Rattle.mz_symbol_rows.proofs.RowLaws.{truth_is}
 use Rattle.mz_eval_cells.specs.declared.types.Known.{Known}

@@ -19,7 +19,8 @@ use Rattle.mz_symbol.specs.Symbols.{value_by, value_at, symbol_value}
 use Rattle.mz_symbol.specs.Runs.{Run}
 use Rattle.mz_symbol.specs.Readings.{Reading, IsGiven, Reads, symbol_seen}
 use Rattle.mz_symbol.specs.Makes.{GoesOnBy}
-use Rattle.mz_symbol_rows.specs.RowValues.{as_argument, argument, truth_of, row_value}
+use Rattle.mz_symbol.specs.Arguments.{as_argument, truth_of}
+use Rattle.mz_symbol_rows.specs.RowValues.{argument, row_value}
 use Rattle.mz_symbol_rows.specs.StepsNodes.{IsOf}
 use Rattle.mz_symbol_rows.proofs.RowLaws.{truth_is, argument_kept}
 use Rattle.mz_symbol_rows.specs.OptionValues.{IsWholeOf}

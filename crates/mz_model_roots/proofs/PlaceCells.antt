@@ -9,7 +9,8 @@ use Rattle.mz_symbol.specs.declared.types.Symbol.{Symbol}
 use Rattle.mz_symbol.specs.Symbols.{symbol_value, domain_of}
 use Rattle.mz_symbol.specs.Runs.{Run}
 use Rattle.mz_symbol.specs.Readings.{Reading, IsGiven, Reads}
-use Rattle.mz_symbol_rows.specs.RowValues.{as_argument, argument}
+use Rattle.mz_symbol.specs.Arguments.{as_argument}
+use Rattle.mz_symbol_rows.specs.RowValues.{argument}
 use Rattle.mz_symbol_rows.proofs.RowLaws.{argument_kept}
 use Rattle.mz_symbol_rows.specs.OptionValues.{IsWholeOf}
 use Rattle.mz_symbol_rows.proofs.WholeLaws.{whole_value}

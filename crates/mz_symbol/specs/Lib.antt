@@ -1,5 +1,6 @@
 pub mod Choices
 pub mod Symbols
+pub mod Arguments
 pub mod Runs
 pub mod Readings
 pub mod Makes

@@ -7,7 +7,7 @@ use Rattle.mz_core.specs.declared.types.Base.TheVariants as base
 use Rattle.mz_meaning.specs.Arrays.{accessed}
 use Rattle.mz_symbol.specs.declared.types.Symbol.{Symbol}
 use Rattle.mz_symbol.specs.Readings.{Reading, symbol_seen}
-use Rattle.mz_symbol_rows.specs.RowValues.{truth_of}
+use Rattle.mz_symbol.specs.Arguments.{truth_of}
 use Rattle.mz_symbol_arrays.specs.LineValues.{array_argument}
 
 -- the element of the var array with this number under these index ranges: undefined where the array is, or where an index is or lies outside

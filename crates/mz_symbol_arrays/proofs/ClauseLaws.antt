@@ -23,7 +23,8 @@ use Rattle.mz_symbol.specs.Runs.{Run}
 use Rattle.mz_symbol.specs.Readings.{Reading, Reads, IsGiven, symbol_seen, state_of}
 use Rattle.mz_symbol.specs.Makes.{GoesOnBy}
 use Rattle.mz_symbol.proofs.ConstantLaws.{out_value, out_state}
-use Rattle.mz_symbol_rows.specs.RowValues.{truth_of, argument, row_value}
+use Rattle.mz_symbol.specs.Arguments.{truth_of}
+use Rattle.mz_symbol_rows.specs.RowValues.{argument, row_value}
 use Rattle.mz_symbol_rows.specs.StepsNodes.{symbol_of}
 use Rattle.mz_symbol_rows.proofs.RowLaws.{truth_by}
 use Rattle.mz_symbol_arrays.specs.LineValues.{IsLineOf}

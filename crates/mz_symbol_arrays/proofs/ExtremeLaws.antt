@@ -22,7 +22,7 @@ use Rattle.mz_symbol.specs.Symbols.{value_by, value_at, symbol_value, all_there,
 use Rattle.mz_symbol.specs.Runs.{Run}
 use Rattle.mz_symbol.specs.Readings.{Reading, Reads, IsGiven, symbol_seen}
 use Rattle.mz_symbol.specs.Lines.{HasLists}
-use Rattle.mz_symbol_rows.specs.RowValues.{as_argument}
+use Rattle.mz_symbol.specs.Arguments.{as_argument}
 use Rattle.mz_symbol_rows.specs.StepsNodes.{symbol_of}
 use Rattle.mz_symbol_rows.specs.OptionValues.{guarded_value}
 use Rattle.mz_symbol_arrays.specs.LineValues.{array_row, IsLineOf}

@@ -21,7 +21,7 @@ use Rattle.mz_symbol.specs.declared.types.Symbol.{Symbol}
 use Rattle.mz_symbol.specs.Symbols.{symbol_value}
 use Rattle.mz_symbol.specs.Runs.{Run}
 use Rattle.mz_symbol.specs.Readings.{Reading, Reads, IsGiven, symbol_seen}
-use Rattle.mz_symbol_rows.specs.RowValues.{as_argument}
+use Rattle.mz_symbol.specs.Arguments.{as_argument}
 use Rattle.mz_symbol_rows.specs.OptionValues.{guarded_value}
 use Rattle.mz_symbol_arrays.specs.LineValues.{IsLineOf}
 use Rattle.mz_symbol_arrays.proofs.Given.{held_given, held_by, gives}

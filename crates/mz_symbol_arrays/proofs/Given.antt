@@ -22,7 +22,8 @@ use Rattle.mz_symbol.specs.declared.types.Symbol.{Symbol}
 use Rattle.mz_symbol.specs.Symbols.{value_by, value_at, symbol_value}
 use Rattle.mz_symbol.specs.Readings.{Reading, IsGiven, symbol_seen}
 use Rattle.mz_symbol.proofs.ConstantLaws.{out_value}
-use Rattle.mz_symbol_rows.specs.RowValues.{truth_of, argument, row_value}
+use Rattle.mz_symbol.specs.Arguments.{truth_of}
+use Rattle.mz_symbol_rows.specs.RowValues.{argument, row_value}
 use Rattle.mz_symbol_rows.proofs.RowLaws.{argument_kept}
 
 given_held : (m : Mode) (v w : Option Content) → IsGiven m → held m v ≡ held m w → v ≡ w

@@ -17,7 +17,8 @@ use Rattle.mz_symbol.specs.Symbols.{value_by}
 use Rattle.mz_symbol.specs.Runs.{ReadsNodes, Run}
 use Rattle.mz_symbol.specs.Readings.{Reading, Reads, state_of}
 use Rattle.mz_symbol.specs.Makes.{GoesOnBy}
-use Rattle.mz_symbol_rows.specs.RowValues.{as_argument, is_single}
+use Rattle.mz_symbol.specs.Arguments.{as_argument}
+use Rattle.mz_symbol_rows.specs.RowValues.{is_single}
 use Rattle.mz_symbol_rows.proofs.RowLaws.{truth_is, bit_true}
 use Rattle.mz_symbol_arrays.specs.StepsArrays.{symbol_of, is_number_base, is_set_sort, both_true, Fills, IsFilled, IsItemFor, MakesItem, Settles}
 use Rattle.mz_symbol_arrays.specs.Sure.{IsSure}

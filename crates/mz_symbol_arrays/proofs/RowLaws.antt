@@ -25,7 +25,8 @@ use Rattle.mz_symbol.specs.declared.types.Symbol.{Symbol}
 use Rattle.mz_symbol.specs.Symbols.{value_by, symbol_value}
 use Rattle.mz_symbol.specs.Runs.{Run}
 use Rattle.mz_symbol.specs.Readings.{Reading, Reads, IsGiven, symbol_seen}
-use Rattle.mz_symbol_rows.specs.RowValues.{truth_of, as_argument, argument, row_value}
+use Rattle.mz_symbol.specs.Arguments.{truth_of, as_argument}
+use Rattle.mz_symbol_rows.specs.RowValues.{argument, row_value}
 use Rattle.mz_symbol_rows.specs.OptionValues.{guarded_value}
 use Rattle.mz_symbol_arrays.specs.declared.lines.walk.Walk.{Walk}
 use Rattle.mz_symbol_arrays.specs.declared.lines.walk.Walk.TheVariants.{Forall, Exists, Xorall, Count}

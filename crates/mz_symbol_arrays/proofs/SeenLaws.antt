@@ -19,7 +19,8 @@ use Rattle.mz_symbol.specs.Symbols.{symbol_value}
 use Rattle.mz_symbol.specs.Runs.{Run}
 use Rattle.mz_symbol.specs.Readings.{Reading, IsGiven, symbol_seen, state_of}
 use Rattle.mz_symbol.proofs.ConstantLaws.{out_state}
-use Rattle.mz_symbol_rows.specs.RowValues.{truth_of, as_argument, row_value}
+use Rattle.mz_symbol.specs.Arguments.{truth_of, as_argument}
+use Rattle.mz_symbol_rows.specs.RowValues.{row_value}
 use Rattle.mz_symbol_rows.specs.OptionValues.{made_row_value}
 use Rattle.mz_symbol_arrays.specs.declared.lines.walk.Walk.{Walk}
 use Rattle.mz_symbol_arrays.specs.declared.lines.walk.Walk.TheVariants.{Forall, Exists, Xorall, Count}

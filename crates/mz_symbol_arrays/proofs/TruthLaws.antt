@@ -22,7 +22,7 @@ use Rattle.mz_symbol.specs.Symbols.{symbol_value, all_there}
 use Rattle.mz_symbol.specs.Runs.{Run}
 use Rattle.mz_symbol.specs.Readings.{Reading, Reads, symbol_seen, state_of}
 use Rattle.mz_symbol.proofs.ConstantLaws.{out_state}
-use Rattle.mz_symbol_rows.specs.RowValues.{truth_of}
+use Rattle.mz_symbol.specs.Arguments.{truth_of}
 use Rattle.mz_symbol_arrays.specs.LineValues.{array_row}
 use Rattle.mz_symbol_arrays.proofs.Given.{HasTruth, gives, held_given, plain_truth}
 use Rattle.mz_symbol_arrays.proofs.RowLaws.{items_back}

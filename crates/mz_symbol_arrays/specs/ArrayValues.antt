@@ -4,7 +4,7 @@ use Rattle.mz_value.specs.Contents.{Content}
 use Rattle.mz_arena.specs.Values.{Term}
 use Rattle.mz_symbol.specs.declared.types.Symbol.{Symbol}
 use Rattle.mz_symbol.specs.Symbols.{all_there, symbol_value}
-use Rattle.mz_symbol_rows.specs.RowValues.{as_argument}
+use Rattle.mz_symbol.specs.Arguments.{as_argument}
 
 -- a symbol's value as an argument
 abbrev pub argued : (ℕ → Term) → Symbol → Option Content

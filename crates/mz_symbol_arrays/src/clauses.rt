@@ -8,7 +8,7 @@ ghost use Rattle.mz_meaning.specs.Cells.{held};
 ghost use Rattle.mz_meaning.specs.Runs.{give};
 ghost use Rattle.mz_symbol.specs.Readings.{Reading, Reads, symbol_seen};
 ghost use Rattle.mz_symbol.specs.Makes.{GoesOnBy, Means};
-ghost use Rattle.mz_symbol_rows.specs.RowValues.{truth_of};
+ghost use Rattle.mz_symbol.specs.Arguments.{truth_of};
 ghost use Rattle.mz_symbol_rows.specs.StepsNodes.{symbol_of};
 ghost use Rattle.mz_core.specs.declared.types.Base.TheVariants as base;
 ghost use Rattle.mz_symbol_arrays.specs.LineValues.{count_of, IsLineOf};

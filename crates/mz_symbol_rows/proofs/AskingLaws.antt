@@ -20,7 +20,8 @@ use Rattle.mz_symbol.specs.declared.types.Symbol.{Symbol}
 use Rattle.mz_symbol.specs.Symbols.{value_by}
 use Rattle.mz_symbol.specs.Readings.{Reading, symbol_seen}
 use Rattle.mz_symbol_rows.specs.RowValues as rows
-use Rattle.mz_symbol_rows.specs.RowValues.{truth_of, as_argument, argument, row_value}
+use Rattle.mz_symbol.specs.Arguments.{truth_of, as_argument}
+use Rattle.mz_symbol_rows.specs.RowValues.{argument, row_value}
 use Rattle.mz_symbol_rows.specs.OptionValues.{made_row_value, counted_as}
 use Rattle.mz_symbol_rows.specs.StepsOptions.{IsOption, symbol_of, one, equal_where_term, value_term, summand_term}
 use Rattle.mz_symbol_rows.proofs.OptionLaws.{option_of, of_option, truth_by, bit_true}

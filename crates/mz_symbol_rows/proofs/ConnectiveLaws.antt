@@ -14,7 +14,8 @@ use Rattle.mz_meaning.specs.Cells.{held}
 use Rattle.mz_symbol.specs.declared.types.Symbol.{Symbol}
 use Rattle.mz_symbol.specs.Symbols.{value_by}
 use Rattle.mz_symbol.specs.Readings.{Reading, symbol_seen}
-use Rattle.mz_symbol_rows.specs.RowValues.{truth_of, row_value}
+use Rattle.mz_symbol.specs.Arguments.{truth_of}
+use Rattle.mz_symbol_rows.specs.RowValues.{row_value}
 use Rattle.mz_symbol_rows.specs.StepsNodes.{IsOf, symbol_of, made_logic}
 use Rattle.mz_symbol_rows.proofs.RowLaws.{argument_by, row_of_one, row_of_two, truth_by, bit_true, truth_is}
 

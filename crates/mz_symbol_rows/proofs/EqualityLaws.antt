@@ -19,7 +19,8 @@ use Rattle.mz_symbol.specs.declared.types.Symbol.{Symbol}
 use Rattle.mz_symbol.specs.Symbols.{value_by}
 use Rattle.mz_symbol.specs.Readings.{Reading, symbol_seen}
 use Rattle.mz_symbol_rows.specs.RowValues as rows
-use Rattle.mz_symbol_rows.specs.RowValues.{truth_of, row_value}
+use Rattle.mz_symbol.specs.Arguments.{truth_of}
+use Rattle.mz_symbol_rows.specs.RowValues.{row_value}
 use Rattle.mz_symbol_rows.specs.StepsOptions.{AreOptions, symbol_of, differ, same_term, other_term, equal_term, unequal_there_term, unequal_term, equal_where_term}
 use Rattle.mz_symbol_rows.proofs.OptionLaws.{option_of, of_options, truth_by, bit_true}
 use Rattle.mz_symbol_rows.proofs.AskingLaws.{same_number, where_is}

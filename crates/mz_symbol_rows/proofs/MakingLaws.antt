@@ -14,7 +14,8 @@ use Rattle.mz_symbol.specs.declared.types.Symbol.{Symbol}
 use Rattle.mz_symbol.specs.Symbols.{value_by, value_at}
 use Rattle.mz_symbol.specs.Readings.{Reading, symbol_seen}
 use Rattle.mz_symbol_rows.specs.RowValues as rows
-use Rattle.mz_symbol_rows.specs.RowValues.{as_argument, argument}
+use Rattle.mz_symbol.specs.Arguments.{as_argument}
+use Rattle.mz_symbol_rows.specs.RowValues.{argument}
 use Rattle.mz_symbol_rows.proofs.RowLaws.{truth_is}
 use Rattle.mz_symbol_rows.specs.OptionValues.{guarded_value}
 use Rattle.mz_symbol_rows.specs.StepsOptions.{IsPlain, symbol_of, whole_term, kept_term}

@@ -12,7 +12,8 @@ use Rattle.mz_symbol.specs.declared.types.Symbol.{Symbol}
 use Rattle.mz_symbol.specs.Symbols.{value_by, value_at}
 use Rattle.mz_symbol.specs.Readings.{Reading}
 use Rattle.mz_symbol_rows.specs.RowValues as rows
-use Rattle.mz_symbol_rows.specs.RowValues.{as_argument, argument}
+use Rattle.mz_symbol.specs.Arguments.{as_argument}
+use Rattle.mz_symbol_rows.specs.RowValues.{argument}
 use Rattle.mz_symbol_rows.specs.StepsOptions.{IsOption, AreOptions}
 
 -- an option's value, by its occurrence and its number

@@ -15,7 +15,8 @@ use Rattle.mz_meaning.specs.Cells.{Mode, Blank, Given, held, is_true}
 use Rattle.mz_symbol.specs.declared.types.Symbol.{Symbol}
 use Rattle.mz_symbol.specs.Symbols.{value_by, value_at, symbol_value}
 use Rattle.mz_symbol.specs.Readings.{Reading, symbol_seen}
-use Rattle.mz_symbol_rows.specs.RowValues.{as_argument, argument, row_value}
+use Rattle.mz_symbol.specs.Arguments.{as_argument}
+use Rattle.mz_symbol_rows.specs.RowValues.{argument, row_value}
 use Rattle.mz_symbol_rows.specs.StepsNodes.{IsOf}
 
 pub out_both : {A : Type 0} {x y : A} {s u : State} → x ≡ y → s ≡ u → Out x s ≡ Out y u

@@ -23,7 +23,8 @@ use Rattle.mz_meaning.specs.Cells.{Mode, Blank, Given, held}
 use Rattle.mz_symbol.specs.declared.types.Symbol.{Symbol}
 use Rattle.mz_symbol.specs.Symbols.{value_by}
 use Rattle.mz_symbol.specs.Readings.{Reading, symbol_seen}
-use Rattle.mz_symbol_rows.specs.RowValues.{truth_of, argument, row_value}
+use Rattle.mz_symbol.specs.Arguments.{truth_of}
+use Rattle.mz_symbol_rows.specs.RowValues.{argument, row_value}
 use Rattle.mz_symbol_rows.specs.StepsNodes.{IsOf, symbol_of}
 use Rattle.mz_symbol_rows.proofs.RowLaws.{argument_by, argument_is, truth_by, bit_true}
 use Rattle.mz_symbol_rows.specs.OptionValues.{made_row_value}

@@ -1,23 +1,15 @@
 -- What a row over symbols is asked to give.
-use Rattle.std.specs.Prelude.{ℕ, true, false, Bool, List, map, Option, Some, None}
+use Rattle.std.specs.Prelude.{true, false, Bool, List, map, Option}
 use Rattle.mz_value.specs.Contents.{Content}
-use Rattle.mz_value.specs.Contents as values
 use Rattle.mz_core.specs.declared.types.Base.{Base}
 use Rattle.mz_core.specs.declared.types.Base.TheVariants as base
 use Rattle.mz_operations.specs.declared.row.ScalarRow.{ScalarRow}
 use Rattle.mz_operations.specs.Values.{scalar_value}
-use Rattle.mz_meaning.specs.Cells.{held, is_true}
+use Rattle.mz_meaning.specs.Cells.{held}
 use Rattle.mz_symbol.specs.declared.types.Symbol.{Symbol}
 use Rattle.mz_symbol.specs.Symbols.{symbol_value}
+use Rattle.mz_symbol.specs.Arguments.{as_argument}
 use Rattle.mz_symbol.specs.Readings.{Reading}
-
--- a Boolean is false where it is undefined
-abbrev pub truth_of : Option Content → Option Content
-truth_of v = Some (values.bool (is_true v))
-
-abbrev pub as_argument : Base → Option ℕ → Option Content → Option Content
-as_argument base.Bool None v = truth_of v
-as_argument b o v = v
 
 -- THE ARGUMENT OF A ROW: a symbol's value, where a Boolean that is no option is false in place of undefined
 abbrev pub argument : Reading → Symbol → Option Content

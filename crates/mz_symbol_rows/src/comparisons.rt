@@ -6,7 +6,8 @@ ghost use Rattle.mz_meaning.specs.Cells.{held};
 ghost use Rattle.mz_meaning.specs.Runs.{give};
 ghost use Rattle.mz_symbol.specs.Readings.{symbol_seen};
 ghost use Rattle.mz_symbol.specs.Makes.{GoesOnBy, Means};
-ghost use Rattle.mz_symbol_rows.specs.RowValues.{row_value, truth_of};
+ghost use Rattle.mz_symbol.specs.Arguments.{truth_of};
+ghost use Rattle.mz_symbol_rows.specs.RowValues.{row_value};
 
 use crate::nodes::{equal_node, number_node, order_node, unequal_node};
 use crate::sorts::{is_pair, symbol};

@@ -8,7 +8,7 @@ ghost use Rattle.mz_meaning.specs.Cells.{held};
 ghost use Rattle.mz_meaning.specs.Runs.{give};
 ghost use Rattle.mz_symbol.specs.Readings.{symbol_seen};
 ghost use Rattle.mz_symbol.specs.Makes.{GoesOnBy, Means};
-ghost use Rattle.mz_symbol_rows.specs.RowValues.{truth_of};
+ghost use Rattle.mz_symbol.specs.Arguments.{truth_of};
 ghost use Rattle.mz_symbol_arrays.specs.LineValues.{array_row, count_of};
 ghost use Rattle.mz_symbol_arrays.specs.StepsLines.{truth_symbol, walk_of};
 

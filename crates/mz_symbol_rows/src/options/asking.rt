@@ -7,7 +7,8 @@ ghost use Rattle.mz_meaning.specs.Cells.{held};
 ghost use Rattle.mz_meaning.specs.Runs.{give};
 ghost use Rattle.mz_symbol.specs.Readings.{symbol_seen};
 ghost use Rattle.mz_symbol.specs.Makes.{GoesOnBy, Means};
-ghost use Rattle.mz_symbol_rows.specs.RowValues.{argument, as_argument, row_value, truth_of};
+ghost use Rattle.mz_symbol.specs.Arguments.{as_argument, truth_of};
+ghost use Rattle.mz_symbol_rows.specs.RowValues.{argument, row_value};
 ghost use Rattle.mz_symbol_rows.specs.OptionValues.{counted_as, made_row_value};
 
 use crate::options::nodes::{equal_where, made, summand_node, value_node};

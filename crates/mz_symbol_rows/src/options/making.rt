@@ -9,7 +9,8 @@ ghost use Rattle.mz_meaning.specs.Runs.{give, noted};
 ghost use Rattle.mz_symbol.specs.Readings.{Reading, Reads, state_of, symbol_seen};
 ghost use Rattle.mz_symbol.specs.StepsChoices.{choice_domain};
 ghost use Rattle.mz_symbol.specs.Makes.{GoesOn, GoesOnBy, Means};
-ghost use Rattle.mz_symbol_rows.specs.RowValues.{argument, as_argument};
+ghost use Rattle.mz_symbol.specs.Arguments.{as_argument};
+ghost use Rattle.mz_symbol_rows.specs.RowValues.{argument};
 ghost use Rattle.mz_symbol_rows.specs.OptionValues.{IsWholeOf, guarded_value};
 
 use crate::options::nodes::{guard_node, integer, kept_node, occurs_unless, whole_node};

@@ -7,7 +7,8 @@ ghost use Rattle.mz_meaning.specs.Cells.{held};
 ghost use Rattle.mz_meaning.specs.Runs.{give};
 ghost use Rattle.mz_symbol.specs.Readings.{symbol_seen};
 ghost use Rattle.mz_symbol.specs.Makes.{GoesOnBy, Means};
-ghost use Rattle.mz_symbol_rows.specs.RowValues.{row_value, truth_of};
+ghost use Rattle.mz_symbol.specs.Arguments.{truth_of};
+ghost use Rattle.mz_symbol_rows.specs.RowValues.{row_value};
 ghost use Rattle.mz_symbol_rows.specs.OptionValues.{made_row_value};
 
 use crate::sets::nodes::{

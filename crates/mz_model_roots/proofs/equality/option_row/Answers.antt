@@ -3,7 +3,8 @@ use Rattle.mz_operations.specs.declared.row.ScalarRow.TheVariants as row
 use Rattle.mz_operations.specs.Values.{scalar_value}
 use Rattle.mz_meaning.specs.Cells.{held}
 use Rattle.mz_symbol.proofs.ConstantLaws.{out_value, out_state}
-use Rattle.mz_symbol_rows.specs.RowValues.{argument, truth_of}
+use Rattle.mz_symbol.specs.Arguments.{truth_of}
+use Rattle.mz_symbol_rows.specs.RowValues.{argument}
 use Rattle.mz_symbol_rows.proofs.RowLaws.{out_both}
 use Rattle.mz_model_roots.proofs.equality.option_row.Goals as goal
 

@@ -4,7 +4,7 @@ use Rattle.mz_meaning.specs.Cells.{held}
 use Rattle.mz_meaning.specs.Runs.{Out}
 use Rattle.mz_symbol.specs.Readings.{symbol_seen, state_of}
 use Rattle.mz_symbol.proofs.ConstantLaws.{out_value, out_state}
-use Rattle.mz_symbol_rows.specs.RowValues.{as_argument}
+use Rattle.mz_symbol.specs.Arguments.{as_argument}
 use Rattle.mz_symbol_rows.proofs.RowLaws.{out_both}
 use Rattle.mz_symbol_rows.specs.OptionValues.{guarded_value}
 use Rattle.mz_symbol_arrays.proofs.ExtremeLaws.{extreme_held}

@@ -5,7 +5,8 @@ use Rattle.mz_operations.specs.declared.row.Connective.TheVariants as connective
 use Rattle.mz_operations.specs.declared.row.ScalarRow.TheVariants as row
 use Rattle.mz_symbol.specs.Readings.{symbol_seen, state_of}
 use Rattle.mz_symbol.proofs.ConstantLaws.{out_state}
-use Rattle.mz_symbol_rows.specs.RowValues.{truth_of, row_value}
+use Rattle.mz_symbol.specs.Arguments.{truth_of}
+use Rattle.mz_symbol_rows.specs.RowValues.{row_value}
 use Rattle.mz_symbol_rows.proofs.RowLaws.{out_both}
 use Rattle.mz_symbol_arrays.specs.StepsLines.{Walks}
 use Rattle.mz_symbol_arrays.proofs.RowLaws.{quantified_held, first_truth}
