@@ -5,16 +5,14 @@ use Rattle.mz_value.specs.Ranges.{Range}
 use Rattle.mz_value.specs.Contents.{Content, contents}
 use Rattle.mz_value.specs.Contents as values
 use Rattle.mz_core.specs.declared.types.Base.TheVariants as base
-use Rattle.mz_instance.specs.Contents.{content_by}
+use Rattle.mz_symbol.specs.Symbols.{content_by, symbol_value, all_there, elements_value, AreItems}
 use Rattle.mz_arena.specs.Values.{Term, as_number, is_true}
 use Rattle.mz_symbol.specs.declared.types.Line.{Line}
 use Rattle.mz_symbol.specs.Lines.{only_if}
-use Rattle.mz_symbol.specs.Symbols.{symbol_value, all_there, elements_value, AreItems}
 use Rattle.mz_symbol.specs.Runs.{Run, IsRun}
 use Rattle.mz_symbol.specs.Readings.{Reading, Reads}
 use Rattle.glob_nodes.specs.declared.arguments.Numbers.{Numbers}
-use Rattle.glob_nodes.specs.Arguments.{all_numbers, numbers_in, array_of, array_value, IsWhole}
-use Rattle.glob_nodes.specs.Arguments.{int_symbol}
+use Rattle.glob_nodes.specs.Arguments.{all_numbers, numbers_in, array_of, array_value, IsWhole, int_symbol}
 
 -- ---- the elements of a line of integers
 

@@ -11,9 +11,7 @@ use Rattle.mz_symbol.specs.Readings.{Reading}
 use Rattle.mz_eval_cells.specs.declared.types.Known.{Known}
 use Rattle.mz_eval_cells.specs.declared.types.Known.TheVariants as known
 use Rattle.mz_eval_cells.specs.Views.{all_seen, cell_of, cells_of, seen}
-use Rattle.mz_eval_arrays.specs.declared.gathering.Gathered.{Gathered}
-use Rattle.mz_eval_arrays.specs.declared.gathering.Gathered.TheVariants as gathering
-use Rattle.mz_eval_arrays.specs.Gathered.{gathered, gathered_by}
+use Rattle.mz_eval_nodes.specs.Views.{Gathered, Items, Cells, gathered, gathered_by}
 
 par_same : (r : Reading) (k : Known) → is_par (cell_of k) ≡ true → cell_of k ≡ seen r k
 par_same r known.Undefined h = refl
@@ -36,8 +34,8 @@ par_values_same r [] = refl
 par_values_same r (k ∷ ks) = ap (λ v. v ∷ map par_value_of (cells_of ks)) (par_value_same r k) ∙ ap (λ vs. par_value_of (seen r k) ∷ vs) (par_values_same r ks)
 
 gathered_same : (r : Reading) (g : Gathered) → map par_value_of (gathered g) ≡ map par_value_of (gathered_by (seen r) g)
-gathered_same r (gathering.Items v) = refl
-gathered_same r (gathering.Cells v) = par_values_same r v.items
+gathered_same r (Items v) = refl
+gathered_same r (Cells v) = par_values_same r v.items
 
 -- the set of these par values
 abbrev set_over : PlainType → List (Option Content) → Cell

@@ -14,8 +14,7 @@ ghost use Rattle.mz_core.specs.Types.{plain_type};
 ghost use Rattle.mz_symbol.specs.Makes.{GoesOn, Means};
 ghost use Rattle.mz_eval_cells.specs.Views.{seen, all_seen};
 ghost use Rattle.mz_eval_scopes.specs.Seen.{ctx_of};
-ghost use Rattle.mz_eval_nodes.specs.Views.{gathered_seen};
-ghost use Rattle.mz_eval_row_symbols.specs.NodeRows.{stamped};
+ghost use Rattle.mz_eval_nodes.specs.Views.{gathered_seen, stamped};
 ghost use Rattle.mz_eval_branches.specs.TableCells.{rows_seen};
 ghost use Rattle.mz_eval.specs.Levels.{world_in, go_of, scope_of, in_scope, at_node};
 ghost use Rattle.mz_eval.specs.Named.{IsNamed};
@@ -31,16 +30,15 @@ use crate::operators::eval_chain;
 use crate::types::Level;
 use mz_base::{Fault, Kind, Name, Span, Stop};
 use mz_core::{Core, CoreForm};
-use mz_eval_arrays::{Gathered, array_cell_in, nothing_gathered, set_cell};
 use mz_eval_branches::table_cell_in;
 use mz_eval_cells::{Item, Known, one, share, stays, undefined};
 use mz_eval_chains::{finished, inner};
 use mz_eval_comprehensions::gathered_with;
 use mz_eval_elements::element_cell_in;
 use mz_eval_nodes::{
-    argument_of, arguments_base, arguments_within, untyped_all, untyped_one, untyped_two, within,
+    Gathered, argument_of, arguments_base, arguments_within, array_cell_in, nothing_gathered,
+    row_at, set_cell, untyped_all, untyped_one, untyped_two, within,
 };
-use mz_eval_row_cells::row_at;
 use mz_eval_scopes::{Scope, all_cases, at_slot, done, literal_text, seek};
 use mz_operations::Row;
 use mz_symbol::Run;

@@ -13,5 +13,7 @@ mod top_call;
 mod types;
 mod weights;
 
+pub use mz_eval_chains::place_of;
+pub use mz_eval_names::{counted, declared_weight};
 pub use mz_eval_scopes::Env;
 pub use top_call::{evaluated, expanded, value};

@@ -5,11 +5,10 @@ use Rattle.mz_value.specs.Contents.{Content}
 use Rattle.mz_value.specs.Contents as values
 use Rattle.mz_core.specs.declared.types.Base.TheVariants as base
 use Rattle.mz_arena.specs.Values.{Term, as_number, is_one, is_true}
-use Rattle.mz_instance.specs.Contents.{content_by}
+use Rattle.mz_symbol.specs.Symbols.{content_by, value_by}
 use Rattle.mz_meaning.specs.Cells.{Mode, Blank, Given, held}
 use Rattle.mz_meaning.specs.Cells as cells
 use Rattle.mz_symbol.specs.declared.types.Symbol.{Symbol}
-use Rattle.mz_symbol.specs.Symbols.{value_by}
 use Rattle.mz_symbol.specs.Arguments.{truth_of}
 use Rattle.mz_eval_cells.specs.declared.types.Origin.TheVariants as origin
 use Rattle.mz_eval_cells.specs.Views.{truth_by, origin_value}

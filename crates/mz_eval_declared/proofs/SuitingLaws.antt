@@ -19,10 +19,9 @@ use Rattle.mz_symbol_rows.proofs.GoingOn.{goes_both, goes_most}
 use Rattle.mz_eval_cells.specs.declared.types.Known.{Known}
 use Rattle.mz_eval_cells.specs.declared.types.Known.TheVariants as known
 use Rattle.mz_eval_cells.specs.Views.{cell_of, seen}
-use Rattle.mz_eval_symbols.specs.Taken.{count_in}
+use Rattle.mz_eval_guards.specs.Guards.{count_in, IsGuard, guard_seen}
 use Rattle.mz_eval_guards.specs.declared.types.Guard.{Guard}
 use Rattle.mz_eval_guards.specs.declared.types.Guard.TheVariants as guard
-use Rattle.mz_eval_guards.specs.Guards.{IsGuard, guard_seen}
 use Rattle.mz_eval_guards.proofs.Joined.{guard_like}
 
 pub goes_none : (n : ℕ) (s : Run) → GoesOnBy n s s

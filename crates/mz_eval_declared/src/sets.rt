@@ -8,8 +8,7 @@ ghost use Rattle.mz_meaning.specs.Lets as lets;
 ghost use Rattle.mz_symbol.specs.Makes.{GoesOnBy, Means};
 ghost use Rattle.mz_symbol.specs.Readings.{Reading};
 ghost use Rattle.mz_eval_cells.specs.Views.{cell_of, seen};
-ghost use Rattle.mz_eval_symbols.specs.Taken.{count_in};
-ghost use Rattle.mz_eval_guards.specs.Guards.{IsGuard, guard_seen};
+ghost use Rattle.mz_eval_guards.specs.Guards.{count_in, IsGuard, guard_seen};
 ghost use Rattle.mz_eval_declared.specs.Wants.{wanted, wants_of};
 ghost use Rattle.mz_eval_declared.specs.Locals.{local_in};
 

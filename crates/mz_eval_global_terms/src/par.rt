@@ -14,7 +14,7 @@ ghost use Rattle.glob_graph.specs.Tables.{table_value};
 use glob_graph::Rows;
 use mz_base::Memory;
 use mz_eval_cells::{Item, Known};
-use mz_eval_row_cells::size_of;
+use mz_eval_row_symbols::size_of;
 use mz_value::Value;
 use std::alloc::Global;
 

@@ -17,14 +17,13 @@ use Rattle.mz_symbol.specs.Readings.{Reading, IsGiven, Reads, line_in, state_of}
 use Rattle.mz_symbol.specs.Makes.{GoesOnBy}
 use Rattle.mz_symbol.proofs.ConstantLaws.{out_value, out_state}
 use Rattle.mz_symbol_rows.proofs.GoingOn.{goes_both, goes_most}
-use Rattle.mz_symbol_arrays.specs.LineValues.{array_argument}
+use Rattle.mz_eval_symbols.specs.Taken.{array_argument, cell_value, line_seen, ranges_in}
 use Rattle.glob_nodes.specs.Says.{Says}
 use Rattle.mz_eval_cells.specs.declared.types.Bound.{Bound}
 use Rattle.mz_eval_cells.specs.declared.types.Known.{Known}
 use Rattle.mz_eval_cells.specs.declared.types.Origins.TheVariants as origins
 use Rattle.mz_eval_cells.specs.declared.types.VarItems.{VarItems}
 use Rattle.mz_eval_cells.specs.Views.{array_of, cast_by, cell_of, known_bound, origins_value, row_content, seen}
-use Rattle.mz_eval_symbols.specs.Taken.{cell_value, line_seen, ranges_in}
 use Rattle.mz_eval_guards.specs.Guards.{IsCell}
 use Rattle.mz_eval_guards.specs.StepsLines.{HasItems}
 use Rattle.mz_eval_guards.specs.StepsGuarding.{IsLineKept}

@@ -21,7 +21,7 @@ use Rattle.mz_symbol.specs.Runs.{Run}
 use Rattle.mz_symbol.specs.Readings.{Reading, Reads}
 use Rattle.mz_symbol.specs.Makes.{GoesOnBy}
 use Rattle.mz_symbol.specs.Arguments.{as_argument}
-use Rattle.mz_symbol_arrays.specs.LineValues.{IsLineOf}
+use Rattle.mz_eval_symbols.specs.Taken.{IsLineOf}
 use Rattle.glob_nodes.specs.Says.{Gives, Says, Tells, num}
 use Rattle.glob_nodes.specs.StepsNodes.{meaning_over}
 use Rattle.glob_nodes.proofs.Saying as saying

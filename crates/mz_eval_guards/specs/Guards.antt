@@ -8,6 +8,7 @@ use Rattle.mz_eval_cells.specs.declared.types.Known.{Known}
 use Rattle.mz_eval_cells.specs.Views.{cell_of, seen}
 use Rattle.mz_eval_guards.specs.declared.types.Guard.{Guard}
 use Rattle.mz_eval_guards.specs.declared.types.Guard.TheVariants as guard
+pub use Rattle.mz_eval_symbols.specs.Taken.{count_in}
 
 -- a truth value of var cells; nothing holds in a run without values
 abbrev pub held_truth : Mode → Bool → Bool

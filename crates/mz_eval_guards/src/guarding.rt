@@ -14,10 +14,9 @@ ghost use Rattle.mz_symbol.specs.Makes.{GoesOnBy};
 ghost use Rattle.mz_symbol.specs.Readings.{Reading};
 ghost use Rattle.mz_symbol.specs.Symbols.{symbol_value};
 ghost use Rattle.mz_symbol.specs.Arguments.{as_argument};
-ghost use Rattle.mz_symbol_arrays.specs.LineValues.{array_argument};
+ghost use Rattle.mz_eval_symbols.specs.Taken.{array_argument, count_in, ranges_in};
 ghost use Rattle.mz_eval_cells.specs.declared.types.Known.TheVariants as known;
 ghost use Rattle.mz_eval_cells.specs.Views.{cell_of, known_bound, row_content, seen, truth_by, var_content};
-ghost use Rattle.mz_eval_symbols.specs.Taken.{count_in, ranges_in};
 ghost use Rattle.mz_eval_guards.specs.Guards.{IsCell, guard_seen, held_truth};
 ghost use Rattle.mz_eval_guards.specs.StepsGuarding.{IsLineKept, IsTruth};
 

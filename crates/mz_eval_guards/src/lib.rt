@@ -11,5 +11,6 @@ mod types;
 pub use guarding::guarded;
 pub use joining::{both, never, surely, unsure};
 pub use lying::lies_in;
+pub use mz_eval_symbols::cell_of_symbol;
 pub use there::there_in;
 pub use types::Guard;

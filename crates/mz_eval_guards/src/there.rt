@@ -18,8 +18,8 @@ use mz_arena::{Id, NodeKind};
 use mz_base::Memory;
 use mz_core::Base;
 use mz_eval_cells::{Known, Origin, Origins, VarValue};
+use mz_eval_symbols::defined;
 use mz_symbol::{Run, Symbol};
-use mz_symbol_arrays::lines::defined;
 
 // ---- symbols
 

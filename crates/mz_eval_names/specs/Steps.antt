@@ -10,7 +10,7 @@ use Rattle.mz_meaning.specs.Lets as lets
 use Rattle.mz_meaning.specs.Lets.{choices_from}
 use Rattle.mz_meaning.specs.Runs.{Run, State, Answer, Out, noted}
 use Rattle.mz_symbol.specs.Readings.{Reading}
-use Rattle.mz_symbol_arrays.specs.LineValues.{array_argument}
+use Rattle.mz_eval_symbols.specs.Taken.{array_argument}
 use Rattle.mz_eval_cells.specs.declared.types.Known.{Known}
 use Rattle.mz_eval_cells.specs.Views.{seen}
 use Rattle.mz_eval_guards.specs.declared.types.Guard.{Guard}

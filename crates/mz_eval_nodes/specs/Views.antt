@@ -2,8 +2,11 @@
 use Rattle.std.specs.Prelude.{List}
 use Rattle.mz_eval_cells.specs.declared.types.Known.{Known}
 use Rattle.mz_eval_cells.specs.Views.{seen}
-use Rattle.mz_eval_arrays.specs.declared.gathering.Gathered.{Gathered}
-use Rattle.mz_eval_arrays.specs.Gathered.{gathered_by, pairs_by}
+pub use Rattle.mz_eval_arrays.specs.declared.gathering.Gathered.{Gathered}
+pub use Rattle.mz_eval_arrays.specs.declared.gathering.Gathered.TheVariants.{Items, Cells}
+pub use Rattle.mz_eval_arrays.specs.Gathered.{gathered, gathered_by}
+use Rattle.mz_eval_arrays.specs.Gathered.{pairs_by}
+pub use Rattle.mz_eval_row_symbols.specs.NodeRows.{stamped}
 use Rattle.mz_meaning.specs.Cells.{Cell}
 use Rattle.mz_symbol.specs.Readings.{Reading}
 

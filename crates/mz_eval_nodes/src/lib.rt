@@ -18,6 +18,9 @@ pub use contexts::{
 };
 pub use counting::counted;
 pub use globals::operated_global;
+pub use mz_eval_arrays::{Gathered, array_cell_in, nothing_gathered, set_cell};
+pub use mz_eval_globals::global_numbered;
+pub use mz_eval_row_cells::row_at;
 pub use nodes::{
     node_of_numbers, node_of_pars, node_of_two, untyped_all, untyped_one, untyped_two,
 };

@@ -19,10 +19,9 @@ use crate::settled::{settled_one, settled_two, valued};
 use mz_base::{Span, Stop};
 use mz_core::TypeInst;
 use mz_eval_cells::{Known, is_par, share};
-use mz_eval_row_cells as plain;
 use mz_eval_row_symbols::{
-    Argument, cell_by_ends, cell_of_one, cell_of_two, ends_of_two, shape_of_one, shape_of_two,
-    whole,
+    Argument, cell_by_ends, cell_of_one, cell_of_two, ends_of_two, par_row_of_one, par_row_of_two,
+    shape_of_one, shape_of_two, whole,
 };
 use mz_operations::{MadeRow, Row};
 use mz_symbol::Run;
@@ -105,7 +104,7 @@ fn row_of_settled(
         (λ r. row_node r.mode (case_names cases.now) row (plain_type t.now) at (seen r a ∷ [])) }
 {
     let shape = shape_of_one(alloc, cases, row, t, at, a)?;
-    let Ok(par) = plain::row_of_one(alloc, cases, row, t, at, x) else {
+    let Ok(par) = par_row_of_one(alloc, cases, row, t, at, x) else {
         return Err(Stop::Memory);
     };
     let k = valued(alloc, &shape, &par)?;
@@ -181,7 +180,7 @@ fn rows_of_settled(
         (λ r. row_node r.mode (case_names cases.now) row (plain_type t.now) at (seen r args.0 ∷ seen r args.1 ∷ [])) }
 {
     let shape = shape_of_two(alloc, cases, row, t, at, args.0, args.1)?;
-    let Ok(par) = plain::row_of_two(alloc, cases, row, t, at, pars.0, pars.1) else {
+    let Ok(par) = par_row_of_two(alloc, cases, row, t, at, pars.0, pars.1) else {
         return Err(Stop::Memory);
     };
     let k = valued(alloc, &shape, &par)?;

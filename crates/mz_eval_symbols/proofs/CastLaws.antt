@@ -9,15 +9,13 @@ use Rattle.mz_core.specs.declared.types.Base.TheVariants as base
 use Rattle.mz_operations.specs.Views.{number_of_bool}
 use Rattle.mz_arena.specs.Entries.{Entry}
 use Rattle.mz_arena.specs.Values.{Term, as_number, as_set, bit, is_one, is_true, to_int_term}
-use Rattle.mz_instance.specs.Contents.{content_by}
+use Rattle.mz_symbol.specs.Symbols.{content_by, value_by, value_at}
 use Rattle.mz_meaning.specs.Coerced.{recast, recast_all}
 use Rattle.mz_symbol.specs.declared.types.Symbol.{Symbol}
-use Rattle.mz_symbol.specs.Symbols.{value_by, value_at}
-use Rattle.mz_symbol.specs.Runs.{Run}
+use Rattle.mz_symbol.specs.Runs.{Run, ReadsNodes}
 use Rattle.mz_symbol.specs.Readings.{Reading, state_of}
 use Rattle.mz_symbol.specs.Arguments.{as_argument}
 use Rattle.mz_symbol_rows.proofs.RowLaws.{truth_is}
-use Rattle.mz_symbol.specs.Runs.{ReadsNodes}
 use Rattle.mz_eval_symbols.specs.StepsNodes.{Counts}
 use Rattle.mz_eval_symbols.specs.Steps.{relabels, is_case, is_int, is_set_sort, IsCounted, IsCountedOption, IsRecast}
 

@@ -11,10 +11,9 @@ use Rattle.mz_core.specs.declared.types.Base.TheVariants as base
 use Rattle.mz_operations.specs.Views.{◌>>=◌}
 use Rattle.mz_arena.specs.Entries.{Entry}
 use Rattle.mz_arena.specs.Values.{Term, Val, number, set, numbers, sets, empty, as_number, as_numbers, as_sets, holds, is_one, is_true, element_at, value_at, before, access_term, and_term, comparison_term, cons_term, guard_term, if_term, not_term, or_term}
-use Rattle.mz_instance.specs.Contents.{content_by}
+use Rattle.mz_symbol.specs.Symbols.{content_by, symbol_value, value_by}
 use Rattle.mz_meaning.specs.Coerced.{recast, recast_all}
 use Rattle.mz_symbol.specs.declared.types.Symbol.{Symbol}
-use Rattle.mz_symbol.specs.Symbols.{symbol_value, value_by}
 use Rattle.mz_symbol.specs.Symbols as symbols
 use Rattle.mz_symbol.specs.Runs.{ReadsNodes, Run}
 use Rattle.mz_symbol.specs.Readings.{Reading, Reads}

@@ -8,6 +8,7 @@ use Rattle.mz_symbol_arrays.specs.LineValues.{array_argument}
 use Rattle.mz_eval_cells.specs.declared.types.Known.{Known}
 use Rattle.mz_eval_cells.specs.declared.types.Known.TheVariants as known
 use Rattle.mz_eval_cells.specs.Views.{cell_of, seen}
+pub use Rattle.mz_symbol_arrays.specs.LineValues.{IsLineOf, array_argument}
 
 -- the value of a cell, par or var; nothing in a run without values
 abbrev pub cell_value : Reading → Known → Option Content

@@ -22,7 +22,7 @@ use Rattle.mz_eval_cells.specs.Views.{seen}
 use Rattle.mz_eval_scopes.specs.Views.{text_entry, env_cells_by}
 use Rattle.mz_model_state.specs.Hands as hands
 use Rattle.mz_model_state.specs.Loops.{ReadBack, world_after}
-use Rattle.mz_model_roots.specs.Rooted.{view, AreRootsOfConstraint}
+use Rattle.mz_model_names.specs.Named.{view, AreRootsOfConstraint}
 use Rattle.mz_model_state.specs.Forms.{NameForm, form_in}
 use Rattle.mz_model_state.specs.Names.{HasForm, FormFaults}
 use Rattle.mz_model_state.specs.Progress.{IsBetween, OneMoreName, OneMoreConstraint, DeclarationHalts, ConstraintHalts}

@@ -13,7 +13,7 @@ use crate::types::{HeldConstraint, Names, Task};
 use mz_base::Stop;
 use mz_core::Core;
 use mz_eval_scopes::Env;
-use mz_model_roots::constraint_roots;
+use mz_model_names::constraint_roots;
 use mz_model_state::{walks_are_closed, walks_go_on};
 use mz_symbol::Run;
 use std::alloc::Global;

@@ -9,20 +9,17 @@ ghost use Rattle.mz_meaning.specs.Runs.{loop};
 ghost use Rattle.mz_meaning.specs.Walk as walk;
 ghost use Rattle.mz_meaning.specs.Walk.{levels};
 ghost use Rattle.mz_symbol.specs.Makes.{GoesOn, Means};
-ghost use Rattle.mz_eval_declared.specs.Wants.{wanted, wants_of};
+ghost use Rattle.mz_model_names.specs.Formed.{wanted, wants_of, form_seen};
 ghost use Rattle.mz_eval_scopes.specs.Seen.{world_seen};
 ghost use Rattle.mz_model_state.specs.Forms as forms;
-ghost use Rattle.mz_model_names.specs.Formed.{form_seen};
 
 use crate::evaluation::expanded;
 use mz_base::Stop;
 use mz_core::{Core, CoreDecl};
+use mz_eval::{counted, declared_weight, place_of};
 use mz_eval_cells::undefined;
-use mz_eval_chains::place_of;
-use mz_eval_declared::{Want, fitted};
-use mz_eval_names::{counted, declared_weight};
 use mz_eval_scopes::World;
-use mz_model_names::{Form, defined_index, defined_set, free_form, valued_form};
+use mz_model_names::{Form, Want, defined_index, defined_set, fitted, free_form, valued_form};
 use mz_symbol::Run;
 use std::alloc::Global;
 

@@ -11,6 +11,7 @@ use Rattle.mz_eval_cells.specs.Views.{cell_of, seen}
 use Rattle.mz_model_state.specs.Forms.{NameForm, ParForm, VarForm}
 use Rattle.mz_model_names.specs.declared.forms.Form.{Form}
 use Rattle.mz_model_names.specs.declared.forms.Form.TheVariants as form
+pub use Rattle.mz_eval_declared.specs.Wants.{wanted, wants_of}
 
 abbrev pub cell_if : Reading → Option Known → Option Cell
 cell_if r None = None

@@ -22,6 +22,7 @@ use Rattle.mz_model_names.specs.declared.types.HeldName.{HeldName}
 use Rattle.mz_model_names.specs.declared.types.Label.{Label}
 use Rattle.mz_model_names.specs.declared.types.Kind.{Kind}
 use Rattle.mz_model_names.specs.declared.types.Kind.TheVariants as kind
+pub use Rattle.mz_model_roots.specs.Rooted.{view, AreRootsOfConstraint}
 
 abbrev pub name_kind : Kind → NameKind
 name_kind kind.Par = ParName

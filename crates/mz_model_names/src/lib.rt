@@ -14,5 +14,7 @@ mod wants;
 
 pub use forms::{Form, free_form, valued_form};
 pub use made::held;
+pub use mz_eval_declared::{Want, fitted};
+pub use mz_model_roots::{aim, constraint_roots};
 pub use types::{HeldName, Kind, Label};
 pub use wants::{defined_index, defined_set};

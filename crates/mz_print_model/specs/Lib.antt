@@ -3,3 +3,4 @@ pub mod Printing
 pub mod StepsNames
 pub mod Shapes
 pub mod ReadOff
+pub mod Given

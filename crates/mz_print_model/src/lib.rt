@@ -8,4 +8,5 @@ mod top_call;
 
 pub use laws::variables_are_read_off;
 pub use making::shapes;
+pub use mz_model::model;
 pub use top_call::{SolutionPrinting, printing};

@@ -15,7 +15,7 @@ use Rattle.mz_symbol.specs.declared.types.Lists.{Lists}
 use Rattle.mz_symbol.specs.declared.types.Listing.{Listing}
 use Rattle.mz_symbol.specs.declared.types.Listing.TheVariants as listing
 use Rattle.mz_symbol.specs.declared.types.Line.{Line}
-use Rattle.mz_instance.specs.Contents.{content_by}
+pub use Rattle.mz_instance.specs.Contents.{content_by, is_one}
 use Rattle.mz_instance.specs.Parts.{AreNodes}
 use Rattle.mz_symbol.specs.Choices.{domain_parts}
 

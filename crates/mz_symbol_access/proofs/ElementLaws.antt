@@ -12,13 +12,12 @@ use Rattle.mz_core.specs.declared.types.Base.TheVariants as base
 use Rattle.mz_index.specs.Places.{count_of, place_of}
 use Rattle.mz_operations.specs.Views.{items_in}
 use Rattle.mz_arena.specs.Values.{Term, number, set, numbers, sets, empty, as_number, as_set, as_numbers, as_sets, holds, is_true, bit, access_term, and_term, comparison_term, cons_term, guard_term, not_term, or_term}
-use Rattle.mz_instance.specs.Contents.{content_by}
+use Rattle.mz_symbol.specs.Symbols.{content_by, value_by, value_at, symbol_value, all_there, HaveBase, IsItem, AreItems, IsOccurrence, list_term, item_terms, occurs_term, occurs_list, ArePlain, AreLists, IsOccursList}
 use Rattle.mz_meaning.specs.Arrays.{accessed, element_at, indices_in}
 use Rattle.mz_meaning.specs.Cells.{held}
 use Rattle.mz_meaning.specs.Runs.{State, Out}
 use Rattle.mz_symbol.specs.declared.types.Symbol.{Symbol}
 use Rattle.mz_symbol.specs.declared.types.Lists.{Lists}
-use Rattle.mz_symbol.specs.Symbols.{value_by, value_at, symbol_value, all_there, HaveBase, IsItem, AreItems, IsOccurrence, list_term, item_terms, occurs_term, occurs_list, ArePlain, AreLists, IsOccursList}
 use Rattle.mz_symbol.specs.Runs.{Run}
 use Rattle.mz_symbol.specs.Readings.{Reading, Reads, IsGiven, symbol_seen, state_of}
 use Rattle.mz_symbol.specs.Lines.{HasLists}

@@ -15,11 +15,10 @@ use Rattle.mz_operations.specs.Arrays.{truth_or}
 use Rattle.mz_operations.specs.Numbers.{connected, computed}
 use Rattle.mz_operations.specs.Values.{scalar_value, made_value}
 use Rattle.mz_arena.specs.Values.{Term, as_number, is_true}
-use Rattle.mz_instance.specs.Contents.{content_by, is_one}
+use Rattle.mz_symbol.specs.Symbols.{content_by, is_one, value_by, value_at, symbol_value}
 use Rattle.mz_meaning.specs.Runs.{State, Out}
 use Rattle.mz_meaning.specs.Cells.{Mode, Blank, Given, held}
 use Rattle.mz_symbol.specs.declared.types.Symbol.{Symbol}
-use Rattle.mz_symbol.specs.Symbols.{value_by, value_at, symbol_value}
 use Rattle.mz_symbol.specs.Readings.{Reading, IsGiven, symbol_seen}
 use Rattle.mz_symbol.proofs.ConstantLaws.{out_value}
 use Rattle.mz_symbol.specs.Arguments.{truth_of}

@@ -11,9 +11,8 @@ use Rattle.mz_core.specs.declared.types.Base.TheVariants as base
 use Rattle.mz_operations.specs.Views.{◌>>=◌}
 use Rattle.mz_arena.specs.Entries.{Entry}
 use Rattle.mz_arena.specs.Values.{Term, number, as_number, as_set, bit, holds, is_one, is_true, and_term, card_term, comparison_term, if_term}
-use Rattle.mz_instance.specs.Contents.{content_by}
+use Rattle.mz_symbol.specs.Symbols.{content_by, value_by}
 use Rattle.mz_symbol.specs.declared.types.Symbol.{Symbol}
-use Rattle.mz_symbol.specs.Symbols.{value_by}
 use Rattle.mz_symbol.specs.Runs.{ReadsNodes, Run}
 use Rattle.mz_symbol.specs.Readings.{Reading, Reads, state_of}
 use Rattle.mz_symbol.specs.Makes.{GoesOnBy}

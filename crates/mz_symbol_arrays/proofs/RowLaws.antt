@@ -18,11 +18,10 @@ use Rattle.mz_operations.specs.Numbers.{same, connected, quantified, quantifier_
 use Rattle.mz_operations.specs.Values.{scalar_value}
 use Rattle.mz_arena.specs.Values.{Term, as_number, is_true}
 use Rattle.mz_arena.specs.Values as terms
-use Rattle.mz_instance.specs.Contents.{content_by}
+use Rattle.mz_symbol.specs.Symbols.{content_by, value_by, symbol_value}
 use Rattle.mz_meaning.specs.Runs.{State, Out}
 use Rattle.mz_meaning.specs.Cells.{held}
 use Rattle.mz_symbol.specs.declared.types.Symbol.{Symbol}
-use Rattle.mz_symbol.specs.Symbols.{value_by, symbol_value}
 use Rattle.mz_symbol.specs.Runs.{Run}
 use Rattle.mz_symbol.specs.Readings.{Reading, Reads, IsGiven, symbol_seen}
 use Rattle.mz_symbol.specs.Arguments.{truth_of, as_argument}

@@ -14,12 +14,11 @@ use Rattle.mz_operations.specs.Numbers.{computed, fold_start}
 use Rattle.mz_operations.specs.Arrays.{fold_from, summand}
 use Rattle.mz_operations.specs.Values.{scalar_value}
 use Rattle.mz_arena.specs.Values.{Term, as_number, is_true}
-use Rattle.mz_instance.specs.Contents.{content_by}
+use Rattle.mz_symbol.specs.Symbols.{content_by, value_by, value_at, symbol_value}
 use Rattle.mz_meaning.specs.Exact.{joined}
 use Rattle.mz_meaning.specs.Runs.{State, Out}
 use Rattle.mz_meaning.specs.Cells.{held}
 use Rattle.mz_symbol.specs.declared.types.Symbol.{Symbol}
-use Rattle.mz_symbol.specs.Symbols.{value_by, value_at, symbol_value}
 use Rattle.mz_symbol.specs.Runs.{Run}
 use Rattle.mz_symbol.specs.Readings.{Reading, Reads, IsGiven, symbol_seen, state_of}
 use Rattle.mz_symbol.specs.Lines.{IsElement}

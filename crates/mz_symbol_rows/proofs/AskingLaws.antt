@@ -14,10 +14,9 @@ use Rattle.mz_operations.specs.Arguments.{at, option_at}
 use Rattle.mz_operations.specs.Arrays.{summand}
 use Rattle.mz_operations.specs.Values.{scalar_value, made_value}
 use Rattle.mz_arena.specs.Values.{Term, number, as_number, bit, is_true, holds, comparison_term, and_term, not_term, if_term, guard_term}
-use Rattle.mz_instance.specs.Contents.{content_by}
+use Rattle.mz_symbol.specs.Symbols.{content_by, value_by}
 use Rattle.mz_meaning.specs.Cells.{held}
 use Rattle.mz_symbol.specs.declared.types.Symbol.{Symbol}
-use Rattle.mz_symbol.specs.Symbols.{value_by}
 use Rattle.mz_symbol.specs.Readings.{Reading, symbol_seen}
 use Rattle.mz_symbol_rows.specs.RowValues as rows
 use Rattle.mz_symbol.specs.Arguments.{truth_of, as_argument}

@@ -9,11 +9,10 @@ use Rattle.mz_operations.specs.declared.row.ScalarRow.{ScalarRow}
 use Rattle.mz_operations.specs.Values.{scalar_value}
 use Rattle.mz_arena.specs.Values.{Term, as_number, bit}
 use Rattle.mz_arena.specs.Values as terms
-use Rattle.mz_instance.specs.Contents.{content_by}
+use Rattle.mz_symbol.specs.Symbols.{content_by, value_by, value_at, symbol_value}
 use Rattle.mz_meaning.specs.Runs.{State, Out}
 use Rattle.mz_meaning.specs.Cells.{Mode, Blank, Given, held, is_true}
 use Rattle.mz_symbol.specs.declared.types.Symbol.{Symbol}
-use Rattle.mz_symbol.specs.Symbols.{value_by, value_at, symbol_value}
 use Rattle.mz_symbol.specs.Readings.{Reading, symbol_seen}
 use Rattle.mz_symbol.specs.Arguments.{as_argument}
 use Rattle.mz_symbol_rows.specs.RowValues.{argument, row_value}

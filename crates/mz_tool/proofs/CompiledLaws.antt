@@ -28,8 +28,7 @@ use Rattle.mz_headline.specs.Keeping.{AreNumbered}
 use Rattle.mz_headline.proofs.Rows.{choice_in, some_choices, with_codes}
 use Rattle.mz_headline.proofs.Slots.{telling, telling_tells}
 use Rattle.mz_headline.proofs.Whole.{boundaries_join}
-use Rattle.mz_model.specs.Walks.{Ends}
-use Rattle.mz_model.specs.Ending.{ModelEnds}
+use Rattle.mz_print_model.specs.Given.{Ends, ModelEnds}
 use Rattle.mz_tool.specs.Compiled.{HasFound, Finds, IsCompiled, CompileEnds}
 
 -- ---- what all walks find

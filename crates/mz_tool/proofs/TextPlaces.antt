@@ -18,15 +18,13 @@ use Rattle.mz_meaning_laws.specs.Places.{places_of}
 use Rattle.mz_meaning_laws.proofs.Parts.{IsPlaced, IsPlacedProgram, place_placed, program_placed}
 use Rattle.mz_meaning_laws.proofs.Stopping.{StopsAt, StopsThere, GivesThere, then_there, with_there, both_there, gives_there, given_there, give_there, stop_there}
 use Rattle.mz_meaning_laws.proofs.PlaceForms.{eval_there}
-use Rattle.mz_print.specs.Output.{OutputItem, OutputName, assigned, joined_items, output_env, output_item, output_text, text_by, variable_slots}
+use Rattle.mz_print_model.specs.Given.{OutputItem, OutputName, assigned, joined_items, output_env, output_item, output_text, text_by, variable_slots, text_of, limits_of, texts_of}
 use Rattle.mz_print_stream.specs.Printing as printing
 use Rattle.mz_print_stream.specs.Printing.{Text, says, refuses, output, block_before, end_by, Written}
 use Rattle.mz_print_stream.specs.Reading.{Close, complete, bad_at, cut}
 use Rattle.soln_reader.specs.Stream.{Event, block, mark}
 use Rattle.soln_reader.specs.Reader.{bad_line}
 use Rattle.fz_items.specs.Forms.{Form}
-use Rattle.mz_print.specs.Items.{text_of}
-use Rattle.mz_print.specs.Printers.{limits_of, texts_of}
 use Rattle.mz_analysis.specs.PlacePromise.{LiesIn}
 use Rattle.mz_tool.specs.Status.{stream_number}
 

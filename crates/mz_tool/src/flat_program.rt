@@ -11,7 +11,7 @@ ghost use Rattle.flat_meaning.specs.Front.{AreNamed};
 ghost use Rattle.fz_program.specs.Flat.{AreDistinct, program};
 ghost use Rattle.flat_meaning.specs.Faithful.{Faithful};
 ghost use Rattle.mz_headline.specs.Keeping.{AreNumbered};
-ghost use Rattle.mz_model.specs.Walks.{Ends};
+ghost use Rattle.mz_print_model.specs.Given.{Ends};
 ghost use Rattle.mz_tool.specs.Compiled.{CompileEnds};
 ghost use Rattle.mz_tool.specs.Spelled.{IsSpelled};
 
@@ -20,7 +20,7 @@ use fz_program::FzProgram;
 use mz_arena::Instance;
 use mz_base::{Names, Stop};
 use mz_core::Program;
-use mz_model::model;
+use mz_print_model::model;
 use std::alloc::Global;
 
 /// The program of an instance.

@@ -5,7 +5,7 @@ ghost use Rattle.mz_core.specs.Program.{plain_program};
 ghost use Rattle.mz_include.specs.Ends.{IfRefused, OnReadFault};
 ghost use Rattle.mz_words.specs.Requests.{IsWithinLimits, print, settings};
 ghost use Rattle.mz_analysis.specs.Analysis.{IsRead};
-ghost use Rattle.mz_print.specs.Printers.{IsTaken, solution_texts};
+ghost use Rattle.mz_print_model.specs.Given.{IsTaken, solution_texts};
 ghost use Rattle.mz_print_model.specs.Printing.{IsPrinting};
 ghost use Rattle.mz_print_stream.specs.Promises.{CountsIn, CountsOut as CountsPut, Promises};
 ghost use Rattle.fz_items.specs.Forms.{forms};

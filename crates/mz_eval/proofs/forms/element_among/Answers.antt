@@ -2,7 +2,7 @@ use Rattle.std.proofs.Common.{sym, ap}
 use Rattle.mz_core.specs.Types.{plain_type}
 use Rattle.mz_symbol.specs.Readings.{state_of}
 use Rattle.mz_eval_cells.specs.Views.{all_seen, seen}
-use Rattle.mz_eval_row_symbols.specs.NodeRows.{stamped}
+use Rattle.mz_eval_nodes.specs.Views.{stamped}
 use Rattle.mz_eval_chains.proofs.Runs.{meets_at_is}
 use Rattle.mz_eval.specs.Levels.{world_in}
 use Rattle.mz_eval.specs.Nodes.{access_node}

@@ -6,7 +6,7 @@ use Rattle.mz_meaning.specs.Forms.{done}
 use Rattle.mz_meaning.specs.Runs.{then_do}
 use Rattle.mz_symbol.specs.Readings.{state_of}
 use Rattle.mz_eval_cells.specs.Views.{all_seen, seen}
-use Rattle.mz_eval_row_symbols.specs.NodeRows.{stamped}
+use Rattle.mz_eval_nodes.specs.Views.{stamped}
 use Rattle.mz_eval_chains.proofs.Runs.{meets_at_err, meets_at_is}
 use Rattle.mz_eval.specs.Levels.{world_in}
 use Rattle.mz_eval.proofs.Stamps.{done_typed, stamps}

@@ -6,7 +6,7 @@ use Rattle.mz_meaning.specs.Evaluation.{eval}
 use Rattle.mz_meaning.specs.Runs.{loop}
 use Rattle.mz_meaning.specs.Walk.{levels, one_index}
 use Rattle.mz_symbol.specs.Makes.{Continues}
-use Rattle.mz_eval_declared.specs.Wants.{wants_of}
+use Rattle.mz_model_names.specs.Formed.{wants_of}
 use Rattle.mz_eval_scopes.specs.Seen.{world_seen}
 use Rattle.mz_model.proofs.forms.index_wants.Given as goal
 

@@ -2,7 +2,7 @@ use Rattle.std.specs.Prelude.{Err}
 use Rattle.mz_arena.specs.Instances.{instance}
 use Rattle.mz_core.specs.Program.{plain_program}
 use Rattle.mz_model_meaning.specs.Modeled.{Modeled}
-use Rattle.mz_model.specs.Ending.{ModelEnds}
+use Rattle.mz_print_model.specs.Given.{ModelEnds}
 use Rattle.mz_tool.proofs.Limits.{as_read}
 use Rattle.mz_tool.proofs.CompiledLaws.{flattened, refused}
 use Rattle.mz_tool.proofs.Spelling.{are_named}

@@ -1,6 +1,6 @@
 use Rattle.mz_words.specs.Requests.{settings}
 use Rattle.fz_items.specs.Forms.{forms}
-use Rattle.mz_print.specs.Printers.{solution_texts}
+use Rattle.mz_print_model.specs.Given.{solution_texts}
 use Rattle.mz_print_model.specs.declared.top_call.SolutionPrinting.{SolutionPrinting}
 use Rattle.mz_tool.specs.Headline.{limits_of}
 use Rattle.mz_tool.specs.StepsPrinting.{ends_early, ends_late}

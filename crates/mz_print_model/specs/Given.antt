@@ -1,0 +1,6 @@
+-- What walks over a model and what prints texts, given on beside what prints the model's solutions.
+pub use Rattle.mz_model.specs.Ending.{ModelEnds}
+pub use Rattle.mz_model.specs.Walks.{Ends}
+pub use Rattle.mz_print.specs.Items.{text_of}
+pub use Rattle.mz_print.specs.Output.{OutputItem, OutputName, assigned, joined_items, output_env, output_item, output_text, text_by, variable_slots}
+pub use Rattle.mz_print.specs.Printers.{IsTaken, limits_of, solution_texts, texts_of}
