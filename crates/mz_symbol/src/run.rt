@@ -5,11 +5,11 @@ ghost use Rattle.mz_arena.specs.Charges.{charge_of};
 ghost use Rattle.mz_arena.specs.Entries.{is_free};
 
 use crate::types::{Free, Line};
-use indexmap::IndexMap;
 use mz_arena::{Arena, Id, Node};
 use mz_base::{Fault, Kind, Memory, Span, Stop};
 use mz_value::RangeSet;
 use std::alloc::Global;
+use std::collections::BTreeMap;
 use std::marker::Model;
 
 /// What an expansion has made so far: its work, its weight, nodes, choices, and the elements of var
@@ -27,7 +27,7 @@ pub struct Run {
     pub(crate) parts: u64,
     pub(crate) lines: Vec<Line>,
     /// Numbers of var arrays by keys of callers; no contract speaks of them.
-    pub(crate) hints: IndexMap<u64, u64>,
+    pub(crate) hints: BTreeMap<u64, u64>,
 }
 
 impl Model for Run {
@@ -71,7 +71,7 @@ impl Run {
             choices: Vec::new(alloc),
             parts: 0,
             lines: Vec::new(alloc),
-            hints: IndexMap::new(alloc),
+            hints: BTreeMap::new(alloc),
         }
     }
 
