@@ -1,5 +1,5 @@
 // What instances are flattened to: each case of the input is an instance, line by line; it is answered by the FlatZinc program
-// and by the program's solutions.
+// and by the program's solutions. After `== texts` each case is a FlatZinc text.
 #![tactic(auto)]
 
 // What a call gives. Its error is handed on as it is: `?` would convert it.
@@ -13,11 +13,16 @@ macro_rules! given {
 }
 
 mod answer;
+mod built;
 mod declare;
 mod draft;
 mod line;
+mod reading;
 mod set;
 mod term;
+mod texts;
+mod unspelled;
+mod written;
 
 use crate::answer::print_answer;
 use crate::draft::Draft;
@@ -52,7 +57,12 @@ fn print_cases(alloc: Global, input: &str, page: &mut Page) -> Result<(), Memory
 
 fn all(alloc: Global, input: &str) -> Result<String, Memory> {
     let mut page = Page::new(alloc);
-    given!(print_cases(alloc, input, &mut page));
+    let (instances, rest) = match input.split_once("== texts\n") {
+        Some(parts) => parts,
+        None => (input, ""),
+    };
+    given!(print_cases(alloc, instances, &mut page));
+    given!(texts::print(alloc, rest, &mut page));
     Ok(page.into_text()?)
 }
 

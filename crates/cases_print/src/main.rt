@@ -1,8 +1,14 @@
-// What is printed of a solver's stream, as it comes and where takes or puts fail in between.
+// What a solver's stream is read to, with the lines at their limit; and what is printed of it, as it comes and where takes or
+// puts fail in between.
 #![tactic(auto)]
 
+mod case;
+mod feeder;
 mod fixed;
+mod limit;
+mod reading;
 mod run;
+mod shapes;
 
 use crate::fixed::Fixed;
 use crate::run::Stream;
@@ -51,8 +57,10 @@ fn failing_streams(alloc: Global, page: &mut Page) -> Result<(), Memory> {
     Ok(())
 }
 
-fn all(alloc: Global) -> Result<String, Memory> {
+fn all(alloc: Global, input: &str) -> Result<String, Memory> {
     let mut page = Page::new(alloc);
+    reading::print(alloc, input, &mut page)?;
+    limit::print(alloc, &mut page)?;
     whole_streams(alloc, &mut page)?;
     failing_streams(alloc, &mut page)?;
     Ok(page.into_text()?)
@@ -60,7 +68,8 @@ fn all(alloc: Global) -> Result<String, Memory> {
 
 fn main(rt: HostRuntime) -> io::Result<()> {
     let alloc = rt.alloc();
-    match all(alloc) {
+    let input = io::read_to_string(alloc, rt.reader())?;
+    match all(alloc, input.as_str()) {
         Ok(text) => rt.print(text),
         Err(Memory) => Err(io::Error::from(ErrorKind::OutOfMemory)),
     }

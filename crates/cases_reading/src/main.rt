@@ -1,4 +1,4 @@
-// What the readers answer: each line of the input is a case, `tokens TEXT` say, and is written with its answer.
+// What the readers of files and of command lines answer: each line of the input is a case, `tokens TEXT` say, and is written with its answer.
 #![tactic(auto)]
 
 mod data;
@@ -10,6 +10,7 @@ mod stopped;
 mod tall;
 mod tokens;
 mod types;
+mod words;
 
 use cases::{Page, bytes_of};
 use mz_base::{FILE_LIMIT, Memory};
@@ -19,6 +20,9 @@ use std::io::ErrorKind;
 
 /// What the case of a line answers. A line of another kind, as a comment, has no answer.
 fn answer(alloc: Global, line: &str, page: &mut Page) -> Result<(), Memory> {
+    if line.starts_with("words") {
+        return words::print(alloc, line, page);
+    }
     let (kind, text) = match line.split_once(' ') {
         Some((kind, text)) => (kind, text),
         None => (line, ""),

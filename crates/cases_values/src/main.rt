@@ -1,4 +1,4 @@
-// What names, counts, numbers, places, values and trees answer: each line is a call and its answer.
+// What names, counts, numbers, places, values, trees and terms answer: each line is a call and its answer.
 #![tactic(auto)]
 
 mod base;
@@ -6,6 +6,7 @@ mod intervals;
 mod places;
 mod sets;
 mod shown;
+mod terms;
 mod trees;
 
 use cases::Page;
@@ -35,6 +36,7 @@ fn all(alloc: Global) -> Result<String, Memory> {
     places::in_empty_ranges(alloc, &mut page)?;
     places::in_great_ranges(&mut page);
     trees::made(alloc, &mut page)?;
+    terms::print(alloc, &mut page)?;
     Ok(page.into_text()?)
 }
 

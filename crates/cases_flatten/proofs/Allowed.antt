@@ -16,7 +16,7 @@ use Rattle.fz_build.specs.Build.{MayDeclare, MayAdd, constraint, empty}
 use Rattle.fz_build.specs.Asked.{MayDefine}
 use Rattle.mz_operations.specs.Bounds.{arith_ends}
 use Rattle.mz_operations.specs.Sets.{end_of}
-use Rattle.cases_flat.specs.Steps.{factors, operands, with_order, with_x, with_xs, x, xs}
+use Rattle.cases_flatten.specs.Steps.{factors, operands, with_order, with_x, with_xs, x, xs}
 
 nothing_new : Contains [] (codes "x") → ⊥
 nothing_new (k, p, q) = absurd (omega (arith, p))

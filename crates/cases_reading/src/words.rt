@@ -1,12 +1,9 @@
-// What words ask for: each line of the input that begins with `words` is a case, and is written with its answer. The
-// words are those after `words`, one blank between two.
-#![tactic(auto)]
+// What words ask for: the words of a line are those after `words`, one blank between two.
 
 use cases::Page;
+use mz_base::Memory;
 use mz_words::{Options, Request, WordsError, read_words};
 use std::alloc::{AllocError, Global};
-use std::io;
-use std::io::ErrorKind;
 
 /// The words of a line after its first.
 fn words_of(alloc: Global, line: &str) -> Result<Vec<String>, AllocError> {
@@ -36,24 +33,9 @@ fn print_answer(alloc: Global, words: &[String], page: &mut Page) {
     }
 }
 
-/// All lines, each case with its answer.
-fn all(alloc: Global, input: &str) -> Result<String, AllocError> {
-    let mut page = Page::new(alloc);
-    for line in input.lines() {
-        page.line(line);
-        if line.starts_with("words") {
-            let words = words_of(alloc, line)?;
-            print_answer(alloc, words.as_slice(), &mut page);
-        }
-    }
-    page.into_text()
-}
-
-fn main(rt: HostRuntime) -> io::Result<()> {
-    let alloc = rt.alloc();
-    let input = io::read_to_string(alloc, rt.reader())?;
-    match all(alloc, input.as_str()) {
-        Ok(text) => rt.print(text),
-        Err(AllocError) => Err(io::Error::from(ErrorKind::OutOfMemory)),
-    }
+/// What the words of a line ask for.
+pub fn print(alloc: Global, line: &str, page: &mut Page) -> Result<(), Memory> {
+    let words = words_of(alloc, line)?;
+    print_answer(alloc, words.as_slice(), page);
+    Ok(())
 }

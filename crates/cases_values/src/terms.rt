@@ -1,5 +1,4 @@
-// What the calls of an arena answer: each line is a call and its answer.
-#![tactic(auto)]
+// What the calls of an arena answer.
 
 ghost use Rattle.std.specs.Prelude.{◌<◌, IfOk, IfSome, length};
 
@@ -11,8 +10,6 @@ use mz_interval::Interval;
 use mz_partial::{Memo, total};
 use mz_value::RangeSet;
 use std::alloc::Global;
-use std::io;
-use std::io::ErrorKind;
 
 fn nodes(arena: &mut Arena, page: &mut Page) -> Result<(), Memory> {
     let seven = Node {
@@ -113,24 +110,16 @@ fn unions(alloc: Global, page: &mut Page) -> Result<(), Memory> {
     Ok(())
 }
 
-fn all(alloc: Global) -> Result<String, Memory> {
-    let mut page = Page::new(alloc);
+/// All cases of terms.
+pub fn print(alloc: Global, page: &mut Page) -> Result<(), Memory> {
     let mut arena = Arena::new(alloc);
     page.case("nodes of a new arena", arena.len());
-    nodes(&mut arena, &mut page)?;
-    sets(alloc, &mut arena, &mut page)?;
+    nodes(&mut arena, page)?;
+    sets(alloc, &mut arena, page)?;
     page.case("nodes", arena.len());
-    totals(alloc, &mut arena, &mut page)?;
+    totals(alloc, &mut arena, page)?;
     page.case("nodes", arena.len());
     page.case("charge of a quotient", charge(NodeKind::Div));
-    hulls(alloc, &mut page)?;
-    unions(alloc, &mut page)?;
-    Ok(page.into_text()?)
-}
-
-fn main(rt: HostRuntime) -> io::Result<()> {
-    match all(rt.alloc()) {
-        Ok(text) => rt.print(text),
-        Err(Memory) => Err(io::Error::from(ErrorKind::OutOfMemory)),
-    }
+    hulls(alloc, page)?;
+    unions(alloc, page)
 }

@@ -1,9 +1,5 @@
 // What operators and built-ins give of values, and what they cost, where no model says it: each line of the input is a call, and is
 // written with its answer. What a model says of them stands among the cases of whole models.
-#![tactic(auto)]
-
-mod case;
-mod rows;
 
 use crate::case::{arguments_of, sizes_of};
 use crate::rows::row_named;
@@ -13,8 +9,6 @@ use mz_builtin_apply::{apply_row, cost_of, is_applied, is_failed, read_as};
 use mz_operations::Row;
 use mz_value::Value;
 use std::alloc::Global;
-use std::io;
-use std::io::ErrorKind;
 
 fn refused(call: &str, fault: Fault, page: &mut Page) {
     page.put(call);
@@ -100,19 +94,9 @@ fn answer(alloc: Global, line: &str, page: &mut Page) -> Result<(), Memory> {
 }
 
 /// All answers.
-fn all(alloc: Global, input: &str) -> Result<String, Memory> {
-    let mut page = Page::new(alloc);
+pub fn print(alloc: Global, input: &str, page: &mut Page) -> Result<(), Memory> {
     for line in input.lines() {
-        answer(alloc, line, &mut page)?;
+        answer(alloc, line, page)?;
     }
-    Ok(page.into_text()?)
-}
-
-fn main(rt: HostRuntime) -> io::Result<()> {
-    let alloc = rt.alloc();
-    let input = io::read_to_string(alloc, rt.reader())?;
-    match all(alloc, input.as_str()) {
-        Ok(text) => rt.print(text),
-        Err(Memory) => Err(io::Error::from(ErrorKind::OutOfMemory)),
-    }
+    Ok(())
 }

@@ -5,7 +5,7 @@ ghost use Rattle.std.specs.Prelude.{◌≡◌, IfOk, OnOk, map, string_bytes};
 ghost use Rattle.fz_program.specs.Arguments.{argument};
 ghost use Rattle.fz_program.specs.Flat.{array_item, variable};
 ghost use Rattle.fz_build.specs.Build.{empty};
-ghost use Rattle.cases_flat.specs.Steps.{factors, operands, with_order, with_x, with_xs, x, xs};
+ghost use Rattle.cases_flatten.specs.Steps.{factors, operands, with_order, with_x, with_xs, x, xs};
 
 use cases::Page;
 use fz_build::Build;
