@@ -22,7 +22,7 @@ pub enum Wrote {
 
 /// Writes the program's one spelling with one put: a line for each variable, each array, each
 /// constraint and the solve item, in the order of the program, as the FlatZinc chapter of the MiniZinc Handbook has them.
-/// `well_formed` of `fz_program_check` tests what is required.
+/// `well_formed` of `fz_program` tests what is required.
 ///
 /// After `Failed` the sink holds what it held and a prefix of the text, after `Memory` what it held.
 pub fn write<S: Sink>(alloc: Global, p: &FzProgram, out: &mut S) -> Wrote

@@ -217,7 +217,7 @@ fn plain_guard(run: &mut Run, var: bool, of_var: bool, k: &Known) -> Result<Guar
 }
 
 /// A value under its declared index sets, which it takes, and its declared set. Refused IndexMismatch
-/// at `at` where it doesn't fit the index sets, as `fitted` of `mz_eval_domains` says.
+/// at `at` where it doesn't fit the index sets, as `fitted` of `mz_eval_declared` says.
 pub fn kept_by(
     alloc: Global,
     run: &mut Run,

@@ -394,7 +394,7 @@ fn is_joined(row: Row, a: &Known, b: &Known) -> bool
 /// What a row gives of these two arguments in a run, at a node of this type, before its type is
 /// stamped on it. What its nodes may cost, the work of the row's node pays for.
 ///
-/// The refusals are those of `row_of_all` of `mz_eval_term_rows`. Out of memory too where an argument
+/// The refusals are those of `row_of_all`. Out of memory too where an argument
 /// isn't of its type, or the row's term isn't made yet.
 pub fn row_of_two(
     alloc: Global,
