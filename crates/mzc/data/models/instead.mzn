@@ -1,4 +1,4 @@
-% What is written in place of forms that are refused: docs/REFUSALS.md, "First stumbles".
+% What is written in place of forms that are refused: docs/OTHER_TOOLS.md.
 enum E = {A, B, C};
 array[E, 1..2] of int: m = array2d(E, 1..2, [1, 2, 3, 4, 5, 6]);
 int: n = 2;
