@@ -12,6 +12,7 @@ HEADING = "| name | forms | what it is | example | its value |"
 MISSING = "| written | refused as | write | its value |"
 LETTERS = {"Case": "E", "Number": "N", "Scalar": "S", "Value": "V", "Any": "T", "None": ""}
 TYPES = {"Bool": "bool", "Int": "int", "OptBool": "opt bool", "OptInt": "opt int", "SetInt": "set of int", "Text": "text"}
+DECLARED = (("Int", "int"), ("Bool", "bool"), ("SetInt", "set of int"))
 WORDS = ("in", "subset", "superset", "union", "intersect", "diff", "symdiff", "div", "mod", "xor")
 
 
@@ -122,11 +123,11 @@ def is_text(code):
     return re.match(r"(concat|join|show\w*)\(", code) is not None
 
 
-def items(number, code, kind):
-    """Items of a model that write a value: by a declaration where its type is known, so that it is known before solving."""
-    if kind in ("Int", "Bool", "SetInt"):
-        kind = {"Int": "int", "Bool": "bool", "SetInt": "set of int"}[kind]
-        return f"{kind}: shown_{number} = {code};\noutput [show(shown_{number}), \"\\n\"];\n"
+def items(number, code, kinds):
+    """Items of a model that write a value: by a declaration where it is of a variable, so that it is known before solving."""
+    declared = [word for kind, word in DECLARED if kind in kinds and re.search(r"\bx\b", code)]
+    if declared:
+        return f"{declared[0]}: shown_{number} = {code};\noutput [show(shown_{number}), \"\\n\"];\n"
     return f"output [{code if is_text(code) else f'show({code})'}, \"\\n\"];\n"
 
 
@@ -138,7 +139,7 @@ def check(page, known, model, stream, tell):
     for number, (code, value, kinds) in enumerate(shown):
         (code, *_), wanted = codes(code), codes(value)
         if wanted:
-            printed, told = answers(model, stream, [items(number, code, kinds.pop() if len(kinds) == 1 else "")])
+            printed, told = answers(model, stream, [items(number, code, kinds)])
         else:
             printed, told = answers(model, stream, [f"constraint {code};\noutput [\"\\n\"];\n"])
         if told or printed.split("\n")[0] != (wanted or [""])[0]:

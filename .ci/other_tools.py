@@ -37,6 +37,8 @@ FORMS = {
     "n = 7": [("1..5: n;", "ParUndefined", "n = 7;")],
     "Depth 601": [("function int: f(int: n) = if n = 0 then 0 else f(n - 1) endif; int: k = f(1000);", "Depth")],
     "array[E] of string: label": [(E + 'array[E] of string: label = array1d(E, ["a", "b"]);', "LeftOut")],
+    "enum E = anon_enum(n)": [("int: n = 2; enum F = anon_enum(n);", "LeftOut"), ("int: n = 2; enum F = _(1..n);", "LeftOut")],
+    "float": [("var float: x;", "LeftOut"), ("int: n = 1.5;", "LeftOut"), ("int: n = 4 / 2;", "LeftOut")],
     "enum_next(e)": [(E + "E: e = enum_next(A);", "NoOverload"), (E + "E: e = enum_prev(B);", "NoOverload")],
     "card({x[i] | i in S})": [("array[1..2] of var 1..3: x; constraint card({x[i] | i in 1..2}) = 2;", "LeftOut")],
     "var 0..9: x :: output": [("var 0..9: x :: output;", "Syntax"), ("var 0..9: x :: add_to_output;", "")],
