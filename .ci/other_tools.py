@@ -22,7 +22,9 @@ FORMS = {
     "a[..]": [("array[1..2] of int: a = [1, 2]; int: n = a[..];", "LeftOut")],
     "1..x": [("var 1..3: x; constraint 2 in 1..x;", "LeftOut"), ("var 1..3: x; constraint 2 in {x, 1};", "LeftOut"),
              ("var 1..3: x; constraint 2 ^ x = 4;", "LeftOut")],
-    "o + 1": [("var opt 1..3: o; constraint o + 1 = 2;", "NoOverload"), ("var opt 1..3: o; constraint o > 2;", "LeftOut")],
+    "o + 1": [("var opt 1..3: o; constraint o + 1 = 2;", "NoOverload"), ("var opt 1..3: o; constraint o > 2;", "LeftOut"),
+              ("var opt bool: q; constraint q /\\ true;", "NoOverload")],
+    "2 ^ -1": [("int: n = 2 ^ -1;", "NegativeArgument")],
     "max([a[i] | i in S where b[i]])": [
         ("array[1..2] of int: a = [1, 2]; array[1..2] of var bool: b; constraint max([a[i] | i in 1..2 where b[i]]) > 1;",
          "NoOverload")],
